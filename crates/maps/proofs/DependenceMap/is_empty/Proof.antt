@@ -1,0 +1,52 @@
+-- After i turns the first i entries are not held.
+use Prim.Native.Nat.{_-_, _≤_}
+use mathlib.Core.Bool.{true}
+use mathlib.Core.Path.{_≡_, sym}
+use native.Mathlib.Omega.{arith}
+use Rattle.maps.specs.Map.{isEmpty}
+use Rattle.maps.specs.Packed.{entries}
+use Rattle.maps.proofs.Loops.{isEmpty-none, isEmpty-more, isEmpty-off, isEmpty-all}
+use borrow.Author.Needs.{needs}
+use Rattle.maps.proofs.DependenceMap.is_empty.Statement.{statement}
+use Rattle.maps.proofs.DependenceMap.is_empty.Tie as tie
+
+abbrev Inv-loop : tie.InvT-loop
+Inv-loop self i₀ i = (i ≤ entries) × (isEmpty i self ≡ true)
+
+abbrev μ-loop : tie.MeasureT-loop
+μ-loop self i₀ i = entries - i
+
+loop-holds : tie.Need-loop-holds Inv-loop μ-loop
+loop-holds c = (search needs, isEmpty-none _)
+
+element-copy-out-if1 : tie.Need-element-copy-out-if1 Inv-loop μ-loop
+element-copy-out-if1 c = search needs
+
+returns : tie.Need-returns Inv-loop μ-loop
+returns c = sym (isEmpty-off _ entries _ (omega arith) (c .if1 .taken))
+
+add-i : tie.Need-add-i Inv-loop μ-loop
+add-i c = search needs
+
+loop-less : tie.Need-loop-less Inv-loop μ-loop
+loop-less c = search needs
+
+loop-again : tie.Need-loop-again Inv-loop μ-loop
+loop-again c = (omega arith, isEmpty-more _ _ (c .before .before .before .loop .inv .1) (c .if1 .left))
+
+returns-2 : tie.Need-returns-2 Inv-loop μ-loop
+returns-2 c = sym (isEmpty-all _ entries _ (c .before .loop .inv .1) (omega arith))
+
+pub is-empty-spec : {M : Type 1} → statement M
+is-empty-spec =
+    tie.close
+    (tie.spec
+    Inv-loop
+    μ-loop
+    loop-holds
+    element-copy-out-if1
+    returns
+    add-i
+    loop-less
+    loop-again
+    returns-2)

@@ -1,0 +1,76 @@
+-- After i turns the first i entries are put.
+use Prim.Native.Nat.{_-_, _≤_}
+use mathlib.Core.Path.{_≡_, refl}
+use native.Mathlib.Omega.{arith}
+use lib.ListN.{length}
+use Rattle.octets.specs.Bytes.{put}
+use Rattle.marks.specs.Packed.{width, places}
+use Rattle.maps.specs.Packed.{entries, packMap}
+use Rattle.maps.proofs.Placed.{put-map-none, put-map-more, put-map-all}
+use Rattle.maps.proofs.Packed.{bounded-at}
+use borrow.Author.Needs.{needs}
+use Rattle.maps.proofs.DependenceMap.store.Statement.{statement}
+use Rattle.maps.proofs.DependenceMap.store.Tie as tie
+
+abbrev Inv-loop : tie.InvT-loop
+Inv-loop image₀ at self i₀ image i = (i ≤ entries) × (image ≡ put at (packMap width places i self) image₀) × (length image ≡ length image₀)
+
+abbrev μ-loop : tie.MeasureT-loop
+μ-loop image₀ at self i₀ image i = entries - i
+
+loop-holds : tie.Need-loop-holds Inv-loop μ-loop
+loop-holds c = (search needs, put-map-none _ _ _ _ _, refl)
+
+element-copy-out-p : tie.Need-element-copy-out-p Inv-loop μ-loop
+element-copy-out-p c = search needs
+
+mul-h : tie.Need-mul-h Inv-loop μ-loop
+mul-h c = search needs
+
+element-copy-out-h : tie.Need-element-copy-out-h Inv-loop μ-loop
+element-copy-out-h c = search needs
+
+mul-store-entry : tie.Need-mul-store-entry Inv-loop μ-loop
+mul-store-entry c = search needs
+
+add-store-entry : tie.Need-add-store-entry Inv-loop μ-loop
+add-store-entry c = search needs
+
+store-entry-requires : tie.Need-store-entry-requires Inv-loop μ-loop
+store-entry-requires c κs = let s = c .before .before .before .before in (search needs, bounded-at _ _ (s .before .before .pre .1) (s .loop .i))
+
+add-i : tie.Need-add-i Inv-loop μ-loop
+add-i c = search needs
+
+loop-less : tie.Need-loop-less Inv-loop μ-loop
+loop-less c = search needs
+
+loop-again : tie.Need-loop-again Inv-loop μ-loop
+loop-again c =
+    let b = c .before .before .before .before .before .before .before .loop in
+    (omega arith, put-map-more width places _ _ (b .i) _ _ _ (b .inv .1) (c .before .before .store-entry .ensures) (omega arith), search needs)
+
+same-length : tie.Need-same-length Inv-loop μ-loop
+same-length c = search needs
+
+returns : tie.Need-returns Inv-loop μ-loop
+returns c = put-map-all width places _ _ _ _ _ _ (c .before .loop .inv .1) (omega arith)
+
+pub store-spec : {M : Type 1} → statement M
+store-spec =
+    tie.close
+    (tie.spec
+    Inv-loop
+    μ-loop
+    loop-holds
+    element-copy-out-p
+    mul-h
+    element-copy-out-h
+    mul-store-entry
+    add-store-entry
+    store-entry-requires
+    add-i
+    loop-less
+    loop-again
+    same-length
+    returns)

@@ -1,0 +1,5 @@
+pub mod Loops
+pub mod Map
+pub mod Packed
+pub mod Placed
+pub mod Superseded

@@ -1,0 +1,238 @@
+-- Laws of maps: what stands at each entry, joining.
+use Prim.Native.Nat.{ℕ, _<_}
+use mathlib.Core.Bool.{Bool, true, false, not, false≢true}
+use mathlib.Core.Path.{_≡_, refl, sym, ap, _∙_}
+use mathlib.Core.List.{[]}
+use mathlib.Core.Logic.{_⊎_, inl, inr, ⊎-elim, _↔_}
+use native.Mathlib.Omega.{arith}
+use lib.ListN.{length, replicate, length-set, length-replicate, getD-replicate, List·getD-eq-default}
+use lib.Seq.{getD-set-same, getD-set-other}
+use borrow.Author.Tests.{not-true}
+use Rattle.octets.specs.Bytes.{_or_}
+use Rattle.octets.proofs.Chunks.{sides, length-tabulate, getD-tabulate, tabulate-same, tabulate-getD}
+use Rattle.octets.proofs.Zero.{every-all, every-at}
+use Rattle.marks.specs.declared.History.{History}
+use Rattle.marks.specs.History.{initialHistory, newerOf}
+use Rattle.marks.proofs.Histories.{Newer, newer-view, newer-idem}
+use Rattle.maps.specs.declared.DependenceMap.{DependenceMap}
+use Rattle.maps.specs.Map.{heldAt, historyAt, emptyMap, withEntry, singleton, isEmpty, joinedHistory, joinedHeldAt, joinedHistoryAt, joinOf}
+
+-- what stands past the end
+abbrev pub outside : History
+outside = record { stable = false; incarnation = 0; count = 0; checkpoints = [] }
+
+-- m has n entries
+pub record Sized (n : ℕ) (m : DependenceMap) : Type 0 where
+  pub helds : length (m .held) ≡ n
+  pub histories : length (m .histories) ≡ n
+
+-- two maps are equal by their entries
+pub same-map : {n : ℕ} {a b : DependenceMap} → Sized n a → Sized n b
+    → ((i : ℕ) → i < n → heldAt a i ≡ heldAt b i) → ((i : ℕ) → i < n → historyAt a i ≡ historyAt b i) → a ≡ b
+same-map {n} {a} {b} s t f g =
+    let p : a .held ≡ b .held =
+    sym (tabulate-getD (a .held) false n (s .helds)) ∙ tabulate-same n (heldAt a) (heldAt b) f ∙ tabulate-getD (b .held) false n (t .helds) in
+    let q : a .histories ≡ b .histories =
+    sym (tabulate-getD (a .histories) outside n (s .histories)) ∙ tabulate-same n (historyAt a) (historyAt b) g ∙ tabulate-getD (b .histories) outside n (t .histories) in
+    λ i. record { held = p i; histories = q i }
+
+-- ---- the empty map
+
+pub sized-empty : (l n : ℕ) → Sized n (emptyMap l n)
+unfolding emptyMap
+sized-empty l n = record { helds = length-replicate n false; histories = length-replicate n (initialHistory l) }
+
+pub held-empty : (l n i : ℕ) → heldAt (emptyMap l n) i ≡ false
+unfolding emptyMap
+held-empty l n i = ⊎-elim
+    (λ p. getD-replicate n i false false p)
+    (λ p. List·getD-eq-default (replicate n false) false {n = i} (rw length-replicate p))
+    (sides i n)
+
+pub history-empty : (l n i : ℕ) → i < n → historyAt (emptyMap l n) i ≡ initialHistory l
+unfolding emptyMap
+history-empty l n i h = getD-replicate n i (initialHistory l) outside h
+
+-- empty exactly if no entry is held
+pub isEmpty-test : (n : ℕ) (m : DependenceMap) → (isEmpty n m ≡ true) ↔ ((i : ℕ) → i < n → heldAt m i ≡ false)
+unfolding isEmpty
+isEmpty-test n m = (
+  λ e i h. not-true (heldAt m i) (every-at (λ j. not (heldAt m j)) n i e h),
+  λ f. every-all (λ j. not (heldAt m j)) n (λ i h. ap not (f i h)),
+)
+
+pub isEmpty-empty : (l n : ℕ) → isEmpty n (emptyMap l n) ≡ true
+isEmpty-empty l n = isEmpty-test n (emptyMap l n) .1 (λ i h. held-empty l n i)
+
+-- ---- one entry more, one entry alone
+
+module _ {n : ℕ} {m : DependenceMap} (s : Sized n m) (i : ℕ) (h : History) where
+  pub sized-withEntry : Sized n (withEntry m i h)
+  unfolding withEntry
+  sized-withEntry = record { helds = length-set (m .held) i true ∙ s .helds; histories = length-set (m .histories) i h ∙ s .histories }
+
+  module _ (below : i < n) where
+    pub held-withEntry : heldAt (withEntry m i h) i ≡ true
+    unfolding withEntry
+    held-withEntry = getD-set-same (m .held) i true false (omega (arith, s .helds))
+
+    pub history-withEntry : historyAt (withEntry m i h) i ≡ h
+    unfolding withEntry
+    history-withEntry = getD-set-same (m .histories) i h outside (omega (arith, s .histories))
+
+module _ (m : DependenceMap) (i : ℕ) (h : History) (j : ℕ) (apart : j ≡ i → ⊥) where
+  pub held-withEntry-other : heldAt (withEntry m i h) j ≡ heldAt m j
+  unfolding withEntry
+  held-withEntry-other = getD-set-other (m .held) i j true false apart
+
+  pub history-withEntry-other : historyAt (withEntry m i h) j ≡ historyAt m j
+  unfolding withEntry
+  history-withEntry-other = getD-set-other (m .histories) i j h outside apart
+
+module _ (l n i : ℕ) (h : History) where
+  pub sized-singleton : Sized n (singleton l n i h)
+  unfolding singleton
+  sized-singleton = sized-withEntry (sized-empty l n) i h
+
+  pub held-singleton : i < n → heldAt (singleton l n i h) i ≡ true
+  unfolding singleton
+  held-singleton below = held-withEntry (sized-empty l n) i h below
+
+  pub history-singleton : i < n → historyAt (singleton l n i h) i ≡ h
+  unfolding singleton
+  history-singleton below = history-withEntry (sized-empty l n) i h below
+
+  pub held-singleton-other : (j : ℕ) → (j ≡ i → ⊥) → heldAt (singleton l n i h) j ≡ false
+  unfolding singleton
+  held-singleton-other j apart = held-withEntry-other (emptyMap l n) i h j apart ∙ held-empty l n j
+
+  pub history-singleton-other : (j : ℕ) → j < n → (j ≡ i → ⊥) → historyAt (singleton l n i h) j ≡ initialHistory l
+  unfolding singleton
+  history-singleton-other j below apart = history-withEntry-other (emptyMap l n) i h j apart ∙ history-empty l n j below
+
+-- ---- joining: entry by entry the newer where both have one
+
+module _ (p : Bool) (x : History) (q : Bool) (y : History) where
+  pub joined-both : p ≡ true → q ≡ true → joinedHistory p x q y ≡ newerOf x y
+  unfolding joinedHistory
+  joined-both e f = rw (e, f)
+
+  pub joined-left : p ≡ true → q ≡ false → joinedHistory p x q y ≡ x
+  unfolding joinedHistory
+  joined-left e f = rw (e, f)
+
+  pub joined-right : p ≡ false → joinedHistory p x q y ≡ y
+  unfolding joinedHistory
+  joined-right e = rw e
+
+module _ (a b : DependenceMap) (i : ℕ) where
+  pub joined-held-left : heldAt a i ≡ true → joinedHeldAt a b i ≡ heldAt a i
+  unfolding joinedHeldAt
+  joined-held-left e = rw e
+
+  pub joined-held-right : heldAt a i ≡ false → joinedHeldAt a b i ≡ heldAt b i
+  unfolding joinedHeldAt
+  joined-held-right e = rw e
+
+  pub joined-history : joinedHistoryAt a b i ≡ joinedHistory (heldAt a i) (historyAt a i) (heldAt b i) (historyAt b i)
+  unfolding joinedHistoryAt
+  joined-history = refl
+
+-- what two entries join to, whether and with what history
+pub data Joined (p : Bool) (x : History) (q : Bool) (y : History) : Bool → History → Type 0 where
+  both : {m : History} → p ≡ true → q ≡ true → Newer x y m → Joined p x q y true m
+  left : p ≡ true → q ≡ false → Joined p x q y true x
+  right : p ≡ false → q ≡ true → Joined p x q y true y
+  neither : p ≡ false → q ≡ false → Joined p x q y false y
+
+joined-view : (p : Bool) (x : History) (q : Bool) (y : History) → Joined p x q y (p or q) (joinedHistory p x q y)
+unfolding joinedHistory
+joined-view true x true y = both refl refl (newer-view x y)
+joined-view true x false y = left refl refl
+joined-view false x true y = right refl refl
+joined-view false x false y = neither refl refl
+
+module _ (n : ℕ) (a b : DependenceMap) where
+  pub sized-join : Sized n (joinOf n a b)
+  unfolding joinOf
+  sized-join = record { helds = length-tabulate (joinedHeldAt a b) n; histories = length-tabulate (joinedHistoryAt a b) n }
+
+  module _ (i : ℕ) (below : i < n) where
+    pub held-join : heldAt (joinOf n a b) i ≡ joinedHeldAt a b i
+    unfolding joinOf
+    held-join = getD-tabulate (joinedHeldAt a b) n i false below
+
+    pub history-join : historyAt (joinOf n a b) i ≡ joinedHistoryAt a b i
+    unfolding joinOf
+    history-join = getD-tabulate (joinedHistoryAt a b) n i outside below
+
+    pub join-view : Joined (heldAt a i) (historyAt a i) (heldAt b i) (historyAt b i) (heldAt (joinOf n a b) i) (historyAt (joinOf n a b) i)
+    unfolding joinedHeldAt joinedHistoryAt
+    join-view = rw (held-join, history-join) (joined-view (heldAt a i) (historyAt a i) (heldAt b i) (historyAt b i))
+
+    pub join-both : heldAt a i ≡ true → heldAt b i ≡ true → historyAt (joinOf n a b) i ≡ newerOf (historyAt a i) (historyAt b i)
+    unfolding joinedHistoryAt
+    join-both e f = history-join ∙ joined-both (heldAt a i) (historyAt a i) (heldAt b i) (historyAt b i) e f
+
+    pub join-left : heldAt a i ≡ true → heldAt b i ≡ false → historyAt (joinOf n a b) i ≡ historyAt a i
+    unfolding joinedHistoryAt
+    join-left e f = history-join ∙ joined-left (heldAt a i) (historyAt a i) (heldAt b i) (historyAt b i) e f
+
+    pub join-right : heldAt a i ≡ false → historyAt (joinOf n a b) i ≡ historyAt b i
+    unfolding joinedHistoryAt
+    join-right e = history-join ∙ joined-right (heldAt a i) (historyAt a i) (heldAt b i) (historyAt b i) e
+
+-- an entry is held in the join exactly if one of the two holds it
+pub held-join-test : (n : ℕ) (a b : DependenceMap) (i : ℕ) → i < n → (heldAt (joinOf n a b) i ≡ true) ↔ ((heldAt a i ≡ true) ⊎ (heldAt b i ≡ true))
+held-join-test n a b i h = (λ e. to e (join-view n a b i h), λ e. of e (join-view n a b i h))
+  where
+    to : {p q r : Bool} {x y m : History} → r ≡ true → Joined p x q y r m → (p ≡ true) ⊎ (q ≡ true)
+    to e (both f g v) = inl f
+    to e (left f g) = inl f
+    to e (right f g) = inr g
+    to e (neither f g) = absurd (false≢true e)
+
+    of : {p q r : Bool} {x y m : History} → (p ≡ true) ⊎ (q ≡ true) → Joined p x q y r m → r ≡ true
+    of e (both f g v) = refl
+    of e (left f g) = refl
+    of e (right f g) = refl
+    of (inl e) (neither f g) = absurd (false≢true (sym f ∙ e))
+    of (inr e) (neither f g) = absurd (false≢true (sym g ∙ e))
+
+-- a map joined with itself is the same
+pub join-idem : {n : ℕ} {a : DependenceMap} → Sized n a → joinOf n a a ≡ a
+unfolding joinedHistory joinedHeldAt joinedHistoryAt
+join-idem {n} {a} s = same-map (sized-join n a a) s
+    (λ i h. held-join n a a i h ∙ held (heldAt a i))
+    (λ i h. history-join n a a i h ∙ history (heldAt a i) (historyAt a i))
+  where
+    held : (p : Bool) → p or p ≡ p
+    held true = refl
+    held false = refl
+
+    history : (p : Bool) (x : History) → joinedHistory p x p x ≡ x
+    history true x = newer-idem x
+    history false x = refl
+
+-- the empty map adds nothing, on the left; on the right where entries that are not held are initial
+module _ (l n : ℕ) where
+  pub join-empty-left : {b : DependenceMap} → Sized n b → joinOf n (emptyMap l n) b ≡ b
+  unfolding joinedHeldAt
+  join-empty-left {b} s = same-map (sized-join n (emptyMap l n) b) s
+      (λ i h. held-join n (emptyMap l n) b i h ∙ ap (λ (p : Bool). p or heldAt b i) (held-empty l n i))
+      (λ i h. join-right n (emptyMap l n) b i h (held-empty l n i))
+
+  pub join-empty-right : {a : DependenceMap} → Sized n a → ((i : ℕ) → i < n → heldAt a i ≡ false → historyAt a i ≡ initialHistory l)
+      → joinOf n a (emptyMap l n) ≡ a
+  unfolding joinedHeldAt joinedHistoryAt
+  join-empty-right {a} s f = same-map (sized-join n a (emptyMap l n)) s
+      (λ i h. held-join n a (emptyMap l n) i h ∙ ap (λ (q : Bool). heldAt a i or q) (held-empty l n i) ∙ held (heldAt a i))
+      (λ i h. history i h (heldAt a i) refl)
+    where
+      held : (p : Bool) → p or false ≡ p
+      held true = refl
+      held false = refl
+
+      history : (i : ℕ) → i < n → (p : Bool) → heldAt a i ≡ p → historyAt (joinOf n a (emptyMap l n)) i ≡ historyAt a i
+      history i h true e = join-left n a (emptyMap l n) i h e (held-empty l n i)
+      history i h false e = join-right n a (emptyMap l n) i h e ∙ history-empty l n i h ∙ sym (f i h e)

@@ -1,0 +1,90 @@
+-- Packed maps from a place of a buffer on: what the code that stores, loads and tests them does, over the width w of a life
+-- number, the length l of a list and the number n of entries.
+use Prim.Native.Nat.{ℕ, _+_, _*_, _≤_, _<_}
+use mathlib.Core.Bool.{Bool, true, false}
+use mathlib.Core.Path.{_≡_, sym, ap, _∙_}
+use mathlib.Core.List.{List}
+use lib.Dec.{ltb}
+use lib.ListN.{length}
+use Rattle.octets.specs.Bytes.{put, part, zeros, allZero}
+use Rattle.octets.proofs.Put.{part-part}
+use Rattle.octets.proofs.Zero.{every-none, every-more, every-off}
+use Rattle.octets.proofs.Chunks.{step, put-none, put-more}
+use Rattle.marks.specs.declared.History.{History}
+use Rattle.marks.specs.Packed.{historySize, packHistory, unpackHistory, presentIn, formedHistory}
+use Rattle.maps.specs.declared.DependenceMap.{DependenceMap}
+use Rattle.maps.specs.Map.{heldAt, historyAt}
+use Rattle.maps.specs.Packed.{mapSize, packEntry, packEntryAt, packMap, entryBytes, unpackHeldAt, unpackHistoryAt, formedEntry, formedEntryAt, formedMap}
+use Rattle.maps.proofs.Packed.{length-packEntryAt}
+
+-- ---- one entry
+
+module _ (w l : ℕ) where
+  module _ (at : ℕ) (p : Bool) (h : History) (b b' : List ℕ) where
+    pub put-held : p ≡ true → b' ≡ put at (packHistory w l h) b → b' ≡ put at (packEntry w l p h) b
+    unfolding packEntry
+    put-held e f = rw e f
+
+    pub put-absent : p ≡ false → b' ≡ put at (zeros (historySize w l)) b → b' ≡ put at (packEntry w l p h) b
+    unfolding packEntry
+    put-absent e f = rw e f
+
+  module _ (known : Bool) (b : List ℕ) where
+    pub entry-known : known ≡ true → formedHistory w l b ≡ formedEntry w l known b
+    unfolding formedEntry
+    entry-known e = rw e
+
+    pub entry-unknown : known ≡ false → allZero b ≡ formedEntry w l known b
+    unfolding formedEntry
+    entry-unknown e = rw e
+
+-- ---- a map is stored entry by entry
+
+module _ (w l at : ℕ) (m : DependenceMap) where
+  pub put-map-none : (b : List ℕ) → b ≡ put at (packMap w l 0 m) b
+  unfolding packMap
+  put-map-none b = put-none at (packEntryAt w l m) b
+
+  pub put-map-more : (i : ℕ) (b b' b'' : List ℕ) → b' ≡ put at (packMap w l i m) b → b'' ≡ put (at + historySize w l * i) (packEntry w l (heldAt m i) (historyAt m i)) b'
+      → at + historySize w l * i + historySize w l ≤ length b → b'' ≡ put at (packMap w l (i + 1) m) b
+  unfolding packMap packEntryAt
+  put-map-more i b b' b'' e f h = put-more at (historySize w l) (packEntryAt w l m) (length-packEntryAt w l m) i b b' b'' e f h
+
+  pub put-map-all : (i n : ℕ) (b b' : List ℕ) → b' ≡ put at (packMap w l i m) b → i ≡ n → b' ≡ put at (packMap w l n m) b
+  put-map-all i n b b' e h = e ∙ ap (λ (k : ℕ). put at (packMap w l k m) b) h
+
+-- ---- entry i of a map that stands from at on
+
+module _ (w l n at : ℕ) (s : List ℕ) (i : ℕ) (below : i < n) where
+  entry-here : entryBytes w l (part at (mapSize w l n) s) i ≡ part (at + historySize w l * i) (historySize w l) s
+  unfolding entryBytes
+  entry-here = part-part (historySize w l * i) (historySize w l) at (mapSize w l n) s (step (historySize w l) i n below)
+
+  pub held-here : presentIn (part (at + historySize w l * i) (historySize w l) s) ≡ unpackHeldAt w l (part at (mapSize w l n) s) i
+  unfolding unpackHeldAt
+  held-here = ap presentIn (sym entry-here)
+
+  pub history-here : unpackHistory w l (part (at + historySize w l * i) (historySize w l) s) ≡ unpackHistoryAt w l (part at (mapSize w l n) s) i
+  unfolding unpackHistoryAt
+  history-here = ap (unpackHistory w l) (sym entry-here)
+
+  module _ (opened : ℕ) (t : Bool) (e : t ≡ formedEntry w l (ltb i opened) (part (at + historySize w l * i) (historySize w l) s)) where
+    formed-here : formedEntryAt w l opened (part at (mapSize w l n) s) i ≡ t
+    unfolding formedEntryAt
+    formed-here = ap (formedEntry w l (ltb i opened)) entry-here ∙ sym e
+
+    pub formed-more : formedMap w l i opened (part at (mapSize w l n) s) ≡ true → t ≡ true → formedMap w l (i + 1) opened (part at (mapSize w l n) s) ≡ true
+    unfolding formedMap
+    formed-more f z = every-more (formedEntryAt w l opened (part at (mapSize w l n) s)) i f (formed-here ∙ z)
+
+    pub formed-off : t ≡ false → formedMap w l n opened (part at (mapSize w l n) s) ≡ false
+    unfolding formedMap
+    formed-off z = every-off (formedEntryAt w l opened (part at (mapSize w l n) s)) n i below (formed-here ∙ z)
+
+module _ (w l opened : ℕ) (b : List ℕ) where
+  pub formed-none : formedMap w l 0 opened b ≡ true
+  unfolding formedMap
+  formed-none = every-none (formedEntryAt w l opened b)
+
+  pub formed-all : (i n : ℕ) → formedMap w l i opened b ≡ true → i ≡ n → formedMap w l n opened b ≡ true
+  formed-all i n e h = rw h at e

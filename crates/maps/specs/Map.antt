@@ -1,0 +1,70 @@
+-- Document 01, "Lives and marks": dependence maps (maps), over the number n of entries and the length l of a history's list.
+use Prim.Native.Nat.{ℕ, zero, suc}
+use mathlib.Core.Bool.{Bool, true, false, not}
+use mathlib.Core.List.{[]}
+use mathlib.Core.Option.{Option, none, some}
+use lib.ListN.{getD, set, replicate}
+use Rattle.octets.specs.Bytes.{pick, _and_, _or_, tabulate, every}
+use Rattle.marks.specs.declared.History.{History}
+use Rattle.marks.specs.History.{incarnationOf, initialHistory, newerOf}
+use Rattle.marks.specs.Incarnation.{supersededBy}
+use Rattle.maps.specs.declared.DependenceMap.{DependenceMap}
+use Rattle.maps.specs.declared.Comparison.{Comparison}
+use Rattle.maps.specs.declared.Comparison.the-variants.{Superseded, Current}
+
+-- whether m has a mark of take i
+abbrev pub heldAt : DependenceMap → ℕ → Bool
+heldAt m i = getD (m .held) i false
+
+-- m's mark of take i; past the end, what an array of histories gives there
+abbrev pub historyAt : DependenceMap → ℕ → History
+historyAt m i = getD (m .histories) i (record { stable = false; incarnation = 0; count = 0; checkpoints = [] })
+
+-- No mark of any take. An entry that is not held is the initial history, so that equal maps are equal values.
+unfoldable pub emptyMap : ℕ → ℕ → DependenceMap
+emptyMap l n = record { held = replicate n false; histories = replicate n (initialHistory l) }
+
+-- m with the mark h for take i
+unfoldable pub withEntry : DependenceMap → ℕ → History → DependenceMap
+withEntry m i h = record { held = set (m .held) i true; histories = set (m .histories) i h }
+
+-- the mark h of take i alone
+unfoldable pub singleton : ℕ → ℕ → ℕ → History → DependenceMap
+singleton l n i h = withEntry (emptyMap l n) i h
+
+unfoldable pub isEmpty : ℕ → DependenceMap → Bool
+isEmpty n m = every n (λ i. not (heldAt m i))
+
+-- ---- Joining takes the newer mark where both have one.
+
+unfoldable pub joinedHistory : Bool → History → Bool → History → History
+joinedHistory p x q y = pick p (pick q (newerOf x y) x) y
+
+unfoldable pub joinedHeldAt : DependenceMap → DependenceMap → ℕ → Bool
+joinedHeldAt a b i = heldAt a i or heldAt b i
+
+unfoldable pub joinedHistoryAt : DependenceMap → DependenceMap → ℕ → History
+joinedHistoryAt a b i = joinedHistory (heldAt a i) (historyAt a i) (heldAt b i) (historyAt b i)
+
+unfoldable pub joinOf : ℕ → DependenceMap → DependenceMap → DependenceMap
+joinOf n a b = record { held = tabulate n (joinedHeldAt a b); histories = tabulate n (joinedHistoryAt a b) }
+
+-- ---- "a mark of the parcel is stale by the take's mark": of one and the same take
+
+-- both have a mark of take i, and that of a is stale by that of b
+unfoldable pub supersededAt : DependenceMap → DependenceMap → ℕ → Bool
+supersededAt a b i = heldAt a i and heldAt b i and supersededBy (incarnationOf (historyAt a i)) (incarnationOf (historyAt b i))
+
+-- the first of the n numbers from k on at which f holds
+unfoldable pub firstFrom : (ℕ → Bool) → ℕ → ℕ → Option ℕ
+firstFrom f k zero = none
+firstFrom f k (suc n) = pick (f k) (some k) (firstFrom f (suc k) n)
+
+-- the first take of which a's mark is stale by b's
+unfoldable pub firstSuperseded : ℕ → DependenceMap → DependenceMap → Option ℕ
+firstSuperseded n a b = firstFrom (supersededAt a b) 0 n
+
+-- what the comparison's answer says: the number of the first such take, or none
+abbrev pub answerOf : Comparison → Option ℕ
+answerOf (Superseded i) = some i
+answerOf Current = none

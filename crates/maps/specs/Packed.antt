@@ -1,0 +1,67 @@
+-- Document 01, "Packed forms": a map as the packed marks of its n entries, one after the other; an absent mark is all zero.
+use Prim.Native.Nat.{ℕ, _*_, _≤_, _<_}
+use mathlib.Core.Bool.{Bool, true, false}
+use mathlib.Core.Path.{_≡_}
+use mathlib.Core.List.{List}
+use lib.ListN.{length}
+use lib.Dec.{ltb}
+use Rattle.octets.specs.Bytes.{pick, part, chunks, tabulate, every, zeros, allZero}
+use Rattle.marks.specs.declared.History.{History}
+use Rattle.marks.specs.History.{Roomy, initialHistory}
+use Rattle.marks.specs.Packed.{historySize, packHistory, unpackHistory, presentIn, formedHistory, Packable}
+use Rattle.maps.specs.declared.DependenceMap.{DependenceMap}
+use Rattle.maps.specs.Map.{heldAt, historyAt}
+
+-- What document 01 fixes: one entry for each of sixteen takes.
+abbrev pub entries : ℕ
+entries = 16
+
+abbrev pub mapSize : ℕ → ℕ → ℕ → ℕ
+mapSize w l n = historySize w l * n
+
+unfoldable pub packEntry : ℕ → ℕ → Bool → History → List ℕ
+packEntry w l p h = pick p (packHistory w l h) (zeros (historySize w l))
+
+unfoldable pub packEntryAt : ℕ → ℕ → DependenceMap → ℕ → List ℕ
+packEntryAt w l m i = packEntry w l (heldAt m i) (historyAt m i)
+
+unfoldable pub packMap : ℕ → ℕ → ℕ → DependenceMap → List ℕ
+packMap w l n m = chunks n (packEntryAt w l m)
+
+-- the bytes of entry i
+unfoldable pub entryBytes : ℕ → ℕ → List ℕ → ℕ → List ℕ
+entryBytes w l b i = part (historySize w l * i) (historySize w l) b
+
+unfoldable pub unpackHeldAt : ℕ → ℕ → List ℕ → ℕ → Bool
+unpackHeldAt w l b i = presentIn (entryBytes w l b i)
+
+unfoldable pub unpackHistoryAt : ℕ → ℕ → List ℕ → ℕ → History
+unpackHistoryAt w l b i = unpackHistory w l (entryBytes w l b i)
+
+unfoldable pub unpackMap : ℕ → ℕ → ℕ → List ℕ → DependenceMap
+unpackMap w l n b = record { held = tabulate n (unpackHeldAt w l b); histories = tabulate n (unpackHistoryAt w l b) }
+
+-- Well-formed: every mark is, and there is none of a take that is not among the first opened.
+unfoldable pub formedEntry : ℕ → ℕ → Bool → List ℕ → Bool
+formedEntry w l known b = pick known (formedHistory w l b) (allZero b)
+
+unfoldable pub formedEntryAt : ℕ → ℕ → ℕ → List ℕ → ℕ → Bool
+formedEntryAt w l opened b i = formedEntry w l (ltb i opened) (entryBytes w l b i)
+
+unfoldable pub formedMap : ℕ → ℕ → ℕ → ℕ → List ℕ → Bool
+formedMap w l n opened b = every n (formedEntryAt w l opened b)
+
+-- ---- what can be packed: a mark that is held fits its bytes, one that is not is the initial one
+
+pub data EntryOk (w l : ℕ) : Bool → History → Type 0 where
+  present : {h : History} → Roomy l h → Packable w l h → EntryOk w l true h
+  absent : EntryOk w l false (initialHistory l)
+
+pub record MapOk (w l n : ℕ) (m : DependenceMap) : Type 0 where
+  pub helds : length (m .held) ≡ n
+  pub histories : length (m .histories) ≡ n
+  pub each : (i : ℕ) → i < n → EntryOk w l (heldAt m i) (historyAt m i)
+
+-- what the code's functions on maps ask: every count is within its list
+unfoldable pub Bounded : ℕ → DependenceMap → Type 0
+Bounded l m = (i : ℕ) → historyAt m i .count ≤ l

@@ -1,0 +1,216 @@
+// Dependence maps (document 01: maps): at most one history for each transactor, and the packed form.
+use marks::History;
+ghost use mathlib.Core.Path.{_≡_};
+ghost use Prim.Native.Nat.{_+_, _≤_, _<_};
+ghost use lib.ListN.{length};
+ghost use Rattle.octets.specs.Bytes.{put, part};
+ghost use Rattle.marks.specs.Packed.{width, places, historySize};
+ghost use Rattle.maps.specs.Map.{heldAt, historyAt, emptyMap, withEntry, singleton, isEmpty, joinedHistory, joinOf, supersededAt, firstSuperseded, answerOf};
+ghost use Rattle.maps.specs.Packed.{entries, mapSize, packEntry, packMap, unpackMap, formedEntry, formedMap, Bounded};
+
+// One entry for each transactor, and the bytes of a packed map.
+pub const ENTRIES: usize = 16;
+
+pub const SIZE: usize = marks::SIZE * ENTRIES;
+
+// Document 01: a map. A history whose place is not held is the initial one.
+pub struct DependenceMap {
+    pub held: [bool; 16],
+    pub histories: [History; 16],
+}
+
+// The comparison's answer: the first transactor whose history is superseded, or none.
+pub enum Comparison {
+    Superseded(usize),
+    Current,
+}
+
+impl DependenceMap {
+    // No entry.
+    pub const EMPTY: DependenceMap = DependenceMap {
+        held: [false; 16],
+        histories: [History::INITIAL; 16],
+    };
+
+    // The empty map.
+    pub fn empty() -> DependenceMap
+        ensures { λ r. ⌜ r ≡ emptyMap places entries ⌝ }
+    {
+        DependenceMap::EMPTY
+    }
+
+    // Whether there is a history of transactor i.
+    pub fn holds(self, i: usize) -> bool
+        requires { ⌜ i < entries ⌝ }
+        ensures { λ r. ⌜ r ≡ heldAt self i ⌝ }
+    {
+        self.held[i]
+    }
+
+    // The history of transactor i; the initial one where there is none.
+    pub fn entry(self, i: usize) -> History
+        requires { ⌜ i < entries ⌝ }
+        ensures { λ r. ⌜ r ≡ historyAt self i ⌝ }
+    {
+        self.histories[i]
+    }
+
+    // The map with h for transactor i.
+    pub fn with(mut self, i: usize, h: History) -> DependenceMap
+        requires { ⌜ i < entries ⌝ }
+        ensures { λ r. ⌜ r ≡ withEntry self i h ⌝ }
+    {
+        self.held[i] = true;
+        self.histories[i] = h;
+        self
+    }
+
+    // The map of h for transactor i alone.
+    pub fn one(i: usize, h: History) -> DependenceMap
+        requires { ⌜ i < entries ⌝ }
+        ensures { λ r. ⌜ r ≡ singleton places entries i h ⌝ }
+    {
+        DependenceMap::empty().with(i, h)
+    }
+
+    // Whether there is no entry.
+    pub fn is_empty(self) -> bool
+        ensures { λ r. ⌜ r ≡ isEmpty entries self ⌝ }
+    {
+        let mut i: usize = 0;
+        while i < ENTRIES {
+            if self.held[i] {
+                return false;
+            }
+            i += 1;
+        }
+        true
+    }
+
+    // Entry by entry the newer of the two; on a tie that of self.
+    pub fn join(self, other: DependenceMap) -> DependenceMap
+        ensures { λ r. ⌜ r ≡ joinOf entries self other ⌝ }
+    {
+        let mut r = self;
+        let mut i: usize = 0;
+        while i < ENTRIES {
+            let p = self.held[i];
+            let q = other.held[i];
+            let x = self.histories[i];
+            let y = other.histories[i];
+            r.held[i] = p || q;
+            r.histories[i] = joined(p, x, q, y);
+            i += 1;
+        }
+        r
+    }
+
+    // The first transactor of which self's history is superseded by other's.
+    pub fn compare(self, other: DependenceMap) -> Comparison
+        requires { ⌜ Bounded places self × Bounded places other ⌝ }
+        ensures { λ r. ⌜ answerOf r ≡ firstSuperseded entries self other ⌝ }
+    {
+        let mut i: usize = 0;
+        while i < ENTRIES {
+            if self.superseded_at(other, i) {
+                return Comparison::Superseded(i);
+            }
+            i += 1;
+        }
+        Comparison::Current
+    }
+
+    // Whether both have a history of transactor i, and self's is superseded by other's.
+    fn superseded_at(self, other: DependenceMap, i: usize) -> bool
+        requires { ⌜ (i < entries) × Bounded places self × Bounded places other ⌝ }
+        ensures { λ r. ⌜ r ≡ supersededAt self other i ⌝ }
+    {
+        if !self.held[i] {
+            return false;
+        }
+        if !other.held[i] {
+            return false;
+        }
+        let x = self.histories[i];
+        let y = other.histories[i];
+        x.superseded_by(y)
+    }
+
+    // Writes the packed form from at on.
+    pub fn store(self, image: &mut [u8], at: usize)
+        requires { ⌜ (at + mapSize width places entries ≤ length (now image)) × Bounded places self ⌝ }
+        ensures { λ _. ⌜ now (image .exit) ≡ put at (packMap width places entries self) (now (image .entry)) ⌝ }
+    {
+        let mut i: usize = 0;
+        while i < ENTRIES {
+            let p = self.held[i];
+            let h = self.histories[i];
+            store_entry(image, at + marks::SIZE * i, p, h);
+            i += 1;
+        }
+    }
+
+    // What the packed form from at on holds.
+    pub fn load(s: &[u8], at: usize) -> DependenceMap
+        requires { ⌜ at + mapSize width places entries ≤ length (now s) ⌝ }
+        ensures { λ r. ⌜ r ≡ unpackMap width places entries (part at (mapSize width places entries) (now (s .entry))) ⌝ }
+    {
+        let mut r = DependenceMap::EMPTY;
+        let mut i: usize = 0;
+        while i < ENTRIES {
+            let from = at + marks::SIZE * i;
+            r.held[i] = History::present(s, from);
+            r.histories[i] = History::load(s, from);
+            i += 1;
+        }
+        r
+    }
+
+    // Whether the bytes of a packed map from at on are well-formed, the first opened transactors being opened.
+    pub fn formed(s: &[u8], at: usize, opened: usize) -> bool
+        requires { ⌜ at + mapSize width places entries ≤ length (now s) ⌝ }
+        ensures { λ r. ⌜ r ≡ formedMap width places entries opened (part at (mapSize width places entries) (now (s .entry))) ⌝ }
+    {
+        let mut i: usize = 0;
+        while i < ENTRIES {
+            if !formed_entry(s, at + marks::SIZE * i, i < opened) {
+                return false;
+            }
+            i += 1;
+        }
+        true
+    }
+}
+
+fn joined(p: bool, x: History, q: bool, y: History) -> History
+    ensures { λ r. ⌜ r ≡ joinedHistory p x q y ⌝ }
+{
+    if p {
+        if q {
+            return x.newer(y);
+        }
+        return x;
+    }
+    y
+}
+
+fn store_entry(image: &mut [u8], at: usize, p: bool, h: History)
+    requires { ⌜ (at + historySize width places ≤ length (now image)) × (h .count ≤ places) ⌝ }
+    ensures { λ _. ⌜ now (image .exit) ≡ put at (packEntry width places p h) (now (image .entry)) ⌝ }
+{
+    if p {
+        h.store(image, at);
+        return;
+    }
+    octets::clear(image, at, marks::SIZE);
+}
+
+fn formed_entry(s: &[u8], at: usize, known: bool) -> bool
+    requires { ⌜ at + historySize width places ≤ length (now s) ⌝ }
+    ensures { λ r. ⌜ r ≡ formedEntry width places known (part at (historySize width places) (now (s .entry))) ⌝ }
+{
+    if known {
+        return History::formed(s, at);
+    }
+    octets::all_zero(s, at, marks::SIZE)
+}

@@ -1,0 +1,136 @@
+-- The tests on the lives of two histories, from the places of their lists: what the code compares.
+use Prim.Native.Nat.{ℕ, suc, _≤_, _<_}
+use mathlib.Core.Bool.{Bool, true, false}
+use mathlib.Core.Path.{_≡_, refl, sym, _∙_}
+use mathlib.Core.List.{List, [], _∷_, _++_}
+use mathlib.Core.Logic.{⊎-elim}
+use native.Mathlib.Omega.{arith}
+use lib.Dec.{eqb, ltb}
+use lib.ListN.{length, take, getD, length-append, length-take}
+use lib.Seq.{length-take-le, take-take, take-suc, getD-take}
+use borrow.Author.Tests.{lt-ltb, le-ltb, eq-eqb, ne-eqb}
+use Rattle.octets.specs.Bytes.{_and_, _or_}
+use Rattle.marks.specs.declared.History.{History}
+use Rattle.marks.specs.Incarnation.{sameList, beginsWith, strictPrefix, supersededBy, checkpointedIn, sameIncarnation}
+use Rattle.marks.specs.History.{incarnationOf}
+use Rattle.marks.proofs.Trail.{eq-or-lt}
+use Rattle.marks.proofs.Tests.{same-length}
+
+and-true : (t : Bool) → t and true ≡ t
+and-true true = refl
+and-true false = refl
+
+and-false : (t : Bool) → t and false ≡ false
+and-false true = refl
+and-false false = refl
+
+or-false : (t : Bool) → t or false ≡ t
+or-false true = refl
+or-false false = refl
+
+and-assoc : (s t u : Bool) → s and t and u ≡ (s and t) and u
+and-assoc true t u = refl
+and-assoc false t u = refl
+
+same-snoc : (xs ys : List ℕ) (x y : ℕ) → length xs ≡ length ys → sameList (xs ++ (x ∷ [])) (ys ++ (y ∷ [])) ≡ sameList xs ys and eqb x y
+unfolding sameList
+same-snoc [] [] x y h = and-true (eqb x y)
+same-snoc [] (v ∷ ys) x y h = absurd (omega arith)
+same-snoc (u ∷ xs) [] x y h = absurd (omega arith)
+same-snoc (u ∷ xs) (v ∷ ys) x y h = rw (same-snoc xs ys x y (omega arith)) (and-assoc (eqb u v) (sameList xs ys) (eqb x y))
+
+-- the first places of b's list, as many as a uses, are those of a
+abbrev pub agree : History → History → Bool
+agree a b = sameList (take (a .count) (a .checkpoints)) (take (a .count) (b .checkpoints))
+
+module _ (l : ℕ) (a b : History) (pa : length (a .checkpoints) ≡ l) (pb : length (b .checkpoints) ≡ l) (ca : a .count ≤ l) (cb : b .count ≤ l) where
+  la : length (incarnationOf a .checkpoints) ≡ a .count
+  la = length-take-le (a .count) (a .checkpoints) (omega arith)
+
+  lb : length (incarnationOf b .checkpoints) ≡ b .count
+  lb = length-take-le (b .count) (b .checkpoints) (omega arith)
+
+  -- lists of other lengths are not the same
+  apart : (a .count ≡ b .count → ⊥) → sameList (incarnationOf a .checkpoints) (incarnationOf b .checkpoints) ≡ false
+  apart h = same-length (incarnationOf a .checkpoints) (incarnationOf b .checkpoints) (λ e. h (sym la ∙ e ∙ lb))
+
+  begins-test : a .count ≤ b .count → beginsWith (incarnationOf b .checkpoints) (incarnationOf a .checkpoints) ≡ agree a b
+  unfolding beginsWith
+  begins-test h = rw (la, take-take (a .count) (b .count) (b .checkpoints) h)
+
+  -- ---- superseded (stale by)
+
+  pub superseded-short : b .count < a .count → false ≡ supersededBy (incarnationOf a) (incarnationOf b)
+  unfolding supersededBy strictPrefix
+  superseded-short h = rw (apart (λ e. omega arith), la, lb, le-ltb (a .count) (b .count) (omega arith))
+
+  superseded-longer : a .count < b .count
+      → supersededBy (incarnationOf a) (incarnationOf b) ≡ agree a b and ltb (a .incarnation) (getD (b .checkpoints) (a .count) 0)
+  unfolding supersededBy strictPrefix
+  superseded-longer h = rw (
+    apart (λ e. omega arith),
+    begins-test (omega arith),
+    la,
+    lb,
+    lt-ltb (a .count) (b .count) h,
+    getD-take (b .count) (b .checkpoints) (a .count) 0 h,
+  )
+
+  superseded-even : a .count ≡ b .count
+      → supersededBy (incarnationOf a) (incarnationOf b) ≡ agree a b and ltb (a .incarnation) (b .incarnation)
+  unfolding supersededBy strictPrefix
+  superseded-even h = rw (la, lb, le-ltb (a .count) (b .count) (omega arith), h) (or-false _)
+
+  pub superseded-off : agree a b ≡ false → a .count ≤ b .count → false ≡ supersededBy (incarnationOf a) (incarnationOf b)
+  superseded-off e h = ⊎-elim
+      (λ (k : a .count ≡ b .count). sym (superseded-even k ∙ rw e))
+      (λ (k : a .count < b .count). sym (superseded-longer k ∙ rw e))
+      (eq-or-lt (a .count) (b .count) h)
+
+  module _ (e : agree a b ≡ true) where
+    pub superseded-entry : a .count < b .count → ltb (a .incarnation) (getD (b .checkpoints) (a .count) 0) ≡ supersededBy (incarnationOf a) (incarnationOf b)
+    superseded-entry h = sym (superseded-longer h ∙ rw e)
+
+    pub superseded-number : a .count ≡ b .count → ltb (a .incarnation) (b .incarnation) ≡ supersededBy (incarnationOf a) (incarnationOf b)
+    superseded-number h = sym (superseded-even h ∙ rw e)
+
+  -- ---- checkpointed (signed)
+
+  one-more : length (incarnationOf a .checkpoints ++ (a .incarnation ∷ [])) ≡ suc (a .count)
+  one-more = rw (length-append, la) (omega arith)
+
+  pub checkpointed-short : b .count ≤ a .count → false ≡ checkpointedIn (incarnationOf a) (incarnationOf b)
+  unfolding checkpointedIn beginsWith
+  checkpointed-short h = sym (same-length
+      (incarnationOf a .checkpoints ++ (a .incarnation ∷ []))
+      (take (length (incarnationOf a .checkpoints ++ (a .incarnation ∷ []))) (incarnationOf b .checkpoints))
+      (rw (length-take, one-more, lb) (λ e. omega arith)))
+
+  checkpointed-longer : a .count < b .count
+      → checkpointedIn (incarnationOf a) (incarnationOf b) ≡ agree a b and eqb (a .incarnation) (getD (b .checkpoints) (a .count) 0)
+  unfolding checkpointedIn beginsWith
+  checkpointed-longer h =
+      let k : a .count < length (b .checkpoints) = omega arith in
+      let m : length (take (a .count) (b .checkpoints)) ≡ a .count = length-take-le (a .count) (b .checkpoints) (omega arith) in
+      rw (one-more, take-take (suc (a .count)) (b .count) (b .checkpoints) h, take-suc (b .checkpoints) (a .count) 0 k)
+      (same-snoc (incarnationOf a .checkpoints) (take (a .count) (b .checkpoints)) (a .incarnation) (getD (b .checkpoints) (a .count) 0) (la ∙ sym m))
+
+  pub checkpointed-off : agree a b ≡ false → a .count < b .count → false ≡ checkpointedIn (incarnationOf a) (incarnationOf b)
+  checkpointed-off e h = sym (checkpointed-longer h ∙ rw e)
+
+  pub checkpointed-entry : agree a b ≡ true → a .count < b .count → eqb (a .incarnation) (getD (b .checkpoints) (a .count) 0) ≡ checkpointedIn (incarnationOf a) (incarnationOf b)
+  checkpointed-entry e h = sym (checkpointed-longer h ∙ rw e)
+
+  -- ---- one life
+
+  pub same-count : (a .count ≡ b .count → ⊥) → false ≡ sameIncarnation (incarnationOf a) (incarnationOf b)
+  unfolding sameIncarnation
+  same-count h = rw (apart h)
+
+  pub same-number : (a .incarnation ≡ b .incarnation → ⊥) → false ≡ sameIncarnation (incarnationOf a) (incarnationOf b)
+  unfolding sameIncarnation
+  same-number h = rw (ne-eqb (a .incarnation) (b .incarnation) h) (sym (and-false (sameList (incarnationOf a .checkpoints) (incarnationOf b .checkpoints))))
+
+  pub same-rest : a .count ≡ b .count → a .incarnation ≡ b .incarnation → agree a b ≡ sameIncarnation (incarnationOf a) (incarnationOf b)
+  unfolding sameIncarnation
+  same-rest e f = rw (eq-eqb (a .incarnation) (b .incarnation) f, e) (sym (and-true (sameList (take (b .count) (a .checkpoints)) (incarnationOf b .checkpoints))))

@@ -1,0 +1,65 @@
+-- Absent, a zero bit that is set, or a list whose unused places are tested.
+use mathlib.Core.Path.{_∙_}
+use native.Mathlib.Omega.{arith}
+use Rattle.marks.specs.Packed.{width, places}
+use Rattle.marks.proofs.Placed.{formed-absent, formed-bits, formed-list}
+use borrow.Author.Needs.{needs}
+use Rattle.marks.proofs.History.formed.Statement.{statement}
+use Rattle.marks.proofs.History.formed.Tie as tie
+
+shared-slice-read-head : tie.Need-shared-slice-read-head
+shared-slice-read-head c = search needs
+
+all-zero-requires : tie.Need-all-zero-requires
+all-zero-requires c κs = search needs
+
+returns : tie.Need-returns
+returns c = c .all-zero .ensures ∙ formed-absent width places _ _ (omega arith) (omega arith)
+
+returns-2 : tie.Need-returns-2
+returns-2 c = formed-bits width places _ _ (omega arith) (omega arith) (c .if2 .taken)
+
+cast-count : tie.Need-cast-count
+cast-count c = search needs
+
+add-all-zero : tie.Need-add-all-zero
+add-all-zero c = search needs
+
+add-all-zero-2 : tie.Need-add-all-zero-2
+add-all-zero-2 c = search needs
+
+mul-all-zero : tie.Need-mul-all-zero
+mul-all-zero c = search needs
+
+add-all-zero-3 : tie.Need-add-all-zero-3
+add-all-zero-3 c = search needs
+
+sub-all-zero : tie.Need-sub-all-zero
+sub-all-zero c = search needs
+
+mul-all-zero-2 : tie.Need-mul-all-zero-2
+mul-all-zero-2 c = search needs
+
+all-zero-requires-2 : tie.Need-all-zero-requires-2
+all-zero-requires-2 c κs = search needs
+
+returns-3 : tie.Need-returns-3
+returns-3 c = c .all-zero2 .ensures ∙ formed-list width places _ _ (omega arith) (omega arith) (c .before .if2 .left) (omega arith)
+
+pub formed-spec : {M : Type 1} → statement M
+formed-spec =
+    tie.close
+    (tie.spec
+    shared-slice-read-head
+    all-zero-requires
+    returns
+    returns-2
+    cast-count
+    add-all-zero
+    add-all-zero-2
+    mul-all-zero
+    add-all-zero-3
+    sub-all-zero
+    mul-all-zero-2
+    all-zero-requires-2
+    returns-3)

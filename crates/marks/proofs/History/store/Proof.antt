@@ -1,0 +1,66 @@
+-- The first byte, the number and the places, one after the other.
+use denote.Ref.{now}
+use mathlib.Core.Path.{_∙_}
+use native.Mathlib.Omega.{arith}
+use lib.ListN.{length-set}
+use Rattle.marks.specs.Packed.{width, places}
+use Rattle.marks.proofs.Placed.{put-history}
+use borrow.Author.Needs.{needs}
+use Rattle.marks.proofs.History.store.Statement.{statement}
+use Rattle.marks.proofs.History.store.Tie as tie
+
+flag-requires : tie.Need-flag-requires
+flag-requires c κs = search needs
+
+mul-image : tie.Need-mul-image
+mul-image c = search needs
+
+add-image : tie.Need-add-image
+add-image c = search needs
+
+add-image-2 : tie.Need-add-image-2
+add-image-2 c = search needs
+
+slice-write-image : tie.Need-slice-write-image
+slice-write-image c = search needs
+
+add-store-number : tie.Need-add-store-number
+add-store-number c = search needs
+
+store-number-requires : tie.Need-store-number-requires
+store-number-requires c κs = simp length-set (omega arith)
+
+add-store-numbers : tie.Need-add-store-numbers
+add-store-numbers c = search needs
+
+add-store-numbers-2 : tie.Need-add-store-numbers-2
+add-store-numbers-2 c = search needs
+
+store-numbers-requires : tie.Need-store-numbers-requires
+store-numbers-requires c κs = omega (arith, simp length-set at (c .before .before .before .before .store-number .kept .0))
+
+same-length : tie.Need-same-length
+same-length c = c .before .before .store-numbers .kept .0 ∙ simp length-set at (c .before .before .before .before .before .before .before .store-number .kept .0)
+
+returns : tie.Need-returns
+returns c =
+    let s = c .before .before .before .before .before .before .before .before .before .before in
+    let a = s .before .before .args in
+    put-history width places (a .at) (a .self) (s .flag .result) (now (a .image)) _ _ (omega arith) (s .flag .ensures .0) (omega arith) (c .before .before .before .before .before .before .before .store-number .ensures) (c .before .before .store-numbers .ensures)
+
+pub store-spec : {M : Type 1} → statement M
+store-spec =
+    tie.close
+    (tie.spec
+    flag-requires
+    mul-image
+    add-image
+    add-image-2
+    slice-write-image
+    add-store-number
+    store-number-requires
+    add-store-numbers
+    add-store-numbers-2
+    store-numbers-requires
+    same-length
+    returns)

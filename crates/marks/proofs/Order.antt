@@ -1,0 +1,223 @@
+-- Laws on lives, over lists of any length and numbers of any width.
+use Prim.Native.Nat.{ℕ, _≤_, _<_}
+use mathlib.Core.Path.{_≡_, refl, ap, sym}
+use mathlib.Core.List.{List, [], _∷_, _++_}
+use mathlib.Core.Logic.{_⊎_, inl, inr}
+use native.Mathlib.Omega.{arith}
+use lib.ListN.{length}
+use Rattle.marks.specs.Incarnation.{Incarnation, initialIncarnation, nextIncarnation, checkpointIncarnation, Superseded, lower, Checkpointed, begins}
+use Rattle.marks.proofs.Trail.{same, next, weaken, clash, follow, branch, here, places, only-here, eq-or-lt, alike, longer, Under, Precedes, SupersededAlong, superseded-along, CheckpointedAlong, checkpointed-along}
+
+-- the relations of specs as trails
+s-to : {a b : Incarnation} → Superseded a b → SupersededAlong a b
+s-to {a} {b} = superseded-along a b .0
+
+s-of : {a b : Incarnation} → SupersededAlong a b → Superseded a b
+s-of {a} {b} = superseded-along a b .1
+
+c-to : {a b : Incarnation} → Checkpointed a b → CheckpointedAlong a b
+c-to {a} {b} = checkpointed-along a b .0
+
+c-of : {a b : Incarnation} → CheckpointedAlong a b → Checkpointed a b
+c-of {a} {b} = checkpointed-along a b .1
+
+-- ---- one in another
+
+pub checkpointed-under : {a b : Incarnation} → Checkpointed a b → Under a b
+checkpointed-under s = weaken (λ n m h. absurd h) (λ n m h. h) (c-to s)
+
+pub under-precedes : {a b : Incarnation} → Under a b → Precedes a b
+under-precedes = weaken (λ n m. omega arith) (λ n m. omega arith)
+
+pub checkpointed-precedes : {a b : Incarnation} → Checkpointed a b → Precedes a b
+checkpointed-precedes s = under-precedes (checkpointed-under s)
+
+pub superseded-precedes : {a b : Incarnation} → Superseded a b → Precedes a b
+superseded-precedes s = weaken (λ n m. omega arith) (λ n m. omega arith) (s-to s)
+
+-- ---- the same life
+
+pub under-refl : (a : Incarnation) → Under a a
+under-refl a = here (a .checkpoints) refl
+
+pub precedes-refl : (a : Incarnation) → Precedes a a
+precedes-refl a = under-precedes (under-refl a)
+
+pub under-eq : {a b : Incarnation} → a ≡ b → Under a b
+under-eq {a} {b} e = rw e (under-refl b)
+
+pub precedes-eq : {a b : Incarnation} → a ≡ b → Precedes a b
+precedes-eq e = under-precedes (under-eq e)
+
+-- ---- what excludes what
+
+pub superseded-not-under : {a b : Incarnation} → Superseded a b → Under a b → ⊥
+superseded-not-under s = clash (λ n m. omega arith) (λ n m. omega arith) (s-to s)
+
+pub superseded-not-checkpointed : {a b : Incarnation} → Superseded a b → Checkpointed a b → ⊥
+superseded-not-checkpointed s k = superseded-not-under s (checkpointed-under k)
+
+pub superseded-ne : {a b : Incarnation} → Superseded a b → a ≡ b → ⊥
+superseded-ne s e = superseded-not-under s (under-eq e)
+
+pub superseded-irrefl : {a : Incarnation} → Superseded a a → ⊥
+superseded-irrefl s = superseded-ne s refl
+
+pub checkpointed-irrefl : {a : Incarnation} → Checkpointed a a → ⊥
+checkpointed-irrefl {a} s = only-here (a .checkpoints) (c-to s)
+
+pub checkpointed-ne : {a b : Incarnation} → Checkpointed a b → a ≡ b → ⊥
+checkpointed-ne s e = checkpointed-irrefl (rw e at s)
+
+-- ---- one after the other
+
+pub precedes-trans : {a b c : Incarnation} → Precedes a b → Precedes b c → Precedes a c
+precedes-trans = follow (λ n m k. omega arith) (λ n m k. omega arith) (λ n m h. h)
+
+pub under-trans : {a b c : Incarnation} → Under a b → Under b c → Under a c
+under-trans = follow (λ n m k. omega arith) (λ n m k. omega arith) (λ n m h. h)
+
+pub superseded-up : {a b c : Incarnation} → Superseded a b → Precedes b c → Superseded a c
+superseded-up s h = s-of (follow (λ n m k. omega arith) (λ n m k. omega arith) (λ n m h. h) (s-to s) h)
+
+pub checkpointed-up : {a b c : Incarnation} → Checkpointed a b → Precedes b c → Checkpointed a c
+checkpointed-up s h = c-of (follow (λ n m k h. absurd h) (λ n m k h. absurd h) (λ n m h. h) (c-to s) h)
+
+pub under-checkpointed : {a b c : Incarnation} → Under a b → Checkpointed b c → Checkpointed a c
+under-checkpointed h s = c-of (follow (λ n m k h g. g) (λ n m k. omega arith) (λ n m h. h) h (c-to s))
+
+-- ---- one of two
+
+pub precedes-split : {a b : Incarnation} → Precedes a b → Under a b ⊎ Superseded a b
+precedes-split {a} {b} h = go (branch eq-or-lt eq-or-lt h)
+  where
+    go : Under a b ⊎ SupersededAlong a b → Under a b ⊎ Superseded a b
+    go (inl k) = inl k
+    go (inr k) = inr (s-of k)
+
+pub under-split : {a b : Incarnation} → Under a b → (a ≡ b) ⊎ Checkpointed a b
+under-split {a} {b} h = go (places h)
+  where
+    go : ((a .checkpoints ≡ b .checkpoints) × (a .number ≡ b .number))
+        ⊎ ((y : ℕ) × (r : List ℕ) × (b .checkpoints ≡ a .checkpoints ++ y ∷ r) × (a .number ≡ y)) → (a ≡ b) ⊎ Checkpointed a b
+    go (inl e) = inl (λ i. record { checkpoints = (e .0) i; number = (e .1) i })
+    go (inr e) = inr (begins (e .1) (rw (e .3) (e .2)))
+
+-- a past life that is neither present nor signed is superseded
+pub precedes-withdrawn : {a b : Incarnation} → Precedes a b → (a ≡ b → ⊥) → (Checkpointed a b → ⊥) → Superseded a b
+precedes-withdrawn {a} {b} h f g = go (precedes-split h)
+  where
+    none : (a ≡ b) ⊎ Checkpointed a b → Superseded a b
+    none (inl e) = absurd (f e)
+    none (inr k) = absurd (g k)
+
+    go : Under a b ⊎ Superseded a b → Superseded a b
+    go (inl k) = none (under-split k)
+    go (inr k) = k
+
+pub comparable : {a b c : Incarnation} → Precedes a c → Precedes b c → Precedes a b ⊎ Precedes b a
+comparable h k = alike h k
+
+-- ---- document 01's order: longer list, then greater n
+
+pub precedes-size : {a b : Incarnation} → Precedes a b
+    → (length (a .checkpoints) < length (b .checkpoints)) ⊎ ((a .checkpoints ≡ b .checkpoints) × (a .number ≤ b .number))
+precedes-size h = longer h
+
+-- what precedes is not the later one in that order
+pub later-size : {a b : Incarnation} → Precedes a b
+    → (length (b .checkpoints) < length (a .checkpoints)) ⊎ ((length (b .checkpoints) ≡ length (a .checkpoints)) × (b .number < a .number)) → ⊥
+later-size {a} {b} h k = go (precedes-size h) k
+  where
+    go : (length (a .checkpoints) < length (b .checkpoints)) ⊎ ((a .checkpoints ≡ b .checkpoints) × (a .number ≤ b .number))
+        → (length (b .checkpoints) < length (a .checkpoints)) ⊎ ((length (b .checkpoints) ≡ length (a .checkpoints)) × (b .number < a .number)) → ⊥
+    go (inl m) (inl k) = omega arith
+    go (inl m) (inr k) = omega arith
+    go (inr m) (inl k) = omega (arith, ap length (m .0))
+    go (inr m) (inr k) = omega arith
+
+pub by-size : {a b c : Incarnation} → Precedes a c → Precedes b c → length (a .checkpoints) < length (b .checkpoints) → Precedes a b
+by-size {a} {b} {c} h k l = go (comparable h k)
+  where
+    go : Precedes a b ⊎ Precedes b a → Precedes a b
+    go (inl m) = m
+    go (inr m) = absurd (later-size m (inl l))
+
+pub same-list : {a b c : Incarnation} → Precedes a c → Precedes b c → length (a .checkpoints) ≡ length (b .checkpoints) → a .checkpoints ≡ b .checkpoints
+same-list {a} {b} {c} h k l = go (comparable h k)
+  where
+    side : {x y : Incarnation} → length (x .checkpoints) ≡ length (y .checkpoints)
+        → (length (x .checkpoints) < length (y .checkpoints)) ⊎ ((x .checkpoints ≡ y .checkpoints) × (x .number ≤ y .number)) → x .checkpoints ≡ y .checkpoints
+    side l (inl m) = absurd (omega arith)
+    side l (inr m) = m .0
+
+    go : Precedes a b ⊎ Precedes b a → a .checkpoints ≡ b .checkpoints
+    go (inl m) = side l (precedes-size m)
+    go (inr m) = sym (side (sym l) (precedes-size m))
+
+pub by-number : {a b c : Incarnation} → Precedes a c → Precedes b c → length (a .checkpoints) ≡ length (b .checkpoints) → a .number ≤ b .number → Precedes a b
+by-number {a} {b} {c} h k l n = rw (same-list h k l) (here (b .checkpoints) n)
+
+pub same-incarnation : {a b : Incarnation} → Precedes a b → length (a .checkpoints) ≡ length (b .checkpoints) → a .number ≡ b .number → a ≡ b
+same-incarnation {a} {b} h e n = let l = same-list h (precedes-refl b) e in λ i. record { checkpoints = l i; number = n i }
+
+pub precedes-antisym : {a b : Incarnation} → Precedes a b → Precedes b a → a ≡ b
+precedes-antisym {a} {b} h k = go (precedes-size h) (precedes-size k)
+  where
+    go : (length (a .checkpoints) < length (b .checkpoints)) ⊎ ((a .checkpoints ≡ b .checkpoints) × (a .number ≤ b .number))
+        → (length (b .checkpoints) < length (a .checkpoints)) ⊎ ((b .checkpoints ≡ a .checkpoints) × (b .number ≤ a .number)) → a ≡ b
+    go (inl m) (inl k) = absurd (omega arith)
+    go (inl m) (inr k) = absurd (omega (arith, ap length (k .0)))
+    go (inr m) (inl k) = absurd (omega (arith, ap length (m .0)))
+    go (inr m) (inr k) = let n : a .number ≡ b .number = omega arith in λ i. record { checkpoints = (m .0) i; number = n i }
+
+-- ---- the first life
+
+pub initial-precedes : (a : Incarnation) → Precedes initialIncarnation a
+initial-precedes a = go (a .checkpoints) (a .number)
+  where
+    go : (p : List ℕ) (n : ℕ) → Precedes initialIncarnation (record { checkpoints = p; number = n })
+    go [] n = same {n = 0} {m = n} (omega arith)
+    go (x ∷ p) n = next {n = 0} {y = x} (omega arith)
+
+pub precedes-initial : {a : Incarnation} → Precedes a initialIncarnation → a ≡ initialIncarnation
+precedes-initial {a} h = precedes-antisym h (initial-precedes a)
+
+-- ---- a fall, a signing
+
+pub superseded-next : (a : Incarnation) → Superseded a (nextIncarnation a)
+superseded-next a = lower refl (omega arith)
+
+pub precedes-next : (a : Incarnation) → Precedes a (nextIncarnation a)
+precedes-next a = superseded-precedes (superseded-next a)
+
+-- the life signed last before a
+pub before-checkpointed : (a c : Incarnation) → a .checkpoints ≡ c .checkpoints ++ c .number ∷ [] → Checkpointed c a
+before-checkpointed a c e = begins [] e
+
+pub checkpointed-checkpoint : (a : Incarnation) → Checkpointed a (checkpointIncarnation a)
+checkpointed-checkpoint a = before-checkpointed (checkpointIncarnation a) a refl
+
+pub precedes-checkpoint : (a : Incarnation) → Precedes a (checkpointIncarnation a)
+precedes-checkpoint a = checkpointed-precedes (checkpointed-checkpoint a)
+
+-- how the present life of a take moves on: a freeze leaves it as it is
+pub data Step (a : Incarnation) : Incarnation → Type 0 where
+  stabilize : Step a a
+  rollback : Step a (nextIncarnation a)
+  checkpoint : Step a (checkpointIncarnation a)
+
+pub step-precedes : {a b : Incarnation} → Step a b → Precedes a b
+step-precedes {a} stabilize = precedes-refl a
+step-precedes {a} rollback = precedes-next a
+step-precedes {a} checkpoint = precedes-checkpoint a
+
+-- a superseded life stays superseded, a signed one stays signed
+pub superseded-step : {a b c : Incarnation} → Superseded a b → Step b c → Superseded a c
+superseded-step s k = superseded-up s (step-precedes k)
+
+pub checkpointed-step : {a b c : Incarnation} → Checkpointed a b → Step b c → Checkpointed a c
+checkpointed-step s k = checkpointed-up s (step-precedes k)
+
+pub precedes-step : {a b c : Incarnation} → Precedes a b → Step b c → Precedes a c
+precedes-step h k = precedes-trans h (step-precedes k)

@@ -1,0 +1,98 @@
+-- Packed histories from a place of a buffer on: what the code that stores, loads and tests them does, over the width w of a
+-- life number and the length l of the list.
+use Prim.Native.Nat.{ℕ, _+_, _-_, _*_, _/_, _%_, _≤_, _<_}
+use mathlib.Core.Bool.{false}
+use mathlib.Core.Path.{_≡_, ap, sym, _∙_, subst}
+use mathlib.Core.List.{List, _++_}
+use native.Mathlib.Nat.{add-zero, mul-add}
+use native.Mathlib.Omega.{arith}
+use lib.Dec.{leb}
+use lib.ListN.{length, take, drop, getD, set, length-drop}
+use lib.Seq.{take-all}
+use borrow.Author.Tests.{le-leb, lt-leb, eq-eqb, ne-eqb}
+use Rattle.octets.specs.Bytes.{put, part, chunks, tabulate, allZero}
+use Rattle.octets.specs.Numbers.{be, ofBe}
+use Rattle.octets.proofs.Put.{put-append, part-part, getD-part, part-def, length-part}
+use Rattle.octets.proofs.Numbers.{length-be, put-be-one}
+use Rattle.octets.proofs.Chunks.{step, tabulate-same, fill-more, fill-all, put-more}
+use Rattle.marks.specs.declared.History.{History}
+use Rattle.marks.proofs.Packed.{headOf, head-fits, front, numbers, length-packNumberAt, length-front, length-numbers}
+use Rattle.marks.specs.Packed.{historySize, bit, packNumberAt, packHistory, unpackHistory, loadNumberAt, presentIn, formedHistory}
+
+-- ---- the places of a list
+
+pub number-put : (at w i : ℕ) (ns l l' l'' : List ℕ) → l' ≡ put at (chunks i (packNumberAt w ns)) l → l'' ≡ put (at + w * i) (be w (getD ns i 0)) l'
+    → at + w * i + w ≤ length l → l'' ≡ put at (chunks (i + 1) (packNumberAt w ns)) l
+unfolding packNumberAt
+number-put at w i ns l l' l'' e f h = put-more at w (packNumberAt w ns) (length-packNumberAt w ns) i l l' l'' e f h
+
+pub numbers-put : (at w i n : ℕ) (ns l l' : List ℕ) → l' ≡ put at (chunks i (packNumberAt w ns)) l → i ≡ n → l' ≡ put at (chunks n (packNumberAt w ns)) l
+numbers-put at w i n ns l l' e h = e ∙ ap (λ (k : ℕ). put at (chunks k (packNumberAt w ns)) l) h
+
+pub number-filled : (w at i n : ℕ) (s l : List ℕ) → take i l ≡ tabulate i (loadNumberAt w s at) → n ≡ ofBe w (part (at + w * i) w s)
+    → i < length l → take (i + 1) (set l i n) ≡ tabulate (i + 1) (loadNumberAt w s at)
+unfolding loadNumberAt
+number-filled w at i n s l e f h = fill-more (loadNumberAt w s at) l i n e h f
+
+pub numbers-filled : (w at i n : ℕ) (s l : List ℕ) → take i l ≡ tabulate i (loadNumberAt w s at) → i ≡ n → length l ≡ n → l ≡ tabulate n (loadNumberAt w s at)
+numbers-filled w at i n s l e h k = fill-all (loadNumberAt w s at) l n (subst (λ (j : ℕ). take j l ≡ tabulate j (loadNumberAt w s at)) h e) k
+
+-- ---- a history
+
+put-then : (at n : ℕ) (bs cs l : List ℕ) → length bs ≡ n → at + n + length cs ≤ length l → put (at + n) cs (put at bs l) ≡ put at (bs ++ cs) l
+put-then at n bs cs l e h = ap (λ (k : ℕ). put (at + k) cs (put at bs l)) (sym e) ∙ put-append at bs cs l (omega (arith, e))
+
+pub put-history : (w l at : ℕ) (h : History) (f : ℕ) (b b' b'' : List ℕ) → at + historySize w l ≤ length b → f ≡ bit (h .stable) → h .count < 16
+    → b' ≡ put (at + 1) (be w (h .incarnation)) (set b at (128 + 64 * f + h .count))
+    → b'' ≡ put (at + 1 + w) (chunks l (packNumberAt w (h .checkpoints))) b'
+    → b'' ≡ put at (packHistory w l h) b
+unfolding packHistory
+put-history w l at h f b b' b'' k e c p q =
+    let first : set b at (128 + 64 * f + h .count) ≡ put at (be 1 (headOf h)) b =
+    rw e (sym (put-be-one at (headOf h) b (omega arith) (head-fits (h .stable) (h .count) c))) in
+    let two : b' ≡ put at (front w h) b =
+    p ∙ rw first (put-then at 1 (be 1 (headOf h)) (be w (h .incarnation)) b (length-be 1 (headOf h)) (omega (arith, length-be w (h .incarnation)))) in
+    let place : at + 1 + w ≡ at + (1 + w) = omega arith in
+    q ∙ rw (two, place) (put-then at (1 + w) (front w h) (numbers w l h) b (length-front w l h) (omega (arith, length-numbers w l h l)))
+
+module _ (w l at : ℕ) (s : List ℕ) (h : at + historySize w l ≤ length s) where
+  first : getD (part at (historySize w l) s) 0 0 ≡ getD s at 0
+  first = getD-part at (historySize w l) s 0 (omega arith) ∙ rw add-zero
+
+  pub load-history : (n : ℕ) (ns : List ℕ) → n ≡ ofBe w (part (at + 1) w s) → ns ≡ tabulate l (loadNumberAt w s (at + 1 + w))
+      → record { stable = leb 64 (getD s at 0 % 128); incarnation = n; count = getD s at 0 % 16; checkpoints = ns } ≡ unpackHistory w l (part at (historySize w l) s)
+  unfolding unpackHistory loadNumberAt
+  load-history n ns e f =
+      let a : part 1 w (part at (historySize w l) s) ≡ part (at + 1) w s = part-part 1 w at (historySize w l) s (omega arith) in
+      let b : tabulate l (loadNumberAt w (part at (historySize w l) s) (1 + w)) ≡ tabulate l (loadNumberAt w s (at + 1 + w)) =
+      tabulate-same l (loadNumberAt w (part at (historySize w l) s) (1 + w)) (loadNumberAt w s (at + 1 + w)) λ i p.
+      ap (ofBe w) (part-part (1 + w + w * i) w at (historySize w l) s (omega (arith, step w i l p)) ∙ ap (λ (k : ℕ). part k w s) (omega arith)) in
+      rw (first, a, b, e, f)
+
+  pub present-here : leb 128 (getD s at 0) ≡ presentIn (part at (historySize w l) s)
+  unfolding presentIn
+  present-here = rw first
+
+  pub formed-absent : getD s at 0 < 128 → allZero (part at (historySize w l) s) ≡ formedHistory w l (part at (historySize w l) s)
+  unfolding presentIn formedHistory
+  formed-absent p = rw (first, lt-leb 128 (getD s at 0) p)
+
+  pub formed-bits : 128 ≤ getD s at 0 → (getD s at 0 / 16 % 4 ≡ 0 → ⊥) → false ≡ formedHistory w l (part at (historySize w l) s)
+  unfolding presentIn formedHistory
+  formed-bits p q = rw (first, le-leb 128 (getD s at 0) p, ne-eqb (getD s at 0 / 16 % 4) 0 q)
+
+  -- the places from c on
+  unused : (c : ℕ) → c ≤ l → part (at + 1 + w + w * c) (w * (l - c)) s ≡ drop (1 + w + w * c) (part at (historySize w l) s)
+  unused c r =
+      let all : List ℕ = part at (historySize w l) s in
+      let m : w * c + w * (l - c) ≡ w * l = sym (mul-add w c (l - c)) ∙ ap (λ (x : ℕ). w * x) (omega arith) in
+      let few : length (drop (1 + w + w * c) all) ≤ w * (l - c) = rw (length-drop, length-part at (historySize w l) s h) (omega (arith, m)) in
+      ap (λ (j : ℕ). part j (w * (l - c)) s) (omega arith)
+      ∙ sym (part-part (1 + w + w * c) (w * (l - c)) at (historySize w l) s (omega (arith, m)))
+      ∙ part-def (1 + w + w * c) (w * (l - c)) all
+      ∙ take-all (w * (l - c)) (drop (1 + w + w * c) all) few
+
+  pub formed-list : 128 ≤ getD s at 0 → getD s at 0 / 16 % 4 ≡ 0 → getD s at 0 % 16 ≤ l
+      → allZero (part (at + 1 + w + w * (getD s at 0 % 16)) (w * (l - getD s at 0 % 16)) s) ≡ formedHistory w l (part at (historySize w l) s)
+  unfolding presentIn formedHistory
+  formed-list p q r = rw (first, le-leb 128 (getD s at 0) p, eq-eqb (getD s at 0 / 16 % 4) 0 q, le-leb (getD s at 0 % 16) l r, unused (getD s at 0 % 16) r)

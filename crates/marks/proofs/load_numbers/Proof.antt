@@ -1,0 +1,61 @@
+-- After i turns the first i places are filled.
+use Prim.Native.Nat.{_-_, _≤_}
+use mathlib.Core.Path.{_≡_}
+use native.Mathlib.Omega.{arith}
+use lib.ListN.{length, take}
+use Rattle.octets.specs.Bytes.{tabulate}
+use Rattle.octets.proofs.Chunks.{fill-none}
+use Rattle.marks.specs.Packed.{width, places, loadNumberAt}
+use Rattle.marks.proofs.Placed.{number-filled, numbers-filled}
+use borrow.Author.Needs.{needs}
+use Rattle.marks.proofs.load_numbers.Statement.{statement}
+use Rattle.marks.proofs.load_numbers.Tie as tie
+
+abbrev Inv-loop : tie.InvT-loop
+Inv-loop s at list₀ i₀ list i = (i ≤ places) × (take i list ≡ tabulate i (loadNumberAt width s at)) × (length list ≡ places)
+
+abbrev μ-loop : tie.MeasureT-loop
+μ-loop s at list₀ i₀ list i = places - i
+
+loop-holds : tie.Need-loop-holds Inv-loop μ-loop
+loop-holds c = (search needs, fill-none _, search needs)
+
+mul-load-number : tie.Need-mul-load-number Inv-loop μ-loop
+mul-load-number c = search needs
+
+add-load-number : tie.Need-add-load-number Inv-loop μ-loop
+add-load-number c = search needs
+
+load-number-requires : tie.Need-load-number-requires Inv-loop μ-loop
+load-number-requires c κs = search needs
+
+array-write-list : tie.Need-array-write-list Inv-loop μ-loop
+array-write-list c = search needs
+
+add-i : tie.Need-add-i Inv-loop μ-loop
+add-i c = search needs
+
+loop-less : tie.Need-loop-less Inv-loop μ-loop
+loop-less c = search needs
+
+loop-again : tie.Need-loop-again Inv-loop μ-loop
+loop-again c = (search needs, number-filled _ _ _ _ _ _ (c .before .before .loop .inv .1) (c .load-number .ensures) (omega arith), search needs)
+
+returns : tie.Need-returns Inv-loop μ-loop
+returns c = numbers-filled _ _ _ _ _ _ (c .before .loop .inv .1) (omega arith) (omega arith)
+
+pub load-numbers-spec : {M : Type 1} → statement M
+load-numbers-spec =
+    tie.close
+    (tie.spec
+    Inv-loop
+    μ-loop
+    loop-holds
+    mul-load-number
+    add-load-number
+    load-number-requires
+    array-write-list
+    add-i
+    loop-less
+    loop-again
+    returns)

@@ -1,0 +1,65 @@
+-- After i turns the first i places are put.
+use Prim.Native.Nat.{_-_, _≤_}
+use mathlib.Core.Path.{_≡_, refl}
+use native.Mathlib.Omega.{arith}
+use lib.ListN.{length}
+use Rattle.octets.specs.Bytes.{put, chunks}
+use Rattle.octets.proofs.Chunks.{put-none}
+use Rattle.marks.specs.Packed.{width, places, packNumberAt}
+use Rattle.marks.proofs.Placed.{number-put, numbers-put}
+use borrow.Author.Needs.{needs}
+use Rattle.marks.proofs.store_numbers.Statement.{statement}
+use Rattle.marks.proofs.store_numbers.Tie as tie
+
+abbrev Inv-loop : tie.InvT-loop
+Inv-loop image₀ at list i₀ image i = (i ≤ places) × (image ≡ put at (chunks i (packNumberAt width list)) image₀) × (length image ≡ length image₀)
+
+abbrev μ-loop : tie.MeasureT-loop
+μ-loop image₀ at list i₀ image i = places - i
+
+loop-holds : tie.Need-loop-holds Inv-loop μ-loop
+loop-holds c = (search needs, put-none _ _ _, refl)
+
+array-read-n : tie.Need-array-read-n Inv-loop μ-loop
+array-read-n c = search needs
+
+mul-store-number : tie.Need-mul-store-number Inv-loop μ-loop
+mul-store-number c = search needs
+
+add-store-number : tie.Need-add-store-number Inv-loop μ-loop
+add-store-number c = search needs
+
+store-number-requires : tie.Need-store-number-requires Inv-loop μ-loop
+store-number-requires c κs = search needs
+
+add-i : tie.Need-add-i Inv-loop μ-loop
+add-i c = search needs
+
+loop-less : tie.Need-loop-less Inv-loop μ-loop
+loop-less c = search needs
+
+loop-again : tie.Need-loop-again Inv-loop μ-loop
+loop-again c = (search needs, number-put _ _ _ _ _ _ _ (c .before .before .before .before .before .loop .inv .1) (c .before .before .store-number .ensures) (omega arith), search needs)
+
+same-length : tie.Need-same-length Inv-loop μ-loop
+same-length c = search needs
+
+returns : tie.Need-returns Inv-loop μ-loop
+returns c = numbers-put _ _ _ _ _ _ _ (c .before .loop .inv .1) (omega arith)
+
+pub store-numbers-spec : {M : Type 1} → statement M
+store-numbers-spec =
+    tie.close
+    (tie.spec
+    Inv-loop
+    μ-loop
+    loop-holds
+    array-read-n
+    mul-store-number
+    add-store-number
+    store-number-requires
+    add-i
+    loop-less
+    loop-again
+    same-length
+    returns)

@@ -1,0 +1,45 @@
+-- Document 01, "Lives and marks": histories (marks), as the struct that the code passes by value.
+use Prim.Native.Nat.{ℕ, _+_, _≤_}
+use mathlib.Core.Bool.{true, false}
+use mathlib.Core.Path.{_≡_}
+use lib.ListN.{length, take, getD, set}
+use lib.Dec.{ltb}
+use Rattle.octets.specs.Bytes.{pick, zeros}
+use Rattle.marks.specs.declared.History.{History}
+use Rattle.marks.specs.Incarnation.{Incarnation}
+
+-- The life of a mark: the mark without its frozen flag. The list's unused places are no part of it.
+abbrev pub incarnationOf : History → Incarnation
+incarnationOf h = record { checkpoints = take (h .count) (h .checkpoints); number = h .incarnation }
+
+-- The opening mark with room for l signings: unfrozen, n = 0, L empty.
+abbrev pub initialHistory : ℕ → History
+initialHistory l = record { stable = false; incarnation = 0; count = 0; checkpoints = zeros l }
+
+-- Freeze sets the flag.
+abbrev pub stabilized : History → History
+stabilized h = record { stable = true; incarnation = h .incarnation; count = h .count; checkpoints = h .checkpoints }
+
+-- A fall gives n + 1, unfrozen, same L.
+abbrev pub rolledBack : History → History
+rolledBack h = record { stable = false; incarnation = h .incarnation + 1; count = h .count; checkpoints = h .checkpoints }
+
+-- Signing appends n to L, then n = 0, unfrozen.
+abbrev pub checkpointed : History → History
+checkpointed h = record { stable = false; incarnation = 0; count = h .count + 1; checkpoints = set (h .checkpoints) (h .count) (h .incarnation) }
+
+-- The newer of two marks: longer list; then greater n; then frozen; else the left one.
+unfoldable pub newerOf : History → History → History
+newerOf a b =
+    pick (ltb (a .count) (b .count)) b
+    (pick (ltb (b .count) (a .count)) a
+    (pick (ltb (a .incarnation) (b .incarnation)) b
+    (pick (ltb (b .incarnation) (a .incarnation)) a
+    (pick (a .stable) a
+    (pick (b .stable) b a)))))
+
+-- A mark with room for l signings: the list has l places, the count uses no more, and those past it are zero.
+pub record Roomy (l : ℕ) (h : History) : Type 0 where
+  pub places : length (h .checkpoints) ≡ l
+  pub within : h .count ≤ l
+  pub unused : (i : ℕ) → h .count ≤ i → getD (h .checkpoints) i 0 ≡ 0

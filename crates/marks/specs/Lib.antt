@@ -1,0 +1,4 @@
+pub mod Incarnation
+pub mod History
+pub mod Packed
+pub mod Starred

@@ -1,0 +1,63 @@
+-- Document 01, "Packed forms": a mark as bytes, over the width w of a life number in bytes and the length l of the list.
+use Prim.Native.Nat.{ℕ, _+_, _*_, _/_, _%_, _<_}
+use mathlib.Core.Bool.{Bool, true, false}
+use mathlib.Core.List.{List, _++_}
+use lib.ListN.{getD, drop}
+use lib.Dec.{eqb, leb}
+use Rattle.octets.specs.Bytes.{pick, _and_, part, chunks, tabulate, allZero}
+use Rattle.octets.specs.Numbers.{be, ofBe, bound}
+use Rattle.marks.specs.declared.History.{History}
+
+-- What document 01 fixes: a life number has one byte, the list fifteen places.
+abbrev pub width : ℕ
+width = 1
+
+abbrev pub places : ℕ
+places = 15
+
+-- present 1, frozen 1, zero 2, count of L 4, n, L
+abbrev pub historySize : ℕ → ℕ → ℕ
+historySize w l = 1 + w + w * l
+
+abbrev pub bit : Bool → ℕ
+bit true = 1
+bit false = 0
+
+unfoldable pub packNumberAt : ℕ → List ℕ → ℕ → List ℕ
+packNumberAt w ns i = be w (getD ns i 0)
+
+-- a mark that is present
+unfoldable pub packHistory : ℕ → ℕ → History → List ℕ
+packHistory w l h =
+    be 1 (128 + 64 * bit (h .stable) + h .count) ++ be w (h .incarnation) ++ chunks l (packNumberAt w (h .checkpoints))
+
+-- number i of those that stand in b from place at on
+unfoldable pub loadNumberAt : ℕ → List ℕ → ℕ → ℕ → ℕ
+loadNumberAt w b at i = ofBe w (part (at + w * i) w b)
+
+unfoldable pub unpackHistory : ℕ → ℕ → List ℕ → History
+unpackHistory w l b = record {
+  stable = leb 64 (getD b 0 0 % 128);
+  incarnation = ofBe w (part 1 w b);
+  count = getD b 0 0 % 16;
+  checkpoints = tabulate l (loadNumberAt w b (1 + w));
+}
+
+-- the present bit
+unfoldable pub presentIn : List ℕ → Bool
+presentIn b = leb 128 (getD b 0 0)
+
+-- Well-formed: absent and all zero; or present, the zero bits zero, the count at most l, every place past the count zero.
+unfoldable pub formedHistory : ℕ → ℕ → List ℕ → Bool
+formedHistory w l b =
+    pick (presentIn b)
+    (eqb (getD b 0 0 / 16 % 4) 0
+    and leb (getD b 0 0 % 16) l
+    and allZero (drop (1 + w + w * (getD b 0 0 % 16)) b))
+    (allZero b)
+
+-- every number of the mark fits w bytes, and the count its four bits
+pub record Packable (w l : ℕ) (h : History) : Type 0 where
+  pub incarnation : h .incarnation < bound w
+  pub checkpoints : (i : ℕ) → getD (h .checkpoints) i 0 < bound w
+  pub count : h .count < 16

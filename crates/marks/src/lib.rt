@@ -1,0 +1,260 @@
+// Histories (document 01: marks): what a transactor's past looks like, and its packed form.
+ghost use mathlib.Core.Path.{_≡_};
+ghost use Prim.Native.Nat.{_+_, _*_, _≤_, _<_};
+ghost use lib.ListN.{length, take};
+ghost use Rattle.octets.specs.Bytes.{put, part, chunks, tabulate};
+ghost use Rattle.octets.specs.Numbers.{ofBe, be};
+ghost use Rattle.marks.specs.Incarnation.{sameList, supersededBy, checkpointedIn, sameIncarnation};
+ghost use Rattle.marks.specs.History.{incarnationOf, stabilized, rolledBack, checkpointed, newerOf};
+ghost use Rattle.marks.specs.Packed.{width, places, historySize, bit, packNumberAt, packHistory, unpackHistory, loadNumberAt, presentIn, formedHistory};
+
+// Bytes of a life number, places of the list, bytes of a packed history.
+pub const WIDTH: usize = 1;
+
+pub const PLACES: usize = 15;
+
+pub const SIZE: usize = 1 + WIDTH + WIDTH * PLACES;
+
+// Document 01: a mark.
+pub struct History {
+    // frozen
+    pub stable: bool,
+    // the life number n
+    pub incarnation: u8,
+    // how many places of the list are used
+    pub count: u8,
+    // the list L, then unused places
+    pub checkpoints: [u8; 15],
+}
+
+impl History {
+    // Document 01: the opening mark.
+    pub const INITIAL: History = History {
+        stable: false,
+        incarnation: 0,
+        count: 0,
+        checkpoints: [0; 15],
+    };
+
+    // Document 01: freeze.
+    pub fn stabilize(mut self) -> History
+        ensures { λ r. ⌜ r ≡ stabilized self ⌝ }
+    {
+        self.stable = true;
+        self
+    }
+
+    // Document 01: a fall. The ledger refuses one from the largest life number.
+    pub fn rollback(mut self) -> History
+        requires { ⌜ self .incarnation < 255 ⌝ }
+        ensures { λ r. ⌜ r ≡ rolledBack self ⌝ }
+    {
+        self.stable = false;
+        self.incarnation += 1;
+        self
+    }
+
+    // Document 01: signing. The ledger refuses a sixteenth.
+    pub fn checkpoint(mut self) -> History
+        requires { ⌜ self .count < places ⌝ }
+        ensures { λ r. ⌜ r ≡ checkpointed self ⌝ }
+    {
+        let at = self.count as usize;
+        let n = self.incarnation;
+        self.checkpoints[at] = n;
+        self.count += 1;
+        self.incarnation = 0;
+        self.stable = false;
+        self
+    }
+
+    // The newer of two; on a tie self, the left one.
+    pub fn newer(self, other: History) -> History
+        ensures { λ r. ⌜ r ≡ newerOf self other ⌝ }
+    {
+        if self.count < other.count {
+            return other;
+        }
+        if other.count < self.count {
+            return self;
+        }
+        if self.incarnation < other.incarnation {
+            return other;
+        }
+        if other.incarnation < self.incarnation {
+            return self;
+        }
+        if self.stable {
+            return self;
+        }
+        if other.stable {
+            return other;
+        }
+        self
+    }
+
+    // Whether the first n places of the two lists are the same.
+    fn agrees(self, other: History, n: usize) -> bool
+        requires { ⌜ n ≤ places ⌝ }
+        ensures { λ r. ⌜ r ≡ sameList (take n (self .checkpoints)) (take n (other .checkpoints)) ⌝ }
+    {
+        let mut i: usize = 0;
+        while i < n {
+            if self.checkpoints[i] != other.checkpoints[i] {
+                return false;
+            }
+            i += 1;
+        }
+        true
+    }
+
+    // Document 01: stale by.
+    pub fn superseded_by(self, other: History) -> bool
+        requires { ⌜ (self .count ≤ places) × (other .count ≤ places) ⌝ }
+        ensures { λ r. ⌜ r ≡ supersededBy (incarnationOf self) (incarnationOf other) ⌝ }
+    {
+        let n = self.count as usize;
+        let m = other.count as usize;
+        if m < n {
+            return false;
+        }
+        if !self.agrees(other, n) {
+            return false;
+        }
+        if n < m {
+            return self.incarnation < other.checkpoints[n];
+        }
+        self.incarnation < other.incarnation
+    }
+
+    // Document 01: signed, where other is the present mark of the same take.
+    pub fn checkpointed_in(self, other: History) -> bool
+        requires { ⌜ (self .count ≤ places) × (other .count ≤ places) ⌝ }
+        ensures { λ r. ⌜ r ≡ checkpointedIn (incarnationOf self) (incarnationOf other) ⌝ }
+    {
+        let n = self.count as usize;
+        let m = other.count as usize;
+        if m <= n {
+            return false;
+        }
+        if !self.agrees(other, n) {
+            return false;
+        }
+        self.incarnation == other.checkpoints[n]
+    }
+
+    // Whether the two are of one life.
+    pub fn same_incarnation(self, other: History) -> bool
+        requires { ⌜ (self .count ≤ places) × (other .count ≤ places) ⌝ }
+        ensures { λ r. ⌜ r ≡ sameIncarnation (incarnationOf self) (incarnationOf other) ⌝ }
+    {
+        if self.count != other.count {
+            return false;
+        }
+        if self.incarnation != other.incarnation {
+            return false;
+        }
+        self.agrees(other, self.count as usize)
+    }
+
+    // Writes the packed form from at on.
+    pub fn store(self, image: &mut [u8], at: usize)
+        requires { ⌜ (at + historySize width places ≤ length (now image)) × (self .count ≤ places) ⌝ }
+        ensures { λ _. ⌜ now (image .exit) ≡ put at (packHistory width places self) (now (image .entry)) ⌝ }
+    {
+        image[at] = 128 + 64 * flag(self.stable) + self.count;
+        store_number(image, at + 1, self.incarnation);
+        let list = self.checkpoints;
+        store_numbers(image, at + 1 + WIDTH, list);
+    }
+
+    // What the packed form from at on holds. Of an absent history the initial one.
+    pub fn load(s: &[u8], at: usize) -> History
+        requires { ⌜ at + historySize width places ≤ length (now s) ⌝ }
+        ensures { λ r. ⌜ r ≡ unpackHistory width places (part at (historySize width places) (now (s .entry))) ⌝ }
+    {
+        let head = s[at];
+        let n = load_number(s, at + 1);
+        let list = load_numbers(s, at + 1 + WIDTH);
+        History {
+            stable: 64 <= head % 128,
+            incarnation: n,
+            count: head % 16,
+            checkpoints: list,
+        }
+    }
+
+    // Whether a history is present in the packed form from at on.
+    pub fn present(s: &[u8], at: usize) -> bool
+        requires { ⌜ at + historySize width places ≤ length (now s) ⌝ }
+        ensures { λ r. ⌜ r ≡ presentIn (part at (historySize width places) (now (s .entry))) ⌝ }
+    {
+        128 <= s[at]
+    }
+
+    // Whether the bytes of a packed form from at on are well-formed.
+    pub fn formed(s: &[u8], at: usize) -> bool
+        requires { ⌜ at + historySize width places ≤ length (now s) ⌝ }
+        ensures { λ r. ⌜ r ≡ formedHistory width places (part at (historySize width places) (now (s .entry))) ⌝ }
+    {
+        let head = s[at];
+        if head < 128 {
+            return octets::all_zero(s, at, SIZE);
+        }
+        if head / 16 % 4 != 0 {
+            return false;
+        }
+        let count = (head % 16) as usize;
+        octets::all_zero(s, at + 1 + WIDTH + WIDTH * count, WIDTH * (PLACES - count))
+    }
+}
+
+fn flag(b: bool) -> u8
+    ensures { λ r. ⌜ (r ≡ bit b) × (r ≤ 1) ⌝ }
+{
+    if b { 1 } else { 0 }
+}
+
+// Writes a life number from at on.
+fn store_number(image: &mut [u8], at: usize, n: u8)
+    requires { ⌜ at + width ≤ length (now image) ⌝ }
+    ensures { λ _. ⌜ now (image .exit) ≡ put at (be width n) (now (image .entry)) ⌝ }
+{
+    image[at] = n;
+}
+
+// Writes the places of a list from at on.
+fn store_numbers(image: &mut [u8], at: usize, list: [u8; 15])
+    requires { ⌜ at + width * places ≤ length (now image) ⌝ }
+    ensures { λ _. ⌜ now (image .exit) ≡ put at (chunks places (packNumberAt width list)) (now (image .entry)) ⌝ }
+{
+    let mut i: usize = 0;
+    while i < PLACES {
+        let n = list[i];
+        store_number(image, at + WIDTH * i, n);
+        i += 1;
+    }
+}
+
+// The life number from at on.
+fn load_number(s: &[u8], at: usize) -> u8
+    requires { ⌜ at + width ≤ length (now s) ⌝ }
+    ensures { λ r. ⌜ r ≡ ofBe width (part at width (now (s .entry))) ⌝ }
+{
+    s[at]
+}
+
+// The places of a list from at on.
+fn load_numbers(s: &[u8], at: usize) -> [u8; 15]
+    requires { ⌜ at + width * places ≤ length (now s) ⌝ }
+    ensures { λ r. ⌜ r ≡ tabulate places (loadNumberAt width (now (s .entry)) at) ⌝ }
+{
+    let mut list = [0u8; 15];
+    let mut i: usize = 0;
+    while i < PLACES {
+        let n = load_number(s, at + WIDTH * i);
+        list[i] = n;
+        i += 1;
+    }
+    list
+}

@@ -1,0 +1,5 @@
+pub mod Chunks
+pub mod Move
+pub mod Numbers
+pub mod Put
+pub mod Zero

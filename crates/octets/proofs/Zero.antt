@@ -1,0 +1,152 @@
+-- Laws of zeros, and of what holds everywhere.
+use Prim.Native.Nat.{ℕ, zero, suc, _+_, _-_, _*_, _≤_, _<_}
+use mathlib.Core.Bool.{Bool, true, false}
+use mathlib.Core.Path.{_≡_, refl, sym, ap, _∙_, subst}
+use mathlib.Core.List.{List, [], _∷_, _++_}
+use native.Mathlib.Nat.{zero-add, suc-add, mul-zero, mul-suc}
+use native.Mathlib.Numerals.{add-one}
+use native.Mathlib.Omega.{arith}
+use lib.Bits.{bitOr, or-add-and, and-le-l, and-le-r}
+use lib.Dec.{eqb}
+use lib.ListN.{length, getD}
+use mathlib.Core.Logic.{⊎-elim}
+use Rattle.octets.proofs.Chunks.{cases}
+use lib.Seq.{take-at, drop-at}
+use borrow.Author.Tests.{eq-eqb, ne-eqb, eqb-true, eqb-false}
+use Rattle.octets.specs.Bytes.{pick, _and_, part, zeros, allZero, every, chunks, tabulate, Octets}
+use Rattle.octets.proofs.Put.{part-def, part-suc}
+
+pub length-zeros : (n : ℕ) → length (zeros n) ≡ n
+unfolding zeros
+length-zeros zero = refl
+length-zeros (suc n) = ap suc (length-zeros n)
+
+pub zeros-append : (a b : ℕ) → zeros a ++ zeros b ≡ zeros (a + b)
+unfolding zeros
+zeros-append zero b = rw zero-add
+zeros-append (suc a) b = rw (suc-add, zeros-append a b)
+
+pub zeros-suc : (n : ℕ) → zeros n ++ (0 ∷ []) ≡ zeros (n + 1)
+unfolding zeros
+zeros-suc n = zeros-append n 1
+
+pub getD-zeros : (n i : ℕ) → getD (zeros n) i 0 ≡ 0
+unfolding zeros
+getD-zeros zero i = refl
+getD-zeros (suc n) zero = refl
+getD-zeros (suc n) (suc i) = getD-zeros n i
+
+pub part-zeros : (at n m : ℕ) → at + n ≤ m → part at n (zeros m) ≡ zeros n
+part-zeros at n m h =
+    let e : at + (n + (m - at - n)) ≡ m = omega arith in
+    rw (
+      part-def,
+      ← e,
+      ← zeros-append at (n + (m - at - n)),
+      ← zeros-append n (m - at - n),
+      drop-at (zeros at) (zeros n ++ zeros (m - at - n)) at (length-zeros at),
+      take-at (zeros n) (zeros (m - at - n)) n (length-zeros n),
+    )
+
+pub octets-zeros : (n : ℕ) → Octets (zeros n)
+unfolding Octets
+octets-zeros n i = rw getD-zeros (omega arith)
+
+pub chunks-zeros : (w n : ℕ) → chunks n (λ i. zeros w) ≡ zeros (w * n)
+unfolding chunks zeros
+chunks-zeros w zero = rw mul-zero
+chunks-zeros w (suc n) = rw (chunks-zeros w n, mul-suc, zeros-append)
+
+pub tabulate-zeros : (n : ℕ) → tabulate n (λ i. 0) ≡ zeros n
+unfolding tabulate zeros
+tabulate-zeros zero = refl
+tabulate-zeros (suc n) = rw (tabulate-zeros n, zeros-suc, add-one)
+
+-- ---- the test for zero
+
+pub allZero-zeros : (n : ℕ) → allZero (zeros n) ≡ true
+unfolding allZero zeros
+allZero-zeros zero = refl
+allZero-zeros (suc n) = rw (eq-eqb 0 0 refl, allZero-zeros n)
+
+pub allZero-snoc : (l : List ℕ) (x : ℕ) → allZero (l ++ (x ∷ [])) ≡ allZero l and eqb x 0
+unfolding allZero
+allZero-snoc [] x = last (eqb x 0)
+  where
+    last : (t : Bool) → t and true ≡ t
+    last true = refl
+    last false = refl
+allZero-snoc (y ∷ l) x = go (eqb y 0) (allZero-snoc l x)
+  where
+    go : (t : Bool) → allZero (l ++ (x ∷ [])) ≡ allZero l and eqb x 0 → t and allZero (l ++ (x ∷ [])) ≡ (t and allZero l) and eqb x 0
+    go true e = e
+    go false e = refl
+
+-- an or is zero exactly if both are
+or-zero : (a b : ℕ) → eqb (bitOr a b) 0 ≡ eqb a 0 and eqb b 0
+or-zero a b = go (eqb a 0) refl (eqb b 0) refl
+  where
+    off : (bitOr a b ≡ 0 → ⊥) → eqb (bitOr a b) 0 ≡ false
+    off = ne-eqb (bitOr a b) 0
+
+    go : (t : Bool) → eqb a 0 ≡ t → (u : Bool) → eqb b 0 ≡ u → eqb (bitOr a b) 0 ≡ t and u
+    go true e true f = eq-eqb (bitOr a b) 0 (omega (arith, or-add-and a b, eqb-true a 0 e, eqb-true b 0 f))
+    go true e false f = off (λ z. eqb-false b 0 f (omega (arith, or-add-and a b, and-le-l a b, eqb-true a 0 e)))
+    go false e u f = off (λ z. eqb-false a 0 e (omega (arith, or-add-and a b, and-le-r a b)))
+
+-- the loop that ors the bytes
+pub zero-none : (at : ℕ) (s : List ℕ) → true ≡ allZero (part at 0 s)
+unfolding allZero part
+zero-none at s = refl
+
+pub zero-more : (at i any : ℕ) (s : List ℕ) → eqb any 0 ≡ allZero (part at i s) → at + i < length s → eqb (bitOr any (getD s (at + i) 0)) 0 ≡ allZero (part at (i + 1) s)
+zero-more at i any s e h = rw (or-zero any (getD s (at + i) 0), part-suc at i s h, allZero-snoc, e)
+
+pub zero-end : (at i n : ℕ) (s : List ℕ) (t : Bool) → t ≡ allZero (part at i s) → i ≡ n → t ≡ allZero (part at n s)
+zero-end at i n s t e h = e ∙ rw h
+
+pub zeros-is : (l : List ℕ) → allZero l ≡ true → l ≡ zeros (length l)
+unfolding allZero zeros
+zeros-is [] e = refl
+zeros-is (x ∷ xs) e = go (eqb x 0) refl (zeros-is xs) e
+  where
+    go : (t : Bool) → eqb x 0 ≡ t → (allZero xs ≡ true → xs ≡ zeros (length xs)) → pick t (allZero xs) false ≡ true → x ∷ xs ≡ 0 ∷ zeros (length xs)
+    go true z ih f = let a : x ≡ 0 = eqb-true x 0 z in let b : xs ≡ zeros (length xs) = ih f in cc
+    go false z ih f = let b : _≡_ {A = Bool} false true = f in let z : _≡_ {A = ℕ} 0 1 = cc in absurd (omega arith)
+
+-- ---- every
+pub every-none : (f : ℕ → Bool) → every 0 f ≡ true
+unfolding every
+every-none f = refl
+
+pub every-more : (f : ℕ → Bool) (i : ℕ) → every i f ≡ true → f i ≡ true → every (i + 1) f ≡ true
+unfolding every
+every-more f i e p = rw (add-one, e, p)
+
+pub every-all : (f : ℕ → Bool) (n : ℕ) → ((i : ℕ) → i < n → f i ≡ true) → every n f ≡ true
+unfolding every
+every-all f zero h = refl
+every-all f (suc n) h = rw (every-all f n (λ i p. h i (omega arith)), h n (omega arith))
+
+pub every-same : (f g : ℕ → Bool) (n : ℕ) → ((i : ℕ) → i < n → f i ≡ g i) → every n f ≡ every n g
+unfolding every
+every-same f g zero h = refl
+every-same f g (suc n) h = rw (every-same f g n (λ i p. h i (omega arith)), h n (omega arith))
+
+pub every-off : (f : ℕ → Bool) (n i : ℕ) → i < n → f i ≡ false → every n f ≡ false
+unfolding every
+every-off f zero i h e = absurd (omega arith)
+every-off f (suc n) i h e = ⊎-elim (λ p. rw (every-off f n i p e)) (λ p. last (subst (λ (x : ℕ). f x ≡ false) p e) (every n f)) (cases n i h)
+  where
+    last : f n ≡ false → (t : Bool) → pick t (f n) false ≡ false
+    last q true = q
+    last q false = refl
+
+pub both : (t u : Bool) → t and u ≡ true → (t ≡ true) × (u ≡ true)
+both true u e = (refl, e)
+both false u e = let b : _≡_ {A = Bool} false true = e in let z : _≡_ {A = ℕ} 0 1 = cc in absurd (omega arith)
+
+pub every-at : (f : ℕ → Bool) (n i : ℕ) → every n f ≡ true → i < n → f i ≡ true
+unfolding every
+every-at f zero i e h = absurd (omega arith)
+every-at f (suc n) i e h = ⊎-elim (λ p. every-at f n i (both (every n f) (f n) e .0) p) (λ p. subst (λ (x : ℕ). f x ≡ true) (sym p) (both (every n f) (f n) e .1)) (cases n i h)

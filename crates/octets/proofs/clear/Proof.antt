@@ -1,0 +1,55 @@
+-- After i turns i zeros are put.
+use Prim.Native.Nat.{_-_, _≤_}
+use mathlib.Core.Path.{_≡_, refl}
+use native.Mathlib.Omega.{arith}
+use lib.ListN.{length}
+use Rattle.octets.specs.Bytes.{put, zeros}
+use Rattle.octets.proofs.Move.{zeros-none, clear-more, clear-all}
+use borrow.Author.Needs.{needs}
+use Rattle.octets.proofs.clear.Statement.{statement}
+use Rattle.octets.proofs.clear.Tie as tie
+
+abbrev Inv-loop : tie.InvT-loop
+Inv-loop image₀ at n i₀ image i = (i ≤ n) × (image ≡ put at (zeros i) image₀) × (length image ≡ length image₀)
+
+abbrev μ-loop : tie.MeasureT-loop
+μ-loop image₀ at n i₀ image i = n - i
+
+loop-holds : tie.Need-loop-holds Inv-loop μ-loop
+loop-holds c = (search needs, zeros-none _ _, refl)
+
+add-image : tie.Need-add-image Inv-loop μ-loop
+add-image c = search needs
+
+slice-write-image : tie.Need-slice-write-image Inv-loop μ-loop
+slice-write-image c = search needs
+
+add-i : tie.Need-add-i Inv-loop μ-loop
+add-i c = search needs
+
+loop-less : tie.Need-loop-less Inv-loop μ-loop
+loop-less c = search needs
+
+loop-again : tie.Need-loop-again Inv-loop μ-loop
+loop-again c = (search needs, clear-more _ _ _ _ (c .before .loop .inv .1) (omega arith), search needs)
+
+same-length : tie.Need-same-length Inv-loop μ-loop
+same-length c = search needs
+
+returns : tie.Need-returns Inv-loop μ-loop
+returns c = clear-all _ _ _ _ _ (c .before .loop .inv .1) (omega arith)
+
+pub clear-spec : {M : Type 1} → statement M
+clear-spec =
+    tie.close
+    (tie.spec
+    Inv-loop
+    μ-loop
+    loop-holds
+    add-image
+    slice-write-image
+    add-i
+    loop-less
+    loop-again
+    same-length
+    returns)

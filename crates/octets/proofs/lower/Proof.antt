@@ -1,0 +1,67 @@
+-- After i turns the first i bytes behind the gap are put.
+use Prim.Native.Nat.{_+_, _-_, _≤_}
+use mathlib.Core.Path.{_≡_, refl}
+use native.Mathlib.Omega.{arith}
+use lib.ListN.{length}
+use Rattle.octets.specs.Bytes.{put, part}
+use Rattle.octets.proofs.Move.{part-none, lower-more, lower-all}
+use borrow.Author.Needs.{needs}
+use Rattle.octets.proofs.lower.Statement.{statement}
+use Rattle.octets.proofs.lower.Tie as tie
+
+abbrev Inv-loop : tie.InvT-loop
+Inv-loop image₀ at gap n i₀ image i = (i ≤ n) × (image ≡ put at (part (at + gap) i image₀) image₀) × (length image ≡ length image₀)
+
+abbrev μ-loop : tie.MeasureT-loop
+μ-loop image₀ at gap n i₀ image i = n - i
+
+loop-holds : tie.Need-loop-holds Inv-loop μ-loop
+loop-holds c = (search needs, part-none _ _ _ _, refl)
+
+add-image : tie.Need-add-image Inv-loop μ-loop
+add-image c = search needs
+
+add-image-2 : tie.Need-add-image-2 Inv-loop μ-loop
+add-image-2 c = search needs
+
+slice-read-image : tie.Need-slice-read-image Inv-loop μ-loop
+slice-read-image c = search needs
+
+add-image-3 : tie.Need-add-image-3 Inv-loop μ-loop
+add-image-3 c = search needs
+
+slice-write-image : tie.Need-slice-write-image Inv-loop μ-loop
+slice-write-image c = search needs
+
+add-i : tie.Need-add-i Inv-loop μ-loop
+add-i c = search needs
+
+loop-less : tie.Need-loop-less Inv-loop μ-loop
+loop-less c = search needs
+
+loop-again : tie.Need-loop-again Inv-loop μ-loop
+loop-again c = (search needs, lower-more _ _ _ _ _ (c .before .before .loop .inv .1) (omega arith), search needs)
+
+same-length : tie.Need-same-length Inv-loop μ-loop
+same-length c = search needs
+
+returns : tie.Need-returns Inv-loop μ-loop
+returns c = lower-all _ _ _ _ _ _ (c .before .loop .inv .1) (omega arith)
+
+pub lower-spec : {M : Type 1} → statement M
+lower-spec =
+    tie.close
+    (tie.spec
+    Inv-loop
+    μ-loop
+    loop-holds
+    add-image
+    add-image-2
+    slice-read-image
+    add-image-3
+    slice-write-image
+    add-i
+    loop-less
+    loop-again
+    same-length
+    returns)

@@ -1,0 +1,59 @@
+-- After i turns the first i bytes of src are put.
+use Prim.Native.Nat.{_-_, _≤_}
+use mathlib.Core.Path.{_≡_, refl}
+use native.Mathlib.Omega.{arith}
+use lib.ListN.{length}
+use Rattle.octets.specs.Bytes.{put, part}
+use Rattle.octets.proofs.Move.{part-none, write-more, write-all}
+use borrow.Author.Needs.{needs}
+use Rattle.octets.proofs.write.Statement.{statement}
+use Rattle.octets.proofs.write.Tie as tie
+
+abbrev Inv-loop : tie.InvT-loop
+Inv-loop image₀ at src i₀ image i = (i ≤ length src) × (image ≡ put at (part 0 i src) image₀) × (length image ≡ length image₀)
+
+abbrev μ-loop : tie.MeasureT-loop
+μ-loop image₀ at src i₀ image i = length src - i
+
+loop-holds : tie.Need-loop-holds Inv-loop μ-loop
+loop-holds c = (search needs, part-none _ _ _ _, refl)
+
+shared-slice-read-image : tie.Need-shared-slice-read-image Inv-loop μ-loop
+shared-slice-read-image c = search needs
+
+add-image : tie.Need-add-image Inv-loop μ-loop
+add-image c = search needs
+
+slice-write-image : tie.Need-slice-write-image Inv-loop μ-loop
+slice-write-image c = search needs
+
+add-i : tie.Need-add-i Inv-loop μ-loop
+add-i c = search needs
+
+loop-less : tie.Need-loop-less Inv-loop μ-loop
+loop-less c = search needs
+
+loop-again : tie.Need-loop-again Inv-loop μ-loop
+loop-again c = (search needs, write-more _ _ _ _ _ (c .before .before .loop .inv .1) (omega arith) (omega arith), search needs)
+
+same-length : tie.Need-same-length Inv-loop μ-loop
+same-length c = search needs
+
+returns : tie.Need-returns Inv-loop μ-loop
+returns c = write-all _ _ _ _ _ (c .before .loop .inv .1) (omega arith)
+
+pub write-spec : {M : Type 1} → statement M
+write-spec =
+    tie.close
+    (tie.spec
+    Inv-loop
+    μ-loop
+    loop-holds
+    shared-slice-read-image
+    add-image
+    slice-write-image
+    add-i
+    loop-less
+    loop-again
+    same-length
+    returns)

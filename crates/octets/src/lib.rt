@@ -1,0 +1,114 @@
+// Bytes in a lent buffer: stores, moves, tests and numbers, each at an offset.
+ghost use mathlib.Core.Path.{_≡_};
+ghost use Prim.Native.Nat.{_+_, _<_, _≤_};
+ghost use mathlib.Core.List.{_++_};
+ghost use lib.ListN.{length};
+ghost use Rattle.octets.specs.Bytes.{put, part, zeros, allZero};
+ghost use Rattle.octets.specs.Numbers.{be, ofBe};
+
+// Writes all of src from at on.
+pub fn write(image: &mut [u8], at: usize, src: &[u8])
+    requires { ⌜ at + length (now src) ≤ length (now image) ⌝ }
+    ensures { λ _. ⌜ now (image .exit) ≡ put at (now (src .entry)) (now (image .entry)) ⌝ }
+{
+    let mut i: usize = 0;
+    while i < src.len() {
+        image[at + i] = src[i];
+        i += 1;
+    }
+}
+
+// Writes n zero bytes from at on.
+pub fn clear(image: &mut [u8], at: usize, n: usize)
+    requires { ⌜ at + n ≤ length (now image) ⌝ }
+    ensures { λ _. ⌜ now (image .exit) ≡ put at (zeros n) (now (image .entry)) ⌝ }
+{
+    let mut i: usize = 0;
+    while i < n {
+        image[at + i] = 0;
+        i += 1;
+    }
+}
+
+// Moves the n bytes from at + gap on down to at.
+pub fn lower(image: &mut [u8], at: usize, gap: usize, n: usize)
+    requires { ⌜ at + gap + n ≤ length (now image) ⌝ }
+    ensures { λ _. ⌜ now (image .exit) ≡ put at (part (at + gap) n (now (image .entry))) (now (image .entry)) ⌝ }
+{
+    let mut i: usize = 0;
+    while i < n {
+        image[at + i] = image[at + gap + i];
+        i += 1;
+    }
+}
+
+// Removes the gap bytes at at, of those up to at + gap + n, and clears the last gap of these.
+pub fn remove(image: &mut [u8], at: usize, gap: usize, n: usize)
+    requires { ⌜ at + gap + n ≤ length (now image) ⌝ }
+    ensures { λ _. ⌜ now (image .exit) ≡ put at (part (at + gap) n (now (image .entry)) ++ zeros gap) (now (image .entry)) ⌝ }
+{
+    lower(image, at, gap, n);
+    clear(image, at + n, gap);
+}
+
+// Whether the n bytes from at on are all zero. No early exit, so that the loop vectorises.
+pub fn all_zero(s: &[u8], at: usize, n: usize) -> bool
+    requires { ⌜ at + n ≤ length (now s) ⌝ }
+    ensures { λ r. ⌜ r ≡ allZero (part at n (now (s .entry))) ⌝ }
+{
+    let mut any: u8 = 0;
+    let mut i: usize = 0;
+    while i < n {
+        any = any | s[at + i];
+        i += 1;
+    }
+    any == 0
+}
+
+// A byte in 32 bits, with its bound, so that no product of it overflows.
+fn wide(x: u8) -> u32
+    ensures { λ r. ⌜ (r ≡ x) × (r < 256) ⌝ }
+{
+    x as u32
+}
+
+// The number in the 2 bytes from at on.
+pub fn load16(s: &[u8], at: usize) -> u16
+    requires { ⌜ at + 2 ≤ length (now s) ⌝ }
+    ensures { λ r. ⌜ r ≡ ofBe 2 (part at 2 (now (s .entry))) ⌝ }
+{
+    (wide(s[at]) * 256 + wide(s[at + 1])) as u16
+}
+
+// The number in the 4 bytes from at on.
+pub fn load32(s: &[u8], at: usize) -> u32
+    requires { ⌜ at + 4 ≤ length (now s) ⌝ }
+    ensures { λ r. ⌜ r ≡ ofBe 4 (part at 4 (now (s .entry))) ⌝ }
+{
+    ((wide(s[at]) * 256 + wide(s[at + 1])) * 256 + wide(s[at + 2])) * 256 + wide(s[at + 3])
+}
+
+// Writes n in 2 bytes from at on.
+pub fn store16(image: &mut [u8], at: usize, n: u16)
+    requires { ⌜ at + 2 ≤ length (now image) ⌝ }
+    ensures { λ _. ⌜ now (image .exit) ≡ put at (be 2 n) (now (image .entry)) ⌝ }
+{
+    let high = (n / 256 % 256) as u8;
+    let low = (n % 256) as u8;
+    let b = [high, low];
+    write(image, at, &b);
+}
+
+// Writes n in 4 bytes from at on.
+pub fn store32(image: &mut [u8], at: usize, n: u32)
+    requires { ⌜ at + 4 ≤ length (now image) ⌝ }
+    ensures { λ _. ⌜ now (image .exit) ≡ put at (be 4 n) (now (image .entry)) ⌝ }
+{
+    let b = [
+        (n / 256 / 256 / 256 % 256) as u8,
+        (n / 256 / 256 % 256) as u8,
+        (n / 256 % 256) as u8,
+        (n % 256) as u8,
+    ];
+    write(image, at, &b);
+}
