@@ -1,0 +1,78 @@
+-- Beginning a session: the answer, and the fresh image written part by part.
+use Prim.Native.Nat.{ℕ, _+_, _*_, _≤_, _<_}
+use mathlib.Core.Bool.{true, false, not}
+use mathlib.Core.Path.{_≡_, refl, sym, ap, _∙_}
+use mathlib.Core.List.{List, _++_}
+use native.Mathlib.Nat.{add-assoc, mul-suc}
+use native.Mathlib.Numerals.{add-one}
+use native.Mathlib.Omega.{arith}
+use borrow.Author.Tests.{eq-eqb, ne-eqb}
+use lib.ListN.{length}
+use Rattle.octets.specs.Bytes.{put, zeros}
+use Rattle.octets.proofs.Put.{put-put, put-append, put-whole}
+use Rattle.octets.proofs.Zero.{length-zeros, zeros-append}
+use Rattle.octets.proofs.Chunks.{step}
+use Rattle.ledger.specs.Layout.{Layout, transactorBytes, messageBytes, headBytes, transactorAddress, imageBytes}
+use Rattle.ledger.specs.State.{unused, bare, fresh}
+use Rattle.ledger.specs.Pack.{packTransactor, pack}
+use Rattle.ledger.specs.Calls.{wrongLength, beginAnswer, beginImage}
+use Rattle.ledger.proofs.Fresh.{pack-unused, pack-fresh}
+use Rattle.ledger.proofs.Lent.{back, transactor-back}
+
+-- ---- 16
+
+module _ (y : Layout) (img : List ℕ) where
+  pub wrong-length : (length img ≡ imageBytes y → ⊥) → wrongLength y img ≡ true
+  wrong-length n = ap not (ne-eqb (length img) (imageBytes y) n)
+
+  pub right-length : length img ≡ imageBytes y → wrongLength y img ≡ false
+  right-length e = ap not (eq-eqb (length img) (imageBytes y) e)
+
+  pub begin-refused : (length img ≡ imageBytes y → ⊥) → (16 ≡ beginAnswer y img) × (img ≡ beginImage y img)
+  unfolding beginAnswer beginImage
+  begin-refused n = (rw (wrong-length n), rw (wrong-length n))
+
+  pub begin-done : (l : List ℕ) → length img ≡ imageBytes y → l ≡ pack y (fresh y) → (0 ≡ beginAnswer y img) × (l ≡ beginImage y img)
+  unfolding beginAnswer beginImage
+  begin-done l e f = (rw (right-length e), f ∙ rw (right-length e) (pack-fresh y))
+
+-- ---- one part after the other
+
+-- c behind the n bytes of b
+pub put-behind : (at n : ℕ) (b c l l' : List ℕ) → length b ≡ n → at + n + length c ≤ length l → l' ≡ put at b l → put (at + n) c l' ≡ put at (b ++ c) l
+put-behind at n b c l l' e h f = ap (put (at + n) c) f ∙ ap (λ (k : ℕ). put (at + k) c (put at b l)) (sym e) ∙ put-append at b c l (omega arith)
+
+zeros-on : (a n : ℕ) (l l' : List ℕ) → a + n ≤ length l → l' ≡ put 0 (zeros a) l → put a (zeros n) l' ≡ put 0 (zeros (a + n)) l
+zeros-on a n l l' h e =
+    let p : a ≡ 0 + a = omega arith in
+    ap (λ (k : ℕ). put k (zeros n) l') p
+    ∙ put-behind 0 a (zeros a) (zeros n) l l' (length-zeros a) (omega (arith, length-zeros n)) e
+    ∙ ap (λ (x : List ℕ). put 0 x l) (zeros-append a n)
+
+-- the same part once more
+pub put-again : (at : ℕ) (bs l l' : List ℕ) → at + length bs ≤ length l → l' ≡ put at bs l → l' ≡ put at bs l'
+put-again at bs l l' h e = e ∙ sym (put-put at bs bs l h refl) ∙ ap (put at bs) (sym e)
+
+module _ (y : Layout) (l : List ℕ) (long : length l ≡ imageBytes y) where
+  -- zero up to take t, and now take t too
+  pub fresh-transactor : (t : ℕ) (l' bs : List ℕ) → l' ≡ put 0 (zeros (transactorAddress y t)) l → t < y .transactors → bs ≡ packTransactor y (bare y unused)
+      → back y l' t bs ≡ put 0 (zeros (transactorAddress y (t + 1))) l
+  fresh-transactor t l' bs e h b =
+      let a : ℕ = transactorAddress y t in
+      let w : ℕ = transactorBytes y in
+      let q : a + w ≡ transactorAddress y (t + 1) = rw (add-one, mul-suc) (add-assoc headBytes (w * t) w) in
+      transactor-back y l' t (bare y unused) bs b
+      ∙ ap (λ (x : List ℕ). put a x l') (pack-unused y)
+      ∙ zeros-on a w l l' (omega (arith, step w t (y .transactors) h)) e
+      ∙ ap (λ (x : ℕ). put 0 (zeros x) l) q
+
+  -- all takes, and the places of messages too
+  pub fresh-all : (t : ℕ) (l' l'' : List ℕ) → l' ≡ put 0 (zeros (transactorAddress y t)) l → t ≡ y .transactors
+      → l'' ≡ put (transactorAddress y (y .transactors)) (zeros (messageBytes y * y .messages)) l' → l'' ≡ pack y (fresh y)
+  fresh-all t l' l'' e h e' =
+      let a : ℕ = transactorAddress y (y .transactors) in
+      let n : length (zeros (imageBytes y)) ≡ imageBytes y = length-zeros (imageBytes y) in
+      e'
+      ∙ zeros-on a (messageBytes y * y .messages) l l' (omega arith) (e ∙ ap (λ (x : ℕ). put 0 (zeros (transactorAddress y x)) l) h)
+      ∙ put-whole (zeros (imageBytes y)) l (omega arith)
+      ∙ sym (pack-fresh y)

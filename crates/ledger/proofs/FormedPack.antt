@@ -1,0 +1,127 @@
+-- A well-formed state is packed as a well-formed image.
+use Prim.Native.Nat.{ℕ, _+_, _*_, _≤_, _<_}
+use mathlib.Core.Bool.{true}
+use mathlib.Core.Path.{_≡_, refl, sym, ap, _∙_}
+use mathlib.Core.List.{List, _++_}
+use native.Mathlib.Omega.{arith}
+use lib.ListN.{length, getD, drop, length-append}
+use Rattle.octets.specs.Bytes.{put, part, allZero, zeros}
+use Rattle.octets.specs.Numbers.{be}
+use Rattle.octets.proofs.Put.{part-put, put-last, drop-put}
+use Rattle.octets.proofs.Numbers.{length-be}
+use Rattle.octets.proofs.Zero.{length-zeros, allZero-zeros}
+use Rattle.maps.specs.declared.DependenceMap.{DependenceMap}
+use Rattle.maps.proofs.Packed.{length-packMap, pack-emptyMap, formed-packMap}
+use Rattle.ledger.specs.Layout.{Layout, mapBytes, stateAt, creationAt, behaviourAt, dependencesAt, transactorBytes, messageBytes}
+use Rattle.ledger.specs.State.{Transactor, Message, State, annihilated, bare, messageAt}
+use Rattle.ledger.specs.Pack.{packDependences, packTransactor, packTransactorAt, packMessage, packHead, pack, waitingIn, unpack}
+use Rattle.ledger.specs.Form.{mapFormed, wellFormed}
+use Rattle.ledger.specs.Well.{DependencesOk, TransactorOk, MessageOk, Known, TransactorFormed, not-opened, gone, alive, WellFormed}
+use Rattle.ledger.proofs.Sizes.{length-packTransactor, length-packMessage, length-pack}
+use Rattle.ledger.proofs.Fields.{put-state, put-creation, put-behaviour, at-waiting, at-free}
+use Rattle.ledger.proofs.There.{transactorPart-pack, messagePart-pack, waiting-pack, unpack-pack}
+use Rattle.ledger.proofs.Fresh.{pack-unused, pack-bare}
+use Rattle.ledger.proofs.Zeros.{zero-rest}
+use Rattle.ledger.proofs.FormTransactor.{TransactorForm, unopened, vanished, living}
+use Rattle.ledger.proofs.FormMessage.{MessageForm, MessagesForm}
+use Rattle.ledger.proofs.FormImage.{ImageForm, image-form}
+
+-- ---- one transactor, one message
+
+module _ (y : Layout) (opened : ℕ) where
+  -- a map that stands at a place of b
+  module _ (at : ℕ) (m : DependenceMap) (b : List ℕ) (fits : at + mapBytes y ≤ length b) (stands : put at (packDependences y m) b ≡ b) where
+    map-part : part at (mapBytes y) b ≡ packDependences y m
+    map-part =
+        let n : length (packDependences y m) ≡ mapBytes y = length-packMap (y .width) (y .places) (y .transactors) m in
+        ap (part at (mapBytes y)) (sym stands)
+        ∙ ap (λ (k : ℕ). part at k (put at (packDependences y m) b)) (sym n)
+        ∙ part-put at (packDependences y m) b (omega arith)
+
+    map-formed : DependencesOk y m → Known opened m → mapFormed y opened at b ≡ true
+    unfolding mapFormed Known
+    map-formed o k = rw map-part (formed-packMap opened o k)
+
+  -- zeros behind the status
+  bare-rest : (st : ℕ) → allZero (drop 1 (packTransactor y (bare y st))) ≡ true
+  unfolding be
+  bare-rest st =
+      let z : List ℕ = zeros (transactorBytes y) in
+      let e : drop 1 (put 0 (be 1 (64 * st)) z) ≡ drop 1 z = drop-put 0 (be 1 (64 * st)) z (omega (arith, length-zeros (transactorBytes y))) in
+      rw (← pack-bare y st, e) (zero-rest z (allZero-zeros (transactorBytes y)))
+
+  transactor-head : (x : Transactor) → x .status < 4 → getD (packTransactor y x) 0 0 ≡ 64 * x .status
+  unfolding packTransactor be
+  transactor-head x h = omega arith
+
+  transactor-packed : {t : ℕ} {x : Transactor} → TransactorOk y x → TransactorFormed y opened t x → TransactorForm y opened t (packTransactor y x) x
+  transactor-packed o (not-opened p) = unopened p refl (rw (pack-unused y) (allZero-zeros (transactorBytes y)))
+  transactor-packed o (gone p) = vanished p refl (omega (arith, transactor-head (bare y annihilated) (o .status))) (bare-rest annihilated)
+  transactor-packed {x = x} o (alive p a) =
+      let n = length-packTransactor y x in
+      living p (record {
+        head = omega (arith, transactor-head x (o .status));
+        status = a .status;
+        state = map-formed stateAt (x .state) (packTransactor y x) (omega arith) (put-state y x (x .state)) (o .state) (a .state);
+        creation = map-formed (creationAt y) (x .creation) (packTransactor y x) (omega arith) (put-creation y x (x .creation)) (o .creation) (a .creation);
+        behaviour = map-formed (behaviourAt y) (x .behaviour) (packTransactor y x) (omega arith) (put-behaviour y x (x .behaviour)) (o .behaviour) (a .behaviour);
+        own = a .own;
+        saved = a .saved;
+        behaves = λ r.
+            rw (map-part (behaviourAt y) (x .behaviour) (packTransactor y x) (omega arith) (put-behaviour y x (x .behaviour)), a .behaves r, pack-emptyMap (y .width) (y .places) (y .transactors))
+            (allZero-zeros (mapBytes y));
+      })
+
+  module _ (m : Message) where
+    message-head : m .addressee < 16 → getD (packMessage y m) 0 0 ≡ 128 + m .addressee
+    unfolding packMessage be
+    message-head h = omega arith
+
+    dependences-stand : put dependencesAt (packDependences y (m .dependences)) (packMessage y m) ≡ packMessage y m
+    unfolding packMessage
+    dependences-stand =
+        let d : List ℕ = packDependences y (m .dependences) in
+        put-last dependencesAt d (be 1 (128 + m .addressee) ++ be 2 (m .number) ++ be 4 (m .value)) d (simp (length-append, length-be)) refl
+
+    message-packed : {next : ℕ} → MessageOk y m → Known opened (m .dependences) → m .number < next → m .addressee < opened → MessageForm y opened next (packMessage y m) m
+    message-packed o k n a = record {
+      head = omega (arith, message-head (o .addressee), o .addressee);
+      dependences = map-formed dependencesAt (m .dependences) (packMessage y m) (omega (arith, length-packMessage y m)) dependences-stand (o .dependences) k;
+      number = n;
+      addressee = a;
+    }
+
+-- ---- the image
+
+module _ (y : Layout) (s : State) (w : WellFormed y s) where
+  back : unpack y (pack y s) ≡ s
+  back = unpack-pack y s (w .packable)
+
+  head-zero : getD (pack y s) 3 0 ≡ 0
+  unfolding pack packHead be
+  head-zero = refl
+
+  messages-packed : MessagesForm y (pack y s)
+  messages-packed =
+      let n : waitingIn y (pack y s) ≡ length (s .messages) = waiting-pack y s (w .packable) in
+      record {
+        taken = λ k h.
+            let p : k < length (s .messages) = omega arith in
+            let q : k < y .messages = omega (arith, w .packable .few) in
+            rw (back, messagePart-pack y s k q, at-waiting y s k p)
+            (message-packed y (s .opened) (messageAt s k) (w .packable .messages k p) (w .known k p) (w .numbers k p) (w .addressees k p));
+        free = λ k p h. rw (messagePart-pack y s k h, at-free y s k (omega arith)) (allZero-zeros (messageBytes y));
+        order = λ k h. rw back (w .order k (omega arith));
+      }
+
+  image-packed : ImageForm y (pack y s)
+  unfolding packTransactorAt
+  image-packed = record {
+    zero = head-zero;
+    opened = rw back (w .opened);
+    transactors = λ t h. rw (back, transactorPart-pack y s t h) (transactor-packed y (s .opened) (w .packable .transactors t h) (w .transactors t h));
+    messages = messages-packed;
+  }
+
+  pub formed-pack : wellFormed y (pack y s) ≡ true
+  formed-pack = image-form y (pack y s) (length-pack y s) image-packed

@@ -1,0 +1,209 @@
+-- Running a list: a step read, a reply written, one step after the other, and the answer.
+use Prim.Native.Nat.{ℕ, _+_, _-_, _*_, _/_, _%_, _≤_, _<_}
+use mathlib.Core.Bool.{true, false}
+use mathlib.Core.Path.{_≡_, sym, ap, _∙_}
+use mathlib.Core.List.{List, _++_}
+use native.Mathlib.Nat.{add-zero}
+use native.Mathlib.Numerals.{add-one}
+use native.Mathlib.Omega.{arith}
+use borrow.Author.Tests.{lt-ltb, le-ltb, eq-eqb, ne-eqb}
+use lib.Dec.{eqb}
+use lib.ListN.{length, getD, set, length-append, length-set}
+use Rattle.octets.specs.Bytes.{put, part, chunks, Octets}
+use Rattle.octets.specs.Numbers.{be, ofBe}
+use Rattle.octets.proofs.Put.{part-part, getD-part, put-whole, octets-part, length-part}
+use Rattle.octets.proofs.Numbers.{length-be, put-be-one}
+use Rattle.octets.proofs.Chunks.{step, length-chunks, put-more}
+use Rattle.ledger.specs.Layout.{Layout, Limits, base, standard, imageBytes}
+use Rattle.ledger.specs.State.{State}
+use Rattle.ledger.specs.Step.{Step, Reply, stepBytes, unpackStep, stepAt, packReply}
+use Rattle.ledger.specs.Rules.{stepOf}
+use Rattle.ledger.specs.Pack.{pack, unpack}
+use Rattle.ledger.specs.Form.{wellFormed}
+use Rattle.ledger.specs.Well.{StepOk, WellFormed}
+use Rattle.ledger.specs.Calls.{stateAfter, replyAt, stepsIn, longest, wrongPart, runAnswer, ranImage, ranReplies, runImage, runReplies}
+use Rattle.ledger.specs.Parts.{Good, Stepped}
+use Rattle.ledger.proofs.Sizes.{length-pack}
+use Rattle.ledger.proofs.There.{unpack-pack}
+use Rattle.ledger.proofs.Back.{pack-unpack-formed}
+use Rattle.ledger.proofs.FormedState.{formed-state}
+use Rattle.ledger.proofs.KeepRun.{stepOk-unpack}
+use Rattle.ledger.proofs.KeepStep.{keeps-after, sound-base, allowed-standard}
+use Rattle.ledger.proofs.Beginning.{wrong-length, right-length, put-behind}
+
+-- the fields of the step from place at on
+pub step-fields : (l : List ℕ) (at k v : ℕ) → k ≡ ofBe 2 (part (at + 2) 2 l) → v ≡ ofBe 4 (part (at + 4) 4 l)
+    → _≡_ {A = Step} (record { kind = getD l at 0 / 16; transactor = getD l at 0 % 16; other = getD l (at + 1) 0 / 16; zero = getD l (at + 1) 0 % 16; message = k; value = v }) (unpackStep (part at stepBytes l))
+unfolding unpackStep
+step-fields l at k v e f =
+    let a : getD (part at stepBytes l) 0 0 ≡ getD l at 0 = getD-part at stepBytes l 0 (omega arith) ∙ ap (λ (i : ℕ). getD l i 0) (add-zero at) in
+    let b : getD (part at stepBytes l) 1 0 ≡ getD l (at + 1) 0 = getD-part at stepBytes l 1 (omega arith) in
+    let c : part 2 2 (part at stepBytes l) ≡ part (at + 2) 2 l = part-part 2 2 at stepBytes l (omega arith) in
+    let d : part 4 4 (part at stepBytes l) ≡ part (at + 4) 4 l = part-part 4 4 at stepBytes l (omega arith) in
+    rw (a, b, c, d, e, f)
+
+-- the fields of a reply are put one after the other
+pub reply-fields : (r : Reply) (at : ℕ) (l l1 l2 : List ℕ) → at + stepBytes ≤ length l → r .outcome < 256 → r .transactor < 256
+    → l1 ≡ put (at + 2) (be 2 (r .message)) (set (set l at (r .outcome)) (at + 1) (r .transactor))
+    → l2 ≡ put (at + 4) (be 4 (r .value)) l1
+    → l2 ≡ put at (packReply r) l
+unfolding packReply
+reply-fields r at l l1 l2 h x y e1 e2 =
+    let b1 : List ℕ = be 1 (r .outcome) in
+    let b2 : List ℕ = b1 ++ be 1 (r .transactor) in
+    let b3 : List ℕ = b2 ++ be 2 (r .message) in
+    let n2 : length b2 ≡ 2 = simp (length-append, length-be) in
+    let n3 : length b3 ≡ 4 = simp (length-append, length-be) in
+    let f1 : set l at (r .outcome) ≡ put at b1 l = sym (put-be-one at (r .outcome) l (omega arith) x) in
+    let f2 : set (set l at (r .outcome)) (at + 1) (r .transactor) ≡ put at b2 l =
+    sym (put-be-one (at + 1) (r .transactor) (set l at (r .outcome)) (rw length-set (omega arith)) y)
+    ∙ put-behind at 1 b1 (be 1 (r .transactor)) l (set l at (r .outcome)) (length-be 1 (r .outcome)) (omega (arith, length-be 1 (r .transactor))) f1 in
+    let f3 : l1 ≡ put at b3 l = e1 ∙ put-behind at 2 b2 (be 2 (r .message)) l _ n2 (omega (arith, length-be 2 (r .message))) f2 in
+    e2 ∙ put-behind at 4 b3 (be 4 (r .value)) l l1 n3 (omega (arith, length-be 4 (r .value))) f3
+
+length-packReply : (r : Reply) → length (packReply r) ≡ stepBytes
+unfolding packReply
+length-packReply r = simp (length-append, length-be)
+
+-- ---- images of well-formed states
+
+pub good-pack : (s : State) → WellFormed base s → Good (pack base s)
+good-pack s w =
+    let e : unpack base (pack base s) ≡ s = unpack-pack base s (w .packable) in
+    record { long = length-pack base s; back = ap (pack base) e; well = rw e w }
+
+pub good-formed : (img : List ℕ) → length img ≡ imageBytes base → Octets img → wellFormed base img ≡ true → Good img
+good-formed img long o e = record { long = long; back = pack-unpack-formed base img long o e; well = formed-state base img long o e }
+
+-- ---- one step after the other
+
+pub step-fits : (b : List ℕ) (i : ℕ) (p : Step) → Octets b → p ≡ unpackStep (part (stepBytes * i) stepBytes b) → StepOk p
+step-fits b i p o e = rw e (stepOk-unpack (part (stepBytes * i) stepBytes b) (octets-part (stepBytes * i) stepBytes b o))
+
+-- the list b is run from the state of img
+module _ (img b : List ℕ) (good : Good img) where
+  abbrev after : ℕ → State
+  after = stateAfter base standard (unpack base img) b
+
+  abbrev replied : ℕ → List ℕ
+  replied = replyAt base standard (unpack base img) b
+
+  pub run-none : img ≡ pack base (stateAfter base standard (unpack base img) b 0)
+  unfolding stateAfter
+  run-none = sym (good .back)
+
+  after-more : (i : ℕ) → after (i + 1) ≡ stepOf base standard (after i) (stepAt b i) .state
+  unfolding stateAfter
+  after-more i = ap after (add-one i)
+
+  pub run-all : (i : ℕ) (l : List ℕ) → l ≡ pack base (stateAfter base standard (unpack base img) b i) → i ≡ stepsIn b → l ≡ ranImage base standard img b
+  unfolding ranImage
+  run-all i l e h = e ∙ ap (λ (n : ℕ). pack base (after n)) h
+
+  wide : (i : ℕ) → length (replied i) ≡ stepBytes
+  unfolding replyAt
+  wide i = length-packReply (stepOf base standard (after i) (stepAt b i) .reply)
+
+  pub replies-all : (i : ℕ) (rs rs' : List ℕ) → rs' ≡ put 0 (chunks i (replyAt base standard (unpack base img) b)) rs → i ≡ stepsIn b
+      → length rs ≡ length b → stepBytes * (length b / stepBytes) ≡ length b → rs' ≡ ranReplies base standard img b
+  unfolding ranReplies
+  replies-all i rs rs' e h same whole =
+      let n : length (chunks (stepsIn b) replied) ≡ stepBytes * stepsIn b = length-chunks stepBytes replied wide (stepsIn b) in
+      e ∙ ap (λ (k : ℕ). put 0 (chunks k replied) rs) h ∙ put-whole (chunks (stepsIn b) replied) rs (omega arith)
+
+  -- l is the image after i steps
+  module _ (o : Octets b) (i : ℕ) (l : List ℕ) (e : l ≡ pack base (stateAfter base standard (unpack base img) b i)) where
+    well : WellFormed base (after i)
+    well = keeps-after sound-base allowed-standard (good .well) b o i
+
+    pub run-good : Good l
+    run-good = rw e (good-pack (after i) well)
+
+    says : unpack base l ≡ after i
+    says = ap (unpack base) e ∙ unpack-pack base (after i) (well .packable)
+
+    -- and l' after one more, p, with the reply r
+    module _ (p : Step) (r : Reply) (l' : List ℕ) (q : p ≡ unpackStep (part (stepBytes * i) stepBytes b)) (s : Stepped l p r l') where
+      pub run-more : l' ≡ pack base (stateAfter base standard (unpack base img) b (i + 1))
+      unfolding stepAt
+      run-more = s .image ∙ rw (says, q, after-more i)
+
+      pub replies-more : (rs rs' rs'' : List ℕ) → rs' ≡ put 0 (chunks i (replyAt base standard (unpack base img) b)) rs → rs'' ≡ put (stepBytes * i) (packReply r) rs'
+          → stepBytes * i + stepBytes ≤ length rs → rs'' ≡ put 0 (chunks (i + 1) (replyAt base standard (unpack base img) b)) rs
+      unfolding replyAt stepAt
+      replies-more rs rs' rs'' f g h =
+          let t : packReply r ≡ replied i = ap packReply (s .reply ∙ rw (says, q)) in
+          let z : stepBytes * i ≡ 0 + stepBytes * i = omega arith in
+          put-more 0 stepBytes replied wide i rs rs' rs'' f (g ∙ ap (λ (k : ℕ). put k (packReply r) rs') z ∙ ap (λ (x : List ℕ). put (0 + stepBytes * i) x rs') t) (omega arith)
+
+-- ---- the part that is run: 17
+
+module _ (list : List ℕ) (start end : ℕ) where
+  pub part-reversed : end < start → wrongPart list start end ≡ true
+  unfolding wrongPart
+  part-reversed h = rw (lt-ltb end start h)
+
+  module _ (forth : start ≤ end) where
+    pub part-past : length list < end → wrongPart list start end ≡ true
+    unfolding wrongPart
+    part-past h = rw (le-ltb end start forth, lt-ltb (length list) end h)
+
+    module _ (within : end ≤ length list) where
+      pub part-broken : ((end - start) % stepBytes ≡ 0 → ⊥) → wrongPart list start end ≡ true
+      unfolding wrongPart
+      part-broken n = rw (le-ltb end start forth, le-ltb (length list) end within, ne-eqb ((end - start) % stepBytes) 0 n)
+
+      module _ (whole : (end - start) % stepBytes ≡ 0) where
+        pub part-long : longest < end - start → wrongPart list start end ≡ true
+        unfolding wrongPart
+        part-long h = rw (le-ltb end start forth, le-ltb (length list) end within, eq-eqb ((end - start) % stepBytes) 0 whole, lt-ltb longest (end - start) h)
+
+        pub part-fine : end - start ≤ longest → wrongPart list start end ≡ false
+        unfolding wrongPart
+        part-fine h = rw (le-ltb end start forth, le-ltb (length list) end within, eq-eqb ((end - start) % stepBytes) 0 whole, le-ltb longest (end - start) h)
+
+        -- whole steps, as many as there are replies
+        pub part-steps : (replies : List ℕ) → length replies ≡ end - start
+            → (length replies ≡ length (part start (end - start) list)) × (stepBytes * (length (part start (end - start) list) / stepBytes) ≡ length (part start (end - start) list))
+        part-steps replies same =
+            let n : length (part start (end - start) list) ≡ end - start = length-part start (end - start) list (omega arith) in
+            (same ∙ sym n, rw n (omega arith))
+
+-- ---- the answer, the image and the replies
+
+module _ (y : Layout) (m : Limits) (img list : List ℕ) (start end : ℕ) (replies : List ℕ) where
+  -- r, the image l and the replies rs are right
+  abbrev pub Ran : ℕ → List ℕ → List ℕ → Type 0
+  Ran r l rs = (r ≡ runAnswer y img list start end replies) × (l ≡ runImage y m img list start end replies) × (rs ≡ runReplies y m img list start end replies)
+
+  refused : (r : ℕ) → r ≡ runAnswer y img list start end replies → (r ≡ 0 → ⊥) → Ran r img replies
+  unfolding runImage runReplies
+  refused r e n =
+      let z : eqb (runAnswer y img list start end replies) 0 ≡ false = ne-eqb (runAnswer y img list start end replies) 0 (λ (f : runAnswer y img list start end replies ≡ 0). n (e ∙ f)) in
+      (e, rw z, rw z)
+
+  pub ran-16 : (length img ≡ imageBytes y → ⊥) → Ran 16 img replies
+  unfolding runAnswer
+  ran-16 n = refused 16 (rw (wrong-length y img n)) (λ e. omega arith)
+
+  module _ (long : length img ≡ imageBytes y) where
+    pub ran-17 : wrongPart list start end ≡ true → Ran 17 img replies
+    unfolding runAnswer
+    ran-17 e = refused 17 (rw (right-length y img long, e)) (λ e. omega arith)
+
+    module _ (fine : wrongPart list start end ≡ false) where
+      pub ran-18 : (length replies ≡ end - start → ⊥) → Ran 18 img replies
+      unfolding runAnswer
+      ran-18 n = refused 18 (rw (right-length y img long, fine, ne-eqb (length replies) (end - start) n)) (λ e. omega arith)
+
+      module _ (same : length replies ≡ end - start) where
+        pub ran-19 : wellFormed y img ≡ false → Ran 19 img replies
+        unfolding runAnswer
+        ran-19 e = refused 19 (rw (right-length y img long, fine, eq-eqb (length replies) (end - start) same, e)) (λ e. omega arith)
+
+        pub ran-0 : (l rs : List ℕ) → wellFormed y img ≡ true → l ≡ ranImage y m img (part start (end - start) list) → rs ≡ ranReplies y m img (part start (end - start) list) → Ran 0 l rs
+        unfolding runImage runReplies runAnswer
+        ran-0 l rs e f g =
+            let a : runAnswer y img list start end replies ≡ 0 = rw (right-length y img long, fine, eq-eqb (length replies) (end - start) same, e) in
+            let z : eqb (runAnswer y img list start end replies) 0 ≡ true = eq-eqb (runAnswer y img list start end replies) 0 a in
+            (sym a, f ∙ rw z, g ∙ rw z)

@@ -1,0 +1,45 @@
+-- Showing a message's map: the refusal, and the part of the image.
+use Prim.Native.Nat.{ℕ, _+_, _-_, _≤_, _<_}
+use mathlib.Core.Bool.{true, false}
+use mathlib.Core.Path.{_≡_, sym, _∙_}
+use mathlib.Core.List.{List, []}
+use native.Mathlib.Omega.{arith}
+use borrow.Author.Tests.{le-leb, lt-leb}
+use lib.ListN.{length, take, drop}
+use Rattle.octets.proofs.Put.{part-def}
+use Rattle.ledger.specs.Layout.{Layout, mapBytes, dependencesAt, messageAddress, imageBytes}
+use Rattle.ledger.specs.State.{placeOf}
+use Rattle.ledger.specs.Pack.{waitingIn, unpack}
+use Rattle.ledger.specs.Form.{wellFormed}
+use Rattle.ledger.specs.Calls.{showRefusal, shown}
+use Rattle.ledger.proofs.Loads.{unpack-waiting}
+use Rattle.ledger.proofs.Beginning.{wrong-length, right-length}
+
+module _ (y : Layout) (img : List ℕ) (v : ℕ) where
+  pub shown-16 : (length img ≡ imageBytes y → ⊥) → ([] ≡ shown y img v) × (16 ≡ showRefusal y img v)
+  unfolding showRefusal shown
+  shown-16 n = (rw (wrong-length y img n), rw (wrong-length y img n))
+
+  module _ (long : length img ≡ imageBytes y) where
+    pub shown-19 : wellFormed y img ≡ false → ([] ≡ shown y img v) × (19 ≡ showRefusal y img v)
+    unfolding showRefusal shown
+    shown-19 e = (rw (right-length y img long, e), rw (right-length y img long, e))
+
+    module _ (formed : wellFormed y img ≡ true) (n k : ℕ) (e : n ≡ waitingIn y img) (f : k ≡ placeOf (unpack y img) v) where
+      many : length (unpack y img .messages) ≡ n
+      many = unpack-waiting y img ∙ sym e
+
+      pub shown-24 : n ≤ k → ([] ≡ shown y img v) × (24 ≡ showRefusal y img v)
+      unfolding showRefusal shown
+      shown-24 h =
+          let p : length (unpack y img .messages) ≤ placeOf (unpack y img) v = omega (arith, many, f) in
+          (rw (right-length y img long, formed, le-leb _ _ p), rw (right-length y img long, formed, le-leb _ _ p))
+
+      pub shown-part : k < n → (take (messageAddress y k + dependencesAt + mapBytes y - (messageAddress y k + dependencesAt)) (drop (messageAddress y k + dependencesAt) img) ≡ shown y img v) × (0 ≡ showRefusal y img v)
+      unfolding showRefusal shown
+      shown-part h =
+          let p : placeOf (unpack y img) v < length (unpack y img .messages) = omega (arith, many, f) in
+          let s : messageAddress y k + dependencesAt + mapBytes y - (messageAddress y k + dependencesAt) ≡ mapBytes y = omega arith in (
+            rw (right-length y img long, formed, lt-leb _ _ p, s, f) (sym (part-def (messageAddress y (placeOf (unpack y img) v) + dependencesAt) (mapBytes y) img)),
+            rw (right-length y img long, formed, lt-leb _ _ p),
+          )

@@ -1,0 +1,132 @@
+use mathlib.Core.Path.{sym, _∙_}
+use borrow.Author.Needs.{needs}
+use Rattle.ledger.proofs.KeepKinds.{lowest, highest}
+use Rattle.ledger.proofs.Images.{stepped-malformed}
+use Rattle.ledger.proofs.Refused.{kind-formed}
+use Rattle.ledger.proofs.steps.step.Statement.{statement}
+use Rattle.ledger.proofs.steps.step.Tie as tie
+
+malformed-requires : tie.Need-malformed-requires
+malformed-requires c κs = search needs
+
+answered-requires : tie.Need-answered-requires
+answered-requires c κs = search needs
+
+returns : tie.Need-returns
+returns c = let p = c .before .before .before .before .pre in
+    stepped-malformed _ _ _ (p .0) (sym (c .before .before .malformed .ensures) ∙ c .before .if1 .taken) (c .answered .ensures)
+
+root-requires : tie.Need-root-requires
+root-requires c κs = let p = c .before .before .before .before .before .pre in
+    record { good = p .0; step = p .1; formed = sym (c .before .before .before .malformed .ensures) ∙ c .before .before .if1 .left; kind = c .before .match .keys1 }
+
+letter-requires : tie.Need-letter-requires
+letter-requires c κs = let p = c .before .before .before .before .before .pre in
+    record { good = p .0; step = p .1; formed = sym (c .before .before .before .malformed .ensures) ∙ c .before .before .if1 .left; kind = c .before .match .keys2 }
+
+receive-requires : tie.Need-receive-requires
+receive-requires c κs = let p = c .before .before .before .before .before .pre in
+    record { good = p .0; step = p .1; formed = sym (c .before .before .before .malformed .ensures) ∙ c .before .before .if1 .left; kind = c .before .match .keys3 }
+
+new-requires : tie.Need-new-requires
+new-requires c κs = let p = c .before .before .before .before .before .pre in
+    record { good = p .0; step = p .1; formed = sym (c .before .before .before .malformed .ensures) ∙ c .before .before .if1 .left; kind = c .before .match .keys4 }
+
+send-requires : tie.Need-send-requires
+send-requires c κs = let p = c .before .before .before .before .before .pre in
+    record { good = p .0; step = p .1; formed = sym (c .before .before .before .malformed .ensures) ∙ c .before .before .if1 .left; kind = c .before .match .keys5 }
+
+lose-requires : tie.Need-lose-requires
+lose-requires c κs = let p = c .before .before .before .before .before .pre in
+    record { good = p .0; step = p .1; formed = sym (c .before .before .before .malformed .ensures) ∙ c .before .before .if1 .left; kind = c .before .match .keys6 }
+
+sign-requires : tie.Need-sign-requires
+sign-requires c κs = let p = c .before .before .before .before .before .pre in
+    record { good = p .0; step = p .1; formed = sym (c .before .before .before .malformed .ensures) ∙ c .before .before .if1 .left; kind = c .before .match .keys7 }
+
+local-requires : tie.Need-local-requires
+local-requires c κs = let p = c .before .before .before .before .before .pre in
+    let f = sym (c .before .before .before .malformed .ensures) ∙ c .before .before .if1 .left in
+    let n = c .before .match .rest in
+    let low = lowest _ (n .0 .0 .0 .0 .0 .0 .1) (n .0 .0 .0 .0 .0 .1) (n .0 .0 .0 .0 .1) (n .0 .0 .0 .1) (n .0 .0 .1) in
+    (p .0, p .1, f, low, highest _ (kind-formed _ f) (n .0 .1) (n .1))
+
+same-length : tie.Need-same-length
+same-length c = search needs
+
+returns-2 : tie.Need-returns-2
+returns-2 c = search needs
+
+same-length-2 : tie.Need-same-length-2
+same-length-2 c = search needs
+
+returns-3 : tie.Need-returns-3
+returns-3 c = search needs
+
+same-length-3 : tie.Need-same-length-3
+same-length-3 c = search needs
+
+returns-4 : tie.Need-returns-4
+returns-4 c = search needs
+
+same-length-4 : tie.Need-same-length-4
+same-length-4 c = search needs
+
+returns-5 : tie.Need-returns-5
+returns-5 c = search needs
+
+same-length-5 : tie.Need-same-length-5
+same-length-5 c = search needs
+
+returns-6 : tie.Need-returns-6
+returns-6 c = search needs
+
+same-length-6 : tie.Need-same-length-6
+same-length-6 c = search needs
+
+returns-7 : tie.Need-returns-7
+returns-7 c = search needs
+
+same-length-7 : tie.Need-same-length-7
+same-length-7 c = search needs
+
+returns-8 : tie.Need-returns-8
+returns-8 c = search needs
+
+same-length-8 : tie.Need-same-length-8
+same-length-8 c = search needs
+
+returns-9 : tie.Need-returns-9
+returns-9 c = search needs
+
+pub step-spec : {M : Type 1} → statement M
+step-spec =
+    tie.close
+    (tie.spec
+    malformed-requires
+    answered-requires
+    returns
+    root-requires
+    letter-requires
+    receive-requires
+    new-requires
+    send-requires
+    lose-requires
+    sign-requires
+    local-requires
+    same-length
+    returns-2
+    same-length-2
+    returns-3
+    same-length-3
+    returns-4
+    same-length-4
+    returns-5
+    same-length-5
+    returns-6
+    same-length-6
+    returns-7
+    same-length-7
+    returns-8
+    same-length-8
+    returns-9)

@@ -1,0 +1,11 @@
+pub mod Layout
+pub mod State
+pub mod Step
+pub mod Refusals
+pub mod Rules
+pub mod Pack
+pub mod Form
+pub mod Tests
+pub mod Well
+pub mod Calls
+pub mod Parts

@@ -1,0 +1,215 @@
+// The take ledger: a session lives in a lent image of 22,132 bytes, which each call takes as the last one left it.
+mod form;
+mod group;
+mod layout;
+mod messages;
+mod steps;
+mod transactor;
+
+use layout::DEPENDENCES;
+use layout::FIRST_MESSAGE;
+use layout::HEAD;
+use layout::IMAGE;
+use layout::MESSAGE;
+use layout::MESSAGES;
+use layout::NUMBER;
+use layout::TRANSACTOR;
+use layout::TRANSACTORS;
+ghost use mathlib.Core.Path.{_≡_};
+ghost use Prim.Native.Nat.{_+_, _*_, _/_, _≤_};
+ghost use lib.ListN.{length};
+ghost use Rattle.octets.specs.Bytes.{put, part};
+ghost use Rattle.ledger.specs.Layout.{base, standard, imageBytes};
+ghost use Rattle.ledger.specs.Step.{unpackStep, packReply, stepBytes};
+ghost use Rattle.ledger.specs.State.{fresh};
+ghost use Rattle.ledger.specs.Pack.{pack};
+ghost use Rattle.ledger.specs.Parts.{Good};
+ghost use Rattle.ledger.specs.Calls.{beginAnswer, beginImage, runAnswer, runImage, runReplies, ranImage, ranReplies, offerRefusal, offeredNumber, Offers, showRefusal, shown};
+
+// A step of a list, as document 01 packs it.
+pub struct Step {
+    pub kind: u8,
+    pub transactor: u8,
+    pub other: u8,
+    pub zero: u8,
+    pub message: u16,
+    pub value: u32,
+}
+
+// A reply to a step.
+pub struct Reply {
+    pub outcome: u8,
+    pub transactor: u8,
+    pub message: u16,
+    pub value: u32,
+}
+
+// What offer gives: the number of a waiting message, or nothing.
+pub enum Offered {
+    Message(u16),
+    Nothing,
+}
+
+// ---- begin
+
+// Begins a fresh session: 0, or 16.
+pub fn begin(image: &mut [u8]) -> u8
+    ensures { λ r. ⌜ (r ≡ beginAnswer base (now (image .entry))) × (now (image .exit) ≡ beginImage base (now (image .entry))) ⌝ }
+{
+    if image.len() != IMAGE {
+        return 16;
+    }
+    refresh(image);
+    0
+}
+
+// Nothing opened and nothing sent: every transactor as bare as the initial history's constant packs it.
+fn refresh(image: &mut [u8])
+    requires { ⌜ length (now image) ≡ imageBytes base ⌝ }
+    ensures { λ _. ⌜ now (image .exit) ≡ pack base (fresh base) ⌝ }
+{
+    octets::clear(image, 0, HEAD);
+    let mut t: usize = 0;
+    while t < TRANSACTORS {
+        let at = HEAD + TRANSACTOR * t;
+        let end = at + TRANSACTOR;
+        transactor::strip(&mut image[at..end], transactor::UNUSED);
+        t += 1;
+    }
+    octets::clear(image, FIRST_MESSAGE, MESSAGE * MESSAGES);
+}
+
+// ---- run
+
+fn decode(list: &[u8], at: usize) -> Step
+    requires { ⌜ at + stepBytes ≤ length (now list) ⌝ }
+    ensures { λ r. ⌜ r ≡ unpackStep (part at stepBytes (now (list .entry))) ⌝ }
+{
+    let a = list[at];
+    let b = list[at + 1];
+    let message = octets::load16(list, at + 2);
+    let value = octets::load32(list, at + 4);
+    Step {
+        kind: a / 16,
+        transactor: a % 16,
+        other: b / 16,
+        zero: b % 16,
+        message,
+        value,
+    }
+}
+
+fn encode(replies: &mut [u8], at: usize, r: Reply)
+    requires { ⌜ at + stepBytes ≤ length (now replies) ⌝ }
+    ensures { λ _. ⌜ now (replies .exit) ≡ put at (packReply r) (now (replies .entry)) ⌝ }
+{
+    replies[at] = r.outcome;
+    replies[at + 1] = r.transactor;
+    octets::store16(replies, at + 2, r.message);
+    octets::store32(replies, at + 4, r.value);
+}
+
+// Runs a list of whole steps.
+fn run_steps(image: &mut [u8], list: &[u8], replies: &mut [u8])
+    requires { ⌜ Good (now image) × (length (now replies) ≡ length (now list)) × (stepBytes * (length (now list) / stepBytes) ≡ length (now list)) ⌝ }
+    ensures { λ _. ⌜ (now (image .exit) ≡ ranImage base standard (now (image .entry)) (now (list .entry))) × (now (replies .exit) ≡ ranReplies base standard (now (image .entry)) (now (list .entry))) ⌝ }
+{
+    let n = list.len() / 8;
+    let mut i: usize = 0;
+    while i < n {
+        let p = decode(list, 8 * i);
+        let r = steps::step(image, p);
+        encode(replies, 8 * i, r);
+        i += 1;
+    }
+}
+
+// Runs the steps of the list from start up to end, and writes a reply for each: 0, or 16, 17, 18, 19 with no byte changed.
+pub fn run(image: &mut [u8], list: &[u8], start: usize, end: usize, replies: &mut [u8]) -> u8
+    ensures { λ r. ⌜ (r ≡ runAnswer base (now (image .entry)) (now (list .entry)) start end (now (replies .entry)))
+        × (now (image .exit) ≡ runImage base standard (now (image .entry)) (now (list .entry)) start end (now (replies .entry)))
+        × (now (replies .exit) ≡ runReplies base standard (now (image .entry)) (now (list .entry)) start end (now (replies .entry))) ⌝ }
+{
+    if image.len() != IMAGE {
+        return 16;
+    }
+    if end < start {
+        return 17;
+    }
+    if list.len() < end {
+        return 17;
+    }
+    if (end - start) % 8 != 0 {
+        return 17;
+    }
+    if 8192 < end - start {
+        return 17;
+    }
+    if replies.len() != end - start {
+        return 18;
+    }
+    if !form::formed(image) {
+        return 19;
+    }
+    run_steps(image, &list[start..end], replies);
+    0
+}
+
+// ---- offer
+
+// A waiting message addressed to the transactor, or nothing exactly if there is none. The lent number takes the refusal, 16, 19,
+// 21 or 22, or 0; refused, nothing.
+pub fn offer(image: &[u8], transactor: usize, refusal: &mut u8) -> Offered
+    ensures { λ r. ⌜ (now (refusal .exit) ≡ offerRefusal base (now (image .entry)) transactor) × Offers base (now (image .entry)) transactor (offeredNumber r) ⌝ }
+{
+    if image.len() != IMAGE {
+        *refusal = 16;
+        return Offered::Nothing;
+    }
+    if !form::formed(image) {
+        *refusal = 19;
+        return Offered::Nothing;
+    }
+    if (image[0] as usize) <= transactor {
+        *refusal = 21;
+        return Offered::Nothing;
+    }
+    if image[HEAD + TRANSACTOR * transactor] / 64 == 3 {
+        *refusal = 22;
+        return Offered::Nothing;
+    }
+    *refusal = 0;
+    let n = messages::waiting(image);
+    let k = messages::place_to(image, n, transactor);
+    if n <= k {
+        return Offered::Nothing;
+    }
+    Offered::Message(octets::load16(image, FIRST_MESSAGE + MESSAGE * k + NUMBER))
+}
+
+// ---- show
+
+// The bytes of the image that hold a waiting message's map. The lent number takes the refusal, 16, 19 or 24, or 0; refused, an
+// empty part.
+pub fn show<'a>(image: &'a [u8], number: u16, refusal: &mut u8) -> &'a [u8]
+    ensures { λ r. ⌜ (now r ≡ shown base (now (image .entry)) number) × (now (refusal .exit) ≡ showRefusal base (now (image .entry)) number) ⌝ }
+{
+    if image.len() != IMAGE {
+        *refusal = 16;
+        return &image[..0];
+    }
+    if !form::formed(image) {
+        *refusal = 19;
+        return &image[..0];
+    }
+    let n = messages::waiting(image);
+    let k = messages::place_of(image, n, number);
+    if n <= k {
+        *refusal = 24;
+        return &image[..0];
+    }
+    *refusal = 0;
+    let at = FIRST_MESSAGE + MESSAGE * k + DEPENDENCES;
+    let end = at + maps::SIZE;
+    &image[at..end]
+}

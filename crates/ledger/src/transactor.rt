@@ -1,0 +1,242 @@
+// One transactor's part of an image: kinds 5 to 10, falls, receipt and checkpoint, with the refusals that its bytes decide.
+use crate::layout::BEHAVIOUR;
+use crate::layout::CREATION;
+use crate::layout::SAVED;
+use crate::layout::STATE;
+use crate::layout::VALUE;
+use maps::Comparison;
+use maps::DependenceMap;
+use marks::History;
+ghost use mathlib.Core.Path.{_≡_};
+ghost use Prim.Native.Nat.{_≤_, _<_};
+ghost use lib.ListN.{length};
+ghost use Rattle.maps.specs.Packed.{Bounded};
+ghost use Rattle.ledger.specs.Layout.{base, standard, transactorBytes};
+ghost use Rattle.ledger.specs.State.{bare, ownHistory};
+ghost use Rattle.ledger.specs.Rules.{renewed, opening, carried, readBy, writeBy, freezeBy, finishBy, checkpointBy};
+ghost use Rattle.ledger.specs.Pack.{packTransactor, unpackTransactor};
+ghost use Rattle.ledger.specs.Parts.{GoodPart, Acts, adopts, rollbackOr28, rollbackUnlessStable, actBy, acceptBy};
+
+// Statuses.
+pub const UNUSED: u8 = 0;
+
+pub const READY: u8 = 1;
+
+pub const BUSY: u8 = 2;
+
+pub const ANNIHILATED: u8 = 3;
+
+// Largest incarnation number.
+pub const LAST: u8 = 255;
+
+// An outcome or a refusal, and the value read.
+pub struct Acted {
+    pub outcome: u8,
+    pub value: u32,
+}
+
+// An outcome or a refusal alone.
+fn outcome_of(outcome: u8) -> Acted
+    ensures { λ r. ⌜ (r .outcome ≡ outcome) × (r .value ≡ 0) ⌝ }
+{
+    Acted { outcome, value: 0 }
+}
+
+// The own history of transactor t.
+pub fn own(part: &[u8], t: usize) -> History
+    requires { ⌜ (length (now part) ≡ transactorBytes base) × (t < base .transactors) ⌝ }
+    ensures { λ r. ⌜ r ≡ ownHistory t (unpackTransactor base (now (part .entry))) ⌝ }
+{
+    History::load(part, STATE + marks::SIZE * t)
+}
+
+// Only a status, all else zero.
+pub fn strip(part: &mut [u8], status: u8)
+    requires { ⌜ (length (now part) ≡ transactorBytes base) × (status < 4) ⌝ }
+    ensures { λ _. ⌜ now (part .exit) ≡ packTransactor base (bare base status) ⌝ }
+{
+    part[0] = 64 * status;
+    octets::store32(part, VALUE, 0);
+    octets::store32(part, SAVED, 0);
+    let none = DependenceMap::empty();
+    none.store(part, STATE);
+    none.store(part, CREATION);
+    none.store(part, BEHAVIOUR);
+}
+
+// Ready, with h alone in the state map and the other maps empty.
+pub fn renew(part: &mut [u8], t: usize, h: History, value: u32, saved: u32)
+    requires { ⌜ (length (now part) ≡ transactorBytes base) × (t < base .transactors) × (h .count ≤ base .places) ⌝ }
+    ensures { λ _. ⌜ now (part .exit) ≡ packTransactor base (renewed base t h value saved) ⌝ }
+{
+    strip(part, READY);
+    octets::store32(part, VALUE, value);
+    octets::store32(part, SAVED, saved);
+    let one = DependenceMap::one(t, h);
+    one.store(part, STATE);
+}
+
+// Ready, with the initial history, and a creation map.
+pub fn open(part: &mut [u8], t: usize, value: u32, creation: DependenceMap)
+    requires { ⌜ (length (now part) ≡ transactorBytes base) × (t < base .transactors) × Bounded (base .places) creation ⌝ }
+    ensures { λ _. ⌜ now (part .exit) ≡ packTransactor base (opening base t value creation) ⌝ }
+{
+    renew(part, t, History::INITIAL, value, 0);
+    creation.store(part, CREATION);
+}
+
+// The initial history of child c joins the behaviour map.
+pub fn adopt(part: &mut [u8], c: usize)
+    requires { ⌜ GoodPart (now part) × (c < base .transactors) ⌝ }
+    ensures { λ _. ⌜ now (part .exit) ≡ packTransactor base (adopts base c (unpackTransactor base (now (part .entry)))) ⌝ }
+{
+    let behaviour = DependenceMap::load(part, BEHAVIOUR);
+    let one = DependenceMap::one(c, History::INITIAL);
+    let joined = one.join(behaviour);
+    joined.store(part, BEHAVIOUR);
+}
+
+// Creation, behaviour and own history joined: what a message carries and a child is created from.
+pub fn carry(part: &[u8], t: usize) -> DependenceMap
+    requires { ⌜ (length (now part) ≡ transactorBytes base) × (t < base .transactors) ⌝ }
+    ensures { λ r. ⌜ r ≡ carried base t (unpackTransactor base (now (part .entry))) ⌝ }
+{
+    let creation = DependenceMap::load(part, CREATION);
+    let behaviour = DependenceMap::load(part, BEHAVIOUR);
+    let one = DependenceMap::one(t, own(part, t));
+    creation.join(behaviour).join(one)
+}
+
+// Falls: annihilated if never checkpointed, else the next incarnation; 28 at the last one.
+fn roll_back(part: &mut [u8], t: usize) -> Acted
+    requires { ⌜ GoodPart (now part) × (t < base .transactors) ⌝ }
+    ensures { λ r. ⌜ Acts (rollbackOr28 base standard t (unpackTransactor base (now (part .entry)))) (r .outcome) (r .value) (now (part .exit)) ⌝ }
+{
+    let h = own(part, t);
+    if h.count == 0 {
+        strip(part, ANNIHILATED);
+        return outcome_of(4);
+    }
+    if h.incarnation == LAST {
+        return outcome_of(28);
+    }
+    let saved = octets::load32(part, SAVED);
+    renew(part, t, h.rollback(), saved, saved);
+    outcome_of(3)
+}
+
+// Idle, behaviour map emptied.
+fn become_ready(part: &mut [u8])
+    requires { ⌜ GoodPart (now part) ⌝ }
+    ensures { λ _. ⌜ now (part .exit) ≡ packTransactor base (finishBy base (unpackTransactor base (now (part .entry))) .transactor) ⌝ }
+{
+    part[0] = 64 * READY;
+    let none = DependenceMap::empty();
+    none.store(part, BEHAVIOUR);
+}
+
+fn read(part: &mut [u8]) -> Acted
+    requires { ⌜ GoodPart (now part) ⌝ }
+    ensures { λ r. ⌜ Acts (readBy base (unpackTransactor base (now (part .entry)))) (r .outcome) (r .value) (now (part .exit)) ⌝ }
+{
+    let state = DependenceMap::load(part, STATE);
+    let behaviour = DependenceMap::load(part, BEHAVIOUR);
+    let joined = state.join(behaviour);
+    joined.store(part, BEHAVIOUR);
+    let value = octets::load32(part, VALUE);
+    Acted { outcome: 0, value }
+}
+
+fn write(part: &mut [u8], t: usize, value: u32) -> Acted
+    requires { ⌜ GoodPart (now part) × (t < base .transactors) ⌝ }
+    ensures { λ r. ⌜ Acts (writeBy base t value (unpackTransactor base (now (part .entry)))) (r .outcome) (r .value) (now (part .exit)) ⌝ }
+{
+    let h = own(part, t);
+    if h.stable {
+        return outcome_of(1);
+    }
+    let behaviour = DependenceMap::load(part, BEHAVIOUR);
+    let state = DependenceMap::load(part, STATE);
+    let joined = behaviour.join(state);
+    octets::store32(part, VALUE, value);
+    joined.store(part, STATE);
+    outcome_of(0)
+}
+
+fn freeze(part: &mut [u8], t: usize) -> Acted
+    requires { ⌜ GoodPart (now part) × (t < base .transactors) ⌝ }
+    ensures { λ r. ⌜ Acts (freezeBy t (unpackTransactor base (now (part .entry)))) (r .outcome) (r .value) (now (part .exit)) ⌝ }
+{
+    let h = own(part, t).stabilize();
+    let state = DependenceMap::load(part, STATE).with(t, h);
+    state.store(part, STATE);
+    outcome_of(0)
+}
+
+// Fall and fail of a transactor that is not stable.
+fn roll_back_unless_stable(part: &mut [u8], t: usize, kind: u8) -> Acted
+    requires { ⌜ GoodPart (now part) × (t < base .transactors) × (kind < 16) ⌝ }
+    ensures { λ r. ⌜ Acts (rollbackUnlessStable base standard kind t (unpackTransactor base (now (part .entry)))) (r .outcome) (r .value) (now (part .exit)) ⌝ }
+{
+    let h = own(part, t);
+    if !h.stable {
+        return roll_back(part, t);
+    }
+    if kind == 9 {
+        become_ready(part);
+    }
+    outcome_of(1)
+}
+
+// Kinds 5 to 10.
+pub fn act(part: &mut [u8], kind: u8, t: usize, value: u32) -> Acted
+    requires { ⌜ GoodPart (now part) × (t < base .transactors) × (5 ≤ kind) × (kind ≤ 10) ⌝ }
+    ensures { λ r. ⌜ Acts (actBy base standard kind t value (unpackTransactor base (now (part .entry)))) (r .outcome) (r .value) (now (part .exit)) ⌝ }
+{
+    let status = part[0] / 64;
+    if status == ANNIHILATED {
+        return outcome_of(22);
+    }
+    if kind <= 9 && status != BUSY {
+        return outcome_of(23);
+    }
+    match kind {
+        5 => read(part),
+        6 => write(part, t, value),
+        7 => freeze(part, t),
+        8 => {
+            become_ready(part);
+            outcome_of(0)
+        }
+        _ => roll_back_unless_stable(part, t, kind),
+    }
+}
+
+// A receipt: dropped, or a fall, or taken in.
+pub fn accept(part: &mut [u8], t: usize, m: DependenceMap) -> Acted
+    requires { ⌜ GoodPart (now part) × (t < base .transactors) × Bounded (base .places) m ⌝ }
+    ensures { λ r. ⌜ Acts (acceptBy base standard t (unpackTransactor base (now (part .entry))) m) (r .outcome) (r .value) (now (part .exit)) ⌝ }
+{
+    let state = DependenceMap::load(part, STATE);
+    let creation = DependenceMap::load(part, CREATION);
+    let known = state.join(creation);
+    let Comparison::Superseded(first) = m.compare(known) else {
+        let Comparison::Superseded(first) = known.compare(m) else {
+            part[0] = 64 * BUSY;
+            m.store(part, BEHAVIOUR);
+            return outcome_of(0);
+        };
+        return roll_back(part, t);
+    };
+    outcome_of(2)
+}
+
+// Saves the value, and takes the history of the next checkpoint.
+pub fn checkpoint(part: &mut [u8], t: usize)
+    requires { ⌜ GoodPart (now part) × (t < base .transactors) × (ownHistory t (unpackTransactor base (now part)) .count < base .places) ⌝ }
+    ensures { λ _. ⌜ now (part .exit) ≡ packTransactor base (checkpointBy base t (unpackTransactor base (now (part .entry)))) ⌝ }
+{
+    let h = own(part, t).checkpoint();
+    let value = octets::load32(part, VALUE);
+    renew(part, t, h, value, value);
+}

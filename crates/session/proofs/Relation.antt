@@ -1,0 +1,208 @@
+-- The relation between the ledger's state and the book. Every step keeps it, and all of demand 3 is read off it.
+use Prim.Native.Nat.{ℕ, _≤_, _<_}
+use mathlib.Core.Bool.{true}
+use mathlib.Core.Path.{_≡_, refl, ap, sym, _∙_}
+use mathlib.Core.List.{List, [], _∷_, List·Memᴰ·not-nil}
+use mathlib.Core.Logic.{_⊎_, inl, inr}
+use mathlib.Core.Option.{some, Option·getD}
+use native.Mathlib.Omega.{arith}
+use lib.ListN.{length}
+use Rattle.marks.specs.Incarnation.{Incarnation, initialIncarnation, Checkpointed}
+use Rattle.marks.proofs.Order.{checkpointed-up, checkpointed-irrefl, initial-precedes}
+use Rattle.session.specs.Book.{Status, unused, ready, busy, annihilated, Live, idle, working, In, Mark, initialMark, Holder, Parcel, Book, blank, emptyBook}
+use Rattle.session.proofs.Model.{Node, Mail, Ledger, own, bareNode}
+use Rattle.session.proofs.Sets.{_⊑_, SetRel, set-later, set-known, none-rel, cell-none, Coherent, Members}
+use Rattle.marks.proofs.Trail.{Precedes}
+
+-- ---- statuses
+
+pub live-or-not : (s : Status) → Live s ⊎ (Live s → ⊥)
+live-or-not unused = inr (λ h. elim h [ ])
+live-or-not ready = inl idle
+live-or-not busy = inl working
+live-or-not annihilated = inr (λ h. elim h [ ])
+
+pub live-used : {s : Status} → Live s → s ≡ unused → ⊥
+live-used {s} k e = none (rw e at k)
+  where
+    none : Live unused → ⊥
+    none h = elim h [ ]
+
+pub gone-used : annihilated ≡ unused → ⊥
+gone-used e = let z : _≡_ {A = ℕ} 0 1 = cc in omega arith
+
+-- ---- the present mark of every take
+
+-- of a vanished take the opening life, with the flag that says most: whatever was known of it stays known
+abbrev pub goneMark : Mark
+goneMark = record { stable = true; incarnation = initialIncarnation }
+
+unfoldable pub presentOf : Status → Mark → Mark
+presentOf unused m = initialMark
+presentOf ready m = m
+presentOf busy m = m
+presentOf annihilated m = goneMark
+
+abbrev pub present : (ℕ → Holder) → ℕ → Mark
+present H t = presentOf (H t .status) (H t .mark)
+
+pub present-live : (s : Status) (m : Mark) → Live s → presentOf s m ≡ m
+unfolding presentOf
+present-live ready m idle = refl
+present-live busy m working = refl
+
+pub present-unused : (m : Mark) → presentOf unused m ≡ initialMark
+unfolding presentOf
+present-unused m = refl
+
+pub present-gone : (m : Mark) → presentOf annihilated m ≡ goneMark
+unfolding presentOf
+present-gone m = refl
+
+-- no life of a take that is not live is signed
+pub nothing-signed : {a : Incarnation} (s : Status) (m : Mark) → (Live s → ⊥) → Checkpointed a (presentOf s m .incarnation) → ⊥
+unfolding presentOf
+nothing-signed unused m k h = checkpointed-irrefl (checkpointed-up h (initial-precedes _))
+nothing-signed ready m k h = k idle
+nothing-signed busy m k h = k working
+nothing-signed annihilated m k h = checkpointed-irrefl (checkpointed-up h (initial-precedes _))
+
+-- ---- one take, one parcel
+
+-- the lives of a take's three sets
+pub data Whole (h : Holder) (u : ℕ) (a : Incarnation) : Type 0 where
+  in-state : In u a (h .state) → Whole h u a
+  in-creation : In u a (h .creation) → Whole h u a
+  in-behaviour : In u a (h .behaviour) → Whole h u a
+
+pub record HolderRel (now : ℕ → Mark) (t : ℕ) (x : Node) (h : Holder) : Type 0 where
+  pub status : x .status ≡ h .status
+  -- A (newest) and B (known), of each map and its set
+  pub state : SetRel now (x .state) (h .state)
+  pub creation : SetRel now (x .creation) (h .creation)
+  pub behaviour : SetRel now (x .behaviour) (h .behaviour)
+  -- C: of the three sets together
+  pub coherent : Coherent (Whole h)
+  -- D: the own entry of the state map is the present mark
+  pub own : Live (h .status) → x .state t ≡ some (h .mark)
+  -- a take that is not live has nothing
+  pub gone : (Live (h .status) → ⊥) → h ≡ blank (h .status)
+  -- G: with an empty list n is 0
+  pub first : h .mark .incarnation .checkpoints ≡ [] → h .mark .incarnation .number ≡ 0
+
+pub record ParcelRel (now : ℕ → Mark) (m : Mail) (q : Parcel) : Type 0 where
+  pub number : m .number ≡ q .number
+  pub addressee : m .addressee ≡ q .addressee
+  pub lives : SetRel now (m .dependences) (q .lives)
+  pub coherent : Coherent (Members (q .lives))
+
+-- two lists alike, entry by entry
+pub data All2 {A B : Type 0} (R : A → B → Type 0) : List A → List B → Type 0 where
+  none2 : All2 R [] []
+  cons2 : {a : A} {b : B} {s : List A} {t : List B} → R a b → All2 R s t → All2 R (a ∷ s) (b ∷ t)
+
+-- ---- the whole
+
+pub record Rel (l : Ledger) (b : Book) : Type 0 where
+  -- F: what is plain is the same; a take is unused exactly if it is not opened
+  pub opened : l .opened ≡ b .opened
+  pub next : l .next ≡ b .next
+  pub used : (t : ℕ) → t < b .opened → b .holders t .status ≡ unused → ⊥
+  pub fresh : (t : ℕ) → b .opened ≤ t → b .holders t .status ≡ unused
+  pub holders : (t : ℕ) → HolderRel (present (b .holders)) t (l .nodes t) (b .holders t)
+  pub parcels : All2 (ParcelRel (present (b .holders))) (l .mails) (b .parcels)
+  -- E: every life that a noted set holds is signed now
+  pub noted : (t : ℕ) (a : Incarnation) (u : ℕ) (c : Incarnation) → b .noted t a u c → Checkpointed c (present (b .holders) u .incarnation)
+
+-- ---- the own mark
+
+-- the ledger's own mark of a take is the book's; of a take that is not live both are the opening mark
+pub own-mark : {now : ℕ → Mark} {t : ℕ} {x : Node} {h : Holder} → HolderRel now t x h → own t x ≡ h .mark
+own-mark {now} {t} {x} {h} r = go (live-or-not (h .status))
+  where
+    go : Live (h .status) ⊎ (Live (h .status) → ⊥) → own t x ≡ h .mark
+    go (inl k) = ap (λ o. Option·getD o initialMark) (r .own k)
+    go (inr k) =
+        let e : h ≡ blank (h .status) = r .gone k in
+        let s : h .state ≡ [] = ap (λ z. z .state) e in
+        let m : h .mark ≡ initialMark = ap (λ z. z .mark) e in
+        ap (λ o. Option·getD o initialMark) (cell-none (λ a i. List·Memᴰ·not-nil (rw s at i)) (r .state t)) ∙ sym m
+
+-- ---- what a step leaves alone: kept where every take's present mark only moves on
+
+pub holder-later : {now later : ℕ → Mark} {t : ℕ} {x : Node} {h : Holder} → ((u : ℕ) → now u ⊑ later u) → HolderRel now t x h → HolderRel later t x h
+holder-later {now} {later} {t} {x} {h} l r = record {
+  status = r .status;
+  state = set-later now later (x .state) (h .state) l (r .state);
+  creation = set-later now later (x .creation) (h .creation) l (r .creation);
+  behaviour = set-later now later (x .behaviour) (h .behaviour) l (r .behaviour);
+  coherent = r .coherent;
+  own = r .own;
+  gone = r .gone;
+  first = r .first;
+}
+
+pub parcel-later : {now later : ℕ → Mark} {m : Mail} {q : Parcel} → ((u : ℕ) → now u ⊑ later u) → ParcelRel now m q → ParcelRel later m q
+parcel-later {now} {later} {m} {q} l r = record {
+  number = r .number;
+  addressee = r .addressee;
+  lives = set-later now later (m .dependences) (q .lives) l (r .lives);
+  coherent = r .coherent;
+}
+
+all2-map : {A B : Type 0} {R S : A → B → Type 0} {s : List A} {t : List B} → ((a : A) (b : B) → R a b → S a b) → All2 R s t → All2 S s t
+all2-map f none2 = none2
+all2-map f (cons2 r h) = cons2 (f _ _ r) (all2-map f h)
+
+pub all2-length : {A B : Type 0} {R : A → B → Type 0} {s : List A} {t : List B} → All2 R s t → length s ≡ length t
+all2-length none2 = refl
+all2-length (cons2 r h) = rw (all2-length h)
+
+module _ (l : Ledger) (b : Book) (r : Rel l b) (later : ℕ → Mark) (grow : (u : ℕ) → present (b .holders) u ⊑ later u) where
+  pub holder-kept : (t : ℕ) → HolderRel later t (l .nodes t) (b .holders t)
+  holder-kept t = holder-later grow (r .holders t)
+
+  pub parcels-kept : All2 (ParcelRel later) (l .mails) (b .parcels)
+  parcels-kept = all2-map (λ m q. parcel-later grow) (r .parcels)
+
+  pub noted-kept : (t : ℕ) (a : Incarnation) (u : ℕ) (c : Incarnation) → b .noted t a u c → Checkpointed c (later u .incarnation)
+  noted-kept t a u c k = checkpointed-up (r .noted t a u c k) (grow u .incarnation)
+
+-- every life of a take's sets is a past or present one
+pub whole-known : {now : ℕ → Mark} {t : ℕ} {x : Node} {h : Holder} → HolderRel now t x h → (u : ℕ) (a : Incarnation) → Whole h u a → Precedes a (now u .incarnation)
+whole-known {now} {t} {x} {h} r u a (in-state k) = set-known now (x .state) (h .state) (r .state) u a k
+whole-known {now} {t} {x} {h} r u a (in-creation k) = set-known now (x .creation) (h .creation) (r .creation) u a k
+whole-known {now} {t} {x} {h} r u a (in-behaviour k) = set-known now (x .behaviour) (h .behaviour) (r .behaviour) u a k
+
+-- ---- a take that has nothing; nothing opened
+
+pub blank-rel : (now : ℕ → Mark) (t : ℕ) (s : Status) → (Live s → ⊥) → HolderRel now t (bareNode s) (blank s)
+blank-rel now t s k = record {
+  status = refl;
+  state = none-rel now;
+  creation = none-rel now;
+  behaviour = none-rel now;
+  coherent = λ u a c p q e. nothing u a p;
+  own = λ h. absurd (k h);
+  gone = λ h. refl;
+  first = λ h. refl;
+}
+  where
+    nothing : (u : ℕ) (a : Incarnation) → Whole (blank s) u a → ⊥
+    nothing u a (in-state i) = List·Memᴰ·not-nil i
+    nothing u a (in-creation i) = List·Memᴰ·not-nil i
+    nothing u a (in-behaviour i) = List·Memᴰ·not-nil i
+
+abbrev pub freshLedger : Ledger
+freshLedger = record { opened = 0; next = 0; nodes = λ t. bareNode unused; mails = [] }
+
+pub fresh-rel : Rel freshLedger emptyBook
+fresh-rel = record {
+  opened = refl;
+  next = refl;
+  used = λ t h. absurd (omega arith);
+  fresh = λ t h. refl;
+  holders = λ t. blank-rel (present (emptyBook .holders)) t unused (λ h. elim h [ ]);
+  parcels = none2;
+  noted = λ t a u c k. absurd k;
+}

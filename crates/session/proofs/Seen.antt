@@ -1,0 +1,94 @@
+-- Both sides see the same, so they refuse alike.
+use Prim.Native.Nat.{ℕ}
+use mathlib.Core.Bool.{Bool, not}
+use mathlib.Core.Path.{_≡_, ap, _∙_}
+use lib.ListN.{length}
+use Rattle.octets.specs.Bytes.{_and_}
+use Rattle.ledger.specs.Layout.{Limits}
+use Rattle.ledger.specs.declared.Step.{Step}
+use Rattle.ledger.specs.Refusals.{Seen, refusalOf}
+use Rattle.session.specs.Book.{statusNumber, Mark, Book, find}
+use Rattle.session.specs.Steps.{isDropped, isToppled, bookSeen, bookRefusal}
+use Rattle.session.proofs.Model.{Ledger, own, findMail, missingMail}
+use Rattle.session.proofs.Relation.{present, ParcelRel, Rel, own-mark, all2-length}
+use Rattle.session.proofs.Parcels.{find-rel, missing-same, ReceiptTests, dropped-same, toppled-same}
+
+-- what the table of refusals looks at is the same, field by field
+pub record SameSeen (v w : Seen) : Type 0 where
+  pub opened : v .opened ≡ w .opened
+  pub next : v .next ≡ w .next
+  pub waiting : v .waiting ≡ w .waiting
+  pub status : (t : ℕ) → v .status t ≡ w .status t
+  pub stable : (t : ℕ) → v .stable t ≡ w .stable t
+  pub checkpoints : (t : ℕ) → v .checkpoints t ≡ w .checkpoints t
+  pub incarnation : (t : ℕ) → v .incarnation t ≡ w .incarnation t
+  pub missing : (n : ℕ) → v .missing n ≡ w .missing n
+  pub addressee : (n : ℕ) → v .addressee n ≡ w .addressee n
+  pub falls : (n : ℕ) → v .falls n ≡ w .falls n
+
+pub same-seen : {v w : Seen} → SameSeen v w → v ≡ w
+same-seen s = λ i. record {
+  opened = s .opened i;
+  next = s .next i;
+  waiting = s .waiting i;
+  status = λ t. s .status t i;
+  stable = λ t. s .stable t i;
+  checkpoints = λ t. s .checkpoints t i;
+  incarnation = λ t. s .incarnation t i;
+  missing = λ n. s .missing n i;
+  addressee = λ n. s .addressee n i;
+  falls = λ n. s .falls n i;
+}
+
+-- What the ledger shows; d n and e n stand for the two tests at the receipt of parcel n. Of a take that is not live the mark
+-- shown is the opening one.
+unfoldable pub seenOf : Ledger → (ℕ → Bool) → (ℕ → Bool) → Seen
+seenOf l d e = record {
+  opened = l .opened;
+  next = l .next;
+  waiting = length (l .mails);
+  status = λ t. statusNumber (l .nodes t .status);
+  stable = λ t. own t (l .nodes t) .stable;
+  checkpoints = λ t. length (own t (l .nodes t) .incarnation .checkpoints);
+  incarnation = λ t. own t (l .nodes t) .incarnation .number;
+  missing = λ n. missingMail n (l .mails);
+  addressee = λ n. findMail n (l .mails) .addressee;
+  falls = λ n. not (d n) and e n;
+}
+
+module _ (l : Ledger) (b : Book) (r : Rel l b) (d e : ℕ → Bool)
+    (tests : (n : ℕ) → ReceiptTests (l .nodes (findMail n (l .mails) .addressee)) (findMail n (l .mails)) (d n) (e n)) where
+  mark-shown : {A : Type 0} (f : Mark → A) (t : ℕ) → f (own t (l .nodes t)) ≡ f (b .holders t .mark)
+  mark-shown f t = ap f (own-mark (r .holders t))
+
+  found : (n : ℕ) → ParcelRel (present (b .holders)) (findMail n (l .mails)) (find n (b .parcels))
+  found n = find-rel n (r .parcels)
+
+  dropped-shown : (n : ℕ) → d n ≡ isDropped (b .holders (find n (b .parcels) .addressee)) (find n (b .parcels))
+  dropped-shown n =
+      dropped-same (r .holders (findMail n (l .mails) .addressee)) (found n) (d n) (tests n .dropped)
+      ∙ ap (λ t. isDropped (b .holders t) (find n (b .parcels))) (found n .addressee)
+
+  toppled-shown : (n : ℕ) → e n ≡ isToppled (b .holders (find n (b .parcels) .addressee)) (find n (b .parcels))
+  toppled-shown n =
+      toppled-same (r .holders (findMail n (l .mails) .addressee)) (found n) (e n) (tests n .toppled)
+      ∙ ap (λ t. isToppled (b .holders t) (find n (b .parcels))) (found n .addressee)
+
+  pub seen-same : SameSeen (seenOf l d e) (bookSeen b)
+  unfolding seenOf bookSeen
+  seen-same = record {
+    opened = r .opened;
+    next = r .next;
+    waiting = all2-length (r .parcels);
+    status = λ t. ap statusNumber (r .holders t .status);
+    stable = mark-shown (λ m. m .stable);
+    checkpoints = mark-shown (λ m. length (m .incarnation .checkpoints));
+    incarnation = mark-shown (λ m. m .incarnation .number);
+    missing = λ n. missing-same n (r .parcels);
+    addressee = λ n. found n .addressee;
+    falls = λ n i. not (dropped-shown n i) and toppled-shown n i;
+  }
+
+  pub refusal-same : (m : Limits) (p : Step) → refusalOf m (seenOf l d e) p ≡ bookRefusal m b p
+  unfolding bookRefusal
+  refusal-same m p = ap (λ v. refusalOf m v p) (same-seen seen-same)

@@ -1,0 +1,150 @@
+-- One step: refused as the book says, an outcome at most 5 else, signed exactly if the two sets are equal; marks and relation after it.
+use Prim.Native.Nat.{ℕ, _≤_}
+use mathlib.Core.Bool.{Bool, true, false, false≢true}
+use mathlib.Core.Path.{_≡_, refl, ap, sym, _∙_}
+use mathlib.Core.Logic.{_↔_}
+use native.Mathlib.Omega.{arith}
+use lib.Dec.{eqb}
+use borrow.Author.Tests.{eq-eqb}
+use Rattle.ledger.specs.Layout.{Layout, Limits, Allowed}
+use Rattle.ledger.specs.Layout as layout
+use Rattle.ledger.specs.State.{Transactor, Message, State, transactorAt, messageAt, ownHistory, placeOf}
+use Rattle.ledger.specs.declared.Step.{Step}
+use Rattle.ledger.specs.Step.{notReady, root, letter, receive, new, send, read, write, freeze, finish, fall, lose, sign}
+use Rattle.ledger.specs.Rules.{Effect, Result, messageSuperseded, receiverSuperseded, rollback, readBy, writeBy, freezeBy, finishBy, fallBy, failBy, localBy, receiveBy, groupReady, seen, refusal, answer, applyRoot, applyLetter, applyReceive, applyNew, applySend, applyLocal, applyLose, applySign, apply, stepOf}
+use Rattle.ledger.specs.Well.{StepOk, WellFormed}
+use Rattle.ledger.proofs.KeepStep.{refused-same, applied-same, keeps}
+use Rattle.session.specs.Book.{Mark, Book, statusNumber}
+use Rattle.session.specs.Grounds.{Equal}
+use Rattle.session.specs.Steps.{bookRefusal}
+use Rattle.session.specs.Trace.{Matches, SigningRight, signed, unsigned, StepRight}
+use Rattle.session.proofs.Model.{markOf, view}
+use Rattle.session.proofs.Tables.{pick-view}
+use Rattle.session.proofs.Relation.{Rel, own-mark}
+use Rattle.session.proofs.Sign.{rel-sound}
+use Rattle.session.proofs.Accepted.{accepted}
+use Rattle.session.proofs.Kept.{sign-exact}
+use Rattle.session.proofs.ViewState.{own-view}
+use Rattle.session.proofs.ViewRules.{droppedAt, toppledAt}
+use Rattle.session.proofs.ViewSeen.{seen-status}
+use Rattle.session.proofs.ViewStep.{readyAt, ready-same, step-tests, applicable, same-refusal, state-kept}
+
+-- ---- the reply to a step that is not refused is an outcome
+
+abbrev Small : Effect → Type 0
+Small e = e .outcome ≤ notReady
+
+module _ (y : Layout) (t : ℕ) (x : Transactor) where
+  rollback-small : Small (rollback y t x)
+  unfolding rollback
+  rollback-small = pick-view Small (eqb (ownHistory t x .count) 0) _ _ (λ e. omega arith) (λ e. omega arith)
+
+  local-small : (k v : ℕ) → Small (localBy y k t v x)
+  unfolding localBy readBy writeBy freezeBy finishBy fallBy failBy
+  local-small k v =
+      let held : Bool = ownHistory t x .stable in
+      pick-view Small (eqb k read) _ _ (λ e. omega arith) λ e0.
+      pick-view Small (eqb k write) _ _ (λ e. pick-view Small held _ _ (λ e. omega arith) (λ e. omega arith)) λ e1.
+      pick-view Small (eqb k freeze) _ _ (λ e. omega arith) λ e2.
+      pick-view Small (eqb k finish) _ _ (λ e. omega arith) λ e3.
+      pick-view Small (eqb k fall) _ _ (λ e. pick-view Small held _ _ (λ e. omega arith) (λ e. rollback-small)) λ e4.
+      pick-view Small held _ _ (λ e. omega arith) (λ e. rollback-small)
+
+  receive-small : (q : Message) → Small (receiveBy y t x q)
+  unfolding receiveBy
+  receive-small q =
+      pick-view Small (messageSuperseded y x q) _ _ (λ e. omega arith) λ e0.
+      pick-view Small (receiverSuperseded y x q) _ _ (λ e. rollback-small) (λ e. omega arith)
+
+abbrev Outcome : Result → Type 0
+Outcome r = r .reply .outcome ≤ notReady
+
+pub apply-outcome : (y : Layout) (s : State) (p : Step) → Outcome (apply y s p)
+unfolding apply applyRoot applyLetter applyReceive applyNew applySend applyLose applySign applyLocal
+apply-outcome y s p =
+    let k : ℕ = p .kind in
+    let q : Message = messageAt s (placeOf s (p .message)) in
+    pick-view Outcome (eqb k root) _ _ (λ e. omega arith) λ e0.
+    pick-view Outcome (eqb k letter) _ _ (λ e. omega arith) λ e1.
+    pick-view Outcome (eqb k receive) _ _ (λ e. receive-small y (q .addressee) (transactorAt s (q .addressee)) q) λ e2.
+    pick-view Outcome (eqb k new) _ _ (λ e. omega arith) λ e3.
+    pick-view Outcome (eqb k send) _ _ (λ e. omega arith) λ e4.
+    pick-view Outcome (eqb k lose) _ _ (λ e. omega arith) λ e5.
+    pick-view Outcome (eqb k sign) _ _ (λ e. pick-view Outcome (groupReady y s (p .message)) _ _ (λ e. omega arith) (λ e. omega arith)) λ e6.
+    local-small y (p .transactor) (transactorAt s (p .transactor)) k (p .value)
+
+-- ---- a signing
+
+pub apply-sign : (y : Layout) (s : State) (p : Step) → p .kind ≡ sign → apply y s p ≡ applySign y s p
+unfolding apply
+apply-sign y s p k = rw k
+
+-- ---- marks and statuses are those of a book that is related to the view
+
+pub matches-rel : {y : Layout} {s : State} {b : Book} → WellFormed y s → Rel (view s) b → Matches s b
+unfolding view
+matches-rel {y} {s} {b} well r t =
+    let own : markOf (ownHistory t (transactorAt s t)) ≡ b .holders t .mark = sym (own-view well t) ∙ own-mark (r .holders t) in
+    record {
+      status = seen-status well t ∙ ap statusNumber (r .holders t .status);
+      incarnation = λ k. ap (λ (m : Mark). m .incarnation) own;
+      stable = λ k. ap (λ (m : Mark). m .stable) own;
+    }
+
+-- ---- every step
+
+-- the book after step p: all that is claimed of the step, and the relation after it
+pub record Stepped (y : Layout) (m : Limits) (s : State) (b : Book) (p : Step) : Type 1 where
+  pub after : Book
+  pub right : StepRight y m s b p after
+  pub rel : Rel (view (stepOf y m s p .state)) after
+
+module _ {y : Layout} {m : Limits} (z : layout.Fitting y) (l : Allowed y m) {s : State} (well : WellFormed y s) {b : Book} (r : Rel (view s) b) {p : Step} (ok : StepOk p) where
+  same : refusal y m s p ≡ bookRefusal m b p
+  same = same-refusal well m r p
+
+  reply-refused : (bookRefusal m b p ≡ 0 → ⊥) → stepOf y m s p .reply ≡ answer (bookRefusal m b p) 0 0 0
+  reply-refused n = ap (λ (x : Result). x .reply) (refused-same y m s p (λ e. n (sym same ∙ e))) ∙ ap (λ (n : ℕ). answer n 0 0 0) same
+
+  module _ (zero : bookRefusal m b p ≡ 0) where
+    is-applied : stepOf y m s p ≡ apply y s p
+    is-applied = applied-same y m s p (same ∙ zero)
+
+    reply-accepted : stepOf y m s p .reply .outcome ≤ notReady
+    reply-accepted = rw is-applied (apply-outcome y s p)
+
+    module _ (k : p .kind ≡ sign) where
+      is-signing : stepOf y m s p ≡ applySign y s p
+      is-signing = is-applied ∙ apply-sign y s p k
+
+      -- the ledger's test holds exactly if the two sets are equal
+      ready-exact : (groupReady y s (p .message) ≡ true) ↔ Equal b (p .message)
+      unfolding refusal
+      ready-exact =
+          let a = applicable well l (ok .message) (accepted m (seen y s) p (same ∙ zero)) in
+          rw (ready-same well (p .message) (ok .message) (a .among (eq-eqb (p .kind) sign k)))
+          (sign-exact (view s) b r m p zero (droppedAt y s (p .message)) (toppledAt y s (p .message)) (readyAt y s (p .message)) (step-tests well p (ok .message)) k (ok .message))
+
+      signing-right : SigningRight y m s b p
+      unfolding applySign
+      signing-right = go (groupReady y s (p .message)) refl
+        where
+          go : (t : Bool) → groupReady y s (p .message) ≡ t → SigningRight y m s b p
+          go true e = signed (ready-exact .0 e) (rw (is-signing, e)) (rw (is-signing, e))
+          go false e = unsigned (λ q. false≢true (sym e ∙ ready-exact .1 q)) (rw (is-signing, e)) (rw (is-signing, e))
+
+  pub step-right : Stepped y m s b p
+  step-right =
+      let k = state-kept well m r l p (ok .message) in
+      record {
+        after = k .after;
+        right = record {
+          book = k .step;
+          refused = reply-refused;
+          accepted = reply-accepted;
+          signing = signing-right;
+          matches = matches-rel (keeps z l well ok) (k .rel);
+          sound = rel-sound (view (stepOf y m s p .state)) (k .after) (k .rel);
+        };
+        rel = k .rel;
+      }

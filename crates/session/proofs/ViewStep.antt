@@ -1,0 +1,171 @@
+-- A step of the ledger's rules through the view: what it leaves, the number it is refused with, and what its tests stand for.
+use Prim.Native.Nat.{ℕ, _≤_, _<_}
+use mathlib.Core.Bool.{Bool, true, false, not, false≢true}
+use mathlib.Core.Path.{_≡_, refl, ap, sym, _∙_}
+use mathlib.Core.Logic.{inr, ⊎-elim, _↔_}
+use native.Mathlib.Omega.{arith}
+use lib.Dec.{eqb, ltb, leb}
+use lib.ListN.{length}
+use borrow.Author.Tests.{ltb-true, lt-ltb, leb-false, eqb-true, eqb-false, le-leb}
+use Rattle.octets.specs.Bytes.{_and_, _or_, every}
+use Rattle.octets.specs.Numbers.{bound}
+use Rattle.octets.proofs.Chunks.{sides}
+use Rattle.octets.proofs.Zero.{both, every-all, every-at}
+use Rattle.ledger.specs.Layout.{Layout, Limits, Allowed}
+use Rattle.ledger.specs.State.{Transactor, State, transactorAt, ownHistory, placeOf}
+use Rattle.ledger.specs.declared.Step.{Step}
+use Rattle.ledger.specs.Step.{root, letter, receive, new, send, fail, lose, sign}
+use Rattle.ledger.specs.Refusals.{groupBits, named, acts, notWaiting, allOpened, allCheckpointed, refusalOf}
+use Rattle.ledger.specs.Rules.{Result, groupReady, seen, refusal, apply, stepOf}
+use Rattle.ledger.specs.Well.{WellFormed}
+use Rattle.session.specs.Book.{Mark, Book}
+use Rattle.session.specs.Steps.{bookRefusal}
+use Rattle.session.proofs.Model.{Ledger, own, findMail, viewNode, view}
+use Rattle.session.proofs.Tables.{pick-both, and-of, or-of}
+use Rattle.session.proofs.Relation.{Rel}
+use Rattle.session.proofs.Parcels.{ReceiptTests}
+use Rattle.session.proofs.Seen.{seenOf, refusal-same}
+use Rattle.session.proofs.Sign.{Ready}
+use Rattle.session.proofs.Accepted.{Accepted, accepted, named-false, named-below, accepted-kind, accepted-acts, accepted-names}
+use Rattle.session.proofs.Kept.{appliedLedger, stepLedger, StepTests, Kept, step-kept}
+use Rattle.session.proofs.ViewState.{no-transactor, own-view}
+use Rattle.session.proofs.ViewRules.{droppedAt, toppledAt, dropped-test, toppled-test, view-root, view-letter, view-receive, view-new, view-send, view-acted, view-lose, ready-test, view-sign}
+use Rattle.session.proofs.ViewSeen.{view-seen}
+
+-- ---- the test of a signing
+
+-- Every take that g names is one of the layout's. The rules look at no other; a signing that names another is refused.
+unfoldable pub namesTakes : Layout → ℕ → Bool
+namesTakes y g = every groupBits (λ t. not (named g t) or ltb t (y .transactors))
+
+unfoldable pub readyAt : Layout → State → ℕ → Bool
+readyAt y s g = namesTakes y g and groupReady y s g
+
+names-test : (y : Layout) (g : ℕ) → g < bound 2 → (namesTakes y g ≡ true) ↔ ((t : ℕ) → named g t ≡ true → t < y .transactors)
+unfolding namesTakes
+names-test y g bits = (to, of)
+  where
+    f : ℕ → Bool
+    f t = not (named g t) or ltb t (y .transactors)
+
+    to : every groupBits f ≡ true → (t : ℕ) → named g t ≡ true → t < y .transactors
+    to e t k = let q = every-at f groupBits t e (named-below g t bits k) in ltb-true t (y .transactors) (rw k at q)
+
+    of : ((t : ℕ) → named g t ≡ true → t < y .transactors) → every groupBits f ≡ true
+    of k = every-all f groupBits (λ t h. at t (named g t) refl)
+      where
+        at : (t : ℕ) (c : Bool) → named g t ≡ c → not c or ltb t (y .transactors) ≡ true
+        at t true e = lt-ltb t (y .transactors) (k t e)
+        at t false e = refl
+
+-- a frozen take is one of the layout's
+stable-below : {y : Layout} {s : State} → WellFormed y s → (t : ℕ) → own t (viewNode (transactorAt s t)) .stable ≡ true → t < y .transactors
+stable-below {y} well t e = ⊎-elim
+    (λ h. h)
+    (λ h. absurd (false≢true (
+    sym (ap (λ (x : Transactor). ownHistory t x .stable) (no-transactor well t h)) ∙ sym (ap (λ (m : Mark). m .stable) (own-view well t)) ∙ e)))
+    (sides t (y .transactors))
+
+module _ {y : Layout} {s : State} (well : WellFormed y s) (g : ℕ) (bits : g < bound 2) where
+  pub ready-at : (readyAt y s g ≡ true) ↔ Ready (view s) (named g)
+  unfolding readyAt view
+  ready-at = (
+    λ e.
+        let p = both (namesTakes y g) (groupReady y s g) e in
+        ready-test well g (names-test y g bits .0 (p .0)) .0 (p .1),
+    λ r.
+        let k : (t : ℕ) → named g t ≡ true → t < y .transactors = λ t n. stable-below well t (r .stable t n) in
+        and-of (namesTakes y g) (groupReady y s g) (names-test y g bits .1 k) (ready-test well g k .1 r),
+  )
+
+  pub ready-same : ((t : ℕ) → named g t ≡ true → t < y .transactors) → groupReady y s g ≡ readyAt y s g
+  unfolding readyAt
+  ready-same k = rw (names-test y g bits .1 k)
+
+-- ---- what the tests stand for
+
+pub receipt-tests : {y : Layout} {s : State} → WellFormed y s → (n : ℕ)
+    → ReceiptTests (view s .nodes (findMail n (view s .mails) .addressee)) (findMail n (view s .mails)) (droppedAt y s n) (toppledAt y s n)
+receipt-tests well n = record { dropped = dropped-test well n; toppled = toppled-test well n }
+
+pub step-tests : {y : Layout} {s : State} → WellFormed y s → (p : Step) → p .message < bound 2
+    → StepTests (view s) p (droppedAt y s (p .message)) (toppledAt y s (p .message)) (readyAt y s (p .message))
+step-tests well p bits = record { receipt = receipt-tests well (p .message); ready = ready-at well (p .message) bits }
+
+-- ---- a step that is not refused
+
+-- what the view needs of it
+pub record Applicable (y : Layout) (s : State) (p : Step) : Type 0 where
+  pub kind : p .kind ≤ sign
+  pub opens : eqb (p .kind) root or eqb (p .kind) new ≡ true → s .opened < y .transactors
+  pub acting : acts (p .kind) ≡ true → p .transactor < y .transactors
+  pub waits : eqb (p .kind) receive ≡ true → placeOf s (p .message) < length (s .messages)
+  pub among : eqb (p .kind) sign ≡ true → (t : ℕ) → named (p .message) t ≡ true → t < y .transactors
+  pub room : eqb (p .kind) sign ≡ true → (t : ℕ) → named (p .message) t ≡ true → ownHistory t (transactorAt s t) .count < y .places
+
+-- the kinds that act
+acting-kind : (k : ℕ) → new ≤ k → k ≤ fail → acts k ≡ true
+acting-kind k h l = and-of (leb new k) (leb k fail) (le-leb new k h) (le-leb k fail l)
+
+-- a result whose state is l
+abbrev Leaves : Result → Ledger → Type 0
+Leaves r l = view (r .state) ≡ l
+
+module _ {y : Layout} {s : State} {p : Step} (well : WellFormed y s) (bits : p .message < bound 2) (a : Applicable y s p) where
+  pub view-apply : view (apply y s p .state) ≡ appliedLedger (droppedAt y s (p .message)) (toppledAt y s (p .message)) (readyAt y s (p .message)) (view s) p
+  unfolding apply appliedLedger
+  view-apply =
+      let k : ℕ = p .kind in
+      let acting : new ≤ k → k ≤ fail → p .transactor < y .transactors = λ h l. a .acting (acting-kind k h l) in
+      pick-both Leaves (eqb k root) (eqb k root) refl _ _ _ _ (λ e. view-root well p (a .opens (rw e))) λ e0.
+      pick-both Leaves (eqb k letter) (eqb k letter) refl _ _ _ _ (λ e. view-letter well p) λ e1.
+      pick-both Leaves (eqb k receive) (eqb k receive) refl _ _ _ _ (λ e. view-receive well p (a .waits e)) λ e2.
+      pick-both Leaves (eqb k new) (eqb k new) refl _ _ _ _
+      (λ e. let i : k ≡ new = eqb-true k new e in view-new well p (acting (omega arith) (omega arith)) (a .opens (or-of (eqb k root) (eqb k new) (inr e)))) λ e3.
+      pick-both Leaves (eqb k send) (eqb k send) refl _ _ _ _
+      (λ e. let i : k ≡ send = eqb-true k send e in view-send well p (acting (omega arith) (omega arith))) λ e4.
+      pick-both Leaves (eqb k lose) (eqb k lose) refl _ _ _ _ (λ e. view-lose well p) λ e5.
+      pick-both Leaves (eqb k sign) (eqb k sign) refl _ _ _ _
+      (λ e. rw (← ready-same well (p .message) bits (a .among e)) (view-sign well p (a .among e) (a .room e))) λ e6.
+      let low : new ≤ k = omega (arith, eqb-false k root e0, eqb-false k letter e1, eqb-false k receive e2) in
+      let high : k ≤ fail = omega (arith, a .kind, eqb-false k lose e5, eqb-false k sign e6) in
+      view-acted well p (acting low high)
+
+module _ {y : Layout} {m : Limits} {s : State} {p : Step} (well : WellFormed y s) (allowed : Allowed y m) (bits : p .message < bound 2) (ok : Accepted m (seen y s) p) where
+  pub applicable : Applicable y s p
+  unfolding seen notWaiting allOpened allCheckpointed
+  applicable = record {
+    kind = accepted-kind m (seen y s) p ok;
+    opens = λ e. omega (arith, allowed .transactors-high, leb-false (m .transactors) (s .opened) (rw e at (ok .openable)));
+    acting = λ e. omega (arith, well .opened, accepted-acts m (seen y s) p ok e .0);
+    waits = λ e. leb-false (length (s .messages)) (placeOf s (p .message)) (rw e at (ok .waiting));
+    among = λ e t n. omega (arith, well .opened, accepted-names m (seen y s) p ok (eqb-true (p .kind) sign e) t (named-below (p .message) t bits n) n .0);
+    room = λ e t n.
+        let f = named-false (p .message) (λ t. leb (m .checkpoints) (ownHistory t (transactorAt s t) .count)) (rw e at (ok .checkpoints)) t (named-below (p .message) t bits n) n in
+        omega (arith, allowed .checkpoints-high, leb-false (m .checkpoints) (ownHistory t (transactorAt s t) .count) f);
+  }
+
+-- ---- every step
+
+module _ {y : Layout} {s : State} (well : WellFormed y s) (m : Limits) where
+  pub view-refusal : (p : Step) → refusal y m s p ≡ refusalOf m (seenOf (view s) (droppedAt y s) (toppledAt y s)) p
+  unfolding refusal
+  view-refusal p = ap (λ v. refusalOf m v p) (view-seen well)
+
+  pub view-step : Allowed y m → (p : Step) → p .message < bound 2
+      → view (stepOf y m s p .state) ≡ stepLedger (refusal y m s p) (droppedAt y s (p .message)) (toppledAt y s (p .message)) (readyAt y s (p .message)) (view s) p
+  unfolding stepOf stepLedger refusal
+  view-step allowed p bits =
+      let n : ℕ = refusal y m s p in
+      pick-both Leaves (eqb n 0) (eqb n 0) refl _ _ _ _
+      (λ e. view-apply well bits (applicable well allowed bits (accepted m (seen y s) p (eqb-true n 0 e))))
+      (λ e. refl)
+
+  -- beside a book that is related to the view: refused with the same number, and related again after
+  module _ {b : Book} (r : Rel (view s) b) where
+    pub same-refusal : (p : Step) → refusal y m s p ≡ bookRefusal m b p
+    same-refusal p = view-refusal p ∙ refusal-same (view s) b r (droppedAt y s) (toppledAt y s) (receipt-tests well) m p
+
+    pub state-kept : Allowed y m → (p : Step) → p .message < bound 2 → Kept m b p (view (stepOf y m s p .state))
+    state-kept allowed p bits = rw (view-step allowed p bits)
+        (step-kept (view s) b r m p bits (droppedAt y s (p .message)) (toppledAt y s (p .message)) (readyAt y s (p .message)) (step-tests well p bits) (refusal y m s p) (same-refusal p))

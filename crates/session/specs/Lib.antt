@@ -1,0 +1,5 @@
+pub mod Book
+pub mod Grounds
+pub mod Steps
+pub mod Trace
+pub mod Count
