@@ -11,7 +11,7 @@ use lib.Dec.{eqb, ltb, leb}
 use lib.ListN.{length, set, length-append}
 use Rattle.octets.specs.Bytes.{pick, _and_, _or_, put, part}
 use Rattle.octets.specs.Numbers.{be, ofBe}
-use Rattle.octets.proofs.Put.{put-append, put-whole, part-put-before}
+use Rattle.octets.proofs.Put.{put-behind, put-whole, part-put-before}
 use Rattle.octets.proofs.Numbers.{length-be, put-be-one}
 use Rattle.marks.specs.declared.History.{History}
 use Rattle.marks.specs.History.{rolledBack}
@@ -23,13 +23,14 @@ use Rattle.maps.specs.Packed.{Bounded}
 use Rattle.maps.proofs.Packed.{length-packMap, bounded-at, bounded-unpack, bounded-join, bounded-withEntry}
 use Rattle.ledger.specs.Layout.{Layout, Limits, base, mapBytes, valueAt, savedAt, stateAt, creationAt, behaviourAt, transactorBytes}
 use Rattle.ledger.specs.Step.{done, held, dropped, fallenBack, vanished, read, write, freeze, finish, fall, fail}
-use Rattle.ledger.specs.State.{Transactor, busy, annihilated, bare, ownHistory, withStatus, withValue, withState, withBehaviour}
+use Rattle.ledger.specs.Status.{busy, annihilated}
+use Rattle.ledger.specs.State.{Transactor, bare, ownHistory, withStatus, withValue, withState, withBehaviour}
 use Rattle.ledger.specs.Rules.{Effect, noDependences, join, unchanged, renewed, rollback, writeBy, madeReady, finishBy, fallBy, failBy, localBy, known}
 use Rattle.ledger.specs.Pack.{packDependences, packTransactor, unpackDependences, unpackTransactor}
 use Rattle.ledger.specs.Parts.{Acts, isLastIncarnation, rollbackOr28, rollbackUnlessStable, actBy, acceptBy}
 use Rattle.ledger.proofs.Sizes.{length-packTransactor}
 use Rattle.ledger.proofs.Fields.{put-status}
-use Rattle.ledger.proofs.KeepTests.{pick-view}
+use Rattle.octets.proofs.Tests.{pick-view}
 
 -- ---- stores
 
@@ -40,10 +41,7 @@ record Filled (l l' p : List ℕ) (n : ℕ) : Type 0 where
 
 fill : {l l' l'' p : List ℕ} {n : ℕ} (q : List ℕ) (m : ℕ) → Filled l l' p n → length q ≡ m → n + m ≤ length l → l'' ≡ put n q l' → Filled l l'' (p ++ q) (n + m)
 fill {l} {l'} {l''} {p} {n} q m f k h e = record {
-  is =
-      let a : 0 + length p ≡ n = zero-add (length p) ∙ f .long in
-      let b : 0 + length p + length q ≤ length l = omega arith in
-      e ∙ ap (put n q) (f .is) ∙ (rw a at (put-append 0 p q l b));
+  is = e ∙ ap (λ (i : ℕ). put i q l') (sym (zero-add n)) ∙ put-behind 0 n p q l l' (f .long) (omega arith) (f .is);
   long = rw (length-append, f .long, k);
 }
 

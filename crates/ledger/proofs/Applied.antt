@@ -2,8 +2,7 @@
 use Prim.Native.Nat.{ℕ, _≤_}
 use mathlib.Core.Path.{_≡_, sym, ap, _∙_}
 use mathlib.Core.List.{List}
-use borrow.Author.Tests.{ne-eqb}
-use Rattle.ledger.specs.Layout.{Layout, Limits, base, standard}
+use Rattle.ledger.specs.Layout.{Layout, base, standard}
 use Rattle.ledger.specs.State.{State}
 use Rattle.ledger.specs.Step.{Step, Reply, root, letter, receive, new, send, read, fail, lose, sign}
 use Rattle.ledger.specs.Rules.{Result, refusal, answer, applyRoot, applyLetter, applyReceive, applyNew, applySend, applyLocal, applyLose, applySign, apply, stepOf}

@@ -9,7 +9,7 @@ use native.Mathlib.Omega.{arith}
 use borrow.Author.Tests.{eqb-true}
 use lib.Dec.{eqb}
 use lib.ListN.{length, getD}
-use Rattle.octets.specs.Bytes.{_and_, part, chunks, zeros, Octets}
+use Rattle.octets.specs.Bytes.{part, chunks, zeros, Octets}
 use Rattle.octets.specs.Numbers.{be, ofBe}
 use Rattle.octets.proofs.Put.{part-part, part-add, part-whole, length-part, octets-part}
 use Rattle.octets.proofs.Numbers.{be-byte, be-ofBe}

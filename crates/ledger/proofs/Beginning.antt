@@ -2,18 +2,19 @@
 use Prim.Native.Nat.{ℕ, _+_, _*_, _≤_, _<_}
 use mathlib.Core.Bool.{true, false, not}
 use mathlib.Core.Path.{_≡_, refl, sym, ap, _∙_}
-use mathlib.Core.List.{List, _++_}
+use mathlib.Core.List.{List}
 use native.Mathlib.Nat.{add-assoc, mul-suc}
 use native.Mathlib.Numerals.{add-one}
 use native.Mathlib.Omega.{arith}
 use borrow.Author.Tests.{eq-eqb, ne-eqb}
 use lib.ListN.{length}
 use Rattle.octets.specs.Bytes.{put, zeros}
-use Rattle.octets.proofs.Put.{put-put, put-append, put-whole}
+use Rattle.octets.proofs.Put.{put-put, put-behind, put-whole}
 use Rattle.octets.proofs.Zero.{length-zeros, zeros-append}
 use Rattle.octets.proofs.Chunks.{step}
 use Rattle.ledger.specs.Layout.{Layout, transactorBytes, messageBytes, headBytes, transactorAddress, imageBytes}
-use Rattle.ledger.specs.State.{unused, bare, fresh}
+use Rattle.ledger.specs.Status.{unused}
+use Rattle.ledger.specs.State.{bare, fresh}
 use Rattle.ledger.specs.Pack.{packTransactor, pack}
 use Rattle.ledger.specs.Calls.{wrongLength, beginAnswer, beginImage}
 use Rattle.ledger.proofs.Fresh.{pack-unused, pack-fresh}
@@ -37,10 +38,6 @@ module _ (y : Layout) (img : List ℕ) where
   begin-done l e f = (rw (right-length e), f ∙ rw (right-length e) (pack-fresh y))
 
 -- ---- one part after the other
-
--- c behind the n bytes of b
-pub put-behind : (at n : ℕ) (b c l l' : List ℕ) → length b ≡ n → at + n + length c ≤ length l → l' ≡ put at b l → put (at + n) c l' ≡ put at (b ++ c) l
-put-behind at n b c l l' e h f = ap (put (at + n) c) f ∙ ap (λ (k : ℕ). put (at + k) c (put at b l)) (sym e) ∙ put-append at b c l (omega arith)
 
 zeros-on : (a n : ℕ) (l l' : List ℕ) → a + n ≤ length l → l' ≡ put 0 (zeros a) l → put a (zeros n) l' ≡ put 0 (zeros (a + n)) l
 zeros-on a n l l' h e =

@@ -1,111 +1,20 @@
--- What one take's bytes decide: kinds 5 to 10 and receipts, refusals and effects in one.
+-- What one take's bytes decide, kinds 5 to 10 and receipts: refusals apart from effects.
 use Prim.Native.Nat.{ℕ, _≤_, _<_}
 use mathlib.Core.Bool.{Bool, true, false, not}
 use mathlib.Core.Path.{_≡_, refl, sym}
 use native.Mathlib.Omega.{arith}
-use lib.Dec.{eqb, ltb, leb}
-use borrow.Author.Tests.{eq-eqb, ne-eqb, eqb-false, lt-ltb, le-leb, lt-leb}
+use lib.Dec.{eqb, leb}
+use borrow.Author.Tests.{ne-eqb}
 use Rattle.octets.specs.Bytes.{pick, _and_, _or_}
 use Rattle.marks.specs.History.{rolledBack}
-use Rattle.maps.specs.declared.DependenceMap.{DependenceMap}
 use Rattle.maps.specs.Map.{firstSuperseded}
 use Rattle.ledger.specs.Layout.{Layout, Limits}
-use Rattle.ledger.specs.State.{Transactor, Message, busy, annihilated, bare, ownHistory, withStatus, withBehaviour}
-use Rattle.ledger.specs.Step.{done, held, dropped, fallenBack, vanished, read, write, freeze, finish, fall, fail}
-use Rattle.ledger.specs.Rules.{Effect, isSome, known, unchanged, renewed, madeReady, rollback, readBy, writeBy, freezeBy, finishBy, fallBy, failBy, localBy, taken, messageSuperseded, receiverSuperseded, receiveBy}
-use Rattle.ledger.specs.Parts.{isLastIncarnation, rollbackOr28, rollbackUnlessStable, actBy, acceptBy}
+use Rattle.ledger.specs.Status.{busy, annihilated}
+use Rattle.ledger.specs.State.{Transactor, Message, bare, ownHistory}
+use Rattle.ledger.specs.Step.{done, dropped, fallenBack, vanished, read, write, freeze, finish, fall, fail}
+use Rattle.ledger.specs.Rules.{Effect, isSome, known, unchanged, renewed, rollback, readBy, writeBy, freezeBy, finishBy, fallBy, failBy, localBy, taken, messageSuperseded, receiverSuperseded, receiveBy}
+use Rattle.ledger.specs.Parts.{isLastIncarnation, rollbackOr28, actBy, acceptBy}
 use Rattle.ledger.proofs.Refused.{localRefusal}
-
--- ---- kinds 5 to 10
-
-module _ (y : Layout) (m : Limits) (k t v : ℕ) (x : Transactor) where
-  pub act-gone : x .status ≡ annihilated → actBy y m k t v x ≡ unchanged 22 x
-  unfolding actBy
-  act-gone e = rw (eq-eqb (x .status) annihilated e)
-
-  module _ (there : x .status ≡ annihilated → ⊥) where
-    pub act-idle : leb k fall and not (eqb (x .status) busy) ≡ true → actBy y m k t v x ≡ unchanged 23 x
-    unfolding actBy
-    act-idle e = rw (ne-eqb (x .status) annihilated there, e)
-
--- a take that is there, and at work or failing
-pub record Acting (y : Layout) (m : Limits) (k t v : ℕ) (x : Transactor) : Type 0 where
-  pub read : k ≡ read → actBy y m k t v x ≡ readBy y x
-  pub write : k ≡ write → actBy y m k t v x ≡ writeBy y t v x
-  pub freeze : k ≡ freeze → actBy y m k t v x ≡ freezeBy t x
-  pub finish : k ≡ finish → actBy y m k t v x ≡ finishBy y x
-  pub tumble : fall ≤ k → k ≤ fail → actBy y m k t v x ≡ rollbackUnlessStable y m k t x
-
-pub acting : (y : Layout) (m : Limits) (k t v : ℕ) (x : Transactor) → (x .status ≡ annihilated → ⊥) → leb k fall and not (eqb (x .status) busy) ≡ false → Acting y m k t v x
-unfolding actBy localBy rollbackUnlessStable rollbackOr28 fallBy failBy
-acting y m k t v x there works =
-    let is : eqb (x .status) annihilated ≡ false = ne-eqb (x .status) annihilated there in
-    record {
-      read = λ e. rw (is, works, e);
-      write = λ e. rw (is, works, e);
-      freeze = λ e. rw (is, works, e);
-      finish = λ e. rw (is, works, e);
-      tumble = λ low high.
-          let not-read : eqb k read ≡ false = ne-eqb k read (omega arith) in
-          let not-write : eqb k write ≡ false = ne-eqb k write (omega arith) in
-          let not-freeze : eqb k freeze ≡ false = ne-eqb k freeze (omega arith) in
-          let not-finish : eqb k finish ≡ false = ne-eqb k finish (omega arith) in
-          rw (is, works, not-read, not-write, not-freeze, not-finish, last-kinds k low high) (go (ownHistory t x .stable) (isLastIncarnation m t x) (eqb k fall) (madeReady y x) (rollback y t x));
-    }
-  where
-    last-kinds : (k : ℕ) → fall ≤ k → k ≤ fail → eqb k fall or eqb k fail ≡ true
-    last-kinds k low high = by (eqb k fall) refl
-      where
-        by : (c : Bool) → eqb k fall ≡ c → c or eqb k fail ≡ true
-        by true e = refl
-        by false e = eq-eqb k fail (omega (arith, eqb-false k fall e))
-
-    go : (stable last falls : Bool) (i : Transactor) (r : Effect)
-        → pick (not stable and last) (unchanged 28 x) (pick falls (pick stable (unchanged held i) r) (pick stable (unchanged held x) r))
-        ≡ pick stable (unchanged held (pick falls i x)) (pick last (unchanged 28 x) r)
-    go true last true i r = refl
-    go true last false i r = refl
-    go false true falls i r = refl
-    go false false true i r = refl
-    go false false false i r = refl
-
--- ---- falls
-
-module _ (y : Layout) (m : Limits) (t : ℕ) (x : Transactor) where
-  pub rollback-vanished : ownHistory t x .count ≡ 0 → rollbackOr28 y m t x ≡ record { outcome = vanished; value = 0; transactor = bare y annihilated }
-  unfolding rollbackOr28 isLastIncarnation rollback
-  rollback-vanished e = rw e
-
-  module _ (signed : ownHistory t x .count ≡ 0 → ⊥) where
-    some-signed : ltb 0 (ownHistory t x .count) ≡ true
-    some-signed = lt-ltb 0 (ownHistory t x .count) (omega arith)
-
-    pub rollback-refused : m .incarnation ≤ ownHistory t x .incarnation → rollbackOr28 y m t x ≡ unchanged 28 x
-    unfolding rollbackOr28 isLastIncarnation
-    rollback-refused h = rw (some-signed, le-leb (m .incarnation) (ownHistory t x .incarnation) h)
-
-    pub rollback-fallen : ownHistory t x .incarnation < m .incarnation
-        → rollbackOr28 y m t x ≡ record { outcome = fallenBack; value = 0; transactor = renewed y t (rolledBack (ownHistory t x)) (x .saved) (x .saved) }
-    unfolding rollbackOr28 isLastIncarnation rollback
-    rollback-fallen h = rw (some-signed, lt-leb (m .incarnation) (ownHistory t x .incarnation) h, ne-eqb (ownHistory t x .count) 0 signed)
-
--- ---- receipts
-
-module _ (y : Layout) (m : Limits) (t : ℕ) (x : Transactor) (deps : DependenceMap) where
-  pub takesIn-dropped : isSome (firstSuperseded (y .transactors) deps (known y x)) ≡ true → acceptBy y m t x deps ≡ unchanged dropped x
-  unfolding acceptBy
-  takesIn-dropped e = rw e
-
-  module _ (current : isSome (firstSuperseded (y .transactors) deps (known y x)) ≡ false) where
-    pub takesIn-topples : isSome (firstSuperseded (y .transactors) (known y x) deps) ≡ true → acceptBy y m t x deps ≡ rollbackOr28 y m t x
-    unfolding acceptBy
-    takesIn-topples e = rw (current, e)
-
-    pub takesIn-done : isSome (firstSuperseded (y .transactors) (known y x) deps) ≡ false → acceptBy y m t x deps ≡ unchanged done (withBehaviour (withStatus x busy) deps)
-    unfolding acceptBy
-    takesIn-done e = rw (current, e)
-
--- ---- refusals apart from effects
 
 -- what a fall answers
 record Fell (e : Effect) : Type 0 where

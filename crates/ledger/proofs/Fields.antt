@@ -3,15 +3,15 @@ use Prim.Native.Nat.{ℕ, zero, suc, _+_, _-_, _*_, _≤_, _<_}
 use mathlib.Core.Path.{_≡_, refl, sym, ap, _∙_, subst}
 use mathlib.Core.List.{List, [], _∷_, _++_, append-assoc}
 use mathlib.Core.Logic.{⊎-elim}
-use native.Mathlib.Nat.{add-assoc, add-zero, mul-suc}
+use native.Mathlib.Nat.{add-assoc, add-zero}
 use native.Mathlib.Numerals.{add-one}
 use native.Mathlib.Omega.{arith}
 use borrow.Author.Tests.{lt-ltb, le-ltb}
 use lib.ListN.{length, take, drop, getD, length-append, length-drop, length-set, List·getD-append}
-use lib.Seq.{set-set, set-getD, getD-set-same, getD-set-other, getD-take, getD-drop, getD-append-add, getD-at, length-take-le}
+use lib.Seq.{set-getD, getD-set-same, getD-set-other, getD-take, getD-drop, getD-append-add, getD-at, length-take-le}
 use Rattle.octets.specs.Bytes.{put, part, chunks, tabulate, zeros}
 use Rattle.octets.specs.Numbers.{be}
-use Rattle.octets.proofs.Put.{put-left, put-right, put-whole, put-first, put-last, put-mid, put-append, part-right}
+use Rattle.octets.proofs.Put.{put-left, put-right, put-whole, put-first, put-last, put-mid, put-behind, part-right}
 use Rattle.octets.proofs.Numbers.{length-be}
 use Rattle.octets.proofs.Chunks.{step, sides, length-chunks, put-chunk, remove-chunk, fill-none, fill-more, fill-all}
 use Rattle.maps.specs.declared.DependenceMap.{DependenceMap}
@@ -167,15 +167,6 @@ module _ (s : State) (t : ℕ) where
   unfolding transactorAt withTransactor
   withTransactor-other x i n = getD-set-other (s .transactors) t i x noTransactor n
 
-  pub withTransactor-twice : (x x' : Transactor) → withTransactor (withTransactor s t x) t x' ≡ withTransactor s t x'
-  unfolding withTransactor
-  withTransactor-twice x x' = rw set-set
-
-  -- a change of the changed take
-  pub withTransactor-then : (x : Transactor) (g : Transactor → Transactor) → t < length (s .transactors)
-      → withTransactor (withTransactor s t x) t (g (transactorAt (withTransactor s t x) t)) ≡ withTransactor s t (g x)
-  withTransactor-then x g h = rw (withTransactor-here x h) (withTransactor-twice x (g x))
-
   pub withTransactor-same : withTransactor s t (transactorAt s t) ≡ s
   unfolding transactorAt withTransactor
   withTransactor-same = rw set-getD
@@ -196,26 +187,6 @@ module _ (y : Layout) (s : State) (t : ℕ) (below : t < y .transactors) (many :
       let a : transactorAddress y t + 0 ≡ transactorAddress y t = add-zero (transactorAddress y t) in
       let n : length (packTransactor y x) ≡ transactorBytes y = length-packTransactor y x in
       rw a at (pack-inTransactor x 0 (packTransactor y x) (omega arith) (put-whole (packTransactor y x) (packTransactor y (transactorAt s t)) (n ∙ sym (length-packTransactor y (transactorAt s t)))))
-
-  pub pack-status : (st : ℕ) → put (transactorAddress y t) (be 1 (64 * st)) (pack y s) ≡ pack y (withTransactor s t (withStatus (transactorAt s t) st))
-  pack-status st =
-      let a : transactorAddress y t + 0 ≡ transactorAddress y t = add-zero (transactorAddress y t) in
-      rw a at (pack-inTransactor (withStatus (transactorAt s t) st) 0 (be 1 (64 * st)) (rw length-be (omega arith)) (put-status y (transactorAt s t) st))
-
-  pub pack-value : (v : ℕ) → put (transactorAddress y t + valueAt) (be 4 v) (pack y s) ≡ pack y (withTransactor s t (withValue (transactorAt s t) v))
-  pack-value v = pack-inTransactor (withValue (transactorAt s t) v) valueAt (be 4 v) (rw length-be (omega arith)) (put-value y (transactorAt s t) v)
-
-  pub pack-saved : (v : ℕ) → put (transactorAddress y t + savedAt) (be 4 v) (pack y s) ≡ pack y (withTransactor s t (withSaved (transactorAt s t) v))
-  pack-saved v = pack-inTransactor (withSaved (transactorAt s t) v) savedAt (be 4 v) (rw length-be (omega arith)) (put-saved y (transactorAt s t) v)
-
-  pub pack-state : (m : DependenceMap) → put (transactorAddress y t + stateAt) (packDependences y m) (pack y s) ≡ pack y (withTransactor s t (withState (transactorAt s t) m))
-  pack-state m = pack-inTransactor (withState (transactorAt s t) m) stateAt (packDependences y m) (rw length-packMap (omega arith)) (put-state y (transactorAt s t) m)
-
-  pub pack-creation : (m : DependenceMap) → put (transactorAddress y t + creationAt y) (packDependences y m) (pack y s) ≡ pack y (withTransactor s t (withCreation (transactorAt s t) m))
-  pack-creation m = pack-inTransactor (withCreation (transactorAt s t) m) (creationAt y) (packDependences y m) (rw length-packMap (omega arith)) (put-creation y (transactorAt s t) m)
-
-  pub pack-behaviour : (m : DependenceMap) → put (transactorAddress y t + behaviourAt y) (packDependences y m) (pack y s) ≡ pack y (withTransactor s t (withBehaviour (transactorAt s t) m))
-  pack-behaviour m = pack-inTransactor (withBehaviour (transactorAt s t) m) (behaviourAt y) (packDependences y m) (rw length-packMap (omega arith)) (put-behaviour y (transactorAt s t) m)
 
 -- ---- the head
 
@@ -275,15 +246,11 @@ module _ (y : Layout) (s : State) (room : length (s .messages) < y .messages) (m
       let a : messageAddress y n + 0 ≡ messageAddress y n = add-zero (messageAddress y n) in
       rw a at (put-message y s (appended s m) n 0 (packMessage y m) room (omega (arith, length-packMessage y m)) refl refl appended-here appended-other)
 
--- a parcel is sent: it and the next number are put, in either order
+-- a parcel is sent: it and the next number are put
 module _ (y : Layout) (s : State) (to v : ℕ) (m : DependenceMap) (room : length (s .messages) < y .messages) where
   pub pack-withMessage : put 1 (be 2 (s .next + 1)) (put (messageAddress y (length (s .messages))) (packMessage y (sent s to v m)) (pack y s)) ≡ pack y (withMessage s to v m)
   unfolding withMessage
   pack-withMessage = rw (pack-appended y s room (sent s to v m)) (pack-withNext y (appended s (sent s to v m)) (s .next + 1))
-
-  pub pack-withMessage-swapped : put (messageAddress y (length (s .messages))) (packMessage y (sent s to v m)) (put 1 (be 2 (s .next + 1)) (pack y s)) ≡ pack y (withMessage s to v m)
-  unfolding withMessage
-  pack-withMessage-swapped = rw (pack-withNext y s (s .next + 1)) (pack-appended y (withNext s (s .next + 1)) room (sent s to v m))
 
 -- the fields of a parcel are put one after the other
 pub put-packMessage : (y : Layout) (m : Message) (at : ℕ) (l : List ℕ) → at + messageBytes y ≤ length l
@@ -294,18 +261,12 @@ put-packMessage y m at l h =
     let b1 : List ℕ = be 1 (128 + m .addressee) in
     let b2 : List ℕ = b1 ++ be 2 (m .number) in
     let b3 : List ℕ = b2 ++ be 4 (m .value) in
-    let n1 : 1 ≡ length b1 = sym (length-be 1 (128 + m .addressee)) in
-    let n2 : 3 ≡ length b2 = simp (length-append, length-be) in
-    let n3 : dependencesAt ≡ length b3 = simp (length-append, length-be) in
-    let k2 : length (be 2 (m .number)) ≡ 2 = length-be 2 (m .number) in
-    let k3 : length (be 4 (m .value)) ≡ 4 = length-be 4 (m .value) in
-    let k4 : length (packDependences y (m .dependences)) ≡ mapBytes y = length-packMap (y .width) (y .places) (y .transactors) (m .dependences) in
-    let e2 : put (at + 1) (be 2 (m .number)) (put at b1 l) ≡ put at b2 l = ap (λ (n : ℕ). put (at + n) (be 2 (m .number)) (put at b1 l)) n1 ∙ put-append at b1 (be 2 (m .number)) l (omega arith) in
-    let e3 : put (at + 3) (be 4 (m .value)) (put at b2 l) ≡ put at b3 l = ap (λ (n : ℕ). put (at + n) (be 4 (m .value)) (put at b2 l)) n2 ∙ put-append at b2 (be 4 (m .value)) l (omega arith) in
-    rw (e2, e3) (ap (λ (n : ℕ). put (at + n) (packDependences y (m .dependences)) (put at b3 l)) n3 ∙ put-append at b3 (packDependences y (m .dependences)) l (omega arith))
-
-pub message-next : (y : Layout) (k : ℕ) → messageAddress y (k + 1) ≡ messageAddress y k + messageBytes y
-message-next y k = rw (add-one, mul-suc) (sym (add-assoc (transactorAddress y (y .transactors)) (messageBytes y * k) (messageBytes y)))
+    let n2 : length b2 ≡ 3 = simp (length-append, length-be) in
+    let n3 : length b3 ≡ dependencesAt = simp (length-append, length-be) in
+    let w : length (packDependences y (m .dependences)) ≡ mapBytes y = length-packMap (y .width) (y .places) (y .transactors) (m .dependences) in
+    let e2 : put (at + 1) (be 2 (m .number)) (put at b1 l) ≡ put at b2 l = put-behind at 1 b1 (be 2 (m .number)) l _ (length-be 1 (128 + m .addressee)) (omega (arith, length-be 2 (m .number))) refl in
+    let e3 : put (at + 3) (be 4 (m .value)) (put (at + 1) (be 2 (m .number)) (put at b1 l)) ≡ put at b3 l = put-behind at 3 b2 (be 4 (m .value)) l _ n2 (omega (arith, length-be 4 (m .value))) e2 in
+    put-behind at dependencesAt b3 (packDependences y (m .dependences)) l _ n3 (omega arith) e3
 
 -- the parcel in place k goes, and those behind it move down
 module _ (y : Layout) (s : State) (k : ℕ) (below : k < length (s .messages)) (few : length (s .messages) ≤ y .messages) where
@@ -353,9 +314,6 @@ module _ (y : Layout) (s : State) (k : ℕ) (below : k < length (s .messages)) (
       let p : messageAddress y k ≡ length front + w * k = rw length-front in
       let q : messageAddress y k + w ≡ length front + (w * k + w) = rw length-front (add-assoc (transactorAddress y (y .transactors)) (w * k) w) in
       rw (q, p, part-right (w * k + w) (w * m) front (parcels y s), put-right (w * k) (part (w * k + w) (w * m) (parcels y s) ++ zeros w) front (parcels y s), gone-chunks)
-
-  pub pack-withoutMessage : put (messageAddress y k) (part (messageAddress y (k + 1)) (messageBytes y * (length (s .messages) - (k + 1))) (pack y s) ++ zeros (messageBytes y)) (pack y s) ≡ pack y (withoutMessage s k)
-  pack-withoutMessage = rw (message-next y k) pack-removed
 
 -- ---- one take after the other changes
 

@@ -16,7 +16,7 @@ use Rattle.ledger.specs.State.{Message, messageAt}
 use Rattle.ledger.specs.Pack.{messagePart, vacantAt, waitingIn, unpack}
 use Rattle.ledger.specs.Form.{mapFormed, messageZeros, noGap, inOrder, numberRight, addresseeRight}
 use Rattle.ledger.proofs.Back.{vacant-behind}
-use Rattle.ledger.proofs.Bools.{never, implying, otherwise, unless}
+use Rattle.octets.proofs.Tests.{never, implying, otherwise, unless}
 use Rattle.ledger.proofs.Clauses.{Below}
 use Rattle.ledger.proofs.Loads.{read-vacant, unpack-waiting, waiting-few, waiting-taken}
 use Rattle.ledger.proofs.Zeros.{zero-first}
@@ -115,7 +115,7 @@ module _ (y : Layout) (img : List ℕ) where
         (λ (p : waitingIn y img ≤ k). vacant-holds y img k (zero-vacant y img k (f .free k p h)) (f .free k p h))
         (sides k (waitingIn y img));
     gap = λ k h. gap-holds y img k (λ v. ⊎-elim
-        (λ (p : k < waitingIn y img). never (sym (waiting-taken y img k p) ∙ v))
+        (λ (p : k < waitingIn y img). never (sym v ∙ waiting-taken y img k p))
         (λ (p : waitingIn y img ≤ k). ⊎-elim
         (λ (q : k + 1 < y .messages). zero-vacant y img (k + 1) (f .free (k + 1) (omega arith) q))
         (λ (q : y .messages ≤ k + 1). subst (λ (i : ℕ). vacantAt y img i ≡ true) (omega arith) end)

@@ -20,12 +20,13 @@ use Rattle.octets.proofs.Zero.{both, every-at, every-all}
 use Rattle.maps.specs.Map.{heldAt}
 use Rattle.maps.specs.Packed.{formedMap}
 use Rattle.ledger.specs.Layout.{Layout, mapBytes, stateAt, creationAt, behaviourAt, dependencesAt, transactorBytes, transactorAddress, messageAddress, imageBytes}
-use Rattle.ledger.specs.State.{Transactor, unused, ready, annihilated, transactorAt, messageAt, ownHistory}
+use Rattle.ledger.specs.Status.{unused, ready, annihilated}
+use Rattle.ledger.specs.State.{Transactor, transactorAt, messageAt, ownHistory}
 use Rattle.ledger.specs.Pack.{transactorPart, messagePart, waitingIn, unpack}
 use Rattle.ledger.specs.Form.{mapFormed, wellFormed}
 use Rattle.ledger.specs.Well.{Live, idle, working}
 use Rattle.ledger.specs.Tests.{formedOwnAt, formedLiveAt, formedTransactorAt, leastAt, formedMessageAt, formedImage}
-use Rattle.ledger.proofs.Bools.{implied, implying, same-test}
+use Rattle.octets.proofs.Tests.{implied, implying, same-test}
 use Rattle.ledger.proofs.Clauses.{Below}
 use Rattle.ledger.proofs.Loads.{length-transactorPart, part-transactor, first-transactor, part-message, first-message, read-status, read-saved, read-held, read-history, read-addressee, read-number, waiting-few}
 use Rattle.ledger.proofs.Zeros.{zero-first, zero-part, mapFormed-zeros}

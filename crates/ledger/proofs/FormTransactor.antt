@@ -14,11 +14,12 @@ use Rattle.octets.proofs.Chunks.{sides}
 use Rattle.octets.proofs.Zero.{both}
 use Rattle.maps.specs.Map.{heldAt}
 use Rattle.ledger.specs.Layout.{Layout, mapBytes, stateAt, creationAt, behaviourAt, transactorBytes, transactorAddress}
-use Rattle.ledger.specs.State.{Transactor, State, unused, ready, busy, annihilated, transactorAt, ownHistory, live}
+use Rattle.ledger.specs.Status.{unused, ready, busy, annihilated}
+use Rattle.ledger.specs.State.{Transactor, State, transactorAt, ownHistory, live}
 use Rattle.ledger.specs.Pack.{transactorPart, unpack}
 use Rattle.ledger.specs.Form.{mapFormed, transactorZeros, statusRight, ownHeld, savedRight, readyRight, annihilatedRight}
 use Rattle.ledger.specs.Well.{Live, idle, working}
-use Rattle.ledger.proofs.Bools.{implied, implying, otherwise, unless}
+use Rattle.octets.proofs.Tests.{implied, implying, otherwise, unless}
 use Rattle.ledger.proofs.Loads.{first-transactor, read-status}
 use Rattle.ledger.proofs.Zeros.{zero-first, zero-rest, rest-part, mapFormed-zeros}
 

@@ -1,25 +1,25 @@
 -- A well-formed state is packed as a well-formed image.
 use Prim.Native.Nat.{ℕ, _+_, _*_, _≤_, _<_}
 use mathlib.Core.Bool.{true}
-use mathlib.Core.Path.{_≡_, refl, sym, ap, _∙_}
-use mathlib.Core.List.{List, _++_}
+use mathlib.Core.Path.{_≡_, refl}
+use mathlib.Core.List.{List}
 use native.Mathlib.Omega.{arith}
-use lib.ListN.{length, getD, drop, length-append}
-use Rattle.octets.specs.Bytes.{put, part, allZero, zeros}
+use lib.ListN.{length, getD, drop}
+use Rattle.octets.specs.Bytes.{put, allZero, zeros}
 use Rattle.octets.specs.Numbers.{be}
-use Rattle.octets.proofs.Put.{part-put, put-last, drop-put}
-use Rattle.octets.proofs.Numbers.{length-be}
+use Rattle.octets.proofs.Put.{drop-put}
 use Rattle.octets.proofs.Zero.{length-zeros, allZero-zeros}
 use Rattle.maps.specs.declared.DependenceMap.{DependenceMap}
-use Rattle.maps.proofs.Packed.{length-packMap, pack-emptyMap, formed-packMap}
+use Rattle.maps.proofs.Packed.{pack-emptyMap, formed-packMap}
 use Rattle.ledger.specs.Layout.{Layout, mapBytes, stateAt, creationAt, behaviourAt, dependencesAt, transactorBytes, messageBytes}
-use Rattle.ledger.specs.State.{Transactor, Message, State, annihilated, bare, messageAt}
+use Rattle.ledger.specs.Status.{annihilated}
+use Rattle.ledger.specs.State.{Transactor, Message, State, bare, messageAt}
 use Rattle.ledger.specs.Pack.{packDependences, packTransactor, packTransactorAt, packMessage, packHead, pack, waitingIn, unpack}
 use Rattle.ledger.specs.Form.{mapFormed, wellFormed}
 use Rattle.ledger.specs.Well.{DependencesOk, TransactorOk, MessageOk, Known, TransactorFormed, not-opened, gone, alive, WellFormed}
 use Rattle.ledger.proofs.Sizes.{length-packTransactor, length-packMessage, length-pack}
 use Rattle.ledger.proofs.Fields.{put-state, put-creation, put-behaviour, at-waiting, at-free}
-use Rattle.ledger.proofs.There.{transactorPart-pack, messagePart-pack, waiting-pack, unpack-pack}
+use Rattle.ledger.proofs.There.{map-part, same-dependences, flag-stands, transactorPart-pack, messagePart-pack, waiting-pack, unpack-pack}
 use Rattle.ledger.proofs.Fresh.{pack-unused, pack-bare}
 use Rattle.ledger.proofs.Zeros.{zero-rest}
 use Rattle.ledger.proofs.FormTransactor.{TransactorForm, unopened, vanished, living}
@@ -30,17 +30,9 @@ use Rattle.ledger.proofs.FormImage.{ImageForm, image-form}
 
 module _ (y : Layout) (opened : ℕ) where
   -- a map that stands at a place of b
-  module _ (at : ℕ) (m : DependenceMap) (b : List ℕ) (fits : at + mapBytes y ≤ length b) (stands : put at (packDependences y m) b ≡ b) where
-    map-part : part at (mapBytes y) b ≡ packDependences y m
-    map-part =
-        let n : length (packDependences y m) ≡ mapBytes y = length-packMap (y .width) (y .places) (y .transactors) m in
-        ap (part at (mapBytes y)) (sym stands)
-        ∙ ap (λ (k : ℕ). part at k (put at (packDependences y m) b)) (sym n)
-        ∙ part-put at (packDependences y m) b (omega arith)
-
-    map-formed : DependencesOk y m → Known opened m → mapFormed y opened at b ≡ true
-    unfolding mapFormed Known
-    map-formed o k = rw map-part (formed-packMap opened o k)
+  map-formed : (at : ℕ) (m : DependenceMap) (b : List ℕ) → at + mapBytes y ≤ length b → put at (packDependences y m) b ≡ b → DependencesOk y m → Known opened m → mapFormed y opened at b ≡ true
+  unfolding mapFormed Known
+  map-formed at m b h same o k = rw (map-part y at m b h same) (formed-packMap opened o k)
 
   -- zeros behind the status
   bare-rest : (st : ℕ) → allZero (drop 1 (packTransactor y (bare y st))) ≡ true
@@ -68,25 +60,15 @@ module _ (y : Layout) (opened : ℕ) where
         own = a .own;
         saved = a .saved;
         behaves = λ r.
-            rw (map-part (behaviourAt y) (x .behaviour) (packTransactor y x) (omega arith) (put-behaviour y x (x .behaviour)), a .behaves r, pack-emptyMap (y .width) (y .places) (y .transactors))
+            rw (map-part y (behaviourAt y) (x .behaviour) (packTransactor y x) (omega arith) (put-behaviour y x (x .behaviour)), a .behaves r, pack-emptyMap (y .width) (y .places) (y .transactors))
             (allZero-zeros (mapBytes y));
       })
 
   module _ (m : Message) where
-    message-head : m .addressee < 16 → getD (packMessage y m) 0 0 ≡ 128 + m .addressee
-    unfolding packMessage be
-    message-head h = omega arith
-
-    dependences-stand : put dependencesAt (packDependences y (m .dependences)) (packMessage y m) ≡ packMessage y m
-    unfolding packMessage
-    dependences-stand =
-        let d : List ℕ = packDependences y (m .dependences) in
-        put-last dependencesAt d (be 1 (128 + m .addressee) ++ be 2 (m .number) ++ be 4 (m .value)) d (simp (length-append, length-be)) refl
-
     message-packed : {next : ℕ} → MessageOk y m → Known opened (m .dependences) → m .number < next → m .addressee < opened → MessageForm y opened next (packMessage y m) m
     message-packed o k n a = record {
-      head = omega (arith, message-head (o .addressee), o .addressee);
-      dependences = map-formed dependencesAt (m .dependences) (packMessage y m) (omega (arith, length-packMessage y m)) dependences-stand (o .dependences) k;
+      head = omega (arith, flag-stands y m (o .addressee), o .addressee);
+      dependences = map-formed dependencesAt (m .dependences) (packMessage y m) (omega (arith, length-packMessage y m)) (same-dependences y m) (o .dependences) k;
       number = n;
       addressee = a;
     }

@@ -11,7 +11,8 @@ use Rattle.octets.proofs.Put.{length-part, octet, octets-part}
 use Rattle.octets.proofs.Numbers.{ofBe-bound, ofBe-zeros}
 use Rattle.maps.proofs.Packed.{mapOk-unpack, known-unpack, unpack-zeros}
 use Rattle.ledger.specs.Layout.{Layout, mapBytes, valueAt, savedAt, stateAt, creationAt, behaviourAt, dependencesAt, transactorBytes, messageBytes, imageBytes}
-use Rattle.ledger.specs.State.{unused, annihilated, bare, transactorAt, messageAt}
+use Rattle.ledger.specs.Status.{unused, annihilated}
+use Rattle.ledger.specs.State.{bare, transactorAt, messageAt}
 use Rattle.ledger.specs.Pack.{unpackDependences, unpackTransactor, unpackMessage, unpackTransactorAt, unpackMessageAt, transactorPart, messagePart, waitingIn, unpack}
 use Rattle.ledger.specs.Form.{mapFormed, wellFormed}
 use Rattle.ledger.specs.Well.{DependencesOk, TransactorOk, MessageOk, Known, Alive, TransactorFormed, not-opened, gone, alive, WellFormed}

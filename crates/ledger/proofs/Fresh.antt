@@ -10,7 +10,8 @@ use Rattle.octets.proofs.Zero.{zeros-append, chunks-zeros}
 use Rattle.octets.proofs.Chunks.{chunks-same}
 use Rattle.maps.proofs.Packed.{pack-emptyMap}
 use Rattle.ledger.specs.Layout.{Layout, transactorBytes, messageBytes, imageBytes}
-use Rattle.ledger.specs.State.{State, unused, bare, noTransactor, transactorAt, fresh}
+use Rattle.ledger.specs.Status.{unused}
+use Rattle.ledger.specs.State.{State, bare, noTransactor, transactorAt, fresh}
 use Rattle.ledger.specs.Pack.{packTransactor, packTransactorAt, packMessageAt, packHead, pack}
 use Rattle.ledger.proofs.Fields.{at-free, put-status}
 

@@ -7,8 +7,9 @@ use lib.Dec.{eqb, leb}
 use lib.ListN.{length}
 use borrow.Author.Tests.{le-leb, lt-leb, leb-false, eq-eqb, ne-eqb, eqb-false}
 use Rattle.octets.specs.Bytes.{pick}
-use Rattle.ledger.specs.Layout.{Limits}
-use Rattle.ledger.specs.State.{State, busy, annihilated, transactorAt}
+use Rattle.ledger.specs.Layout.{Limits, lastNumber}
+use Rattle.ledger.specs.Status.{busy, annihilated}
+use Rattle.ledger.specs.State.{State, transactorAt}
 use Rattle.ledger.specs.Parts.{actingRefusal, busyRefusal, crowdedRefusal}
 
 -- the first of two refusals that is one
@@ -80,24 +81,24 @@ module _ (m : Limits) (s : State) where
   crowded-full h = rw (le-leb (m .messages) (length (s .messages)) h)
 
   module _ (room : length (s .messages) < m .messages) where
-    pub crowded-numbered : s .next ≡ 65535 → crowdedRefusal m s ≡ 27
+    pub crowded-numbered : s .next ≡ lastNumber → crowdedRefusal m s ≡ 27
     unfolding crowdedRefusal
-    crowded-numbered e = rw (lt-leb (m .messages) (length (s .messages)) room, eq-eqb (s .next) 65535 e)
+    crowded-numbered e = rw (lt-leb (m .messages) (length (s .messages)) room, eq-eqb (s .next) lastNumber e)
 
-    pub crowded-free : (s .next ≡ 65535 → ⊥) → crowdedRefusal m s ≡ 0
+    pub crowded-free : (s .next ≡ lastNumber → ⊥) → crowdedRefusal m s ≡ 0
     unfolding crowdedRefusal
-    crowded-free n = rw (lt-leb (m .messages) (length (s .messages)) room, ne-eqb (s .next) 65535 n)
+    crowded-free n = rw (lt-leb (m .messages) (length (s .messages)) room, ne-eqb (s .next) lastNumber n)
 
   -- no refusal: a place and a number are free
   pub record Free : Type 0 where
     pub room : length (s .messages) < m .messages
-    pub number : s .next ≡ 65535 → ⊥
+    pub number : s .next ≡ lastNumber → ⊥
 
   pub free : crowdedRefusal m s ≡ 0 → Free
   unfolding crowdedRefusal
-  free = go (leb (m .messages) (length (s .messages))) refl (eqb (s .next) 65535) refl
+  free = go (leb (m .messages) (length (s .messages))) refl (eqb (s .next) lastNumber) refl
     where
-      go : (a : Bool) → leb (m .messages) (length (s .messages)) ≡ a → (b : Bool) → eqb (s .next) 65535 ≡ b → _≡_ {A = ℕ} (pick a 26 (pick b 27 0)) 0 → Free
+      go : (a : Bool) → leb (m .messages) (length (s .messages)) ≡ a → (b : Bool) → eqb (s .next) lastNumber ≡ b → _≡_ {A = ℕ} (pick a 26 (pick b 27 0)) 0 → Free
       go true p b q e = absurd (omega arith)
       go false p true q e = absurd (omega arith)
-      go false p false q e = record { room = leb-false (m .messages) (length (s .messages)) p; number = eqb-false (s .next) 65535 q }
+      go false p false q e = record { room = leb-false (m .messages) (length (s .messages)) p; number = eqb-false (s .next) lastNumber q }

@@ -14,11 +14,11 @@ use Rattle.octets.specs.Bytes.{pick}
 use Rattle.octets.specs.Numbers.{bound}
 use Rattle.octets.proofs.Chunks.{sides}
 use Rattle.maps.specs.declared.DependenceMap.{DependenceMap}
-use Rattle.ledger.specs.Layout.{base, standard}
+use Rattle.ledger.specs.Layout.{base, standard, lastNumber}
 use Rattle.ledger.specs.State.{Transactor, State, transactorAt, withTransactor, withMessage, withoutMessage, placeOf}
 use Rattle.ledger.specs.Step.{Step, Reply, done, notReady, root, letter, new, send, lose, sign}
 use Rattle.ledger.specs.Refusals.{groupBits, named, anyNamed, malformed}
-use Rattle.ledger.specs.Rules.{noDependences, carried, groupReady, checkpointGroup, seen, refusal, answer, opening, opened, applyRoot, applyLetter, applyNew, applySend, applyLose, applySign}
+use Rattle.ledger.specs.Rules.{noDependences, carried, groupReady, checkpointGroup, seen, refusal, answer, opened, applyRoot, applyLetter, applyNew, applySend, applyLose, applySign}
 use Rattle.ledger.specs.Pack.{packTransactor, unpackTransactor, waitingIn, pack, unpack}
 use Rattle.ledger.specs.Parts.{Good, Stepped, Asked, busyRefusal, crowdedRefusal, openBytes, adopts, blocksAt, Room}
 use Rattle.ledger.proofs.Fields.{withTransactor-many}
@@ -26,8 +26,8 @@ use Rattle.ledger.proofs.Loads.{unpack-many, unpack-waiting}
 use Rattle.ledger.proofs.Lent.{lent, back, unpack-lent, good-back, open-pack}
 use Rattle.ledger.proofs.Guards.{first, first-taken, first-left, free}
 use Rattle.ledger.proofs.Refused.{refusal-malformed, Refuses, refuses}
-use Rattle.ledger.proofs.Applied.{Applies, applies, stepped-refused, stepped-applied}
-use Rattle.ledger.proofs.KeepTests.{never}
+use Rattle.ledger.proofs.Applied.{applies, stepped-refused, stepped-applied}
+use Rattle.octets.proofs.Tests.{never}
 use Rattle.ledger.proofs.KeepAccepted.{accepted, named-room}
 
 -- a volume names none past its bits
@@ -38,7 +38,7 @@ unnamed g t h b =
     rw e
 
 -- a place and a number are free
-pub room : (img : List ℕ) → Good img → (n r : ℕ) → n ≡ waitingIn base img → r ≡ crowdedRefusal standard (unpack base img) → r ≡ 0 → (n < base .messages) × (unpack base img .next < 65535)
+pub room : (img : List ℕ) → Good img → (n r : ℕ) → n ≡ waitingIn base img → r ≡ crowdedRefusal standard (unpack base img) → r ≡ 0 → (n < base .messages) × (unpack base img .next < lastNumber)
 unfolding bound
 room img good n r w c z =
     let f = free standard (unpack base img) (sym c ∙ z) in

@@ -1,16 +1,17 @@
 -- What a step that is not refused may rely on.
 use Prim.Native.Nat.{ℕ, _≤_, _<_}
 use mathlib.Core.Bool.{Bool, true, false, not}
-use mathlib.Core.Path.{_≡_, refl}
+use mathlib.Core.Path.{_≡_}
 use native.Mathlib.Omega.{arith}
 use lib.Dec.{eqb, ltb, leb}
 use borrow.Author.Tests.{leb-false, ltb-false, lt-ltb, eqb-true, eqb-false, not-false}
 use Rattle.octets.specs.Bytes.{pick, _and_, _or_}
-use Rattle.ledger.specs.Layout.{Limits}
-use Rattle.ledger.specs.State.{ready, busy, annihilated}
+use Rattle.ledger.specs.Layout.{Limits, lastNumber}
+use Rattle.ledger.specs.Status.{ready, busy, annihilated}
 use Rattle.ledger.specs.Step.{Step, root, receive, new, send, fall, fail, lose, sign}
 use Rattle.ledger.specs.Refusals.{Seen, groupBits, named, anyNamed, acts, usesTransactor, sends, malformed, notWaiting, emptyGroup, unopened, isGone, wrongStatus, allOpened, allWaiting, allNumbered, allCheckpointed, atLast, lastRollsBack, refusalOf}
-use Rattle.ledger.proofs.KeepTests.{or-off, and-off, any-at}
+use Rattle.octets.proofs.Tests.{pick-zero, or-off, and-off}
+use Rattle.ledger.proofs.Any.{any-at}
 
 named-at : (g : ℕ) (f : ℕ → Bool) (t : ℕ) → anyNamed g f ≡ false → t < groupBits → named g t ≡ true → f t ≡ false
 unfolding anyNamed
@@ -31,24 +32,20 @@ pub record Accepted (m : Limits) (v : Seen) (p : Step) : Type 0 where
   pub checkpoints : allCheckpointed m v p ≡ false
   pub incarnations : lastRollsBack m v p ≡ false
 
-first-off : (c : Bool) (n r : ℕ) → 0 < n → pick c n r ≡ 0 → (c ≡ false) × (r ≡ 0)
-first-off true n r h e = absurd (omega arith)
-first-off false n r h e = (refl, e)
-
 pub accepted : (m : Limits) (v : Seen) (p : Step) → refusalOf m v p ≡ 0 → Accepted m v p
 unfolding refusalOf
 accepted m v p e0 =
-    let e1 = first-off (malformed p) 20 _ (omega arith) e0 in
-    let e2 = first-off (notWaiting v p) 24 _ (omega arith) (e1 .1) in
-    let e3 = first-off (emptyGroup p) 29 _ (omega arith) (e2 .1) in
-    let e4 = first-off (unopened v p) 21 _ (omega arith) (e3 .1) in
-    let e5 = first-off (isGone v p) 22 _ (omega arith) (e4 .1) in
-    let e6 = first-off (wrongStatus v p) 23 _ (omega arith) (e5 .1) in
-    let e7 = first-off (allOpened m v p) 25 _ (omega arith) (e6 .1) in
-    let e8 = first-off (allWaiting m v p) 26 _ (omega arith) (e7 .1) in
-    let e9 = first-off (allNumbered v p) 27 _ (omega arith) (e8 .1) in
-    let e10 = first-off (allCheckpointed m v p) 30 _ (omega arith) (e9 .1) in
-    let e11 = first-off (lastRollsBack m v p) 28 0 (omega arith) (e10 .1) in
+    let e1 = pick-zero (malformed p) 20 _ (omega arith) e0 in
+    let e2 = pick-zero (notWaiting v p) 24 _ (omega arith) (e1 .1) in
+    let e3 = pick-zero (emptyGroup p) 29 _ (omega arith) (e2 .1) in
+    let e4 = pick-zero (unopened v p) 21 _ (omega arith) (e3 .1) in
+    let e5 = pick-zero (isGone v p) 22 _ (omega arith) (e4 .1) in
+    let e6 = pick-zero (wrongStatus v p) 23 _ (omega arith) (e5 .1) in
+    let e7 = pick-zero (allOpened m v p) 25 _ (omega arith) (e6 .1) in
+    let e8 = pick-zero (allWaiting m v p) 26 _ (omega arith) (e7 .1) in
+    let e9 = pick-zero (allNumbered v p) 27 _ (omega arith) (e8 .1) in
+    let e10 = pick-zero (allCheckpointed m v p) 30 _ (omega arith) (e9 .1) in
+    let e11 = pick-zero (lastRollsBack m v p) 28 0 (omega arith) (e10 .1) in
     record {
       formed = e1 .0;
       waiting = e2 .0;
@@ -91,9 +88,9 @@ module _ {m : Limits} {v : Seen} {p : Step} (a : Accepted m v p) where
     unfolding allWaiting
     one-place = leb-false (m .messages) (v .waiting) (and-off (sends (p .kind)) (leb (m .messages) (v .waiting)) (a .room) k)
 
-    pub one-number : v .next ≡ 65535 → ⊥
+    pub one-number : v .next ≡ lastNumber → ⊥
     unfolding allNumbered
-    one-number = eqb-false (v .next) 65535 (and-off (sends (p .kind)) (eqb (v .next) 65535) (a .numbers) k)
+    one-number = eqb-false (v .next) lastNumber (and-off (sends (p .kind)) (eqb (v .next) lastNumber) (a .numbers) k)
 
   -- 21: the acting take or a letter's addressee, and that of a send
   pub transactor-opened : usesTransactor (p .kind) ≡ true → p .transactor < v .opened

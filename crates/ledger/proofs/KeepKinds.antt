@@ -11,13 +11,14 @@ use Rattle.octets.specs.Bytes.{_or_}
 use Rattle.octets.specs.Numbers.{bound}
 use Rattle.octets.proofs.Numbers.{bound-pos}
 use Rattle.octets.proofs.Zero.{both}
-use Rattle.ledger.specs.Layout.{Layout, Limits, Allowed, Fitting}
-use Rattle.ledger.specs.State.{Transactor, State, ready, busy, annihilated, transactorAt, messageAt, ownHistory, withTransactor, withOpened, placeOf}
+use Rattle.ledger.specs.Layout.{Layout, Limits, Allowed, Fitting, lastNumber}
+use Rattle.ledger.specs.Status.{ready, busy, annihilated}
+use Rattle.ledger.specs.State.{Transactor, State, transactorAt, messageAt, ownHistory, withTransactor, withOpened, placeOf}
 use Rattle.ledger.specs.Step.{Step, Reply, done, notReady, root, letter, receive, new, send, read, finish, fall, fail, lose, sign}
 use Rattle.ledger.specs.Refusals.{groupBits, named, acts, sends}
 use Rattle.ledger.specs.Rules.{Effect, Result, noDependences, carried, receiveBy, localBy, groupReady, checkpointAt, receiptRollsBack, seen, answer, opening, opened, applyRoot, applyLetter, applyReceive, applyNew, applySend, applyLocal, applyLose, applySign, apply}
 use Rattle.ledger.specs.Well.{TransactorOk, StepOk, Alive, WellFormed}
-use Rattle.ledger.proofs.KeepTests.{pick-view}
+use Rattle.octets.proofs.Tests.{pick-view}
 use Rattle.ledger.proofs.KeepMaps.{ok-none, known-none, ok-carried, known-carried, known-more}
 use Rattle.ledger.proofs.KeepState.{alive-more, well-withTransactor, well-opened, well-withMessage, well-withoutMessage, well-checkpointGroup}
 use Rattle.ledger.proofs.KeepTransactor.{TransactorWell, EffectOk, formed-alive, opening-ok, checkpoint-ok, local-ok, receive-ok, grown-ok}
@@ -93,7 +94,7 @@ module _ {y : Layout} {m : Limits} {s : State} {p : Step} (z : Fitting y) (l : A
   unfolding seen bound
   number-fits k =
       let h : s .next < bound 2 = w .packable .next in
-      let n : s .next ≡ 65535 → ⊥ = one-number a k in
+      let n : s .next ≡ lastNumber → ⊥ = one-number a k in
       omega arith
 
   place-fits : sends (p .kind) ≡ true → length (s .messages) < y .messages

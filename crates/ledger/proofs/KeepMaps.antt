@@ -21,7 +21,7 @@ use Rattle.ledger.specs.Layout.{Layout, Fitting}
 use Rattle.ledger.specs.State.{Transactor, ownHistory}
 use Rattle.ledger.specs.Rules.{noDependences, only, join, carried}
 use Rattle.ledger.specs.Well.{DependencesOk, TransactorOk, Known}
-use Rattle.ledger.proofs.KeepTests.{never}
+use Rattle.octets.proofs.Tests.{never}
 
 -- a mark that the layout can hold
 pub record HistoryOk (y : Layout) (h : History) : Type 0 where

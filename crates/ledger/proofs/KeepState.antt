@@ -13,7 +13,8 @@ use Rattle.octets.proofs.Chunks.{sides, length-tabulate, getD-tabulate}
 use Rattle.octets.proofs.Numbers.{bound-pos}
 use Rattle.maps.specs.declared.DependenceMap.{DependenceMap}
 use Rattle.ledger.specs.Layout.{Layout, Fitting}
-use Rattle.ledger.specs.State.{Transactor, Message, State, unused, bare, noTransactor, noMessage, transactorAt, messageAt, fresh, withTransactor, withOpened, withMessage, withoutMessage}
+use Rattle.ledger.specs.Status.{unused}
+use Rattle.ledger.specs.State.{Transactor, Message, State, bare, noTransactor, noMessage, transactorAt, messageAt, fresh, withTransactor, withOpened, withMessage, withoutMessage}
 use Rattle.ledger.specs.Rules.{opened, checkpointAt, checkpointGroup}
 use Rattle.ledger.specs.Well.{DependencesOk, TransactorOk, MessageOk, Known, Alive, TransactorFormed, WellFormed}
 use Rattle.ledger.proofs.KeepMaps.{ok-none, known-more}

@@ -15,7 +15,7 @@ use Rattle.ledger.specs.Rules.{seen, refusal, answer, apply, stepOf}
 use Rattle.ledger.specs.Well.{StepOk, WellFormed}
 use Rattle.ledger.specs.Calls.{stateAfter}
 use Rattle.ledger.proofs.KeepRun.{stepOk-at}
-use Rattle.ledger.proofs.KeepTests.{pick-view}
+use Rattle.octets.proofs.Tests.{pick-view}
 use Rattle.ledger.proofs.KeepKinds.{ReplyOk, ResultOk, reply-ok, keeps-apply}
 use Rattle.ledger.proofs.KeepAccepted.{refusal-small, accepted}
 

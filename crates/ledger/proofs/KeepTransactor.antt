@@ -12,11 +12,12 @@ use Rattle.marks.specs.declared.History.{History}
 use Rattle.marks.specs.History.{initialHistory, stabilized, rolledBack, checkpointed}
 use Rattle.maps.specs.declared.DependenceMap.{DependenceMap}
 use Rattle.ledger.specs.Layout.{Layout, Fitting}
-use Rattle.ledger.specs.State.{Transactor, Message, ready, busy, annihilated, ownHistory, withBehaviour}
-use Rattle.ledger.specs.Step.{held, dropped, read, write, freeze, finish, fall}
-use Rattle.ledger.specs.Rules.{Effect, noDependences, only, join, unchanged, rollback, readBy, writeBy, freezeBy, madeReady, finishBy, fallBy, failBy, localBy, messageSuperseded, receiverSuperseded, receiveBy, checkpointBy, opening}
+use Rattle.ledger.specs.Status.{ready, busy, annihilated}
+use Rattle.ledger.specs.State.{Transactor, Message, ownHistory, withBehaviour}
+use Rattle.ledger.specs.Step.{done, held, dropped, read, write, freeze, finish, fall}
+use Rattle.ledger.specs.Rules.{Effect, noDependences, only, join, unchanged, rollback, readBy, writeBy, freezeBy, madeReady, finishBy, fallBy, failBy, localBy, messageSuperseded, receiverSuperseded, receiveBy, checkpointBy, opening, taken}
 use Rattle.ledger.specs.Well.{DependencesOk, TransactorOk, MessageOk, Known, Live, Alive, TransactorFormed}
-use Rattle.ledger.proofs.KeepTests.{pick-view, never}
+use Rattle.octets.proofs.Tests.{pick-view, never}
 use Rattle.ledger.proofs.KeepMaps.{HistoryOk, mark-initial, mark-stabilized, mark-rolledBack, mark-checkpointed, ok-none, ok-only, ok-join, ok-entry, known-none, known-only, known-join, known-entry, own-only, only-is, own-entry, entry-is, own-join, join-count, own-mark}
 use Rattle.ledger.proofs.KeepState.{ok-bare}
 
@@ -208,8 +209,9 @@ module _ {y : Layout} {o t : ℕ} {x : Transactor} (below : t < y .transactors) 
       → EffectOk y o t (receiveBy y t x m)
   unfolding receiveBy
   receive-ok m h j room =
+      let in-hand : Effect = record { outcome = done; value = m .value; transactor = taken x m } in
       pick-view (EffectOk y o t) (messageSuperseded y x m) _ _ (λ e. unchanged-ok dropped (omega arith)) λ e.
-      pick-view (EffectOk y o t) (receiverSuperseded y x m) _ _ (λ f. rollback-ok (room (rw (e, f)))) λ f.
+      pick-view (EffectOk y o t) (receiverSuperseded y x m) (rollback y t x) in-hand (λ f. rollback-ok (room (rw (e, f)))) λ f.
       record { outcome = omega arith; value = h .value; transactor = behaving-ok (m .dependences) (h .dependences) j }
 
   -- ---- new: the mark of take n joins the behaviour map

@@ -1,13 +1,11 @@
 -- A part of an image lent out and come back, the bytes of one take, and a take opened.
 use Prim.Native.Nat.{ℕ, _+_, _-_, _<_, _≤_}
-use mathlib.Core.Path.{_≡_, refl, sym, ap, _∙_}
+use mathlib.Core.Path.{_≡_, sym, ap, _∙_}
 use mathlib.Core.List.{List, _++_, append-assoc}
-use native.Mathlib.Nat.{add-assoc}
 use native.Mathlib.Omega.{arith}
 use lib.ListN.{length, take, drop, set}
 use lib.Seq.{drop-drop}
 use Rattle.octets.specs.Bytes.{put, part}
-use Rattle.octets.specs.Numbers.{be}
 use Rattle.octets.proofs.Put.{put-def, part-def, length-put}
 use Rattle.octets.proofs.Numbers.{put-be-one}
 use Rattle.octets.proofs.Chunks.{step}
@@ -15,13 +13,13 @@ use Rattle.maps.specs.declared.DependenceMap.{DependenceMap}
 use Rattle.maps.specs.Packed.{Bounded}
 use Rattle.maps.proofs.Packed.{bounded-at, bounded-unpack, bounded-singleton, bounded-join}
 use Rattle.ledger.specs.Layout.{Layout, base, mapBytes, stateAt, creationAt, behaviourAt, transactorBytes, transactorAddress, imageBytes}
-use Rattle.ledger.specs.State.{Transactor, State, ownHistory, transactorAt, withTransactor, withOpened}
+use Rattle.ledger.specs.State.{Transactor, State, ownHistory, transactorAt, withTransactor}
 use Rattle.ledger.specs.Rules.{Effect, join, only, carried, opening, opened}
 use Rattle.ledger.specs.Pack.{unpackDependences, packTransactor, packTransactorAt, unpackTransactor, transactorPart, unpackTransactorAt, pack, unpack}
 use Rattle.ledger.specs.Parts.{Good, GoodPart, Acts, openBytes}
 use Rattle.ledger.proofs.Sizes.{length-packTransactor, length-pack}
 use Rattle.ledger.proofs.Fields.{pack-withTransactor, pack-withOpened, withTransactor-same}
-use Rattle.ledger.proofs.Loads.{length-transactorPart, unpack-many, read-transactor}
+use Rattle.ledger.proofs.Loads.{unpack-many, read-transactor}
 use Rattle.ledger.proofs.There.{transactorPart-pack}
 
 -- ---- a part from at up to at + w

@@ -1,4 +1,4 @@
-pub mod Bools
+pub mod Any
 pub mod Zeros
 pub mod FormTransactor
 pub mod FormMessage
@@ -18,7 +18,6 @@ pub mod Fresh
 pub mod Beginning
 pub mod Readiness
 pub mod Signing
-pub mod KeepTests
 pub mod KeepMaps
 pub mod KeepState
 pub mod KeepTransactor
@@ -35,6 +34,7 @@ pub mod Images
 pub mod Takes
 pub mod Receipt
 pub mod Running
+pub mod Stored
 pub mod Offering
 pub mod Showing
 pub mod Acts

@@ -10,12 +10,13 @@ use lib.ListN.{length, getD}
 use Rattle.octets.specs.Bytes.{part}
 use Rattle.octets.specs.Numbers.{ofBe}
 use Rattle.ledger.specs.Layout.{Layout, transactorAddress, messageAddress, imageBytes}
-use Rattle.ledger.specs.State.{annihilated, transactorAt, messageAt, placeFrom}
+use Rattle.ledger.specs.Status.{annihilated}
+use Rattle.ledger.specs.State.{transactorAt, messageAt, placeFrom}
 use Rattle.ledger.specs.Pack.{waitingIn, unpack}
 use Rattle.ledger.specs.Form.{wellFormed}
 use Rattle.ledger.specs.Parts.{addressedTo}
 use Rattle.ledger.specs.Calls.{offerRefusal, WaitsFor, Offers, refused, nothing, waiting}
-use Rattle.ledger.proofs.KeepTests.{never}
+use Rattle.octets.proofs.Tests.{never}
 use Rattle.ledger.proofs.Places.{Place, place}
 use Rattle.ledger.proofs.Loads.{read-opened, read-status, read-number, unpack-waiting}
 use Rattle.ledger.proofs.Clauses.{clauses-of}

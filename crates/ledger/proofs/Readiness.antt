@@ -1,31 +1,31 @@
 -- What blocks the signing of a group, and when the group is ready, as the code tests the image.
-use Prim.Native.Nat.{ℕ, zero, suc, _+_, _*_, _/_, _%_, _≤_, _<_}
+use Prim.Native.Nat.{ℕ, zero, suc, _+_, _*_, _/_, _≤_, _<_}
 use mathlib.Core.Bool.{Bool, true, false, not}
-use mathlib.Core.Path.{_≡_, refl, sym, ap, _∙_, subst}
+use mathlib.Core.Path.{_≡_, refl, sym, ap, _∙_}
 use mathlib.Core.List.{List}
-use mathlib.Core.Logic.{⊎-elim}
-use native.Mathlib.Numerals.{add-one}
 use native.Mathlib.Omega.{arith}
 use borrow.Author.Tests.{eq-eqb, ne-eqb}
 use lib.Dec.{eqb, leb}
 use lib.ListN.{getD}
-use Rattle.octets.specs.Bytes.{pick, _and_, _or_, part, every}
-use Rattle.octets.proofs.Chunks.{cases}
+use Rattle.octets.specs.Bytes.{_and_, _or_, part, every}
 use Rattle.octets.proofs.Zero.{every-same, every-off}
 use Rattle.marks.specs.declared.History.{History}
 use Rattle.marks.specs.Incarnation.{checkpointedIn, sameIncarnation}
 use Rattle.marks.specs.History.{incarnationOf}
 use Rattle.marks.specs.Packed.{unpackHistory, presentIn}
+use Rattle.marks.proofs.Packed.{unpack-count}
 use Rattle.maps.specs.declared.DependenceMap.{DependenceMap}
 use Rattle.maps.specs.Map.{heldAt, historyAt}
 use Rattle.maps.proofs.Packed.{bounded-at, mapOk-bounded}
 use Rattle.ledger.specs.Layout.{Layout, Limits, base, historyBytes, stateAt, creationAt, transactorAddress}
-use Rattle.ledger.specs.State.{State, ready, busy, annihilated, live, transactorAt, ownHistory}
+use Rattle.ledger.specs.Status.{ready, busy, annihilated}
+use Rattle.ledger.specs.State.{State, live, transactorAt, ownHistory}
 use Rattle.ledger.specs.Refusals.{any, named, anyNamed, groupBits}
 use Rattle.ledger.specs.Rules.{entryReady, mapReady, transactorReady, groupReady}
 use Rattle.ledger.specs.Pack.{unpackDependences, unpack}
 use Rattle.ledger.specs.Parts.{Good, blocksAt, storedReady, pairReady}
 use Rattle.ledger.proofs.Loads.{held-at, history-at, read-opened, read-status, read-state, read-creation}
+use Rattle.ledger.proofs.Any.{any-on}
 
 -- ---- the status byte of take t
 
@@ -57,23 +57,6 @@ module _ (y : Layout) (m : Limits) (img : List ℕ) (number t : ℕ) where
 
 -- ---- a test of the named takes, one after the other
 
-pub any-none : (f : ℕ → Bool) → any 0 f ≡ false
-unfolding any
-any-none f = refl
-
-pub any-more : (f : ℕ → Bool) (i : ℕ) → any i f ≡ false → f i ≡ false → any (i + 1) f ≡ false
-unfolding any
-any-more f i e p = rw (add-one, e, p)
-
-pub any-on : (f : ℕ → Bool) (n i : ℕ) → i < n → f i ≡ true → any n f ≡ true
-unfolding any
-any-on f zero i h e = absurd (omega arith)
-any-on f (suc n) i h e = ⊎-elim (λ p. rw (any-on f n i p e)) (λ p. last (subst (λ (x : ℕ). f x ≡ true) p e) (any n f)) (cases n i h)
-  where
-    last : f n ≡ true → (t : Bool) → pick t true (f n) ≡ true
-    last q true = refl
-    last q false = q
-
 -- take t is named, and f holds of it
 unfoldable pub namedAnd : ℕ → (ℕ → Bool) → ℕ → Bool
 namedAnd g f t = named g t and f t
@@ -97,10 +80,8 @@ module _ (g : ℕ) (f : ℕ → Bool) (t : ℕ) where
 
 -- ---- one mark
 
--- the count has four bits
 pub stored-count : (at : ℕ) (img : List ℕ) (h : History) → h ≡ unpackHistory (base .width) (base .places) (part at (historyBytes base) img) → h .count ≤ base .places
-unfolding unpackHistory
-stored-count at img h e = let a : h .count ≡ getD (part at (historyBytes base) img) 0 0 % 16 = ap (λ (h : History). h .count) e in omega arith
+stored-count at img h e = rw e (omega (arith, unpack-count (base .width) (base .places) (part at (historyBytes base) img)))
 
 pub own-count : (img : List ℕ) → Good img → (t : ℕ) → t < base .transactors → (h : History) → h ≡ ownHistory t (transactorAt (unpack base img) t) → h .count ≤ base .places
 own-count img good t below h e = rw e (bounded-at (base .places) (transactorAt (unpack base img) t .state) (mapOk-bounded (good .well .packable .transactors t below .state)) t)

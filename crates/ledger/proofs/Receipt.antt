@@ -1,7 +1,7 @@
 -- A receipt on an image.
 use Prim.Native.Nat.{ℕ, _≤_, _<_}
-use mathlib.Core.Bool.{Bool, true, false, not}
-use mathlib.Core.Path.{_≡_, refl, sym, ap, _∙_, subst}
+use mathlib.Core.Bool.{Bool, not}
+use mathlib.Core.Path.{_≡_, sym, ap, _∙_}
 use mathlib.Core.List.{List}
 use native.Mathlib.Omega.{arith}
 use lib.Dec.{eqb, leb}
@@ -10,17 +10,17 @@ use borrow.Author.Tests.{le-leb, lt-leb, eq-eqb, ne-eqb}
 use Rattle.octets.specs.Bytes.{pick, _and_}
 use Rattle.maps.specs.declared.DependenceMap.{DependenceMap}
 use Rattle.ledger.specs.Layout.{base, standard}
-use Rattle.ledger.specs.State.{Transactor, Message, State, ready, annihilated, transactorAt, messageAt, withTransactor, withoutMessage, placeOf}
-use Rattle.ledger.specs.Step.{Step, Reply, done, receive, read, fail}
-use Rattle.ledger.specs.Refusals.{malformed}
-use Rattle.ledger.specs.Rules.{Effect, localBy, receiveBy, messageSuperseded, receiverSuperseded, receiptRollsBack, seen, refusal, answer, applyReceive, apply}
+use Rattle.ledger.specs.Status.{ready, annihilated}
+use Rattle.ledger.specs.State.{Transactor, Message, State, transactorAt, messageAt, withTransactor, withoutMessage, placeOf}
+use Rattle.ledger.specs.Step.{Step, Reply, done, receive}
+use Rattle.ledger.specs.Rules.{Effect, receiveBy, messageSuperseded, receiverSuperseded, receiptRollsBack, seen, refusal, answer, applyReceive, apply}
 use Rattle.ledger.specs.Pack.{unpackTransactor, waitingIn, pack, unpack}
 use Rattle.ledger.specs.Well.{WellFormed}
-use Rattle.ledger.specs.Parts.{Good, Acts, Stepped, Asked, isLastIncarnation, actBy, acceptBy}
+use Rattle.ledger.specs.Parts.{Good, Acts, Stepped, Asked, isLastIncarnation, acceptBy}
 use Rattle.ledger.proofs.Lent.{lent, back, unpack-lent, lent-after, lent-same}
-use Rattle.ledger.proofs.Refused.{localRefusal, receiver, Refuses, refuses}
-use Rattle.ledger.proofs.Effects.{Judged, judged-refused, judged-applied, judged-other, answering, act-judged, receipt-judged}
-use Rattle.ledger.proofs.Applied.{Applies, applies, stepped-refused, stepped-applied}
+use Rattle.ledger.proofs.Refused.{refuses}
+use Rattle.ledger.proofs.Effects.{Judged, judged-refused, judged-applied, judged-other, answering, receipt-judged}
+use Rattle.ledger.proofs.Applied.{applies, stepped-refused, stepped-applied}
 use Rattle.ledger.proofs.Sizes.{length-pack}
 use Rattle.ledger.proofs.Loads.{unpack-waiting}
 use Rattle.ledger.proofs.There.{waiting-pack, unpack-pack}

@@ -8,12 +8,13 @@ use lib.ListN.{length}
 use borrow.Author.Tests.{le-leb, ltb-false, ne-eqb}
 use Rattle.octets.specs.Bytes.{pick, _and_, _or_}
 use Rattle.ledger.specs.Layout.{Layout, Limits}
-use Rattle.ledger.specs.State.{Transactor, State, ready, busy, annihilated, ownHistory, transactorAt, messageAt, placeOf}
+use Rattle.ledger.specs.Status.{ready, busy, annihilated}
+use Rattle.ledger.specs.State.{Transactor, State, ownHistory, transactorAt, messageAt, placeOf}
 use Rattle.ledger.specs.Step.{Step, root, letter, receive, new, send, read, fall, fail, lose, sign}
 use Rattle.ledger.specs.Refusals.{anyNamed, malformed, notWaiting, emptyGroup, unopened, isGone, wrongStatus, allOpened, allWaiting, allNumbered, allCheckpointed, atLast, lastRollsBack, refusalOf}
 use Rattle.ledger.specs.Rules.{receiptRollsBack, seen, refusal}
 use Rattle.ledger.specs.Parts.{isLastIncarnation, busyRefusal, crowdedRefusal, blocksAt}
-use Rattle.ledger.proofs.KeepTests.{or-off}
+use Rattle.octets.proofs.Tests.{or-none, or-off}
 use Rattle.ledger.proofs.Guards.{first, working-first}
 
 pub refusal-malformed : (y : Layout) (m : Limits) (s : State) (p : Step) → malformed p ≡ true → refusal y m s p ≡ 20
@@ -23,11 +24,6 @@ refusal-malformed y m s p e = rw e
 pub kind-formed : (p : Step) → malformed p ≡ false → p .kind ≤ sign
 unfolding malformed
 kind-formed p e = ltb-false sign (p .kind) (or-off (ltb sign (p .kind)) _ e .0)
-
--- no more to choose from
-or-none : (c : Bool) → c or false ≡ c
-or-none true = refl
-or-none false = refl
 
 -- one number for two conditions
 either : (a b : Bool) (n r : ℕ) → pick (a or b) n r ≡ pick b n (pick a n r)

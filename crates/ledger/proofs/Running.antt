@@ -11,9 +11,9 @@ use lib.Dec.{eqb}
 use lib.ListN.{length, getD, set, length-append, length-set}
 use Rattle.octets.specs.Bytes.{put, part, chunks, Octets}
 use Rattle.octets.specs.Numbers.{be, ofBe}
-use Rattle.octets.proofs.Put.{part-part, getD-part, put-whole, octets-part, length-part}
+use Rattle.octets.proofs.Put.{part-part, getD-part, put-behind, put-whole, octets-part, length-part}
 use Rattle.octets.proofs.Numbers.{length-be, put-be-one}
-use Rattle.octets.proofs.Chunks.{step, length-chunks, put-more}
+use Rattle.octets.proofs.Chunks.{length-chunks, put-more}
 use Rattle.ledger.specs.Layout.{Layout, Limits, base, standard, imageBytes}
 use Rattle.ledger.specs.State.{State}
 use Rattle.ledger.specs.Step.{Step, Reply, stepBytes, unpackStep, stepAt, packReply}
@@ -29,7 +29,7 @@ use Rattle.ledger.proofs.Back.{pack-unpack-formed}
 use Rattle.ledger.proofs.FormedState.{formed-state}
 use Rattle.ledger.proofs.KeepRun.{stepOk-unpack}
 use Rattle.ledger.proofs.KeepStep.{keeps-after, sound-base, allowed-standard}
-use Rattle.ledger.proofs.Beginning.{wrong-length, right-length, put-behind}
+use Rattle.ledger.proofs.Beginning.{wrong-length, right-length}
 
 -- the fields of the step from place at on
 pub step-fields : (l : List ℕ) (at k v : ℕ) → k ≡ ofBe 2 (part (at + 2) 2 l) → v ≡ ofBe 4 (part (at + 4) 4 l)

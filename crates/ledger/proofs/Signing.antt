@@ -2,13 +2,11 @@
 use Prim.Native.Nat.{ℕ, _+_, _-_, _<_}
 use mathlib.Core.Bool.{Bool, true, false}
 use mathlib.Core.Path.{_≡_, sym, ap, _∙_}
-use mathlib.Core.List.{List, append-assoc}
+use mathlib.Core.List.{List}
 use native.Mathlib.Omega.{arith}
 use borrow.Rule.Slice.PartMut.{midOf, putMid}
-use lib.ListN.{length, take, drop}
-use lib.Seq.{drop-drop}
-use Rattle.octets.specs.Bytes.{put, part}
-use Rattle.octets.proofs.Put.{put-def, part-def}
+use lib.ListN.{length}
+use Rattle.octets.specs.Bytes.{put}
 use Rattle.ledger.specs.Layout.{base, standard, transactorBytes, transactorAddress}
 use Rattle.ledger.specs.State.{Transactor, State, transactorAt, ownHistory}
 use Rattle.ledger.specs.Refusals.{named}
@@ -20,20 +18,7 @@ use Rattle.ledger.proofs.Sizes.{length-packTransactor, length-pack}
 use Rattle.ledger.proofs.Fields.{upTo, upTo-none, upTo-after, upTo-kept, upTo-all, pack-upTo}
 use Rattle.ledger.proofs.Loads.{unpack-many}
 use Rattle.ledger.proofs.There.{unpack-packTransactor, transactorPart-pack}
-
--- ---- a part lent out, and what comes back in its place
-
-module _ (at w : ℕ) (l : List ℕ) where
-  width : at + w - at ≡ w
-  width = omega arith
-
-  part-lent : midOf at (at + w - at) l ≡ part at w l
-  part-lent = rw (width, part-def)
-
-  part-back : (bs : List ℕ) → length bs ≡ w → putMid at (at + w - at) l bs ≡ put at bs l
-  part-back bs e = rw (width, put-def, e, drop-drop) (sym (append-assoc (take at l) bs (drop (at + w) l)))
-
--- ---- take by take
+use Rattle.ledger.proofs.Lent.{part-lent, part-back}
 
 -- the image before the turn of take t
 unfoldable pub signedTo : List ℕ → ℕ → ℕ → List ℕ

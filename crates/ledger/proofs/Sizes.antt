@@ -13,13 +13,13 @@ use Rattle.octets.proofs.Zero.{length-zeros, octets-zeros}
 use Rattle.octets.proofs.Chunks.{length-chunks, octets-chunks}
 use Rattle.maps.specs.declared.DependenceMap.{DependenceMap}
 use Rattle.maps.proofs.Packed.{length-packMap, octets-packMap}
-use Rattle.ledger.specs.Layout.{Layout, base, mapBytes, transactorBytes, messageBytes, headBytes, imageBytes}
+use Rattle.ledger.specs.Layout.{Layout, base, historyBytes, mapBytes, transactorBytes, messageBytes, headBytes, imageBytes}
 use Rattle.ledger.specs.State.{Transactor, Message, State, transactorAt, messageAt}
 use Rattle.ledger.specs.Pack.{packDependences, packTransactor, packMessage, packTransactorAt, packMessageAt, packHead, pack}
 
 -- what document 01 says
-sizes-base : (mapBytes base ≡ 272) × (transactorBytes base ≡ 825) × (messageBytes base ≡ 279) × (imageBytes base ≡ 22132)
-sizes-base = (refl, refl, refl, refl)
+pub sizes-base : (historyBytes base ≡ 17) × (mapBytes base ≡ 272) × (transactorBytes base ≡ 825) × (messageBytes base ≡ 279) × (imageBytes base ≡ 22132)
+sizes-base = (refl, refl, refl, refl, refl)
 
 pub length-packHead : (s : State) → length (packHead s) ≡ headBytes
 unfolding packHead

@@ -1,25 +1,22 @@
 -- Kinds 5 to 10 on an image: the bytes of one take change.
 use Prim.Native.Nat.{ℕ, _≤_, _<_}
-use mathlib.Core.Bool.{Bool, true, false, not}
-use mathlib.Core.Path.{_≡_, refl, sym, ap, _∙_, subst}
+use mathlib.Core.Bool.{false}
+use mathlib.Core.Path.{_≡_, sym, _∙_}
 use mathlib.Core.List.{List}
 use native.Mathlib.Omega.{arith}
-use lib.Dec.{eqb, leb}
-use lib.ListN.{length}
-use borrow.Author.Tests.{le-leb, lt-leb, eq-eqb, ne-eqb}
-use Rattle.octets.specs.Bytes.{pick, _and_}
-use Rattle.maps.specs.declared.DependenceMap.{DependenceMap}
+use borrow.Author.Tests.{le-leb, lt-leb}
+use Rattle.octets.specs.Bytes.{_and_}
 use Rattle.ledger.specs.Layout.{base, standard}
-use Rattle.ledger.specs.State.{Transactor, Message, State, ready, annihilated, transactorAt, messageAt, withTransactor, withoutMessage, placeOf}
-use Rattle.ledger.specs.Step.{Step, Reply, done, receive, read, fail}
+use Rattle.ledger.specs.State.{Transactor, State, transactorAt}
+use Rattle.ledger.specs.Step.{Step, Reply, read, fail}
 use Rattle.ledger.specs.Refusals.{malformed}
-use Rattle.ledger.specs.Rules.{Effect, localBy, receiveBy, messageSuperseded, receiverSuperseded, receiptRollsBack, refusal, answer, applyReceive, applyLocal}
-use Rattle.ledger.specs.Pack.{unpackTransactor, pack, unpack}
-use Rattle.ledger.specs.Parts.{Good, Acts, Stepped, Asked, isLastIncarnation, actBy, acceptBy}
+use Rattle.ledger.specs.Rules.{Effect, localBy, refusal, answer, applyLocal}
+use Rattle.ledger.specs.Pack.{unpackTransactor, unpack}
+use Rattle.ledger.specs.Parts.{Good, Acts, Stepped, actBy}
 use Rattle.ledger.proofs.Lent.{lent, back, unpack-lent, lent-after, lent-same}
-use Rattle.ledger.proofs.Refused.{localRefusal, receiver, Refuses, refuses}
-use Rattle.ledger.proofs.Effects.{Judged, judged-refused, judged-applied, answering, act-judged, receipt-judged}
-use Rattle.ledger.proofs.Applied.{Applies, applies, stepped-refused, stepped-applied}
+use Rattle.ledger.proofs.Refused.{localRefusal, refuses}
+use Rattle.ledger.proofs.Effects.{Judged, judged-refused, judged-applied, act-judged}
+use Rattle.ledger.proofs.Applied.{applies, stepped-refused, stepped-applied}
 
 module _ (img : List ℕ) (p : Step) (good : Good img) (formed : malformed p ≡ false) (low : read ≤ p .kind) (high : p .kind ≤ fail) where
   abbrev s : State

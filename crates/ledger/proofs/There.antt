@@ -38,10 +38,11 @@ number-stands at w v l b h same = ap (ofBe w) (stands at w (be w v) l (length-be
 byte-stands : (at z : ℕ) (l : List ℕ) → z < 256 → at < length l → put at (be 1 z) l ≡ l → getD l at 0 ≡ z
 byte-stands at z l b h same = ap (λ (x : List ℕ). getD x at 0) (sym same ∙ put-be-one at z l h b) ∙ getD-set-same l at z 0 h
 
+pub map-part : (y : Layout) (at : ℕ) (m : DependenceMap) (l : List ℕ) → at + mapBytes y ≤ length l → put at (packDependences y m) l ≡ l → part at (mapBytes y) l ≡ packDependences y m
+map-part y at m l h same = stands at (mapBytes y) (packDependences y m) l (length-packMap (y .width) (y .places) (y .transactors) m) h same
+
 map-stands : (y : Layout) (at : ℕ) (m : DependenceMap) (l : List ℕ) → DependencesOk y m → at + mapBytes y ≤ length l → put at (packDependences y m) l ≡ l → unpackDependences y at l ≡ m
-map-stands y at m l o h same =
-    ap (unpackMap (y .width) (y .places) (y .transactors)) (stands at (mapBytes y) (packDependences y m) l (length-packMap (y .width) (y .places) (y .transactors) m) h same)
-    ∙ unpack-packMap o
+map-stands y at m l o h same = ap (unpackMap (y .width) (y .places) (y .transactors)) (map-part y at m l h same) ∙ unpack-packMap o
 
 -- ---- one take, one parcel
 
@@ -79,11 +80,11 @@ module _ (y : Layout) where
     unfolding packMessage
     same-value = put-mid 3 (be 4 (m .value)) (flag ++ be 2 (m .number)) (be 4 (m .value)) (packDependences y (m .dependences)) (simp (length-append, length-be)) refl
 
-    same-dependences : put dependencesAt (packDependences y (m .dependences)) (packMessage y m) ≡ packMessage y m
+    pub same-dependences : put dependencesAt (packDependences y (m .dependences)) (packMessage y m) ≡ packMessage y m
     unfolding packMessage
     same-dependences = put-last dependencesAt (packDependences y (m .dependences)) (flag ++ be 2 (m .number) ++ be 4 (m .value)) (packDependences y (m .dependences)) (simp (length-append, length-be)) refl
 
-    flag-stands : m .addressee < 16 → getD (packMessage y m) 0 0 ≡ 128 + m .addressee
+    pub flag-stands : m .addressee < 16 → getD (packMessage y m) 0 0 ≡ 128 + m .addressee
     flag-stands h = byte-stands 0 (128 + m .addressee) (packMessage y m) (omega arith) (omega (arith, length-packMessage y m)) same-flag
 
     pub unpack-packMessage : MessageOk y m → unpackMessage y (packMessage y m) ≡ m

@@ -1,17 +1,18 @@
 -- Document 01, "Where each call is turned back": what each call answers and leaves, for every input.
-use Prim.Native.Nat.{ℕ, zero, suc, _+_, _-_, _*_, _/_, _%_, _<_, _≤_}
-use mathlib.Core.Bool.{Bool, true, false, not}
+use Prim.Native.Nat.{ℕ, zero, suc, _+_, _-_, _/_, _%_, _<_}
+use mathlib.Core.Bool.{Bool, not}
 use mathlib.Core.Path.{_≡_}
 use mathlib.Core.List.{List, []}
 use mathlib.Core.Option.{Option, none, some}
 use lib.ListN.{length}
 use lib.Dec.{eqb, ltb, leb}
-use Rattle.octets.specs.Bytes.{pick, _and_, _or_, part, chunks, zeros}
+use Rattle.octets.specs.Bytes.{pick, _or_, part, chunks, zeros}
 use Rattle.ledger.specs.declared.Offered.{Offered}
 use Rattle.ledger.specs.declared.Offered.the-variants.{Message, Nothing}
 use Rattle.ledger.specs.Layout.{Layout, Limits, imageBytes, messageAddress, dependencesAt, mapBytes}
-use Rattle.ledger.specs.State.{State, annihilated, transactorAt, messageAt, placeOf}
-use Rattle.ledger.specs.Step.{Reply, stepBytes, stepAt, packReply}
+use Rattle.ledger.specs.Status.{annihilated}
+use Rattle.ledger.specs.State.{State, transactorAt, messageAt, placeOf}
+use Rattle.ledger.specs.Step.{stepBytes, stepAt, packReply}
 use Rattle.ledger.specs.Rules.{stepOf}
 use Rattle.ledger.specs.Pack.{pack, unpack}
 use Rattle.ledger.specs.Form.{wellFormed}

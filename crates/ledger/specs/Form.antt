@@ -1,6 +1,6 @@
 -- Document 01, "Where each call is turned back": when an image is well-formed, clause by clause.
-use Prim.Native.Nat.{ℕ, _+_, _*_, _/_, _%_}
-use mathlib.Core.Bool.{Bool, true, false, not}
+use Prim.Native.Nat.{ℕ, _+_, _/_, _%_}
+use mathlib.Core.Bool.{Bool, not}
 use mathlib.Core.List.{List}
 use lib.ListN.{length, getD, drop}
 use lib.Dec.{eqb, ltb, leb}
@@ -8,7 +8,8 @@ use Rattle.octets.specs.Bytes.{pick, _and_, _or_, part, every, allZero}
 use Rattle.maps.specs.Map.{heldAt}
 use Rattle.maps.specs.Packed.{formedMap}
 use Rattle.ledger.specs.Layout.{Layout, mapBytes, stateAt, creationAt, behaviourAt, dependencesAt}
-use Rattle.ledger.specs.State.{State, unused, ready, annihilated, transactorAt, messageAt, ownHistory, live}
+use Rattle.ledger.specs.Status.{unused, ready, annihilated}
+use Rattle.ledger.specs.State.{State, transactorAt, messageAt, ownHistory, live}
 use Rattle.ledger.specs.Pack.{transactorPart, messagePart, vacantAt, unpack}
 
 -- the map at a place of b: its zero fields and unused places are zero, and it has no mark of an unopened take

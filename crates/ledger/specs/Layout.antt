@@ -26,6 +26,10 @@ pub record Limits : Type 0 where
   -- the largest life number (28)
   pub incarnation : ℕ
 
+-- The next parcel number stops here (27): the last that its 16 bits hold.
+abbrev pub lastNumber : ℕ
+lastNumber = 65535
+
 -- Document 01's layout: 22,132 bytes.
 abbrev pub base : Layout
 base = record { width = 1; places = 15; transactors = 16; messages = 32 }

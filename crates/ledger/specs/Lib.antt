@@ -1,4 +1,5 @@
 pub mod Layout
+pub mod Status
 pub mod State
 pub mod Step
 pub mod Refusals

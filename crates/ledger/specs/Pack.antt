@@ -1,9 +1,9 @@
 -- Document 01, "Packed forms": the image.
-use Prim.Native.Nat.{ℕ, zero, suc, _+_, _*_, _/_, _%_}
-use mathlib.Core.Bool.{Bool, true, false}
-use mathlib.Core.List.{List, [], _∷_, _++_}
+use Prim.Native.Nat.{ℕ, _+_, _*_, _/_, _%_}
+use mathlib.Core.Bool.{Bool}
+use mathlib.Core.List.{List, _++_}
 use lib.ListN.{length, getD}
-use lib.Dec.{ltb, leb}
+use lib.Dec.{ltb}
 use Rattle.octets.specs.Bytes.{pick, part, chunks, tabulate, zeros}
 use Rattle.octets.specs.Numbers.{be, ofBe}
 use Rattle.maps.specs.declared.DependenceMap.{DependenceMap}

@@ -12,8 +12,9 @@ use Rattle.marks.specs.History.{initialHistory}
 use Rattle.marks.specs.Packed.{presentIn, unpackHistory}
 use Rattle.maps.specs.declared.DependenceMap.{DependenceMap}
 use Rattle.maps.specs.Map.{firstSuperseded}
-use Rattle.ledger.specs.Layout.{Layout, Limits, base, standard, historyBytes, stateAt, creationAt, transactorBytes, transactorAddress, imageBytes}
-use Rattle.ledger.specs.State.{Transactor, State, busy, annihilated, ownHistory, transactorAt, messageAt, withBehaviour}
+use Rattle.ledger.specs.Layout.{Layout, Limits, lastNumber, base, standard, historyBytes, stateAt, creationAt, transactorBytes, transactorAddress, imageBytes}
+use Rattle.ledger.specs.Status.{busy, annihilated}
+use Rattle.ledger.specs.State.{Transactor, State, ownHistory, transactorAt, messageAt, withBehaviour}
 use Rattle.ledger.specs.Step.{Step, Reply, done, held, dropped, fall, fail}
 use Rattle.ledger.specs.Refusals.{named, malformed}
 use Rattle.ledger.specs.Rules.{Effect, isSome, join, only, known, unchanged, madeReady, rollback, localBy, entryReady, opening, stepOf}
@@ -90,7 +91,7 @@ busyRefusal s t =
 
 -- no place free for a message, 26, or no number, 27
 unfoldable pub crowdedRefusal : Limits → State → ℕ
-crowdedRefusal m s = pick (leb (m .messages) (length (s .messages))) 26 (pick (eqb (s .next) 65535) 27 0)
+crowdedRefusal m s = pick (leb (m .messages) (length (s .messages))) 26 (pick (eqb (s .next) lastNumber) 27 0)
 
 -- the message in place k is addressed to take t
 unfoldable pub addressedTo : State → ℕ → ℕ → Bool

@@ -1,11 +1,11 @@
 -- Document 01, "Where each call is turned back": the table's part for a step, as one function of what it looks at. The
 -- ledger and the book of demand 3 both refuse by it, each judged by what it holds itself.
 use Prim.Native.Nat.{ℕ, zero, suc, _/_, _%_, _^_}
-use mathlib.Core.Bool.{Bool, true, false, not}
+use mathlib.Core.Bool.{Bool, false, not}
 use lib.Dec.{eqb, ltb, leb}
 use Rattle.octets.specs.Bytes.{pick, _and_, _or_}
-use Rattle.ledger.specs.Layout.{Limits}
-use Rattle.ledger.specs.State.{ready, busy, annihilated}
+use Rattle.ledger.specs.Layout.{Limits, lastNumber}
+use Rattle.ledger.specs.Status.{ready, busy, annihilated}
 use Rattle.ledger.specs.Step.{Step, root, letter, receive, new, send, write, fall, fail, lose, sign}
 
 -- What the table looks at.
@@ -107,7 +107,7 @@ allWaiting m v p = sends (p .kind) and leb (m .messages) (v .waiting)
 
 -- 27: next parcel number is 65,535 (letter, send)
 unfoldable pub allNumbered : Seen → Step → Bool
-allNumbered v p = sends (p .kind) and eqb (v .next) 65535
+allNumbered v p = sends (p .kind) and eqb (v .next) lastNumber
 
 -- 30: a named take has all its signings
 unfoldable pub allCheckpointed : Limits → Seen → Step → Bool

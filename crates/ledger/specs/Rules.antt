@@ -11,9 +11,10 @@ use Rattle.marks.specs.History.{incarnationOf, initialHistory, stabilized, roll
 use Rattle.maps.specs.declared.DependenceMap.{DependenceMap}
 use Rattle.maps.specs.Map.{heldAt, historyAt, emptyMap, withEntry, singleton, joinOf, firstSuperseded}
 use Rattle.ledger.specs.Layout.{Layout, Limits}
-use Rattle.ledger.specs.State.{Transactor, Message, State, unused, ready, busy, annihilated, bare, transactorAt, messageAt, ownHistory, live, withStatus, withValue, withState, withBehaviour, withTransactor, withOpened, withMessage, withoutMessage, placeOf}
+use Rattle.ledger.specs.Status.{ready, busy, annihilated}
+use Rattle.ledger.specs.State.{Transactor, Message, State, bare, transactorAt, messageAt, ownHistory, live, withStatus, withValue, withState, withBehaviour, withTransactor, withOpened, withMessage, withoutMessage, placeOf}
 use Rattle.ledger.specs.Refusals.{Seen, named, refusalOf}
-use Rattle.ledger.specs.Step.{Step, Reply, done, held, dropped, fallenBack, vanished, notReady, root, letter, receive, new, send, read, write, freeze, finish, fall, fail, lose, sign}
+use Rattle.ledger.specs.Step.{Step, Reply, done, held, dropped, fallenBack, vanished, notReady, root, letter, receive, new, send, read, write, freeze, finish, fall, lose, sign}
 
 abbrev pub isSome : Option ℕ → Bool
 isSome none = false

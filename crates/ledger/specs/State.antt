@@ -1,6 +1,6 @@
 -- Document 01, "A take and its steps": what an image says.
 use Prim.Native.Nat.{ℕ, zero, suc, _+_}
-use mathlib.Core.Bool.{Bool, true, false}
+use mathlib.Core.Bool.{Bool}
 use mathlib.Core.List.{List, [], _∷_, _++_}
 use lib.ListN.{length, getD, set, take, drop, replicate}
 use lib.Dec.{eqb}
@@ -9,19 +9,20 @@ use Rattle.marks.specs.declared.History.{History}
 use Rattle.maps.specs.declared.DependenceMap.{DependenceMap}
 use Rattle.maps.specs.Map.{historyAt, emptyMap}
 use Rattle.ledger.specs.Layout.{Layout}
+use Rattle.ledger.specs.Status as status
 
--- Statuses: unused, idle, at work, vanished.
+-- The statuses also under the state's name, for other crates, which no `pub use` reaches.
 abbrev pub unused : ℕ
-unused = 0
+unused = status.unused
 
 abbrev pub ready : ℕ
-ready = 1
+ready = status.ready
 
 abbrev pub busy : ℕ
-busy = 2
+busy = status.busy
 
 abbrev pub annihilated : ℕ
-annihilated = 3
+annihilated = status.annihilated
 
 -- A take: status, text, saved text, and three maps.
 pub record Transactor : Type 0 where

@@ -73,6 +73,7 @@ write = 6
 abbrev pub freeze : ℕ
 freeze = 7
 
+-- "done": the step that ends a take's work, not the outcome
 abbrev pub finish : ℕ
 finish = 8
 

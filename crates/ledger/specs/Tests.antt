@@ -8,7 +8,7 @@ use Rattle.octets.specs.Bytes.{pick, _and_, _or_, part, every, allZero}
 use Rattle.octets.specs.Numbers.{ofBe}
 use Rattle.marks.specs.Packed.{unpackHistory, presentIn}
 use Rattle.ledger.specs.Layout.{Layout, historyBytes, mapBytes, savedAt, stateAt, creationAt, behaviourAt, dependencesAt, transactorBytes, messageBytes, transactorAddress, messageAddress}
-use Rattle.ledger.specs.State.{unused, ready, annihilated}
+use Rattle.ledger.specs.Status.{unused, ready, annihilated}
 use Rattle.ledger.specs.Pack.{waitingIn, unpack}
 use Rattle.ledger.specs.Form.{mapFormed}
 

@@ -1,6 +1,6 @@
 -- States that an image can hold, and states that document 01 calls well-formed, as facts for the laws.
 use Prim.Native.Nat.{ℕ, _+_, _≤_, _<_}
-use mathlib.Core.Bool.{Bool, true, false}
+use mathlib.Core.Bool.{true, false}
 use mathlib.Core.Path.{_≡_}
 use lib.ListN.{length}
 use Rattle.octets.specs.Numbers.{bound}
@@ -8,7 +8,8 @@ use Rattle.maps.specs.declared.DependenceMap.{DependenceMap}
 use Rattle.maps.specs.Map.{heldAt, emptyMap}
 use Rattle.maps.specs.Packed.{MapOk}
 use Rattle.ledger.specs.Layout.{Layout}
-use Rattle.ledger.specs.State.{Transactor, Message, State, unused, ready, busy, annihilated, bare, transactorAt, messageAt, ownHistory}
+use Rattle.ledger.specs.Status.{unused, ready, busy, annihilated}
+use Rattle.ledger.specs.State.{Transactor, Message, State, bare, transactorAt, messageAt, ownHistory}
 use Rattle.ledger.specs.Step.{Step}
 
 -- ---- every field fits its bits

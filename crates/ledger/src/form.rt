@@ -12,6 +12,7 @@ use crate::layout::STATE;
 use crate::layout::TRANSACTOR;
 use crate::layout::TRANSACTORS;
 use crate::messages;
+use crate::numbers;
 use maps::DependenceMap;
 use marks::History;
 ghost use mathlib.Core.Path.{_≡_};
@@ -55,7 +56,7 @@ fn live_formed(s: &[u8], t: usize, status: u8, opened: usize) -> bool
     if !own_formed(s, t) {
         return false;
     }
-    if status == 1 {
+    if status == numbers::READY {
         return octets::all_zero(s, at + BEHAVIOUR, maps::SIZE);
     }
     DependenceMap::formed(s, at + BEHAVIOUR, opened)
@@ -74,10 +75,10 @@ fn transactor_formed(s: &[u8], t: usize, opened: usize) -> bool
         return false;
     }
     let status = head / 64;
-    if status == 0 {
+    if status == numbers::UNUSED {
         return false;
     }
-    if status == 3 {
+    if status == numbers::ANNIHILATED {
         return octets::all_zero(s, at + 1, TRANSACTOR - 1);
     }
     live_formed(s, t, status, opened)

@@ -4,6 +4,7 @@ use crate::layout::HEAD;
 use crate::layout::STATE;
 use crate::layout::TRANSACTOR;
 use crate::layout::TRANSACTORS;
+use crate::numbers;
 use crate::transactor;
 use marks::History;
 ghost use mathlib.Core.Path.{_≡_};
@@ -43,11 +44,11 @@ fn blocks(image: &[u8], number: u8, t: usize) -> bool
     requires { ⌜ Good (now image) × (t < base .transactors) ⌝ }
     ensures { λ r. ⌜ r ≡ blocksAt standard (unpack base (now (image .entry))) number t ⌝ }
 {
-    if number == 21 {
+    if number == numbers::UNOPENED {
         return (image[0] as usize) <= t;
     }
-    if number == 22 {
-        return image[HEAD + TRANSACTOR * t] / 64 == transactor::ANNIHILATED;
+    if number == numbers::GONE {
+        return image[HEAD + TRANSACTOR * t] / 64 == numbers::ANNIHILATED;
     }
     let h = own(image, t);
     CHECKPOINTS <= h.count
@@ -74,7 +75,7 @@ fn is_live(image: &[u8], u: usize) -> bool
     ensures { λ r. ⌜ r ≡ live (transactorAt (unpack base (now (image .entry))) u) ⌝ }
 {
     let status = image[HEAD + TRANSACTOR * u] / 64;
-    status == transactor::READY || status == transactor::BUSY
+    status == numbers::READY || status == numbers::BUSY
 }
 
 // Whether h, of a transactor whose own history is own, is checkpointed, or of the present incarnation of a member.

@@ -32,3 +32,12 @@ pub const HEAD: usize = 4;
 pub const FIRST_MESSAGE: usize = HEAD + TRANSACTOR * TRANSACTORS;
 
 pub const IMAGE: usize = FIRST_MESSAGE + MESSAGE * MESSAGES;
+
+// A step of a list, and its reply.
+pub const STEP: usize = 8;
+
+// A run's longest part.
+pub const LONGEST: usize = 8192;
+
+// The next message number stops here.
+pub const LAST_NUMBER: u16 = 65535;

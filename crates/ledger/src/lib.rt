@@ -3,6 +3,7 @@ mod form;
 mod group;
 mod layout;
 mod messages;
+mod numbers;
 mod steps;
 mod transactor;
 
@@ -10,9 +11,11 @@ use layout::DEPENDENCES;
 use layout::FIRST_MESSAGE;
 use layout::HEAD;
 use layout::IMAGE;
+use layout::LONGEST;
 use layout::MESSAGE;
 use layout::MESSAGES;
 use layout::NUMBER;
+use layout::STEP;
 use layout::TRANSACTOR;
 use layout::TRANSACTORS;
 ghost use mathlib.Core.Path.{_≡_};
@@ -29,18 +32,27 @@ ghost use Rattle.ledger.specs.Calls.{beginAnswer, beginImage, runAnswer,
 // A step of a list, as document 01 packs it.
 pub struct Step {
     pub kind: u8,
+    // Document 01: the take; of a letter, its addressee.
     pub transactor: u8,
+    // The other take: the addressee of a send.
     pub other: u8,
+    // Four bits that are zero.
     pub zero: u8,
+    // The parcel; of a sign, the volume.
     pub message: u16,
+    // The text.
     pub value: u32,
 }
 
 // A reply to a step.
 pub struct Reply {
+    // The outcome or the refusal.
     pub outcome: u8,
+    // The take acted on or opened.
     pub transactor: u8,
+    // The parcel made, received or lost.
     pub message: u16,
+    // The text read or received.
     pub value: u32,
 }
 
@@ -57,7 +69,7 @@ pub fn begin(image: &mut [u8]) -> u8
     ensures { λ r. ⌜ (r ≡ beginAnswer base (now (image .entry))) × (now (image .exit) ≡ beginImage base (now (image .entry))) ⌝ }
 {
     if image.len() != IMAGE {
-        return 16;
+        return numbers::WRONG_LENGTH;
     }
     refresh(image);
     0
@@ -73,7 +85,7 @@ fn refresh(image: &mut [u8])
     while t < TRANSACTORS {
         let at = HEAD + TRANSACTOR * t;
         let end = at + TRANSACTOR;
-        transactor::strip(&mut image[at..end], transactor::UNUSED);
+        transactor::strip(&mut image[at..end], numbers::UNUSED);
         t += 1;
     }
     octets::clear(image, FIRST_MESSAGE, MESSAGE * MESSAGES);
@@ -114,12 +126,12 @@ fn run_steps(image: &mut [u8], list: &[u8], replies: &mut [u8])
     requires { ⌜ Good (now image) × (length (now replies) ≡ length (now list)) × (stepBytes * (length (now list) / stepBytes) ≡ length (now list)) ⌝ }
     ensures { λ _. ⌜ (now (image .exit) ≡ ranImage base standard (now (image .entry)) (now (list .entry))) × (now (replies .exit) ≡ ranReplies base standard (now (image .entry)) (now (list .entry))) ⌝ }
 {
-    let n = list.len() / 8;
+    let n = list.len() / STEP;
     let mut i: usize = 0;
     while i < n {
-        let p = decode(list, 8 * i);
+        let p = decode(list, STEP * i);
         let r = steps::step(image, p);
-        encode(replies, 8 * i, r);
+        encode(replies, STEP * i, r);
         i += 1;
     }
 }
@@ -131,25 +143,25 @@ pub fn run(image: &mut [u8], list: &[u8], start: usize, end: usize, replies: &mu
         × (now (replies .exit) ≡ runReplies base standard (now (image .entry)) (now (list .entry)) start end (now (replies .entry))) ⌝ }
 {
     if image.len() != IMAGE {
-        return 16;
+        return numbers::WRONG_LENGTH;
     }
     if end < start {
-        return 17;
+        return numbers::WRONG_PART;
     }
     if list.len() < end {
-        return 17;
+        return numbers::WRONG_PART;
     }
-    if (end - start) % 8 != 0 {
-        return 17;
+    if (end - start) % STEP != 0 {
+        return numbers::WRONG_PART;
     }
-    if 8192 < end - start {
-        return 17;
+    if LONGEST < end - start {
+        return numbers::WRONG_PART;
     }
     if replies.len() != end - start {
-        return 18;
+        return numbers::WRONG_ROOM;
     }
     if !form::formed(image) {
-        return 19;
+        return numbers::ILL_FORMED;
     }
     run_steps(image, &list[start..end], replies);
     0
@@ -163,19 +175,19 @@ pub fn offer(image: &[u8], transactor: usize, refusal: &mut u8) -> Offered
     ensures { λ r. ⌜ (now (refusal .exit) ≡ offerRefusal base (now (image .entry)) transactor) × Offers base (now (image .entry)) transactor (offeredNumber r) ⌝ }
 {
     if image.len() != IMAGE {
-        *refusal = 16;
+        *refusal = numbers::WRONG_LENGTH;
         return Offered::Nothing;
     }
     if !form::formed(image) {
-        *refusal = 19;
+        *refusal = numbers::ILL_FORMED;
         return Offered::Nothing;
     }
     if (image[0] as usize) <= transactor {
-        *refusal = 21;
+        *refusal = numbers::UNOPENED;
         return Offered::Nothing;
     }
-    if image[HEAD + TRANSACTOR * transactor] / 64 == 3 {
-        *refusal = 22;
+    if image[HEAD + TRANSACTOR * transactor] / 64 == numbers::ANNIHILATED {
+        *refusal = numbers::GONE;
         return Offered::Nothing;
     }
     *refusal = 0;
@@ -195,17 +207,17 @@ pub fn show<'a>(image: &'a [u8], number: u16, refusal: &mut u8) -> &'a [u8]
     ensures { λ r. ⌜ (now r ≡ shown base (now (image .entry)) number) × (now (refusal .exit) ≡ showRefusal base (now (image .entry)) number) ⌝ }
 {
     if image.len() != IMAGE {
-        *refusal = 16;
+        *refusal = numbers::WRONG_LENGTH;
         return &image[..0];
     }
     if !form::formed(image) {
-        *refusal = 19;
+        *refusal = numbers::ILL_FORMED;
         return &image[..0];
     }
     let n = messages::waiting(image);
     let k = messages::place_of(image, n, number);
     if n <= k {
-        *refusal = 24;
+        *refusal = numbers::NOT_WAITING;
         return &image[..0];
     }
     *refusal = 0;

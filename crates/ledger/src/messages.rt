@@ -10,7 +10,7 @@ ghost use mathlib.Core.Path.{_≡_};
 ghost use Prim.Native.Nat.{_≤_, _<_};
 ghost use lib.ListN.{length};
 ghost use Rattle.maps.specs.Packed.{Bounded};
-ghost use Rattle.ledger.specs.Layout.{base, imageBytes};
+ghost use Rattle.ledger.specs.Layout.{lastNumber, base, imageBytes};
 ghost use Rattle.ledger.specs.State.{placeFrom, placeOf, messageAt, withMessage, withoutMessage};
 ghost use Rattle.ledger.specs.Pack.{waitingIn, pack, unpack};
 ghost use Rattle.ledger.specs.Parts.{Good, addressedTo};
@@ -87,7 +87,7 @@ pub fn dependences(image: &[u8], k: usize) -> DependenceMap
 
 // One more message, with the next number, in place n, the first that is free.
 pub fn append(image: &mut [u8], n: usize, to: u8, value: u32, m: DependenceMap)
-    requires { ⌜ Good (now image) × (n ≡ waitingIn base (now image)) × (n < base .messages) × (to < 16) × (unpack base (now image) .next < 65535) × Bounded (base .places) m ⌝ }
+    requires { ⌜ Good (now image) × (n ≡ waitingIn base (now image)) × (n < base .messages) × (to < 16) × (unpack base (now image) .next < lastNumber) × Bounded (base .places) m ⌝ }
     ensures { λ _. ⌜ now (image .exit) ≡ pack base (withMessage (unpack base (now (image .entry))) to value m) ⌝ }
 {
     let number = octets::load16(image, 1);

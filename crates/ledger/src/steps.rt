@@ -3,10 +3,12 @@ use crate::Reply;
 use crate::Step;
 use crate::group;
 use crate::layout::HEAD;
+use crate::layout::LAST_NUMBER;
 use crate::layout::MESSAGES;
 use crate::layout::TRANSACTOR;
 use crate::layout::TRANSACTORS;
 use crate::messages;
+use crate::numbers;
 use crate::transactor;
 use maps::DependenceMap;
 ghost use mathlib.Core.Path.{_≡_};
@@ -52,56 +54,56 @@ fn stray(used: bool, field: u32) -> bool
 fn uses_transactor(kind: u8) -> bool
     ensures { λ r. ⌜ r ≡ refusals.usesTransactor kind ⌝ }
 {
-    if kind == 1 {
+    if kind == numbers::LETTER {
         return true;
     }
-    if kind < 3 {
+    if kind < numbers::NEW {
         return false;
     }
-    kind <= 10
+    kind <= numbers::FAIL
 }
 
 fn uses_message(kind: u8) -> bool
     ensures { λ r. ⌜ r ≡ refusals.usesMessage kind ⌝ }
 {
-    if kind == 2 {
+    if kind == numbers::RECEIVE {
         return true;
     }
-    if kind == 11 {
+    if kind == numbers::LOSE {
         return true;
     }
-    kind == 12
+    kind == numbers::SIGN
 }
 
 fn uses_value(kind: u8) -> bool
     ensures { λ r. ⌜ r ≡ refusals.usesValue kind ⌝ }
 {
-    if kind == 0 {
+    if kind == numbers::ROOT {
         return true;
     }
-    if kind == 1 {
+    if kind == numbers::LETTER {
         return true;
     }
-    if kind == 3 {
+    if kind == numbers::NEW {
         return true;
     }
-    if kind == 4 {
+    if kind == numbers::SEND {
         return true;
     }
-    kind == 6
+    kind == numbers::WRITE
 }
 
 fn malformed(p: Step) -> bool
     ensures { λ r. ⌜ r ≡ refusals.malformed p ⌝ }
 {
     let kind = p.kind;
-    if 12 < kind {
+    if numbers::SIGN < kind {
         return true;
     }
     if stray(uses_transactor(kind), p.transactor as u32) {
         return true;
     }
-    if stray(kind == 4, p.other as u32) {
+    if stray(kind == numbers::SEND, p.other as u32) {
         return true;
     }
     if p.zero != 0 {
@@ -127,10 +129,10 @@ fn acting_refusal(image: &[u8], t: usize) -> u8
     ensures { λ r. ⌜ r ≡ actingRefusal (unpack base (now (image .entry))) t ⌝ }
 {
     if (image[0] as usize) <= t {
-        return 21;
+        return numbers::UNOPENED;
     }
-    if status(image, t) == 3 {
-        return 22;
+    if status(image, t) == numbers::ANNIHILATED {
+        return numbers::GONE;
     }
     0
 }
@@ -143,8 +145,8 @@ fn busy_refusal(image: &[u8], t: usize) -> u8
     if r != 0 {
         return r;
     }
-    if status(image, t) != 2 {
-        return 23;
+    if status(image, t) != numbers::BUSY {
+        return numbers::WRONG_STATUS;
     }
     0
 }
@@ -154,10 +156,10 @@ fn crowded(image: &[u8], n: usize) -> u8
     ensures { λ r. ⌜ r ≡ crowdedRefusal standard (unpack base (now (image .entry))) ⌝ }
 {
     if MESSAGES <= n {
-        return 26;
+        return numbers::ALL_WAITING;
     }
-    if octets::load16(image, 1) == 65535 {
-        return 27;
+    if octets::load16(image, 1) == LAST_NUMBER {
+        return numbers::ALL_NUMBERED;
     }
     0
 }
@@ -182,11 +184,11 @@ fn root(image: &mut [u8], p: Step) -> Reply
 {
     let c = image[0];
     if TRANSACTORS <= c as usize {
-        return answered(25);
+        return answered(numbers::ALL_OPENED);
     }
     open(image, c, p.value, DependenceMap::empty());
     Reply {
-        outcome: 0,
+        outcome: numbers::DONE,
         transactor: c,
         message: 0,
         value: 0,
@@ -199,7 +201,7 @@ fn letter(image: &mut [u8], p: Step) -> Reply
 {
     let to = p.transactor;
     if image[0] <= to {
-        return answered(21);
+        return answered(numbers::UNOPENED);
     }
     let n = messages::waiting(image);
     let r = crowded(image, n);
@@ -209,7 +211,7 @@ fn letter(image: &mut [u8], p: Step) -> Reply
     let number = octets::load16(image, 1);
     messages::append(image, n, to, p.value, DependenceMap::empty());
     Reply {
-        outcome: 0,
+        outcome: numbers::DONE,
         transactor: to,
         message: number,
         value: 0,
@@ -223,15 +225,15 @@ fn receive(image: &mut [u8], p: Step) -> Reply
     let n = messages::waiting(image);
     let k = messages::place_of(image, n, p.message);
     if n <= k {
-        return answered(24);
+        return answered(numbers::NOT_WAITING);
     }
     let t = messages::addressee(image, k);
     let st = status(image, t);
-    if st == 3 {
-        return answered(22);
+    if st == numbers::ANNIHILATED {
+        return answered(numbers::GONE);
     }
-    if st != 1 {
-        return answered(23);
+    if st != numbers::READY {
+        return answered(numbers::WRONG_STATUS);
     }
     let content = messages::content(image, k);
     let m = messages::dependences(image, k);
@@ -239,11 +241,11 @@ fn receive(image: &mut [u8], p: Step) -> Reply
     let end = at + TRANSACTOR;
     let a = transactor::accept(&mut image[at..end], t, m);
     let outcome = a.outcome;
-    if outcome == 28 {
-        return answered(28);
+    if outcome == numbers::LAST_FALLS {
+        return answered(numbers::LAST_FALLS);
     }
     messages::remove(image, k, n);
-    let value = if outcome == 0 { content } else { 0 };
+    let value = if outcome == numbers::DONE { content } else { 0 };
     Reply {
         outcome,
         transactor: t as u8,
@@ -263,7 +265,7 @@ fn new(image: &mut [u8], p: Step) -> Reply
     }
     let c = image[0];
     if TRANSACTORS <= c as usize {
-        return answered(25);
+        return answered(numbers::ALL_OPENED);
     }
     let at = HEAD + TRANSACTOR * t;
     let end = at + TRANSACTOR;
@@ -271,7 +273,7 @@ fn new(image: &mut [u8], p: Step) -> Reply
     transactor::adopt(&mut image[at..end], c as usize);
     open(image, c, p.value, creation);
     Reply {
-        outcome: 0,
+        outcome: numbers::DONE,
         transactor: c,
         message: 0,
         value: 0,
@@ -285,7 +287,7 @@ fn send(image: &mut [u8], p: Step) -> Reply
     let t = p.transactor as usize;
     let to = p.other;
     if image[0] <= to {
-        return answered(21);
+        return answered(numbers::UNOPENED);
     }
     let w = busy_refusal(image, t);
     if w != 0 {
@@ -302,7 +304,7 @@ fn send(image: &mut [u8], p: Step) -> Reply
     let number = octets::load16(image, 1);
     messages::append(image, n, to, p.value, m);
     Reply {
-        outcome: 0,
+        outcome: numbers::DONE,
         transactor: p.transactor,
         message: number,
         value: 0,
@@ -316,13 +318,13 @@ fn local(image: &mut [u8], p: Step) -> Reply
 {
     let t = p.transactor as usize;
     if (image[0] as usize) <= t {
-        return answered(21);
+        return answered(numbers::UNOPENED);
     }
     let at = HEAD + TRANSACTOR * t;
     let end = at + TRANSACTOR;
     let a = transactor::act(&mut image[at..end], p.kind, t, p.value);
     let outcome = a.outcome;
-    if 20 <= outcome {
+    if numbers::MALFORMED <= outcome {
         return answered(outcome);
     }
     Reply {
@@ -340,11 +342,11 @@ fn lose(image: &mut [u8], p: Step) -> Reply
     let n = messages::waiting(image);
     let k = messages::place_of(image, n, p.message);
     if n <= k {
-        return answered(24);
+        return answered(numbers::NOT_WAITING);
     }
     messages::remove(image, k, n);
     Reply {
-        outcome: 0,
+        outcome: numbers::DONE,
         transactor: 0,
         message: p.message,
         value: 0,
@@ -357,22 +359,22 @@ fn sign(image: &mut [u8], p: Step) -> Reply
 {
     let group = p.message;
     if group == 0 {
-        return answered(29);
+        return answered(numbers::EMPTY_GROUP);
     }
-    if group::blocked(image, group, 21) {
-        return answered(21);
+    if group::blocked(image, group, numbers::UNOPENED) {
+        return answered(numbers::UNOPENED);
     }
-    if group::blocked(image, group, 22) {
-        return answered(22);
+    if group::blocked(image, group, numbers::GONE) {
+        return answered(numbers::GONE);
     }
-    if group::blocked(image, group, 30) {
-        return answered(30);
+    if group::blocked(image, group, numbers::ALL_SIGNED) {
+        return answered(numbers::ALL_SIGNED);
     }
     if !group::ready(image, group) {
-        return answered(5);
+        return answered(numbers::NOT_READY);
     }
     group::checkpoint(image, group);
-    answered(0)
+    answered(numbers::DONE)
 }
 
 // One step, of any kind.
@@ -381,17 +383,17 @@ pub fn step(image: &mut [u8], p: Step) -> Reply
     ensures { λ r. ⌜ Stepped (now (image .entry)) p r (now (image .exit)) ⌝ }
 {
     if malformed(p) {
-        return answered(20);
+        return answered(numbers::MALFORMED);
     }
     let kind = p.kind;
     match kind {
-        0 => root(image, p),
-        1 => letter(image, p),
-        2 => receive(image, p),
-        3 => new(image, p),
-        4 => send(image, p),
-        11 => lose(image, p),
-        12 => sign(image, p),
+        numbers::ROOT => root(image, p),
+        numbers::LETTER => letter(image, p),
+        numbers::RECEIVE => receive(image, p),
+        numbers::NEW => new(image, p),
+        numbers::SEND => send(image, p),
+        numbers::LOSE => lose(image, p),
+        numbers::SIGN => sign(image, p),
         _ => local(image, p),
     }
 }

@@ -4,6 +4,7 @@ use crate::layout::CREATION;
 use crate::layout::SAVED;
 use crate::layout::STATE;
 use crate::layout::VALUE;
+use crate::numbers;
 use maps::Comparison;
 use maps::DependenceMap;
 use marks::History;
@@ -16,15 +17,6 @@ ghost use Rattle.ledger.specs.State.{bare, ownHistory};
 ghost use Rattle.ledger.specs.Rules.{renewed, opening, carried, readBy, writeBy, freezeBy, finishBy, checkpointBy};
 ghost use Rattle.ledger.specs.Pack.{packTransactor, unpackTransactor};
 ghost use Rattle.ledger.specs.Parts.{GoodPart, Acts, adopts, rollbackOr28, rollbackUnlessStable, actBy, acceptBy};
-
-// Statuses.
-pub const UNUSED: u8 = 0;
-
-pub const READY: u8 = 1;
-
-pub const BUSY: u8 = 2;
-
-pub const ANNIHILATED: u8 = 3;
 
 // Largest incarnation number.
 pub const LAST: u8 = 255;
@@ -69,7 +61,7 @@ pub fn renew(part: &mut [u8], t: usize, h: History, value: u32, saved: u32)
     requires { ⌜ (length (now part) ≡ transactorBytes base) × (t < base .transactors) × (h .count ≤ base .places) ⌝ }
     ensures { λ _. ⌜ now (part .exit) ≡ packTransactor base (renewed base t h value saved) ⌝ }
 {
-    strip(part, READY);
+    strip(part, numbers::READY);
     octets::store32(part, VALUE, value);
     octets::store32(part, SAVED, saved);
     let one = DependenceMap::one(t, h);
@@ -101,10 +93,10 @@ pub fn carry(part: &[u8], t: usize) -> DependenceMap
     requires { ⌜ (length (now part) ≡ transactorBytes base) × (t < base .transactors) ⌝ }
     ensures { λ r. ⌜ r ≡ carried base t (unpackTransactor base (now (part .entry))) ⌝ }
 {
-    let creation = DependenceMap::load(part, CREATION);
+    let created = DependenceMap::load(part, CREATION);
     let behaviour = DependenceMap::load(part, BEHAVIOUR);
     let one = DependenceMap::one(t, own(part, t));
-    creation.join(behaviour).join(one)
+    created.join(behaviour).join(one)
 }
 
 // Falls: annihilated if never checkpointed, else the next incarnation; 28 at the last one.
@@ -114,15 +106,15 @@ fn roll_back(part: &mut [u8], t: usize) -> Acted
 {
     let h = own(part, t);
     if h.count == 0 {
-        strip(part, ANNIHILATED);
-        return outcome_of(4);
+        strip(part, numbers::ANNIHILATED);
+        return outcome_of(numbers::VANISHED);
     }
     if h.incarnation == LAST {
-        return outcome_of(28);
+        return outcome_of(numbers::LAST_FALLS);
     }
     let saved = octets::load32(part, SAVED);
     renew(part, t, h.rollback(), saved, saved);
-    outcome_of(3)
+    outcome_of(numbers::FALLEN_BACK)
 }
 
 // Idle, behaviour map emptied.
@@ -130,7 +122,7 @@ fn become_ready(part: &mut [u8])
     requires { ⌜ GoodPart (now part) ⌝ }
     ensures { λ _. ⌜ now (part .exit) ≡ packTransactor base (finishBy base (unpackTransactor base (now (part .entry))) .transactor) ⌝ }
 {
-    part[0] = 64 * READY;
+    part[0] = 64 * numbers::READY;
     let none = DependenceMap::empty();
     none.store(part, BEHAVIOUR);
 }
@@ -144,7 +136,10 @@ fn read(part: &mut [u8]) -> Acted
     let joined = state.join(behaviour);
     joined.store(part, BEHAVIOUR);
     let value = octets::load32(part, VALUE);
-    Acted { outcome: 0, value }
+    Acted {
+        outcome: numbers::DONE,
+        value,
+    }
 }
 
 fn write(part: &mut [u8], t: usize, value: u32) -> Acted
@@ -153,14 +148,14 @@ fn write(part: &mut [u8], t: usize, value: u32) -> Acted
 {
     let h = own(part, t);
     if h.stable {
-        return outcome_of(1);
+        return outcome_of(numbers::HELD);
     }
     let behaviour = DependenceMap::load(part, BEHAVIOUR);
     let state = DependenceMap::load(part, STATE);
     let joined = behaviour.join(state);
     octets::store32(part, VALUE, value);
     joined.store(part, STATE);
-    outcome_of(0)
+    outcome_of(numbers::DONE)
 }
 
 fn freeze(part: &mut [u8], t: usize) -> Acted
@@ -170,10 +165,10 @@ fn freeze(part: &mut [u8], t: usize) -> Acted
     let h = own(part, t).stabilize();
     let state = DependenceMap::load(part, STATE).with(t, h);
     state.store(part, STATE);
-    outcome_of(0)
+    outcome_of(numbers::DONE)
 }
 
-// Fall and fail of a transactor that is not stable.
+// Fall and fail: a stable transactor is held, and a fall makes it idle; any other falls, or 28.
 fn roll_back_unless_stable(part: &mut [u8], t: usize, kind: u8) -> Acted
     requires { ⌜ GoodPart (now part) × (t < base .transactors) × (kind < 16) ⌝ }
     ensures { λ r. ⌜ Acts (rollbackUnlessStable base standard kind t (unpackTransactor base (now (part .entry)))) (r .outcome) (r .value) (now (part .exit)) ⌝ }
@@ -182,10 +177,10 @@ fn roll_back_unless_stable(part: &mut [u8], t: usize, kind: u8) -> Acted
     if !h.stable {
         return roll_back(part, t);
     }
-    if kind == 9 {
+    if kind == numbers::FALL {
         become_ready(part);
     }
-    outcome_of(1)
+    outcome_of(numbers::HELD)
 }
 
 // Kinds 5 to 10.
@@ -194,19 +189,19 @@ pub fn act(part: &mut [u8], kind: u8, t: usize, value: u32) -> Acted
     ensures { λ r. ⌜ Acts (actBy base standard kind t value (unpackTransactor base (now (part .entry)))) (r .outcome) (r .value) (now (part .exit)) ⌝ }
 {
     let status = part[0] / 64;
-    if status == ANNIHILATED {
-        return outcome_of(22);
+    if status == numbers::ANNIHILATED {
+        return outcome_of(numbers::GONE);
     }
-    if kind <= 9 && status != BUSY {
-        return outcome_of(23);
+    if kind <= numbers::FALL && status != numbers::BUSY {
+        return outcome_of(numbers::WRONG_STATUS);
     }
     match kind {
-        5 => read(part),
-        6 => write(part, t, value),
-        7 => freeze(part, t),
-        8 => {
+        numbers::READ => read(part),
+        numbers::WRITE => write(part, t, value),
+        numbers::FREEZE => freeze(part, t),
+        numbers::FINISH => {
             become_ready(part);
-            outcome_of(0)
+            outcome_of(numbers::DONE)
         }
         _ => roll_back_unless_stable(part, t, kind),
     }
@@ -222,13 +217,13 @@ pub fn accept(part: &mut [u8], t: usize, m: DependenceMap) -> Acted
     let known = state.join(creation);
     let Comparison::Superseded(first) = m.compare(known) else {
         let Comparison::Superseded(first) = known.compare(m) else {
-            part[0] = 64 * BUSY;
+            part[0] = 64 * numbers::BUSY;
             m.store(part, BEHAVIOUR);
-            return outcome_of(0);
+            return outcome_of(numbers::DONE);
         };
         return roll_back(part, t);
     };
-    outcome_of(2)
+    outcome_of(numbers::DROPPED)
 }
 
 // Saves the value, and takes the history of the next checkpoint.

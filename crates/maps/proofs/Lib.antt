@@ -3,3 +3,5 @@ pub mod Map
 pub mod Packed
 pub mod Placed
 pub mod Superseded
+pub mod Tables
+pub mod View

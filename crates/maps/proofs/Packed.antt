@@ -18,7 +18,7 @@ use Rattle.marks.specs.declared.History.{History}
 use Rattle.marks.specs.History.{initialHistory}
 use Rattle.marks.specs.Packed.{historySize, unpackHistory, presentIn, formedHistory}
 use Rattle.marks.proofs.Histories.{newer-which}
-use Rattle.marks.proofs.Packed.{length-packHistory, octets-packHistory, unpack-packHistory, pack-unpackHistory, packable-unpack, unpack-zeros as unpack-zero, roomy-unpack, present-packHistory, formed-packHistory, absent-zeros, absent-is-zero, unpack-absent, formed-zeros}
+use Rattle.marks.proofs.Packed.{length-packHistory, octets-packHistory, unpack-packHistory, pack-unpackHistory, packable-unpack, unpack-count, unpack-zeros as unpack-zero, roomy-unpack, present-packHistory, formed-packHistory, absent-zeros, absent-is-zero, unpack-absent, formed-zeros}
 use Rattle.maps.specs.declared.DependenceMap.{DependenceMap}
 use Rattle.maps.specs.Map.{heldAt, historyAt, emptyMap, withEntry, singleton, isEmpty, joinOf}
 use Rattle.maps.specs.Packed.{mapSize, packEntry, packEntryAt, packMap, entryBytes, unpackHeldAt, unpackHistoryAt, unpackMap, formedEntry, formedEntryAt, formedMap, EntryOk, present, absent, MapOk, Bounded}
@@ -268,8 +268,8 @@ pub mapOk-bounded : {w l n : ℕ} {m : DependenceMap} → MapOk w l n m → Boun
 mapOk-bounded {l = l} k = bounded-within l (mapOk-sized k) (λ i h. entry-bounded (k .each i h))
 
 pub bounded-unpack : (w l n : ℕ) (b : List ℕ) → 15 ≤ l → Bounded l (unpackMap w l n b)
-unfolding unpackHistory
-bounded-unpack w l n b h = bounded-within l (sized-unpack w l n b) (λ i p. omega (arith, ap (λ (x : History). x .count) (history-unpack w l n b i p)))
+bounded-unpack w l n b h = bounded-within l (sized-unpack w l n b)
+    (λ i p. omega (arith, ap (λ (x : History). x .count) (history-unpack w l n b i p), unpack-count w l (entryBytes w l b i)))
 
 pub bounded-empty : (l n : ℕ) → Bounded l (emptyMap l n)
 bounded-empty l n = bounded-within l (sized-empty l n) (λ i h. omega (arith, ap (λ (x : History). x .count) (history-empty l n i h)))

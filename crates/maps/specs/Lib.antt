@@ -1,2 +1,4 @@
 pub mod Map
 pub mod Packed
+pub mod Table
+pub mod View

@@ -7,13 +7,13 @@ use native.Mathlib.Numerals.{add-one}
 use native.Mathlib.Omega.{arith}
 use lib.Dec.{ltb}
 use lib.ListN.{length, length-set}
-use lib.Seq.{length-take-le, take-suc-set, getD-set-other}
+use lib.Seq.{take-all, length-take-le, take-suc-set, getD-set-other}
 use borrow.Author.Tests.{ltb-true, ltb-false, lt-ltb, le-ltb}
 use Rattle.octets.specs.Bytes.{pick}
 use Rattle.octets.proofs.Zero.{length-zeros, getD-zeros}
 use Rattle.marks.specs.declared.History.{History}
 use Rattle.marks.specs.Incarnation.{Incarnation, initialIncarnation, nextIncarnation, checkpointIncarnation}
-use Rattle.marks.specs.History.{incarnationOf, initialHistory, stabilized, rolledBack, checkpointed, newerOf, Roomy}
+use Rattle.marks.specs.History.{incarnationOf, initialHistory, stabilized, rolledBack, checkpointed, newerOf, Roomy, HistoryView, viewOf, historyOf, newerView}
 use Rattle.marks.proofs.Trail.{Precedes}
 use Rattle.marks.proofs.Order.{precedes-refl, by-size, by-number, later-size, same-incarnation}
 
@@ -124,28 +124,85 @@ module _ {l : ℕ} {a b : History} (r : Roomy l a) (s : Roomy l b) where
   even : a .count ≡ b .count → length (incarnationOf a .checkpoints) ≡ length (incarnationOf b .checkpoints)
   even e = roomy-length r ∙ e ∙ sym (roomy-length s)
 
-module _ {l : ℕ} {a b : History} (r : Roomy l a) (s : Roomy l b) where
+-- ---- views
+
+pub view-checkpointed : {l : ℕ} {h : History} → Roomy l h → h .count < l
+    → viewOf (checkpointed h) ≡ record { stable = false; incarnation = checkpointIncarnation (viewOf h .incarnation) }
+view-checkpointed r k = ap (λ a. record { stable = false; incarnation = a }) (incarnation-checkpointed r k)
+
+pub view-history : (v : HistoryView) → viewOf (historyOf v) ≡ v
+view-history v = ap (λ l. record { stable = v .stable; incarnation = record { checkpoints = l; number = v .incarnation .number } }) (take-all (length (v .incarnation .checkpoints)) (v .incarnation .checkpoints) (omega arith))
+
+-- the view of the newer one is the newer of the views
+pub view-newer : {l : ℕ} {a b : History} → Roomy l a → Roomy l b → viewOf (newerOf a b) ≡ newerView (viewOf a) (viewOf b)
+unfolding newerView
+view-newer {l} {a} {b} r s = go (newer-view a b)
+  where
+    x : History
+    x = historyOf (viewOf a)
+
+    y : History
+    y = historyOf (viewOf b)
+
+    left : Newer x y x → viewOf a ≡ viewOf (newerOf x y)
+    left v = sym (view-history (viewOf a)) ∙ ap viewOf (newer-is v)
+
+    right : Newer x y y → viewOf b ≡ viewOf (newerOf x y)
+    right v = sym (view-history (viewOf b)) ∙ ap viewOf (newer-is v)
+
+    go : {m : History} → Newer a b m → viewOf m ≡ viewOf (newerOf x y)
+    go (right-longer l) = right (right-longer (shorter r s l))
+    go (left-longer l) = left (left-longer (shorter s r l))
+    go (right-number e l) = right (right-number (even r s e) l)
+    go (left-number e l) = left (left-number (even r s e) l)
+    go (left-stable e n p) = left (left-stable (even r s e) n p)
+    go (right-stable e n p q) = right (right-stable (even r s e) n p q)
+    go (left-same e n p q) = left (left-same (even r s e) n p q)
+
+module _ (a b : HistoryView) where
+  pub newerView-which : (newerView a b ≡ a) ⊎ (newerView a b ≡ b)
+  unfolding newerView
+  newerView-which = ⊎-elim (λ e. inl (ap viewOf e ∙ view-history a)) (λ e. inr (ap viewOf e ∙ view-history b)) (newer-which (newer-view (historyOf a) (historyOf b)))
+
   -- of two whose lives precede one third, both precede the newer one
-  pub newer-later : {m : History} (c : Incarnation) → Precedes (incarnationOf a) c → Precedes (incarnationOf b) c → Newer a b m
-      → Precedes (incarnationOf a) (incarnationOf m) × Precedes (incarnationOf b) (incarnationOf m)
-  newer-later c h k (right-longer l) = (by-size h k (shorter r s l), precedes-refl _)
-  newer-later c h k (left-longer l) = (precedes-refl _, by-size k h (shorter s r l))
-  newer-later c h k (right-number e l) = (by-number h k (even r s e) (omega arith), precedes-refl _)
-  newer-later c h k (left-number e l) = (precedes-refl _, by-number k h (even s r (sym e)) (omega arith))
-  newer-later c h k (left-stable e n p) = (precedes-refl _, by-number k h (even s r (sym e)) (omega arith))
-  newer-later c h k (right-stable e n p q) = (by-number h k (even r s e) (omega arith), precedes-refl _)
-  newer-later c h k (left-same e n p q) = (precedes-refl _, by-number k h (even s r (sym e)) (omega arith))
+  pub newerView-later : (c : Incarnation) → Precedes (a .incarnation) c → Precedes (b .incarnation) c
+      → Precedes (a .incarnation) (newerView a b .incarnation) × Precedes (b .incarnation) (newerView a b .incarnation)
+  unfolding newerView
+  newerView-later c h k = go (newer-view (historyOf a) (historyOf b))
+    where
+      Both : HistoryView → Type 0
+      Both m = Precedes (a .incarnation) (m .incarnation) × Precedes (b .incarnation) (m .incarnation)
 
-  -- the right one is kept, up to life and flag, where the left one precedes it and says no more
-  module _ (h : Precedes (incarnationOf a) (incarnationOf b)) (f : incarnationOf a ≡ incarnationOf b → a .stable ≡ true → b .stable ≡ true) where
-    alike : a .count ≡ b .count → a .incarnation ≡ b .incarnation → incarnationOf a ≡ incarnationOf b
-    alike e n = same-incarnation h (even r s e) n
+      left : Precedes (b .incarnation) (a .incarnation) → Both (viewOf (historyOf a))
+      left p = subst Both (sym (view-history a)) (precedes-refl _, p)
 
-    pub newer-right : {m : History} → Newer a b m → (incarnationOf m ≡ incarnationOf b) × (m .stable ≡ b .stable)
-    newer-right (right-longer l) = (refl, refl)
-    newer-right (left-longer l) = absurd (later-size h (inl (shorter s r l)))
-    newer-right (right-number e l) = (refl, refl)
-    newer-right (left-number e l) = absurd (later-size h (inr (even s r (sym e), l)))
-    newer-right (left-stable e n p) = (alike e n, p ∙ sym (f (alike e n) p))
-    newer-right (right-stable e n p q) = (refl, refl)
-    newer-right (left-same e n p q) = (alike e n, p ∙ sym q)
+      right : Precedes (a .incarnation) (b .incarnation) → Both (viewOf (historyOf b))
+      right p = subst Both (sym (view-history b)) (p, precedes-refl _)
+
+      go : {m : History} → Newer (historyOf a) (historyOf b) m → Both (viewOf m)
+      go (right-longer l) = right (by-size h k l)
+      go (left-longer l) = left (by-size k h l)
+      go (right-number e l) = right (by-number h k e (omega arith))
+      go (left-number e l) = left (by-number k h (sym e) (omega arith))
+      go (left-stable e n p) = left (by-number k h (sym e) (omega arith))
+      go (right-stable e n p q) = right (by-number h k e (omega arith))
+      go (left-same e n p q) = left (by-number k h (sym e) (omega arith))
+
+  -- the right one is kept where the left one precedes it and says no more
+  module _ (h : Precedes (a .incarnation) (b .incarnation)) (f : a .incarnation ≡ b .incarnation → a .stable ≡ true → b .stable ≡ true) where
+    alike : length (a .incarnation .checkpoints) ≡ length (b .incarnation .checkpoints) → a .incarnation .number ≡ b .incarnation .number → a .stable ≡ b .stable
+        → viewOf (historyOf a) ≡ b
+    alike e n p = let q = same-incarnation h e n in view-history a ∙ (λ i. record { stable = p i; incarnation = q i })
+
+    pub newerView-right : newerView a b ≡ b
+    unfolding newerView
+    newerView-right = go (newer-view (historyOf a) (historyOf b))
+      where
+        go : {m : History} → Newer (historyOf a) (historyOf b) m → viewOf m ≡ b
+        go (right-longer l) = view-history b
+        go (left-longer l) = absurd (later-size h (inl l))
+        go (right-number e l) = view-history b
+        go (left-number e l) = absurd (later-size h (inr (sym e, l)))
+        go (left-stable e n p) = alike e n (p ∙ sym (f (same-incarnation h e n) p))
+        go (right-stable e n p q) = view-history b
+        go (left-same e n p q) = alike e n (p ∙ sym q)

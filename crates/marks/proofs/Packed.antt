@@ -182,13 +182,18 @@ pack-unpackHistory w l b n o p e =
 
 -- ---- what an unpacked history keeps
 
+-- the four bits of the count
+pub unpack-count : (w l : ℕ) (b : List ℕ) → unpackHistory w l b .count < 16
+unfolding unpackHistory
+unpack-count w l b = omega arith
+
 pub packable-unpack : (w l : ℕ) (b : List ℕ) → Octets b → Packable w l (unpackHistory w l b)
 unfolding unpackHistory loadNumberAt
 packable-unpack w l b o = record {
   incarnation = ofBe-bound w (part 1 w b) (octets-part 1 w b o);
   checkpoints = λ i. tabulate-all (λ (x : ℕ). x < bound w) (loadNumberAt w b (1 + w)) l i 0 (bound-pos w)
       (λ j. ofBe-bound w (part (1 + w + w * j) w b) (octets-part (1 + w + w * j) w b o));
-  count = omega arith;
+  count = unpack-count w l b;
 }
 
 -- a number whose bytes are zero

@@ -2,7 +2,7 @@
 use mathlib.Core.Bool.{Bool, true, false, Bool·beq, false≢true}
 use mathlib.Core.Path.{_≡_, refl, sym, subst}
 use mathlib.Core.List.{List, [], _∷_, List·Memᴰ, List·Memᴰ·head, List·Memᴰ·tail}
-use Rattle.octets.specs.Bytes.{_and_}
+use Rattle.octets.specs.Bytes.{_and_, zeros}
 use Rattle.octets.proofs.Zero.{both}
 use Rattle.marks.specs.Incarnation.{sameList, beginsWith, strictPrefix, supersededBy}
 use Rattle.marks.specs.History.{incarnationOf}
@@ -31,5 +31,5 @@ row c (d ∷ ds) e (List·Memᴰ·head p) =
 row c (d ∷ ds) e (List·Memᴰ·tail m) = row c ds (both (right d) (allRight ds) e .1) m
 
 pub starred : (c : Case) → List·Memᴰ c starredCases → supersededBy (incarnationOf (c .left)) (incarnationOf (c .right)) ≡ c .superseded
-unfolding starredCases supersededBy strictPrefix beginsWith sameList
+unfolding starredCases zeros supersededBy strictPrefix beginsWith sameList
 starred c m = row c starredCases refl m

@@ -1,12 +1,12 @@
 -- Document 01, "Lives and marks": histories (marks), as the struct that the code passes by value.
 use Prim.Native.Nat.{ℕ, _+_, _≤_}
-use mathlib.Core.Bool.{true, false}
+use mathlib.Core.Bool.{Bool, true, false}
 use mathlib.Core.Path.{_≡_}
 use lib.ListN.{length, take, getD, set}
 use lib.Dec.{ltb}
 use Rattle.octets.specs.Bytes.{pick, zeros}
 use Rattle.marks.specs.declared.History.{History}
-use Rattle.marks.specs.Incarnation.{Incarnation}
+use Rattle.marks.specs.Incarnation.{Incarnation, initialIncarnation}
 
 -- The life of a mark: the mark without its frozen flag. The list's unused places are no part of it.
 abbrev pub incarnationOf : History → Incarnation
@@ -43,3 +43,25 @@ pub record Roomy (l : ℕ) (h : History) : Type 0 where
   pub places : length (h .checkpoints) ≡ l
   pub within : h .count ≤ l
   pub unused : (i : ℕ) → h .count ≤ i → getD (h .checkpoints) i 0 ≡ 0
+
+-- ---- a mark without its unused places
+
+-- A mark of a take: frozen or not, and a life.
+pub record HistoryView : Type 0 where
+  pub stable : Bool
+  pub incarnation : Incarnation
+
+abbrev pub viewOf : History → HistoryView
+viewOf h = record { stable = h .stable; incarnation = incarnationOf h }
+
+-- the opening mark
+abbrev pub initialView : HistoryView
+initialView = record { stable = false; incarnation = initialIncarnation }
+
+-- the mark whose list has no unused place
+abbrev pub historyOf : HistoryView → History
+historyOf v = record { stable = v .stable; incarnation = v .incarnation .number; count = length (v .incarnation .checkpoints); checkpoints = v .incarnation .checkpoints }
+
+-- the newer of two, as above
+unfoldable pub newerView : HistoryView → HistoryView → HistoryView
+newerView a b = viewOf (newerOf (historyOf a) (historyOf b))

@@ -15,6 +15,10 @@ width = 1
 abbrev pub places : ℕ
 places = 15
 
+-- the largest life number that a byte holds: from it there is no fall
+abbrev pub largest : ℕ
+largest = 255
+
 -- present 1, frozen 1, zero 2, count of L 4, n, L
 abbrev pub historySize : ℕ → ℕ → ℕ
 historySize w l = 1 + w + w * l

@@ -1,9 +1,11 @@
 -- Document 01, "Edges and a full session": the cases marked *, in its order.
-use Prim.Native.Nat.{ℕ}
+use Prim.Native.Nat.{ℕ, _-_}
 use mathlib.Core.Bool.{Bool, true, false}
-use mathlib.Core.List.{List, [], _∷_}
+use mathlib.Core.List.{List, [], _∷_, _++_}
 use lib.ListN.{length}
+use Rattle.octets.specs.Bytes.{zeros}
 use Rattle.marks.specs.declared.History.{History}
+use Rattle.marks.specs.Packed.{places}
 
 -- Whether left is stale by right.
 pub record Case : Type 0 where
@@ -11,9 +13,9 @@ pub record Case : Type 0 where
   pub right : History
   pub superseded : Bool
 
--- The mark (L; n) with its frozen flag.
+-- The mark (L; n) with its frozen flag, as the code has it: L, then unused places, which are zero.
 abbrev pub history : Bool → List ℕ → ℕ → History
-history stable l n = record { stable = stable; incarnation = n; count = length l; checkpoints = l }
+history stable l n = record { stable = stable; incarnation = n; count = length l; checkpoints = l ++ zeros (places - length l) }
 
 unfoldable pub starredCases : List Case
 starredCases =

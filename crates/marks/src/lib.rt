@@ -5,8 +5,8 @@ ghost use lib.ListN.{length, take};
 ghost use Rattle.octets.specs.Bytes.{put, part, chunks, tabulate};
 ghost use Rattle.octets.specs.Numbers.{ofBe, be};
 ghost use Rattle.marks.specs.Incarnation.{sameList, supersededBy, checkpointedIn, sameIncarnation};
-ghost use Rattle.marks.specs.History.{incarnationOf, stabilized, rolledBack, checkpointed, newerOf};
-ghost use Rattle.marks.specs.Packed.{width, places, historySize, bit, packNumberAt, packHistory, unpackHistory, loadNumberAt, presentIn, formedHistory};
+ghost use Rattle.marks.specs.History.{incarnationOf, initialHistory, stabilized, rolledBack, checkpointed, newerOf};
+ghost use Rattle.marks.specs.Packed.{width, places, largest, historySize, bit, packNumberAt, packHistory, unpackHistory, loadNumberAt, presentIn, formedHistory};
 
 // Bytes of a life number, places of the list, bytes of a packed history.
 pub const WIDTH: usize = 1;
@@ -36,6 +36,13 @@ impl History {
         checkpoints: [0; 15],
     };
 
+    // The constant's promise.
+    pub fn initial() -> History
+        ensures { λ r. ⌜ r ≡ initialHistory places ⌝ }
+    {
+        History::INITIAL
+    }
+
     // Document 01: freeze.
     pub fn stabilize(mut self) -> History
         ensures { λ r. ⌜ r ≡ stabilized self ⌝ }
@@ -46,10 +53,10 @@ impl History {
 
     // Document 01: a fall. The ledger refuses one from the largest life number.
     pub fn rollback(mut self) -> History
-        requires { ⌜ self .incarnation < 255 ⌝ }
+        requires { ⌜ self .incarnation < largest ⌝ }
         ensures { λ r. ⌜ r ≡ rolledBack self ⌝ }
     {
-        self.stable = false;
+        self.stable = false; // the new life is loose
         self.incarnation += 1;
         self
     }

@@ -2,4 +2,5 @@ pub mod Chunks
 pub mod Move
 pub mod Numbers
 pub mod Put
+pub mod Tests
 pub mod Zero

@@ -92,6 +92,10 @@ put-append at bs cs l h =
     let h' : at + length bs ≤ length l = omega arith in
     rw (put-def (at + length bs) cs (put at bs l), put-def at (bs ++ cs) l, front-put at bs l h', drop-put-add at bs l h', length-append) (simp (append-assoc, add-assoc))
 
+-- c behind the n bytes of b
+pub put-behind : (at n : ℕ) (b c l l' : List ℕ) → length b ≡ n → at + n + length c ≤ length l → l' ≡ put at b l → put (at + n) c l' ≡ put at (b ++ c) l
+put-behind at n b c l l' e h f = ap (put (at + n) c) f ∙ ap (λ (k : ℕ). put (at + k) c (put at b l)) (sym e) ∙ put-append at b c l (omega arith)
+
 -- all of d is replaced
 pub put-whole : (s d : List ℕ) → length s ≡ length d → put 0 s d ≡ s
 unfolding put

@@ -7,7 +7,7 @@ use native.Mathlib.Decide.{ℕ-discrete}
 use lib.Dec.{eqb, leb}
 use lib.ListN.{length}
 use borrow.Author.Tests.{eq-eqb, ne-eqb}
-use Rattle.octets.specs.Bytes.{pick, part, zeros, Octets}
+use Rattle.octets.specs.Bytes.{pick, part, chunks, zeros, Octets}
 use Rattle.octets.proofs.Put.{octets-part}
 use Rattle.ledger.specs.Layout.{Layout, Limits, Allowed, imageBytes}
 use Rattle.ledger.specs.Layout as layout
@@ -15,40 +15,41 @@ use Rattle.ledger.specs.State.{State, transactorAt, placeOf}
 use Rattle.ledger.specs.Pack.{pack, unpack}
 use Rattle.ledger.specs.Form.{wellFormed}
 use Rattle.ledger.specs.Well.{WellFormed}
-use Rattle.ledger.specs.Calls.{wrongLength, beginAnswer, beginImage, stateAfter, stepsIn, runAnswer, ranImage, runImage, runReplies, offerRefusal, showRefusal}
+use Rattle.ledger.specs.Calls.{wrongLength, beginAnswer, beginImage, stateAfter, stepsIn, runAnswer, replyAt, ranImage, ranReplies, runImage, runReplies, offerRefusal, showRefusal}
 use Rattle.ledger.proofs.Sizes.{length-pack}
 use Rattle.ledger.proofs.There.{unpack-pack}
 use Rattle.ledger.proofs.FormedPack.{formed-pack}
 use Rattle.ledger.proofs.Fresh.{pack-fresh}
 use Rattle.ledger.proofs.KeepState.{well-fresh}
 use Rattle.ledger.proofs.KeepStep.{keeps-after}
-use Rattle.session.specs.Book.{Book, emptyBook, statusNumber, isMissing}
-use Rattle.session.specs.Trace.{Call, Answer, run, offer, show, ran, refusalIn, Performed, beginning, running, offering, showing, callRefusal, BookCall, book-refuses, book-begins, book-runs, book-offers, book-shows, Matches, CallStepsRight, run-right, begin-right, offer-right, show-right, CallRight}
+use Rattle.session.specs.Provenance.{Provenance, emptyProvenance, statusNumber, isMissing}
+use Rattle.session.specs.Fed.{Call, run, offer, show, callRefusal, ProvenanceCall, provenance-refuses, provenance-begins, provenance-runs, provenance-offers, provenance-shows}
+use Rattle.session.specs.Trace.{Answer, ran, refusalIn, Performed, beginning, running, offering, showing, Matches, CallStepsRight, run-right, begin-right, offer-right, show-right, CallRight}
 use Rattle.session.proofs.Model.{view}
 use Rattle.session.proofs.Relation.{Rel, fresh-rel}
 use Rattle.session.proofs.Sign.{rel-sound}
-use Rattle.session.proofs.Parcels.{missing-same}
+use Rattle.session.proofs.Messages.{missing-same}
 use Rattle.session.proofs.ViewState.{view-fresh, view-missing}
 use Rattle.session.proofs.Step.{matches-rel}
-use Rattle.session.proofs.Run.{Ran, steps-book}
+use Rattle.session.proofs.Run.{Ran, reply-part, steps-provenance}
 use Rattle.session.proofs.Run as steps
 
 -- ---- images that hold a well-formed state, related to a book
 
-pub record Holds (y : Layout) (img : List ℕ) (b : Book) : Type 0 where
+pub record Holds (y : Layout) (img : List ℕ) (b : Provenance) : Type 0 where
   pub back : pack y (unpack y img) ≡ img
   pub well : WellFormed y (unpack y img)
   pub rel : Rel (view (unpack y img)) b
 
-pub holds-pack : {y : Layout} {s : State} {b : Book} → WellFormed y s → Rel (view s) b → Holds y (pack y s) b
+pub holds-pack : {y : Layout} {s : State} {b : Provenance} → WellFormed y s → Rel (view s) b → Holds y (pack y s) b
 holds-pack {y} {s} {b} well r =
     let back : unpack y (pack y s) ≡ s = unpack-pack y s (well .packable) in
     record { back = ap (pack y) back; well = rw back well; rel = rw back r }
 
-pub holds-fresh : (y : Layout) → Holds y (zeros (imageBytes y)) emptyBook
+pub holds-fresh : (y : Layout) → Holds y (zeros (imageBytes y)) emptyProvenance
 holds-fresh y = rw (← pack-fresh y) (holds-pack (well-fresh y) (rw (view-fresh y) fresh-rel))
 
-module _ {y : Layout} {img : List ℕ} {b : Book} (h : Holds y img b) where
+module _ {y : Layout} {img : List ℕ} {b : Provenance} (h : Holds y img b) where
   -- its length is right, so 16 does not arise
   pub right-length : wrongLength y img ≡ false
   right-length = ap not (eq-eqb (length img) (imageBytes y) (ap length (sym (h .back)) ∙ length-pack y (unpack y img)))
@@ -76,27 +77,27 @@ module _ {y : Layout} {img : List ℕ} {b : Book} (h : Holds y img b) where
   show-same : (n : ℕ) → showRefusal y img n ≡ callRefusal b (show n)
   unfolding showRefusal
   show-same n =
-      let k : leb (length (unpack y img .messages)) (placeOf (unpack y img) n) ≡ isMissing n (b .parcels) = sym (view-missing (unpack y img) n) ∙ missing-same n (h .rel .parcels) in
+      let k : leb (length (unpack y img .messages)) (placeOf (unpack y img) n) ≡ isMissing n (b .messages) = sym (view-missing (unpack y img) n) ∙ missing-same n (h .rel .messages) in
       rw (right-length, right-form, k)
 
 -- ---- every call
 
 -- the book after call c: all that is claimed of the call, and an image after it that holds a state related to the book
-pub record Called (y : Layout) (m : Limits) (img : List ℕ) (b : Book) (c : Call) (a : Answer) (after : List ℕ) : Type 1 where
-  pub book : Book
-  pub right : CallRight y m img b c a after book
-  pub holds : Holds y after book
+pub record Called (y : Layout) (m : Limits) (img : List ℕ) (b : Provenance) (c : Call) (a : Answer) (after : List ℕ) : Type 1 where
+  pub provenance : Provenance
+  pub right : CallRight y m img b c a after provenance
+  pub holds : Holds y after provenance
 
 -- what is claimed of a call apart from refusal and steps
-module _ {y : Layout} {m : Limits} {img after : List ℕ} {b d : Book} {c : Call} {a : Answer} where
-  called-as : BookCall m b c d → refusalIn a ≡ callRefusal b c → CallStepsRight y m img b d c → Holds y after d → Called y m img b c a after
-  called-as book refusal steps h = record {
-    book = d;
-    right = record { book = book; refusal = refusal; steps = steps; matches = holds-matches h; sound = rel-sound (view (unpack y after)) d (h .rel) };
+module _ {y : Layout} {m : Limits} {img after : List ℕ} {b d : Provenance} {c : Call} {a : Answer} where
+  called-as : ProvenanceCall m b c d → refusalIn a ≡ callRefusal b c → CallStepsRight y m img b d c a → Holds y after d → Called y m img b c a after
+  called-as provenance refusal steps h = record {
+    provenance = d;
+    right = record { provenance = provenance; refusal = refusal; steps = steps; matches = holds-matches h; sound = rel-sound (view (unpack y after)) d (h .rel) };
     holds = h;
   }
 
-module _ {y : Layout} {m : Limits} (z : layout.Fitting y) (l : Allowed y m) {img : List ℕ} {b : Book} (h : Holds y img b) where
+module _ {y : Layout} {m : Limits} (z : layout.Fitting y) (l : Allowed y m) {img : List ℕ} {b : Provenance} (h : Holds y img b) where
   module _ (list : List ℕ) (o : Octets list) (start end : ℕ) (replies : List ℕ) where
     abbrev steps-of : List ℕ
     steps-of = part start (end - start) list
@@ -108,34 +109,37 @@ module _ {y : Layout} {m : Limits} (z : layout.Fitting y) (l : Allowed y m) {img
     the-answer = ran (runAnswer y img list start end replies) (runReplies y m img list start end replies)
 
     run-called : Called y m img b the-run the-answer (runImage y m img list start end replies)
-    unfolding runImage ranImage
+    unfolding runImage ranImage runReplies ranReplies
     run-called = go (ℕ-discrete (callRefusal b the-run) 0)
       where
         same : runAnswer y img list start end replies ≡ callRefusal b the-run
         same = run-same h list o start end replies
 
-        go : Dec (callRefusal b the-run ≡ 0) → Called y m img b the-run the-answer (pick (eqb (runAnswer y img list start end replies) 0) (pack y (stateAfter y m (unpack y img) steps-of (stepsIn steps-of))) img)
+        -- the run accepted or not, by its answer: the replies and the image
+        go : Dec (callRefusal b the-run ≡ 0)
+            → Called y m img b the-run (ran (runAnswer y img list start end replies) (pick (eqb (runAnswer y img list start end replies) 0) (chunks (stepsIn steps-of) (replyAt y m (unpack y img) steps-of)) replies))
+            (pick (eqb (runAnswer y img list start end replies) 0) (pack y (stateAfter y m (unpack y img) steps-of (stepsIn steps-of))) img)
         go (yes e) =
             let k : Ran y m (unpack y img) b steps-of (stepsIn steps-of) = steps.run-right z l (h .well) (h .rel) steps-of (octets-part start (end - start) list o) (stepsIn steps-of) in
             let after : Holds y (pack y (stateAfter y m (unpack y img) steps-of (stepsIn steps-of))) (k .after) =
             holds-pack (keeps-after z l (h .well) steps-of (octets-part start (end - start) list o) (stepsIn steps-of)) (k .rel) in
             rw (eq-eqb (runAnswer y img list start end replies) 0 (same ∙ e))
-            (called-as (book-runs e (steps-book (k .right))) same (run-right (λ e. k .right)) after)
+            (called-as (provenance-runs e (steps-provenance (k .right))) same (run-right (λ e. record { right = k .right; given = reply-part y m (unpack y img) steps-of (stepsIn steps-of) })) after)
         go (no n) =
             rw (ne-eqb (runAnswer y img list start end replies) 0 (λ e. n (sym same ∙ e)))
-            (called-as (book-refuses n) same (run-right (λ e. absurd (n e))) h)
+            (called-as (provenance-refuses n) same (run-right (λ e. absurd (n e))) h)
 
   pub call-right : {c : Call} {a : Answer} {after : List ℕ} → Performed y m img c a after → Called y m img b c a after
   unfolding beginAnswer beginImage
-  call-right beginning = rw (right-length h) (called-as book-begins refl begin-right (holds-fresh y))
+  call-right beginning = rw (right-length h) (called-as provenance-begins refl begin-right (holds-fresh y))
   call-right (running {list} {o} {start} {end} {replies}) = run-called list o start end replies
   call-right (offering {t} f) = called-as (go (ℕ-discrete (callRefusal b (offer t)) 0)) (offer-same h t) offer-right h
     where
-      go : Dec (callRefusal b (offer t) ≡ 0) → BookCall m b (offer t) b
-      go (yes e) = book-offers e
-      go (no n) = book-refuses n
+      go : Dec (callRefusal b (offer t) ≡ 0) → ProvenanceCall m b (offer t) b
+      go (yes e) = provenance-offers e
+      go (no n) = provenance-refuses n
   call-right (showing {n}) = called-as (go (ℕ-discrete (callRefusal b (show n)) 0)) (show-same h n) show-right h
     where
-      go : Dec (callRefusal b (show n) ≡ 0) → BookCall m b (show n) b
-      go (yes e) = book-shows e
-      go (no k) = book-refuses k
+      go : Dec (callRefusal b (show n) ≡ 0) → ProvenanceCall m b (show n) b
+      go (yes e) = provenance-shows e
+      go (no k) = provenance-refuses k

@@ -1,4 +1,4 @@
--- Parcels made are those received, plus those lost, plus those waiting.
+-- Messages made are those received, plus those lost, plus those waiting.
 use Prim.Native.Nat.{ℕ, zero, suc, _+_, _-_, _*_, _≤_, _<_}
 use mathlib.Core.Bool.{Bool, true, false}
 use mathlib.Core.Path.{_≡_, refl, ap, sym, _∙_}
@@ -10,9 +10,8 @@ use lib.ListN.{length, getD, take, drop, length-append, length-drop, length-map}
 use lib.Seq.{length-take-le}
 use borrow.Author.Tests.{eqb-true, eqb-false, ne-eqb, leb-false}
 use Rattle.octets.specs.Bytes.{pick, _and_, _or_, part, chunks, Octets}
-use Rattle.octets.proofs.Chunks.{part-chunks}
 use Rattle.octets.proofs.Put.{getD-part, octets-part}
-use Rattle.octets.proofs.Numbers.{length-be, be-one}
+use Rattle.octets.proofs.Numbers.{be-one}
 use Rattle.ledger.specs.Layout.{Layout, Limits, base, standard, Allowed, Fitting}
 use Rattle.ledger.specs.State.{Transactor, Message, State, ownHistory, transactorAt, messageAt, placeOf, withTransactor, withOpened, withMessage, withoutMessage}
 use Rattle.ledger.specs.declared.Step.{Step}
@@ -26,15 +25,17 @@ use Rattle.ledger.specs.Calls.{beginAnswer, beginImage, stateAfter, replyAt, st
 use Rattle.ledger.proofs.There.{unpack-pack}
 use Rattle.ledger.proofs.KeepStep.{keeps-after, replies-fit, sound-base, allowed-standard}
 use Rattle.session.specs.Count.{made, received, lost, once, countSteps, countCall, count, waiting}
-use Rattle.session.specs.Book.{Book}
-use Rattle.session.specs.Trace.{Call, Answer, run, ran, Performed, beginning, running, offering, showing, Trace, called}
+use Rattle.session.specs.Provenance.{Provenance}
+use Rattle.session.specs.Fed.{Call, run}
+use Rattle.session.specs.Trace.{Answer, ran, Performed, beginning, running, offering, showing, Trace, called}
 use Rattle.session.specs.Trace as trace
 use Rattle.session.proofs.Model.{viewMail, view}
 use Rattle.session.proofs.Relation.{all2-length}
+use Rattle.session.proofs.Run.{reply-part}
 use Rattle.session.proofs.Calls.{Holds, holds-fresh, right-length}
 use Rattle.session.proofs.Demand3.{begun-fresh, grown}
 use Rattle.session.proofs.Tables.{pick-view}
-use Rattle.session.proofs.Accepted.{Accepted, accepted}
+use Rattle.ledger.proofs.KeepAccepted.{Accepted, accepted, message-waits}
 
 -- ---- a step that is not refused
 
@@ -74,8 +75,8 @@ receipt y t x q =
 
 module _ (y : Layout) (m : Limits) (s : State) (p : Step) (ok : Accepted m (seen y s) p) where
   waits : eqb (p .kind) receive or eqb (p .kind) lose ≡ true → placeOf s (p .message) < length (s .messages)
-  unfolding seen notWaiting
-  waits e = leb-false (length (s .messages)) (placeOf s (p .message)) (rw e at (ok .waiting))
+  unfolding seen
+  waits e = leb-false (length (s .messages)) (placeOf s (p .message)) (message-waits ok e)
 
   receive-balanced : p .kind ≡ receive → Balanced (p .kind) s (applyReceive y s p)
   unfolding applyReceive withoutMessage withTransactor received lost
@@ -150,10 +151,6 @@ step-balanced y m s p =
 
 -- ---- the steps of a run
 
-length-packReply : (r : Reply) → length (packReply r) ≡ stepBytes
-unfolding packReply
-length-packReply r = simp (length-append, length-be)
-
 first-packReply : (r : Reply) → r .outcome < 256 → getD (packReply r) 0 0 ≡ r .outcome
 unfolding packReply
 first-packReply r h = rw (be-one (r .outcome) h)
@@ -161,11 +158,10 @@ first-packReply r h = rw (be-one (r .outcome) h)
 module _ {y : Layout} {m : Limits} (z : Fitting y) (l : Allowed y m) {s : State} (well : WellFormed y s) (steps : List ℕ) (octets : Octets steps) where
   -- the first byte of reply i among the n packed ones
   reply-byte : (n i : ℕ) → i < n → getD (chunks n (replyAt y m s steps)) (stepBytes * i) 0 ≡ stepOf y m (stateAfter y m s steps i) (stepAt steps i) .reply .outcome
-  unfolding replyAt
   reply-byte n i h =
       let r : Reply = stepOf y m (stateAfter y m s steps i) (stepAt steps i) .reply in
       let all : List ℕ = chunks n (replyAt y m s steps) in
-      let a : part (stepBytes * i) stepBytes all ≡ packReply r = part-chunks stepBytes (replyAt y m s steps) (λ j. length-packReply _) n i h in
+      let a : part (stepBytes * i) stepBytes all ≡ packReply r = reply-part y m s steps n i h in
       let b : getD (part (stepBytes * i) stepBytes all) 0 0 ≡ getD all (stepBytes * i) 0 = rw add-zero at (getD-part (stepBytes * i) stepBytes all 0 (omega arith)) in
       let c : getD (packReply r) 0 0 ≡ r .outcome = first-packReply r (replies-fit z l well steps octets i .outcome) in
       sym b ∙ ap (λ (b : List ℕ). getD b 0 0) a ∙ c
@@ -179,15 +175,15 @@ module _ {y : Layout} {m : Limits} (z : Fitting y) (l : Allowed y m) {s : State}
 
 -- ---- calls
 
-holds-waiting : {y : Layout} {img : List ℕ} {b : Book} → Holds y img b → waiting y img ≡ length (b .parcels)
+holds-waiting : {y : Layout} {img : List ℕ} {b : Provenance} → Holds y img b → waiting y img ≡ length (b .messages)
 unfolding waiting view
-holds-waiting {y} {img} h = sym (length-map (unpack y img .messages) viewMail) ∙ all2-length (h .rel .parcels)
+holds-waiting {y} {img} h = sym (length-map (unpack y img .messages) viewMail) ∙ all2-length (h .rel .messages)
 
 waiting-pack : {y : Layout} {s : State} → WellFormed y s → waiting y (pack y s) ≡ length (s .messages)
 unfolding waiting
 waiting-pack {y} {s} well = rw (unpack-pack y s (well .packable))
 
-module _ {y : Layout} {m : Limits} (z : Fitting y) (l : Allowed y m) {img : List ℕ} {b : Book} (h : Holds y img b) (n k j : ℕ) (before : n ≡ k + j + waiting y img) where
+module _ {y : Layout} {m : Limits} (z : Fitting y) (l : Allowed y m) {img : List ℕ} {b : Provenance} (h : Holds y img b) (n k j : ℕ) (before : n ≡ k + j + waiting y img) where
   abbrev Even : Call → Answer → List ℕ → Type 0
   Even c a after = countCall made c a n ≡ countCall received c a k + countCall lost c a j + waiting y after
 
@@ -217,11 +213,11 @@ module _ {y : Layout} {m : Limits} (z : Fitting y) (l : Allowed y m) {img : List
 
 -- In a session grown from a fresh one, counting only from its last accepted begin, parcels made, counted from the steps, are
 -- those received with outcomes 0, 2, 3, 4, plus those lost, plus those waiting.
-pub parcels-counted : (y : Layout) (m : Limits) → Fitting y → Allowed y m → {img : List ℕ} (τ : Trace y m img)
+pub messages-counted : (y : Layout) (m : Limits) → Fitting y → Allowed y m → {img : List ℕ} (τ : Trace y m img)
     → count made τ ≡ count received τ + count lost τ + waiting y img
 unfolding count
-parcels-counted y m z l (trace.opened img e) = rw (holds-waiting (begun-fresh y img e))
-parcels-counted y m z l (called τ c a p) = call-counted z l (grown z l τ .holds) (count made τ) (count received τ) (count lost τ) (parcels-counted y m z l τ) p
+messages-counted y m z l (trace.opened img e) = rw (holds-waiting (begun-fresh y img e))
+messages-counted y m z l (called τ c a p) = call-counted z l (grown z l τ .holds) (count made τ) (count received τ) (count lost τ) (messages-counted y m z l τ) p
 
-pub parcels-counted-base : {img : List ℕ} (τ : Trace base standard img) → count made τ ≡ count received τ + count lost τ + waiting base img
-parcels-counted-base τ = parcels-counted base standard sound-base allowed-standard τ
+pub messages-counted-base : {img : List ℕ} (τ : Trace base standard img) → count made τ ≡ count received τ + count lost τ + waiting base img
+messages-counted-base τ = messages-counted base standard sound-base allowed-standard τ

@@ -6,53 +6,60 @@ use mathlib.Core.List.{List}
 use native.Mathlib.Omega.{arith}
 use Rattle.octets.specs.Bytes.{pick, zeros}
 use Rattle.ledger.specs.Layout.{Layout, Limits, base, standard, Fitting, Allowed, imageBytes}
+use Rattle.ledger.specs.Pack.{unpack}
 use Rattle.ledger.specs.Calls.{wrongLength, beginAnswer, beginImage}
 use Rattle.ledger.proofs.KeepStep.{sound-base, allowed-standard}
-use Rattle.session.specs.Book.{Book, emptyBook}
-use Rattle.session.specs.Trace.{Trace, opened, called, Right, opened-right, called-right}
+use Rattle.session.specs.Provenance.{Provenance, emptyProvenance}
+use Rattle.session.specs.Fed.{ProvenanceOf}
+use Rattle.session.specs.Trace.{Trace, opened, called, callsOf, Right, opened-right, called-right}
+use Rattle.session.proofs.Model.{view}
+use Rattle.session.proofs.Sign.{rel-sound}
+use Rattle.session.proofs.Unique.{right-provenance}
 use Rattle.session.proofs.Calls.{Holds, holds-fresh, holds-matches, call-right}
 
 -- an accepted begin leaves a fresh image
-pub begun-fresh : (y : Layout) (img : List ℕ) → beginAnswer y img ≡ 0 → Holds y (beginImage y img) emptyBook
+pub begun-fresh : (y : Layout) (img : List ℕ) → beginAnswer y img ≡ 0 → Holds y (beginImage y img) emptyProvenance
 unfolding beginAnswer beginImage
 begun-fresh y img e = go (wrongLength y img) e
   where
-    go : (t : Bool) → _≡_ {A = ℕ} (pick t 16 0) 0 → Holds y (pick t img (zeros (imageBytes y))) emptyBook
+    go : (t : Bool) → _≡_ {A = ℕ} (pick t 16 0) 0 → Holds y (pick t img (zeros (imageBytes y))) emptyProvenance
     go true e = absurd (omega arith)
     go false e = holds-fresh y
 
 -- the book of a trace, with the relation that carries the claim from call to call
 pub record Grown (y : Layout) (m : Limits) (img : List ℕ) (τ : Trace y m img) : Type 1 where
-  pub book : Book
-  pub right : Right y m img τ book
-  pub holds : Holds y img book
+  pub provenance : Provenance
+  pub right : Right y m img τ provenance
+  pub holds : Holds y img provenance
 
 module _ {y : Layout} {m : Limits} (z : Fitting y) (l : Allowed y m) where
   pub grown : {img : List ℕ} (τ : Trace y m img) → Grown y m img τ
   grown (opened img e) =
-      let h : Holds y (beginImage y img) emptyBook = begun-fresh y img e in
-      record { book = emptyBook; right = opened-right (holds-matches h); holds = h }
+      let h : Holds y (beginImage y img) emptyProvenance = begun-fresh y img e in
+      record { provenance = emptyProvenance; right = opened-right (holds-matches h) (rel-sound (view (unpack y (beginImage y img))) emptyProvenance (h .rel)); holds = h }
   grown (called τ c a p) =
       let before = grown τ in
       let k = call-right z l (before .holds) p in
-      record { book = k .book; right = called-right (before .right) (k .right); holds = k .holds }
+      record { provenance = k .provenance; right = called-right (before .right) (k .right); holds = k .holds }
 
 -- A trace is a session grown from a fresh one: "an accepted begin, then any list of begins, runs, offers and shows on that
 -- image, refused ones included. Each gets the image as the last left it". Its calls are performed by the definitions that the
 -- contracts of begin, run, offer and show cite, and offer may give any parcel that its contract allows. For every layout whose
 -- counts fit their fields, all limits that the layout can hold, and every trace there is a book, fed the trace's calls alone
--- (right-book; no other book is fed them: book-unique), such that at every call, and at every step of every run:
+-- (ProvenanceOf; no other book is fed them: provenance-unique), such that at every call, and at every step of every run:
 -- * "It refuses calls and steps by the table .., judged by what it holds itself; 19 never arises": a call answers the book's
---   refusal, or 0 (CallRight, refusal). A step that the book refuses replies that number and all else 0 (StepRight, refused);
---   any other step replies an outcome, 0 to 5 (accepted).
+--   refusal, or 0 (CallRight, refusal). A step that the book refuses replies that number and all else 0, and leaves the state
+--   (StepRight, refused); any other step replies an outcome, 0 to 5 (accepted). These replies, packed, are the bytes that the
+--   run hands back (RunRight, given).
 -- * "Sign, if the two sets are equal": a signing that is not refused replies 0 and signs its volume exactly if the unsigned
 --   lives that the named takes rest on, own included, are the present lives of the named takes that are frozen; else it replies
 --   5, and nothing changes (signing).
 -- * Live takes and their own marks are the book's, after every step and every call (matches).
 -- * No text signed since the begin rests on a withdrawn life, where present, signed and withdrawn "go by the book's marks" (sound).
-pub demand3 : (y : Layout) (m : Limits) → Fitting y → Allowed y m → {img : List ℕ} (τ : Trace y m img) → (b : Book) × Right y m img τ b
-demand3 y m z l τ = let k = grown z l τ in (k .book, k .right)
+pub demand3 : (y : Layout) (m : Limits) → Fitting y → Allowed y m → {img : List ℕ} (τ : Trace y m img)
+    → (b : Provenance) × ProvenanceOf m (callsOf τ) b × Right y m img τ b
+demand3 y m z l τ = let k = grown z l τ in (k .provenance, right-provenance (k .right), k .right)
 
 -- The same at document 01's own layout and limits: no hypothesis but the trace.
-pub demand3-base : {img : List ℕ} (τ : Trace base standard img) → (b : Book) × Right base standard img τ b
+pub demand3-base : {img : List ℕ} (τ : Trace base standard img) → (b : Provenance) × ProvenanceOf standard (callsOf τ) b × Right base standard img τ b
 demand3-base τ = demand3 base standard sound-base allowed-standard τ

@@ -10,22 +10,25 @@ use lib.Dec.{eqb, leb}
 use borrow.Author.Tests.{eqb-true, eqb-false, eq-eqb, ne-eqb, le-leb}
 use Rattle.octets.specs.Bytes.{pick}
 use Rattle.octets.specs.Numbers.{bound}
+use Rattle.marks.specs.History.{initialView}
+use Rattle.maps.specs.View.{emptyView}
 use Rattle.ledger.specs.Layout.{Limits}
 use Rattle.ledger.specs.declared.Step.{Step}
 use Rattle.ledger.specs.Step.{root, letter, receive, new, send, fail, lose, sign}
 use Rattle.ledger.specs.Refusals.{named, acts}
-use Rattle.session.specs.Book.{Live, initialMark, Book, withHolder, withParcel, withoutParcel}
+use Rattle.ledger.proofs.KeepAccepted.{kind-known}
+use Rattle.session.specs.Provenance.{Live, Provenance, withHolder, withWaitingMessage, withoutWaitingMessage}
 use Rattle.session.specs.Grounds.{Equal}
-use Rattle.session.specs.Steps.{carried, acted, opensRoot, opensChild, receives, applied, signs, bookSeen, bookRefusal, BookStep, refuses, applies, signing, not-ready}
-use Rattle.session.proofs.Model.{noMarks, Node, Ledger, withNode, openNode, withMail, withoutMail, findMail, anewNode, sentMap, childNode, openerNode, signLedger}
+use Rattle.session.specs.Steps.{carried, acted, opensRoot, opensChild, receives, applied, signs, provenanceRefusal, ProvenanceStep, refuses, applies, signing, not-ready}
+use Rattle.session.proofs.Model.{Node, Ledger, withNode, openNode, withMail, withoutMail, findMail, anewNode, sentMap, childNode, openerNode, signLedger}
 use Rattle.session.proofs.Tables.{pick-view, pick-both, and-of}
 use Rattle.session.proofs.Relation.{Rel}
 use Rattle.session.proofs.Locals.{actedNode, step-acted}
-use Rattle.session.proofs.Parcels.{ReceiptTests, receiveMail, step-send, step-letter, step-lose, step-receive}
+use Rattle.session.proofs.Messages.{ReceiptTests, receiveMail, step-send, step-letter, step-lose, step-receive}
 use Rattle.session.proofs.Opening.{step-root, step-new}
 use Rattle.session.proofs.Sign.{Ready, ready-equal, equal-ready}
 use Rattle.session.proofs.Signing.{step-sign}
-use Rattle.session.proofs.Accepted.{book-accepted, accepted-kind, acting-live, receiving-live, named-live}
+use Rattle.session.proofs.Accepted.{provenance-accepted, acting-live, receiving-live, named-live}
 
 -- ---- a step of the ledger: refused with the number n, or applied
 
@@ -34,8 +37,8 @@ unfoldable pub appliedLedger : Bool → Bool → Bool → Ledger → Step → Le
 appliedLedger d e ok l p =
     let t : ℕ = p .transactor in
     let x : Node = l .nodes t in
-    pick (eqb (p .kind) root) (openNode l (anewNode (l .opened) initialMark))
-    (pick (eqb (p .kind) letter) (withMail l t noMarks)
+    pick (eqb (p .kind) root) (openNode l (anewNode (l .opened) initialView))
+    (pick (eqb (p .kind) letter) (withMail l t emptyView)
     (pick (eqb (p .kind) receive) (receiveMail d e l (p .message))
     (pick (eqb (p .kind) new) (openNode (withNode l t (openerNode (l .opened) x)) (childNode (l .opened) (sentMap t x)))
     (pick (eqb (p .kind) send) (withMail l (p .other) (sentMap t x))
@@ -55,23 +58,23 @@ pub record StepTests (l : Ledger) (p : Step) (d e ok : Bool) : Type 0 where
 acts-between : (k : ℕ) → new ≤ k → k ≤ fail → acts k ≡ true
 acts-between k h g = and-of (leb new k) (leb k fail) (le-leb new k h) (le-leb k fail g)
 
-module _ (l : Ledger) (b : Book) (r : Rel l b) (m : Limits) (p : Step) (zero : bookRefusal m b p ≡ 0) (d e ok : Bool) (tests : StepTests l p d e ok) where
+module _ (l : Ledger) (b : Provenance) (r : Rel l b) (m : Limits) (p : Step) (zero : provenanceRefusal m b p ≡ 0) (d e ok : Bool) (tests : StepTests l p d e ok) where
   applied-rel : (p .kind ≡ sign → ⊥) → Rel (appliedLedger d e ok l p) (applied b p)
   unfolding appliedLedger applied
   applied-rel other =
       let t = p .transactor in let k = p .kind in
       let x = l .nodes t in let h = b .holders t in
-      let high = accepted-kind m (bookSeen b) p (book-accepted l b r m p zero) in
+      let high = kind-known (provenance-accepted l b r m p zero) in
       let live : new ≤ k → k ≤ fail → Live (h .status) = λ f g. acting-live l b r m p zero (acts-between k f g) in
       pick-both Rel (eqb k root) (eqb k root) refl _ _ (opensRoot b) _ (λ i. step-root l b r) λ i1.
-      pick-both Rel (eqb k letter) (eqb k letter) refl _ _ (withParcel b t []) _ (λ i. step-letter l b r t) λ i2.
+      pick-both Rel (eqb k letter) (eqb k letter) refl _ _ (withWaitingMessage b t []) _ (λ i. step-letter l b r t) λ i2.
       pick-both Rel (eqb k receive) (eqb k receive) refl _ _ (receives b (p .message)) _
       (λ i. step-receive l b r (p .message) d e (receiving-live l b r m p zero (eqb-true k receive i)) (tests .receipt)) λ i3.
       pick-both Rel (eqb k new) (eqb k new) refl _ _ (opensChild b t) _
       (λ i. let j = eqb-true k new i in step-new l b r t (live (omega arith) (omega arith))) λ i4.
-      pick-both Rel (eqb k send) (eqb k send) refl _ _ (withParcel b (p .other) (carried t h)) _
+      pick-both Rel (eqb k send) (eqb k send) refl _ _ (withWaitingMessage b (p .other) (carried t h)) _
       (λ i. let j = eqb-true k send i in step-send l b r t (p .other) (live (omega arith) (omega arith))) λ i5.
-      pick-both Rel (eqb k lose) (eqb k lose) refl _ _ (withoutParcel b (p .message)) _ (λ i. step-lose l b r (p .message)) λ i6.
+      pick-both Rel (eqb k lose) (eqb k lose) refl _ _ (withoutWaitingMessage b (p .message)) _ (λ i. step-lose l b r (p .message)) λ i6.
       pick-view (λ z. Rel z (withHolder b t (acted k t h))) (eqb k sign) _ (withNode l t (actedNode k t x)) (λ i. absurd (other (eqb-true k sign i))) λ i7.
       let n1 = eqb-false k root i1 in let n2 = eqb-false k letter i2 in let n3 = eqb-false k receive i3 in
       let n6 = eqb-false k lose i6 in let n7 = eqb-false k sign i7 in
@@ -86,24 +89,24 @@ module _ (l : Ledger) (b : Book) (r : Rel l b) (m : Limits) (p : Step) (zero : b
     )
 
     -- both sides sign, or neither
-    signed-rel : ok ≡ true → Rel (appliedLedger d e ok l p) (signs b (p .message))
+    checkpointed-rel : ok ≡ true → Rel (appliedLedger d e ok l p) (signs b (p .message))
     unfolding appliedLedger
-    signed-rel i = rw (k, i) (step-sign l b r (p .message) (tests .ready .0 i))
+    checkpointed-rel i = rw (k, i) (step-sign l b r (p .message) (tests .ready .0 i))
 
-    unsigned-rel : ok ≡ false → Rel (appliedLedger d e ok l p) b
+    uncheckpointed-rel : ok ≡ false → Rel (appliedLedger d e ok l p) b
     unfolding appliedLedger
-    unsigned-rel i = rw (k, i) r
+    uncheckpointed-rel i = rw (k, i) r
 
 -- ---- every step
 
 -- the book after step p, related to the ledger after it
-pub record Kept (m : Limits) (b : Book) (p : Step) (l : Ledger) : Type 1 where
-  pub after : Book
-  pub step : BookStep m b p after
+pub record Kept (m : Limits) (b : Provenance) (p : Step) (l : Ledger) : Type 1 where
+  pub after : Provenance
+  pub step : ProvenanceStep m b p after
   pub rel : Rel l after
 
-module _ (l : Ledger) (b : Book) (r : Rel l b) (m : Limits) (p : Step) (bits : p .message < bound 2) (d e ok : Bool) (tests : StepTests l p d e ok) where
-  applied-kept : bookRefusal m b p ≡ 0 → Kept m b p (appliedLedger d e ok l p)
+module _ (l : Ledger) (b : Provenance) (r : Rel l b) (m : Limits) (p : Step) (bits : p .message < bound 2) (d e ok : Bool) (tests : StepTests l p d e ok) where
+  applied-kept : provenanceRefusal m b p ≡ 0 → Kept m b p (appliedLedger d e ok l p)
   applied-kept zero = go (ℕ-discrete (p .kind) sign) ok refl
     where
       go : Dec (p .kind ≡ sign) → (t : Bool) → ok ≡ t → Kept m b p (appliedLedger d e ok l p)
@@ -111,15 +114,15 @@ module _ (l : Ledger) (b : Book) (r : Rel l b) (m : Limits) (p : Step) (bits : p
       go (yes k) true i = record {
         after = signs b (p .message);
         step = signing zero k (sign-exact l b r m p zero d e ok tests k bits .0 i);
-        rel = signed-rel l b r m p zero d e ok tests k bits i;
+        rel = checkpointed-rel l b r m p zero d e ok tests k bits i;
       }
       go (yes k) false i = record {
         after = b;
         step = not-ready zero k (λ q. false≢true (sym i ∙ sign-exact l b r m p zero d e ok tests k bits .1 q));
-        rel = unsigned-rel l b r m p zero d e ok tests k bits i;
+        rel = uncheckpointed-rel l b r m p zero d e ok tests k bits i;
       }
 
-  pub step-kept : (n : ℕ) → n ≡ bookRefusal m b p → Kept m b p (stepLedger n d e ok l p)
+  pub step-kept : (n : ℕ) → n ≡ provenanceRefusal m b p → Kept m b p (stepLedger n d e ok l p)
   unfolding stepLedger
   step-kept n s = go (ℕ-discrete n 0)
     where
@@ -129,20 +132,20 @@ module _ (l : Ledger) (b : Book) (r : Rel l b) (m : Limits) (p : Step) (bits : p
 
 -- ---- the book is determined by the steps it is fed
 
-pub book-determined : {m : Limits} {b c c′ : Book} {p : Step} → BookStep m b p c → BookStep m b p c′ → c ≡ c′
-book-determined (refuses z) (refuses z′) = refl
-book-determined (refuses z) (applies z′ k′) = absurd (z z′)
-book-determined (refuses z) (signing z′ k′ q′) = absurd (z z′)
-book-determined (refuses z) (not-ready z′ k′ q′) = absurd (z z′)
-book-determined (applies z k) (refuses z′) = absurd (z′ z)
-book-determined (applies z k) (applies z′ k′) = refl
-book-determined (applies z k) (signing z′ k′ q′) = absurd (k k′)
-book-determined (applies z k) (not-ready z′ k′ q′) = absurd (k k′)
-book-determined (signing z k q) (refuses z′) = absurd (z′ z)
-book-determined (signing z k q) (applies z′ k′) = absurd (k′ k)
-book-determined (signing z k q) (signing z′ k′ q′) = refl
-book-determined (signing z k q) (not-ready z′ k′ q′) = absurd (q′ q)
-book-determined (not-ready z k q) (refuses z′) = absurd (z′ z)
-book-determined (not-ready z k q) (applies z′ k′) = absurd (k′ k)
-book-determined (not-ready z k q) (signing z′ k′ q′) = absurd (q q′)
-book-determined (not-ready z k q) (not-ready z′ k′ q′) = refl
+pub provenance-determined : {m : Limits} {b c c′ : Provenance} {p : Step} → ProvenanceStep m b p c → ProvenanceStep m b p c′ → c ≡ c′
+provenance-determined (refuses z) (refuses z′) = refl
+provenance-determined (refuses z) (applies z′ k′) = absurd (z z′)
+provenance-determined (refuses z) (signing z′ k′ q′) = absurd (z z′)
+provenance-determined (refuses z) (not-ready z′ k′ q′) = absurd (z z′)
+provenance-determined (applies z k) (refuses z′) = absurd (z′ z)
+provenance-determined (applies z k) (applies z′ k′) = refl
+provenance-determined (applies z k) (signing z′ k′ q′) = absurd (k k′)
+provenance-determined (applies z k) (not-ready z′ k′ q′) = absurd (k k′)
+provenance-determined (signing z k q) (refuses z′) = absurd (z′ z)
+provenance-determined (signing z k q) (applies z′ k′) = absurd (k′ k)
+provenance-determined (signing z k q) (signing z′ k′ q′) = refl
+provenance-determined (signing z k q) (not-ready z′ k′ q′) = absurd (q′ q)
+provenance-determined (not-ready z k q) (refuses z′) = absurd (z′ z)
+provenance-determined (not-ready z k q) (applies z′ k′) = absurd (k′ k)
+provenance-determined (not-ready z k q) (signing z′ k′ q′) = absurd (q q′)
+provenance-determined (not-ready z k q) (not-ready z′ k′ q′) = refl

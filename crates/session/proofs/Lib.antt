@@ -4,10 +4,9 @@ pub mod Count
 pub mod Demand3
 pub mod Kept
 pub mod Locals
-pub mod Marks
+pub mod Messages
 pub mod Model
 pub mod Opening
-pub mod Parcels
 pub mod Plays
 pub mod Relation
 pub mod Run
@@ -19,7 +18,6 @@ pub mod Step
 pub mod Tables
 pub mod Tries
 pub mod Unique
-pub mod ViewMaps
 pub mod ViewRules
 pub mod ViewSeen
 pub mod ViewState

@@ -10,45 +10,48 @@ use lib.Dec.{eqb}
 use Rattle.octets.specs.Bytes.{pick}
 use Rattle.octets.proofs.Chunks.{sides}
 use Rattle.marks.specs.Incarnation.{Incarnation, nextIncarnation}
+use Rattle.marks.specs.History.{HistoryView, initialView}
 use Rattle.marks.proofs.Order.{precedes-refl, precedes-next, precedes-eq, superseded-next, superseded-ne}
+use Rattle.maps.specs.Table.{updated}
+use Rattle.maps.proofs.Tables.{updated-same, updated-view}
 use Rattle.ledger.specs.Step.{read, write, freeze, finish, fall}
-use Rattle.session.specs.Book.{unused, ready, annihilated, Live, idle, In, Mark, initialMark, Holder, Book, blank, updated, withHolder}
-use Rattle.session.specs.Steps.{anew, isNil, fallen, reads, writes, freezes, finishes, falls, fails, acted}
-use Rattle.session.proofs.Model.{Node, Ledger, own, withNode, bareNode, anewNode, readNode, writeNode, freezeNode, finishNode, fallenNode}
-use Rattle.session.proofs.Tables.{pick-both, updated-same, updated-view, updated-both}
+use Rattle.session.specs.Provenance.{unused, ready, annihilated, Live, idle, In, Holder, Provenance, blank, withHolder}
+use Rattle.session.specs.Steps.{anew, isNil, rolledBackHolder, reads, writes, freezes, finishes, rollsBackOrFinishes, rollsBackOrStays, acted}
+use Rattle.session.proofs.Model.{Node, Ledger, own, withNode, bareNode, anewNode, readNode, writeNode, freezeNode, finishNode, rollbackNode}
+use Rattle.session.proofs.Tables.{pick-both, updated-both}
 use Rattle.session.proofs.Sets.{_⊑_, ⊑-refl, set-join, set-later, none-rel, only-rel, only-same, in-one, Cell, newest, cell-has, cell-later, own-kept, coherent-part}
-use Rattle.session.proofs.Relation.{live-used, gone-used, goneMark, presentOf, present, present-live, present-gone, Whole, in-state, in-creation, in-behaviour, HolderRel, Rel, own-mark, holder-later, holder-kept, parcels-kept, noted-kept, blank-rel}
+use Rattle.session.proofs.Relation.{live-used, gone-used, goneView, presentOf, present, present-live, present-gone, Whole, in-state, in-creation, in-behaviour, HolderRel, Rel, own-history, holder-later, holder-kept, messages-kept, noted-kept, blank-rel}
 
 -- ---- the present mark moves on
 
-abbrev frozen : Mark → Mark
+abbrev frozen : HistoryView → HistoryView
 frozen m = record { stable = true; incarnation = m .incarnation }
 
-abbrev next : Mark → Mark
+abbrev next : HistoryView → HistoryView
 next m = record { stable = false; incarnation = nextIncarnation (m .incarnation) }
 
-frozen-grows : (m : Mark) → m ⊑ frozen m
-frozen-grows m = record { incarnation = precedes-refl _; stable = λ e f. refl }
+stable-grows : (m : HistoryView) → m ⊑ frozen m
+stable-grows m = record { incarnation = precedes-refl _; stable = λ e f. refl }
 
-next-grows : (m : Mark) → m ⊑ next m
+next-grows : (m : HistoryView) → m ⊑ next m
 next-grows m = record { incarnation = precedes-next (m .incarnation); stable = λ e. absurd (superseded-ne (superseded-next (m .incarnation)) e) }
 
 -- a take that vanishes was in its opening life
-gone-grows : (m : Mark) → m .incarnation .checkpoints ≡ [] → m .incarnation .number ≡ 0 → m ⊑ goneMark
+gone-grows : (m : HistoryView) → m .incarnation .checkpoints ≡ [] → m .incarnation .number ≡ 0 → m ⊑ goneView
 gone-grows m p q = record { incarnation = precedes-eq (λ i. record { checkpoints = p i; number = q i }); stable = λ e f. refl }
 
 -- ---- one take changed on both sides
 
-pub live-opened : (l : Ledger) (b : Book) → Rel l b → (t : ℕ) → Live (b .holders t .status) → t < b .opened
+pub live-opened : (l : Ledger) (b : Provenance) → Rel l b → (t : ℕ) → Live (b .holders t .status) → t < b .opened
 live-opened l b r t live = ⊎-elim (λ h. h) (λ h. absurd (live-used live (r .fresh t h))) (sides t (b .opened))
 
-module _ (l : Ledger) (b : Book) (r : Rel l b) (t : ℕ) (live : Live (b .holders t .status)) where
-  pub present-is : present (b .holders) t ≡ b .holders t .mark
-  present-is = present-live (b .holders t .status) (b .holders t .mark) live
+module _ (l : Ledger) (b : Provenance) (r : Rel l b) (t : ℕ) (live : Live (b .holders t .status)) where
+  pub present-is : present (b .holders) t ≡ b .holders t .history
+  present-is = present-live (b .holders t .status) (b .holders t .history) live
 
-  module _ (x : Node) (h : Holder) (used : h .status ≡ unused → ⊥) (grows : b .holders t .mark ⊑ presentOf (h .status) (h .mark)) where
+  module _ (x : Node) (h : Holder) (used : h .status ≡ unused → ⊥) (grows : b .holders t .history ⊑ presentOf (h .status) (h .history)) where
     pub grow : (u : ℕ) → present (b .holders) u ⊑ present (updated (b .holders) t h) u
-    grow = updated-view (λ u z. present (b .holders) u ⊑ presentOf (z .status) (z .mark)) (b .holders) t h (rw present-is grows) (λ u n. ⊑-refl _)
+    grow = updated-view (λ u z. present (b .holders) u ⊑ presentOf (z .status) (z .history)) (b .holders) t h (rw present-is grows) (λ u n. ⊑-refl _)
 
     pub put-rel : HolderRel (present (updated (b .holders) t h)) t x h → Rel (withNode l t x) (withHolder b t h)
     put-rel k =
@@ -60,22 +63,22 @@ module _ (l : Ledger) (b : Book) (r : Rel l b) (t : ℕ) (live : Live (b .holder
           fresh = updated-view (λ u z. b .opened ≤ u → z .status ≡ unused) (b .holders) t h
               (λ i. let o = live-opened l b r t live in absurd (omega arith)) (λ u n. r .fresh u);
           holders = updated-both (λ u. HolderRel later u) (l .nodes) (b .holders) t x h k (λ u n. holder-kept l b r later grow u);
-          parcels = parcels-kept l b r later grow;
+          messages = messages-kept l b r later grow;
           noted = noted-kept l b r later grow;
         }
 
   -- a step that changes the mark
-  change-rel : (x : Node) (h : Holder) (m : Mark) → (h .status ≡ unused → ⊥) → presentOf (h .status) (h .mark) ≡ m → b .holders t .mark ⊑ m
-      → ((later : ℕ → Mark) → ((u : ℕ) → present (b .holders) u ⊑ later u) → later t ≡ m → HolderRel later t x h)
+  change-rel : (x : Node) (h : Holder) (m : HistoryView) → (h .status ≡ unused → ⊥) → presentOf (h .status) (h .history) ≡ m → b .holders t .history ⊑ m
+      → ((later : ℕ → HistoryView) → ((u : ℕ) → present (b .holders) u ⊑ later u) → later t ≡ m → HolderRel later t x h)
       → Rel (withNode l t x) (withHolder b t h)
   change-rel x h m used e g k =
-      let g′ : b .holders t .mark ⊑ presentOf (h .status) (h .mark) = rw e g in
+      let g′ : b .holders t .history ⊑ presentOf (h .status) (h .history) = rw e g in
       put-rel x h used g′ (k _ (grow x h used g′) (rw (updated-same (b .holders) t h) e))
 
   -- a step that keeps the mark
-  pub keep-rel : (x : Node) (h : Holder) → Live (h .status) → h .mark ≡ b .holders t .mark → HolderRel (present (b .holders)) t x h → Rel (withNode l t x) (withHolder b t h)
+  pub keep-rel : (x : Node) (h : Holder) → Live (h .status) → h .history ≡ b .holders t .history → HolderRel (present (b .holders)) t x h → Rel (withNode l t x) (withHolder b t h)
   keep-rel x h k e i =
-      change-rel x h (h .mark) (live-used k) (present-live (h .status) (h .mark) k) (rw e (⊑-refl _)) (λ later g p. holder-later g i)
+      change-rel x h (h .history) (live-used k) (present-live (h .status) (h .history) k) (rw e (⊑-refl _)) (λ later g p. holder-later g i)
 
   -- no step
   pub held-rel : Rel (withNode l t (l .nodes t)) (withHolder b t (b .holders t))
@@ -85,9 +88,9 @@ module _ (l : Ledger) (b : Book) (r : Rel l b) (t : ℕ) (live : Live (b .holder
 
 -- what a write that is not held does
 abbrev written : Holder → Holder
-written h = record { status = h .status; mark = h .mark; state = h .behaviour ++ h .state; creation = h .creation; behaviour = h .behaviour }
+written h = record { status = h .status; history = h .history; state = h .behaviour ++ h .state; creation = h .creation; behaviour = h .behaviour }
 
-module _ {now : ℕ → Mark} {t : ℕ} {x : Node} {h : Holder} (r : HolderRel now t x h) (live : Live (h .status)) where
+module _ {now : ℕ → HistoryView} {t : ℕ} {x : Node} {h : Holder} (r : HolderRel now t x h) (live : Live (h .status)) where
   read-rel : HolderRel now t (readNode x) (reads h)
   unfolding reads
   read-rel = record {
@@ -107,7 +110,7 @@ module _ {now : ℕ → Mark} {t : ℕ} {x : Node} {h : Holder} (r : HolderRel n
       whole u a (in-behaviour k) = ⊎-elim in-state in-behaviour (List·Memᴰ·append-cases (h .state) k)
 
   -- the own entry stays the present mark, since the behaviour map's is known
-  write-rel : now t ≡ h .mark → HolderRel now t (writeNode x) (written h)
+  write-rel : now t ≡ h .history → HolderRel now t (writeNode x) (written h)
   write-rel e = record {
     status = r .status;
     creation = r .creation;
@@ -142,17 +145,17 @@ module _ {now : ℕ → Mark} {t : ℕ} {x : Node} {h : Holder} (r : HolderRel n
       whole u a (in-creation k) = in-creation k
       whole u a (in-behaviour k) = absurd (List·Memᴰ·not-nil k)
 
-  freeze-rel : (later : ℕ → Mark) → ((u : ℕ) → now u ⊑ later u) → later t ≡ frozen (h .mark) → HolderRel later t (freezeNode t x) (freezes h)
+  freeze-rel : (later : ℕ → HistoryView) → ((u : ℕ) → now u ⊑ later u) → later t ≡ frozen (h .history) → HolderRel later t (freezeNode t x) (freezes h)
   unfolding freezes
   freeze-rel later g e = record {
     status = r .status;
     state = updated-view (λ u o. Cell (λ a. In u a (h .state)) (later u) o) (x .state) t (some (frozen (own t x)))
-        (let n = cell-has (r .own live) (r .state t) in rw (own-mark r) (newest {m = frozen (h .mark)} (record { has = n .has; top = n .top; known = rw e (⊑-refl _) })))
+        (let n = cell-has (r .own live) (r .state t) in rw (own-history r) (newest {m = frozen (h .history)} (record { has = n .has; top = n .top; known = rw e (⊑-refl _) })))
         (λ u n. cell-later (g u) (r .state u));
     creation = set-later now later (x .creation) (h .creation) g (r .creation);
     behaviour = set-later now later (x .behaviour) (h .behaviour) g (r .behaviour);
     coherent = coherent-part (Whole h) (Whole (freezes h)) whole (r .coherent);
-    own = λ k. rw (updated-same (x .state) t (some (frozen (own t x))), own-mark r);
+    own = λ k. rw (updated-same (x .state) t (some (frozen (own t x))), own-history r);
     gone = λ k. absurd (k live);
     first = r .first;
   }
@@ -163,7 +166,7 @@ module _ {now : ℕ → Mark} {t : ℕ} {x : Node} {h : Holder} (r : HolderRel n
       whole u a (in-behaviour k) = in-behaviour k
 
 -- its own life alone
-pub anew-rel : (now : ℕ → Mark) (t : ℕ) (m : Mark) → m ⊑ now t → (m .incarnation .checkpoints ≡ [] → m .incarnation .number ≡ 0) → HolderRel now t (anewNode t m) (anew t m)
+pub anew-rel : (now : ℕ → HistoryView) (t : ℕ) (m : HistoryView) → m ⊑ now t → (m .incarnation .checkpoints ≡ [] → m .incarnation .number ≡ 0) → HolderRel now t (anewNode t m) (anew t m)
 anew-rel now t m g f = record {
   status = refl;
   state = only-rel now t m g;
@@ -195,10 +198,10 @@ abbrev pub writtenNode : ℕ → Node → Node
 writtenNode t x = pick (own t x .stable) x (writeNode x)
 
 abbrev pub fallNode : ℕ → Node → Node
-fallNode t x = pick (own t x .stable) (finishNode x) (fallenNode t x)
+fallNode t x = pick (own t x .stable) (finishNode x) (rollbackNode t x)
 
 abbrev pub failNode : ℕ → Node → Node
-failNode t x = pick (own t x .stable) x (fallenNode t x)
+failNode t x = pick (own t x .stable) x (rollbackNode t x)
 
 -- kind k of 5 to 10 on take t
 unfoldable pub actedNode : ℕ → ℕ → Node → Node
@@ -210,7 +213,7 @@ actedNode k t x =
     (pick (eqb k fall) (fallNode t x)
     (failNode t x)))))
 
-module _ (l : Ledger) (b : Book) (r : Rel l b) (t : ℕ) (live : Live (b .holders t .status)) where
+module _ (l : Ledger) (b : Provenance) (r : Rel l b) (t : ℕ) (live : Live (b .holders t .status)) where
   abbrev x : Node
   x = l .nodes t
 
@@ -220,10 +223,10 @@ module _ (l : Ledger) (b : Book) (r : Rel l b) (t : ℕ) (live : Live (b .holder
   abbrev After : Node → Holder → Type 0
   After z w = Rel (withNode l t z) (withHolder b t w)
 
-  same : own t x ≡ h .mark
-  same = own-mark (r .holders t)
+  same : own t x ≡ h .history
+  same = own-history (r .holders t)
 
-  flag : own t x .stable ≡ h .mark .stable
+  flag : own t x .stable ≡ h .history .stable
   flag = ap (λ m. m .stable) same
 
   pub step-read : Rel (withNode l t (readNode (l .nodes t))) (withHolder b t (reads (b .holders t)))
@@ -233,43 +236,43 @@ module _ (l : Ledger) (b : Book) (r : Rel l b) (t : ℕ) (live : Live (b .holder
   -- a write that is held changes nothing on either side
   pub step-write : Rel (withNode l t (writtenNode t (l .nodes t))) (withHolder b t (writes (b .holders t)))
   unfolding writes
-  step-write = pick-both After (own t x .stable) (h .mark .stable) flag x (writeNode x) h (written h)
+  step-write = pick-both After (own t x .stable) (h .history .stable) flag x (writeNode x) h (written h)
       (λ e. held-rel l b r t live)
       (λ e. keep-rel l b r t live (writeNode x) (written h) live refl (write-rel (r .holders t) live (present-is l b r t live)))
 
   -- a frozen take is frozen again: the same mark on both sides
   pub step-freeze : Rel (withNode l t (freezeNode t (l .nodes t))) (withHolder b t (freezes (b .holders t)))
   unfolding freezes
-  step-freeze = change-rel l b r t live (freezeNode t x) (freezes h) (frozen (h .mark)) (live-used live) (present-live (h .status) (frozen (h .mark)) live)
-      (frozen-grows (h .mark)) (λ later g e. freeze-rel (r .holders t) live later g e)
+  step-freeze = change-rel l b r t live (freezeNode t x) (freezes h) (frozen (h .history)) (live-used live) (present-live (h .status) (frozen (h .history)) live)
+      (stable-grows (h .history)) (λ later g e. freeze-rel (r .holders t) live later g e)
 
   pub step-finish : Rel (withNode l t (finishNode (l .nodes t))) (withHolder b t (finishes (b .holders t)))
   unfolding finishes
   step-finish = keep-rel l b r t live (finishNode x) (finishes h) idle refl (finish-rel (r .holders t) live)
 
   -- by G the present life was the opening one, so what is known of the take stays known
-  step-vanish : h .mark .incarnation .checkpoints ≡ [] → Rel (withNode l t (bareNode annihilated)) (withHolder b t (blank annihilated))
-  step-vanish p = change-rel l b r t live (bareNode annihilated) (blank annihilated) goneMark gone-used (present-gone initialMark)
-      (gone-grows (h .mark) p (r .holders t .first p)) (λ later g k. blank-rel later t annihilated (λ i. elim i [ ]))
+  step-vanish : h .history .incarnation .checkpoints ≡ [] → Rel (withNode l t (bareNode annihilated)) (withHolder b t (blank annihilated))
+  step-vanish p = change-rel l b r t live (bareNode annihilated) (blank annihilated) goneView gone-used (present-gone initialView)
+      (gone-grows (h .history) p (r .holders t .first p)) (λ later g k. blank-rel later t annihilated (λ i. elim i [ ]))
 
-  step-next : (h .mark .incarnation .checkpoints ≡ [] → ⊥) → Rel (withNode l t (anewNode t (next (own t x)))) (withHolder b t (anew t (next (h .mark))))
-  step-next p = change-rel l b r t live (anewNode t (next (own t x))) (anew t (next (h .mark))) (next (h .mark)) (live-used idle) (present-live ready (next (h .mark)) idle)
-      (next-grows (h .mark)) (λ later g k. rw same (anew-rel later t (next (h .mark)) (rw k (⊑-refl _)) (λ q. absurd (p q))))
+  step-next : (h .history .incarnation .checkpoints ≡ [] → ⊥) → Rel (withNode l t (anewNode t (next (own t x)))) (withHolder b t (anew t (next (h .history))))
+  step-next p = change-rel l b r t live (anewNode t (next (own t x))) (anew t (next (h .history))) (next (h .history)) (live-used idle) (present-live ready (next (h .history)) idle)
+      (next-grows (h .history)) (λ later g k. rw same (anew-rel later t (next (h .history)) (rw k (⊑-refl _)) (λ q. absurd (p q))))
 
-  pub step-fallen : Rel (withNode l t (fallenNode t (l .nodes t))) (withHolder b t (fallen t (b .holders t)))
-  unfolding fallen fallenNode
-  step-fallen = pick-both After (isNil (own t x .incarnation .checkpoints)) (isNil (h .mark .incarnation .checkpoints))
-      (ap (λ m. isNil (m .incarnation .checkpoints)) same) (bareNode annihilated) (anewNode t (next (own t x))) (blank annihilated) (anew t (next (h .mark)))
-      (λ e. step-vanish (isNil-true (h .mark .incarnation .checkpoints) (rw same at e)))
-      (λ e. step-next (isNil-false (h .mark .incarnation .checkpoints) (rw same at e)))
+  pub step-rollback : Rel (withNode l t (rollbackNode t (l .nodes t))) (withHolder b t (rolledBackHolder t (b .holders t)))
+  unfolding rolledBackHolder rollbackNode
+  step-rollback = pick-both After (isNil (own t x .incarnation .checkpoints)) (isNil (h .history .incarnation .checkpoints))
+      (ap (λ m. isNil (m .incarnation .checkpoints)) same) (bareNode annihilated) (anewNode t (next (own t x))) (blank annihilated) (anew t (next (h .history)))
+      (λ e. step-vanish (isNil-true (h .history .incarnation .checkpoints) (rw same at e)))
+      (λ e. step-next (isNil-false (h .history .incarnation .checkpoints) (rw same at e)))
 
-  pub step-fall : Rel (withNode l t (fallNode t (l .nodes t))) (withHolder b t (falls t (b .holders t)))
-  unfolding falls
-  step-fall = pick-both After (own t x .stable) (h .mark .stable) flag (finishNode x) (fallenNode t x) (finishes h) (fallen t h) (λ e. step-finish) (λ e. step-fallen)
+  pub step-fall : Rel (withNode l t (fallNode t (l .nodes t))) (withHolder b t (rollsBackOrFinishes t (b .holders t)))
+  unfolding rollsBackOrFinishes
+  step-fall = pick-both After (own t x .stable) (h .history .stable) flag (finishNode x) (rollbackNode t x) (finishes h) (rolledBackHolder t h) (λ e. step-finish) (λ e. step-rollback)
 
-  pub step-fail : Rel (withNode l t (failNode t (l .nodes t))) (withHolder b t (fails t (b .holders t)))
-  unfolding fails
-  step-fail = pick-both After (own t x .stable) (h .mark .stable) flag x (fallenNode t x) h (fallen t h) (λ e. held-rel l b r t live) (λ e. step-fallen)
+  pub step-fail : Rel (withNode l t (failNode t (l .nodes t))) (withHolder b t (rollsBackOrStays t (b .holders t)))
+  unfolding rollsBackOrStays
+  step-fail = pick-both After (own t x .stable) (h .history .stable) flag x (rollbackNode t x) h (rolledBackHolder t h) (λ e. held-rel l b r t live) (λ e. step-rollback)
 
   pub step-acted : (k : ℕ) → Rel (withNode l t (actedNode k t (l .nodes t))) (withHolder b t (acted k t (b .holders t)))
   unfolding acted actedNode
@@ -278,4 +281,4 @@ module _ (l : Ledger) (b : Book) (r : Rel l b) (t : ℕ) (live : Live (b .holder
       pick-both After (eqb k write) (eqb k write) refl (writtenNode t x) _ (writes h) _ (λ e. step-write) λ e.
       pick-both After (eqb k freeze) (eqb k freeze) refl (freezeNode t x) _ (freezes h) _ (λ e. step-freeze) λ e.
       pick-both After (eqb k finish) (eqb k finish) refl (finishNode x) _ (finishes h) _ (λ e. step-finish) λ e.
-      pick-both After (eqb k fall) (eqb k fall) refl (fallNode t x) (failNode t x) (falls t h) (fails t h) (λ e. step-fall) (λ e. step-fail)
+      pick-both After (eqb k fall) (eqb k fall) refl (fallNode t x) (failNode t x) (rollsBackOrFinishes t h) (rollsBackOrStays t h) (λ e. step-fall) (λ e. step-fail)

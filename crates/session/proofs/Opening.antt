@@ -5,29 +5,33 @@ use mathlib.Core.List.{[], _++_, List·Memᴰ·append-cases, List·Memᴰ·not-n
 use mathlib.Core.Logic.{_⊎_, inl, inr, ⊎-elim}
 use native.Mathlib.Omega.{arith}
 use Rattle.marks.specs.Incarnation.{Incarnation, initialIncarnation}
+use Rattle.marks.specs.History.{HistoryView, initialView}
 use Rattle.marks.proofs.Trail.{Precedes}
 use Rattle.marks.proofs.Order.{precedes-initial, superseded-ne}
-use Rattle.session.specs.Book.{unused, ready, Live, idle, one, Mark, initialMark, Holder, Book, updated, withHolder, withOpened}
+use Rattle.maps.specs.Table.{updated}
+use Rattle.maps.specs.View.{singletonView}
+use Rattle.maps.proofs.Tables.{updated-same, updated-view}
+use Rattle.session.specs.Provenance.{unused, ready, Live, idle, one, Holder, Provenance, withHolder, withOpened}
 use Rattle.session.specs.Steps.{anew, carried, opensRoot, opensChild}
-use Rattle.session.proofs.Model.{Node, Ledger, only, withNode, openNode, anewNode, sentMap, childNode, openerNode}
-use Rattle.session.proofs.Tables.{updated-same, updated-view, updated-both}
+use Rattle.session.proofs.Model.{Node, Ledger, withNode, openNode, anewNode, sentMap, childNode, openerNode}
+use Rattle.session.proofs.Tables.{updated-both}
 use Rattle.session.proofs.Sets.{_⊑_, ⊑-refl, ⊑-trans, set-join, set-known, none-rel, only-rel, only-same, in-one, Coherent, Members}
-use Rattle.session.proofs.Relation.{live-used, presentOf, present, present-live, present-unused, Whole, in-state, in-creation, in-behaviour, HolderRel, Rel, holder-later, holder-kept, parcels-kept, noted-kept, whole-known}
+use Rattle.session.proofs.Relation.{live-used, presentOf, present, present-live, present-unused, Whole, in-state, in-creation, in-behaviour, HolderRel, Rel, holder-later, holder-kept, messages-kept, noted-kept, whole-known}
 use Rattle.session.proofs.Locals.{present-is, grow, keep-rel, anew-rel}
-use Rattle.session.proofs.Parcels.{sent-rel, sent-coherent}
+use Rattle.session.proofs.Messages.{sent-rel, sent-coherent}
 
 -- ---- one more take on both sides
 
 -- a take that is not opened is in its opening life
-pub opening-is : (l : Ledger) (b : Book) → Rel l b → present (b .holders) (b .opened) ≡ initialMark
-opening-is l b r = rw (r .fresh (b .opened) (omega arith)) (present-unused (b .holders (b .opened) .mark))
+pub opening-is : (l : Ledger) (b : Provenance) → Rel l b → present (b .holders) (b .opened) ≡ initialView
+opening-is l b r = rw (r .fresh (b .opened) (omega arith)) (present-unused (b .holders (b .opened) .history))
 
-module _ (l : Ledger) (b : Book) (r : Rel l b) (x : Node) (h : Holder) (used : h .status ≡ unused → ⊥) (first : presentOf (h .status) (h .mark) ≡ initialMark) where
+module _ (l : Ledger) (b : Provenance) (r : Rel l b) (x : Node) (h : Holder) (used : h .status ≡ unused → ⊥) (first : presentOf (h .status) (h .history) ≡ initialView) where
   open-grow : (u : ℕ) → present (b .holders) u ⊑ present (updated (b .holders) (b .opened) h) u
-  open-grow = updated-view (λ u z. present (b .holders) u ⊑ presentOf (z .status) (z .mark)) (b .holders) (b .opened) h
+  open-grow = updated-view (λ u z. present (b .holders) u ⊑ presentOf (z .status) (z .history)) (b .holders) (b .opened) h
       (rw (first, opening-is l b r) (⊑-refl _)) (λ u n. ⊑-refl _)
 
-  open-rel : ((later : ℕ → Mark) → ((u : ℕ) → present (b .holders) u ⊑ later u) → later (b .opened) ≡ initialMark → HolderRel later (b .opened) x h)
+  open-rel : ((later : ℕ → HistoryView) → ((u : ℕ) → present (b .holders) u ⊑ later u) → later (b .opened) ≡ initialView → HolderRel later (b .opened) x h)
       → Rel (openNode l x) (withOpened b h)
   open-rel k =
       let later = present (updated (b .holders) (b .opened) h) in
@@ -38,21 +42,21 @@ module _ (l : Ledger) (b : Book) (r : Rel l b) (x : Node) (h : Holder) (used : h
         fresh = updated-view (λ u z. b .opened + 1 ≤ u → z .status ≡ unused) (b .holders) (b .opened) h (λ i. absurd (omega arith)) (λ u n i. r .fresh u (omega arith));
         holders = rw (r .opened) (updated-both (λ u. HolderRel later u) (l .nodes) (b .holders) (b .opened) x h
             (k later open-grow (rw (updated-same (b .holders) (b .opened) h) first)) (λ u n. holder-kept l b r later open-grow u));
-        parcels = parcels-kept l b r later open-grow;
+        messages = messages-kept l b r later open-grow;
         noted = noted-kept l b r later open-grow;
       }
 
 -- ---- root
 
-pub step-root : (l : Ledger) (b : Book) → Rel l b → Rel (openNode l (anewNode (l .opened) initialMark)) (opensRoot b)
+pub step-root : (l : Ledger) (b : Provenance) → Rel l b → Rel (openNode l (anewNode (l .opened) initialView)) (opensRoot b)
 unfolding opensRoot
-step-root l b r = open-rel l b r (anewNode (l .opened) initialMark) (anew (b .opened) initialMark) (live-used idle) (present-live ready initialMark idle)
-    (λ later g e. rw (r .opened) (anew-rel later (b .opened) initialMark (rw e (⊑-refl _)) (λ k. refl)))
+step-root l b r = open-rel l b r (anewNode (l .opened) initialView) (anew (b .opened) initialView) (live-used idle) (present-live ready initialView idle)
+    (λ later g e. rw (r .opened) (anew-rel later (b .opened) initialView (rw e (⊑-refl _)) (λ k. refl)))
 
 -- ---- new
 
 -- The opening life of a take that is in it joins a coherent set: all that the set can have of the take is that life.
-coherent-open : (now : ℕ → Mark) (c : ℕ) → now c ≡ initialMark → (P Q : ℕ → Incarnation → Type 0) → Coherent P
+coherent-open : (now : ℕ → HistoryView) (c : ℕ) → now c ≡ initialView → (P Q : ℕ → Incarnation → Type 0) → Coherent P
     → ((u : ℕ) (a : Incarnation) → P u a → Precedes a (now u .incarnation))
     → ((u : ℕ) (a : Incarnation) → Q u a → P u a ⊎ ((u ≡ c) × (a ≡ initialIncarnation))) → Coherent Q
 coherent-open now c e P Q coherent known part u a b p q s = go (part u a p) (part u b q)
@@ -68,18 +72,18 @@ coherent-open now c e P Q coherent known part u a b p q s = go (part u a p) (par
 
 -- the child c of take t, and t with the child's life
 abbrev child : ℕ → ℕ → Holder → Holder
-child c t h = record { status = ready; mark = initialMark; state = one c initialIncarnation; creation = carried t h; behaviour = [] }
+child c t h = record { status = ready; history = initialView; state = one c initialIncarnation; creation = carried t h; behaviour = [] }
 
 abbrev opener : ℕ → Holder → Holder
-opener c h = record { status = h .status; mark = h .mark; state = h .state; creation = h .creation; behaviour = one c initialIncarnation ++ h .behaviour }
+opener c h = record { status = h .status; history = h .history; state = h .state; creation = h .creation; behaviour = one c initialIncarnation ++ h .behaviour }
 
-module _ {now : ℕ → Mark} {t : ℕ} {x : Node} {h : Holder} (r : HolderRel now t x h) (live : Live (h .status)) (is : now t ≡ h .mark) (c : ℕ) (fresh : now c ≡ initialMark) where
+module _ {now : ℕ → HistoryView} {t : ℕ} {x : Node} {h : Holder} (r : HolderRel now t x h) (live : Live (h .status)) (is : now t ≡ h .history) (c : ℕ) (fresh : now c ≡ initialView) where
   opener-rel : HolderRel now t (openerNode c x) (opener c h)
   opener-rel = record {
     status = r .status;
     state = r .state;
     creation = r .creation;
-    behaviour = set-join now (only c initialMark) (x .behaviour) (one c initialIncarnation) (h .behaviour) (only-rel now c initialMark (rw fresh (⊑-refl _))) (r .behaviour);
+    behaviour = set-join now (singletonView c initialView) (x .behaviour) (one c initialIncarnation) (h .behaviour) (only-rel now c initialView (rw fresh (⊑-refl _))) (r .behaviour);
     coherent = coherent-open now c fresh (Whole h) (Whole (opener c h)) (r .coherent) (whole-known r) part;
     own = r .own;
     gone = λ k. absurd (k live);
@@ -94,12 +98,12 @@ module _ {now : ℕ → Mark} {t : ℕ} {x : Node} {h : Holder} (r : HolderRel n
   child-rel : HolderRel now c (childNode c (sentMap t x)) (child c t h)
   child-rel = record {
     status = refl;
-    state = only-rel now c initialMark (rw fresh (⊑-refl _));
+    state = only-rel now c initialView (rw fresh (⊑-refl _));
     creation = sent-rel r live is;
     behaviour = none-rel now;
     coherent = coherent-open now c fresh (Members (carried t h)) (Whole (child c t h)) (sent-coherent r live is)
         (set-known now (sentMap t x) (carried t h) (sent-rel r live is)) part;
-    own = λ k. only-same c initialMark;
+    own = λ k. only-same c initialView;
     gone = λ k. absurd (k idle);
     first = λ k. refl;
   }
@@ -109,7 +113,7 @@ module _ {now : ℕ → Mark} {t : ℕ} {x : Node} {h : Holder} (r : HolderRel n
       part u a (in-creation k) = inl k
       part u a (in-behaviour k) = absurd (List·Memᴰ·not-nil k)
 
-module _ (l : Ledger) (b : Book) (r : Rel l b) (t : ℕ) (live : Live (b .holders t .status)) where
+module _ (l : Ledger) (b : Provenance) (r : Rel l b) (t : ℕ) (live : Live (b .holders t .status)) where
   pub step-new : Rel (openNode (withNode l t (openerNode (l .opened) (l .nodes t))) (childNode (l .opened) (sentMap t (l .nodes t)))) (opensChild b t)
   unfolding opensChild
   step-new =
@@ -118,7 +122,7 @@ module _ (l : Ledger) (b : Book) (r : Rel l b) (t : ℕ) (live : Live (b .holder
       let fresh = opening-is l b r in
       let y = openerNode c x in let w = opener c h in
       let r1 : Rel (withNode l t y) (withHolder b t w) = keep-rel l b r t live y w live refl (opener-rel (r .holders t) live is c fresh) in
-      let g = grow l b r t live y w (live-used live) (rw (present-live (h .status) (h .mark) live) (⊑-refl _)) in
+      let g = grow l b r t live y w (live-used live) (rw (present-live (h .status) (h .history) live) (⊑-refl _)) in
       subst (λ n. Rel (openNode (withNode l t (openerNode n x)) (childNode n (sentMap t x))) (opensChild b t)) (sym (r .opened))
-      (open-rel (withNode l t y) (withHolder b t w) r1 (childNode c (sentMap t x)) (child c t h) (live-used idle) (present-live ready initialMark idle)
+      (open-rel (withNode l t y) (withHolder b t w) r1 (childNode c (sentMap t x)) (child c t h) (live-used idle) (present-live ready initialView idle)
       (λ later k e. holder-later (λ u. ⊑-trans (g u) (k u)) (child-rel (r .holders t) live is c fresh)))

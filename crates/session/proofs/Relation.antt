@@ -8,8 +8,9 @@ use mathlib.Core.Option.{some, Option·getD}
 use native.Mathlib.Omega.{arith}
 use lib.ListN.{length}
 use Rattle.marks.specs.Incarnation.{Incarnation, initialIncarnation, Checkpointed}
+use Rattle.marks.specs.History.{HistoryView, initialView}
 use Rattle.marks.proofs.Order.{checkpointed-up, checkpointed-irrefl, initial-precedes}
-use Rattle.session.specs.Book.{Status, unused, ready, busy, annihilated, Live, idle, working, In, Mark, initialMark, Holder, Parcel, Book, blank, emptyBook}
+use Rattle.session.specs.Provenance.{Status, unused, ready, busy, annihilated, Live, idle, working, In, Holder, WaitingMessage, Provenance, blank, emptyProvenance}
 use Rattle.session.proofs.Model.{Node, Mail, Ledger, own, bareNode}
 use Rattle.session.proofs.Sets.{_⊑_, SetRel, set-later, set-known, none-rel, cell-none, Coherent, Members}
 use Rattle.marks.proofs.Trail.{Precedes}
@@ -34,38 +35,38 @@ gone-used e = let z : _≡_ {A = ℕ} 0 1 = cc in omega arith
 -- ---- the present mark of every take
 
 -- of a vanished take the opening life, with the flag that says most: whatever was known of it stays known
-abbrev pub goneMark : Mark
-goneMark = record { stable = true; incarnation = initialIncarnation }
+abbrev pub goneView : HistoryView
+goneView = record { stable = true; incarnation = initialIncarnation }
 
-unfoldable pub presentOf : Status → Mark → Mark
-presentOf unused m = initialMark
+unfoldable pub presentOf : Status → HistoryView → HistoryView
+presentOf unused m = initialView
 presentOf ready m = m
 presentOf busy m = m
-presentOf annihilated m = goneMark
+presentOf annihilated m = goneView
 
-abbrev pub present : (ℕ → Holder) → ℕ → Mark
-present H t = presentOf (H t .status) (H t .mark)
+abbrev pub present : (ℕ → Holder) → ℕ → HistoryView
+present H t = presentOf (H t .status) (H t .history)
 
-pub present-live : (s : Status) (m : Mark) → Live s → presentOf s m ≡ m
+pub present-live : (s : Status) (m : HistoryView) → Live s → presentOf s m ≡ m
 unfolding presentOf
 present-live ready m idle = refl
 present-live busy m working = refl
 
-pub present-unused : (m : Mark) → presentOf unused m ≡ initialMark
+pub present-unused : (m : HistoryView) → presentOf unused m ≡ initialView
 unfolding presentOf
 present-unused m = refl
 
-pub present-gone : (m : Mark) → presentOf annihilated m ≡ goneMark
+pub present-gone : (m : HistoryView) → presentOf annihilated m ≡ goneView
 unfolding presentOf
 present-gone m = refl
 
 -- no life of a take that is not live is signed
-pub nothing-signed : {a : Incarnation} (s : Status) (m : Mark) → (Live s → ⊥) → Checkpointed a (presentOf s m .incarnation) → ⊥
+pub nothing-checkpointed : {a : Incarnation} (s : Status) (m : HistoryView) → (Live s → ⊥) → Checkpointed a (presentOf s m .incarnation) → ⊥
 unfolding presentOf
-nothing-signed unused m k h = checkpointed-irrefl (checkpointed-up h (initial-precedes _))
-nothing-signed ready m k h = k idle
-nothing-signed busy m k h = k working
-nothing-signed annihilated m k h = checkpointed-irrefl (checkpointed-up h (initial-precedes _))
+nothing-checkpointed unused m k h = checkpointed-irrefl (checkpointed-up h (initial-precedes _))
+nothing-checkpointed ready m k h = k idle
+nothing-checkpointed busy m k h = k working
+nothing-checkpointed annihilated m k h = checkpointed-irrefl (checkpointed-up h (initial-precedes _))
 
 -- ---- one take, one parcel
 
@@ -75,7 +76,7 @@ pub data Whole (h : Holder) (u : ℕ) (a : Incarnation) : Type 0 where
   in-creation : In u a (h .creation) → Whole h u a
   in-behaviour : In u a (h .behaviour) → Whole h u a
 
-pub record HolderRel (now : ℕ → Mark) (t : ℕ) (x : Node) (h : Holder) : Type 0 where
+pub record HolderRel (now : ℕ → HistoryView) (t : ℕ) (x : Node) (h : Holder) : Type 0 where
   pub status : x .status ≡ h .status
   -- A (newest) and B (known), of each map and its set
   pub state : SetRel now (x .state) (h .state)
@@ -84,17 +85,17 @@ pub record HolderRel (now : ℕ → Mark) (t : ℕ) (x : Node) (h : Holder) : Ty
   -- C: of the three sets together
   pub coherent : Coherent (Whole h)
   -- D: the own entry of the state map is the present mark
-  pub own : Live (h .status) → x .state t ≡ some (h .mark)
+  pub own : Live (h .status) → x .state t ≡ some (h .history)
   -- a take that is not live has nothing
   pub gone : (Live (h .status) → ⊥) → h ≡ blank (h .status)
   -- G: with an empty list n is 0
-  pub first : h .mark .incarnation .checkpoints ≡ [] → h .mark .incarnation .number ≡ 0
+  pub first : h .history .incarnation .checkpoints ≡ [] → h .history .incarnation .number ≡ 0
 
-pub record ParcelRel (now : ℕ → Mark) (m : Mail) (q : Parcel) : Type 0 where
+pub record MessageRel (now : ℕ → HistoryView) (m : Mail) (q : WaitingMessage) : Type 0 where
   pub number : m .number ≡ q .number
   pub addressee : m .addressee ≡ q .addressee
-  pub lives : SetRel now (m .dependences) (q .lives)
-  pub coherent : Coherent (Members (q .lives))
+  pub incarnations : SetRel now (m .dependences) (q .incarnations)
+  pub coherent : Coherent (Members (q .incarnations))
 
 -- two lists alike, entry by entry
 pub data All2 {A B : Type 0} (R : A → B → Type 0) : List A → List B → Type 0 where
@@ -103,34 +104,34 @@ pub data All2 {A B : Type 0} (R : A → B → Type 0) : List A → List B → Ty
 
 -- ---- the whole
 
-pub record Rel (l : Ledger) (b : Book) : Type 0 where
+pub record Rel (l : Ledger) (b : Provenance) : Type 0 where
   -- F: what is plain is the same; a take is unused exactly if it is not opened
   pub opened : l .opened ≡ b .opened
   pub next : l .next ≡ b .next
   pub used : (t : ℕ) → t < b .opened → b .holders t .status ≡ unused → ⊥
   pub fresh : (t : ℕ) → b .opened ≤ t → b .holders t .status ≡ unused
   pub holders : (t : ℕ) → HolderRel (present (b .holders)) t (l .nodes t) (b .holders t)
-  pub parcels : All2 (ParcelRel (present (b .holders))) (l .mails) (b .parcels)
+  pub messages : All2 (MessageRel (present (b .holders))) (l .mails) (b .messages)
   -- E: every life that a noted set holds is signed now
   pub noted : (t : ℕ) (a : Incarnation) (u : ℕ) (c : Incarnation) → b .noted t a u c → Checkpointed c (present (b .holders) u .incarnation)
 
 -- ---- the own mark
 
 -- the ledger's own mark of a take is the book's; of a take that is not live both are the opening mark
-pub own-mark : {now : ℕ → Mark} {t : ℕ} {x : Node} {h : Holder} → HolderRel now t x h → own t x ≡ h .mark
-own-mark {now} {t} {x} {h} r = go (live-or-not (h .status))
+pub own-history : {now : ℕ → HistoryView} {t : ℕ} {x : Node} {h : Holder} → HolderRel now t x h → own t x ≡ h .history
+own-history {now} {t} {x} {h} r = go (live-or-not (h .status))
   where
-    go : Live (h .status) ⊎ (Live (h .status) → ⊥) → own t x ≡ h .mark
-    go (inl k) = ap (λ o. Option·getD o initialMark) (r .own k)
+    go : Live (h .status) ⊎ (Live (h .status) → ⊥) → own t x ≡ h .history
+    go (inl k) = ap (λ o. Option·getD o initialView) (r .own k)
     go (inr k) =
         let e : h ≡ blank (h .status) = r .gone k in
         let s : h .state ≡ [] = ap (λ z. z .state) e in
-        let m : h .mark ≡ initialMark = ap (λ z. z .mark) e in
-        ap (λ o. Option·getD o initialMark) (cell-none (λ a i. List·Memᴰ·not-nil (rw s at i)) (r .state t)) ∙ sym m
+        let m : h .history ≡ initialView = ap (λ z. z .history) e in
+        ap (λ o. Option·getD o initialView) (cell-none (λ a i. List·Memᴰ·not-nil (rw s at i)) (r .state t)) ∙ sym m
 
 -- ---- what a step leaves alone: kept where every take's present mark only moves on
 
-pub holder-later : {now later : ℕ → Mark} {t : ℕ} {x : Node} {h : Holder} → ((u : ℕ) → now u ⊑ later u) → HolderRel now t x h → HolderRel later t x h
+pub holder-later : {now later : ℕ → HistoryView} {t : ℕ} {x : Node} {h : Holder} → ((u : ℕ) → now u ⊑ later u) → HolderRel now t x h → HolderRel later t x h
 holder-later {now} {later} {t} {x} {h} l r = record {
   status = r .status;
   state = set-later now later (x .state) (h .state) l (r .state);
@@ -142,11 +143,11 @@ holder-later {now} {later} {t} {x} {h} l r = record {
   first = r .first;
 }
 
-pub parcel-later : {now later : ℕ → Mark} {m : Mail} {q : Parcel} → ((u : ℕ) → now u ⊑ later u) → ParcelRel now m q → ParcelRel later m q
-parcel-later {now} {later} {m} {q} l r = record {
+pub message-later : {now later : ℕ → HistoryView} {m : Mail} {q : WaitingMessage} → ((u : ℕ) → now u ⊑ later u) → MessageRel now m q → MessageRel later m q
+message-later {now} {later} {m} {q} l r = record {
   number = r .number;
   addressee = r .addressee;
-  lives = set-later now later (m .dependences) (q .lives) l (r .lives);
+  incarnations = set-later now later (m .dependences) (q .incarnations) l (r .incarnations);
   coherent = r .coherent;
 }
 
@@ -158,25 +159,25 @@ pub all2-length : {A B : Type 0} {R : A → B → Type 0} {s : List A} {t : List
 all2-length none2 = refl
 all2-length (cons2 r h) = rw (all2-length h)
 
-module _ (l : Ledger) (b : Book) (r : Rel l b) (later : ℕ → Mark) (grow : (u : ℕ) → present (b .holders) u ⊑ later u) where
+module _ (l : Ledger) (b : Provenance) (r : Rel l b) (later : ℕ → HistoryView) (grow : (u : ℕ) → present (b .holders) u ⊑ later u) where
   pub holder-kept : (t : ℕ) → HolderRel later t (l .nodes t) (b .holders t)
   holder-kept t = holder-later grow (r .holders t)
 
-  pub parcels-kept : All2 (ParcelRel later) (l .mails) (b .parcels)
-  parcels-kept = all2-map (λ m q. parcel-later grow) (r .parcels)
+  pub messages-kept : All2 (MessageRel later) (l .mails) (b .messages)
+  messages-kept = all2-map (λ m q. message-later grow) (r .messages)
 
   pub noted-kept : (t : ℕ) (a : Incarnation) (u : ℕ) (c : Incarnation) → b .noted t a u c → Checkpointed c (later u .incarnation)
   noted-kept t a u c k = checkpointed-up (r .noted t a u c k) (grow u .incarnation)
 
 -- every life of a take's sets is a past or present one
-pub whole-known : {now : ℕ → Mark} {t : ℕ} {x : Node} {h : Holder} → HolderRel now t x h → (u : ℕ) (a : Incarnation) → Whole h u a → Precedes a (now u .incarnation)
+pub whole-known : {now : ℕ → HistoryView} {t : ℕ} {x : Node} {h : Holder} → HolderRel now t x h → (u : ℕ) (a : Incarnation) → Whole h u a → Precedes a (now u .incarnation)
 whole-known {now} {t} {x} {h} r u a (in-state k) = set-known now (x .state) (h .state) (r .state) u a k
 whole-known {now} {t} {x} {h} r u a (in-creation k) = set-known now (x .creation) (h .creation) (r .creation) u a k
 whole-known {now} {t} {x} {h} r u a (in-behaviour k) = set-known now (x .behaviour) (h .behaviour) (r .behaviour) u a k
 
 -- ---- a take that has nothing; nothing opened
 
-pub blank-rel : (now : ℕ → Mark) (t : ℕ) (s : Status) → (Live s → ⊥) → HolderRel now t (bareNode s) (blank s)
+pub blank-rel : (now : ℕ → HistoryView) (t : ℕ) (s : Status) → (Live s → ⊥) → HolderRel now t (bareNode s) (blank s)
 blank-rel now t s k = record {
   status = refl;
   state = none-rel now;
@@ -196,13 +197,13 @@ blank-rel now t s k = record {
 abbrev pub freshLedger : Ledger
 freshLedger = record { opened = 0; next = 0; nodes = λ t. bareNode unused; mails = [] }
 
-pub fresh-rel : Rel freshLedger emptyBook
+pub fresh-rel : Rel freshLedger emptyProvenance
 fresh-rel = record {
   opened = refl;
   next = refl;
   used = λ t h. absurd (omega arith);
   fresh = λ t h. refl;
-  holders = λ t. blank-rel (present (emptyBook .holders)) t unused (λ h. elim h [ ]);
-  parcels = none2;
+  holders = λ t. blank-rel (present (emptyProvenance .holders)) t unused (λ h. elim h [ ]);
+  messages = none2;
   noted = λ t a u c k. absurd k;
 }

@@ -1,28 +1,36 @@
 -- The steps of a part, one after the other.
-use Prim.Native.Nat.{ℕ, zero, suc}
+use Prim.Native.Nat.{ℕ, zero, suc, _*_, _<_}
+use mathlib.Core.Path.{_≡_}
 use mathlib.Core.List.{List}
-use Rattle.octets.specs.Bytes.{Octets}
+use lib.ListN.{length, length-append}
+use Rattle.octets.specs.Bytes.{part, chunks, Octets}
+use Rattle.octets.proofs.Chunks.{part-chunks}
+use Rattle.octets.proofs.Numbers.{length-be}
 use Rattle.ledger.specs.Layout.{Layout, Limits, Allowed, Fitting}
 use Rattle.ledger.specs.State.{State}
-use Rattle.ledger.specs.Step.{stepAt}
-use Rattle.ledger.specs.Calls.{stateAfter}
+use Rattle.ledger.specs.declared.Reply.{Reply}
+use Rattle.ledger.specs.Step.{stepBytes, stepAt, packReply}
+use Rattle.ledger.specs.Rules.{stepOf}
+use Rattle.ledger.specs.Calls.{stateAfter, replyAt}
 use Rattle.ledger.specs.Well.{WellFormed}
 use Rattle.ledger.proofs.KeepRun.{stepOk-at}
 use Rattle.ledger.proofs.KeepStep.{keeps-after}
-use Rattle.session.specs.Book.{Book}
+use Rattle.session.specs.Provenance.{Provenance}
+use Rattle.session.specs.Fed as book
 use Rattle.session.specs.Trace as trace
-use Rattle.session.specs.Trace.{BookSteps, StepsRight}
+use Rattle.session.specs.Fed.{ProvenanceSteps}
+use Rattle.session.specs.Trace.{StepsRight}
 use Rattle.session.proofs.Model.{view}
 use Rattle.session.proofs.Relation.{Rel}
 use Rattle.session.proofs.Step.{Stepped, step-right}
 
 -- the book after the first i steps: all that is claimed of each, and the relation after them
-pub record Ran (y : Layout) (m : Limits) (s : State) (b : Book) (steps : List ℕ) (i : ℕ) : Type 1 where
-  pub after : Book
+pub record Ran (y : Layout) (m : Limits) (s : State) (b : Provenance) (steps : List ℕ) (i : ℕ) : Type 1 where
+  pub after : Provenance
   pub right : StepsRight y m s b steps i after
   pub rel : Rel (view (stateAfter y m s steps i)) after
 
-module _ {y : Layout} {m : Limits} (z : Fitting y) (l : Allowed y m) {s : State} (well : WellFormed y s) {b : Book} (r : Rel (view s) b) (steps : List ℕ) (octets : Octets steps) where
+module _ {y : Layout} {m : Limits} (z : Fitting y) (l : Allowed y m) {s : State} (well : WellFormed y s) {b : Provenance} (r : Rel (view s) b) (steps : List ℕ) (octets : Octets steps) where
   one-more : (i : ℕ) → Ran y m s b steps i → Ran y m s b steps (suc i)
   unfolding stateAfter
   one-more i before =
@@ -34,7 +42,19 @@ module _ {y : Layout} {m : Limits} (z : Fitting y) (l : Allowed y m) {s : State}
   run-right zero = record { after = b; right = trace.none; rel = r }
   run-right (suc i) = one-more i (run-right i)
 
+-- ---- the bytes handed back
+
+length-packReply : (r : Reply) → length (packReply r) ≡ stepBytes
+unfolding packReply
+length-packReply r = simp (length-append, length-be)
+
+-- reply i among n packed ones
+pub reply-part : (y : Layout) (m : Limits) (s : State) (steps : List ℕ) (n i : ℕ) → i < n
+    → part (stepBytes * i) stepBytes (chunks n (replyAt y m s steps)) ≡ packReply (stepOf y m (stateAfter y m s steps i) (stepAt steps i) .reply)
+unfolding replyAt
+reply-part y m s steps n i h = part-chunks stepBytes (replyAt y m s steps) (λ j. length-packReply _) n i h
+
 -- the book takes these steps
-pub steps-book : {y : Layout} {m : Limits} {s : State} {b c : Book} {steps : List ℕ} {i : ℕ} → StepsRight y m s b steps i c → BookSteps m b steps i c
-steps-book trace.none = trace.none
-steps-book (trace.more before right) = trace.more (steps-book before) (right .book)
+pub steps-provenance : {y : Layout} {m : Limits} {s : State} {b c : Provenance} {steps : List ℕ} {i : ℕ} → StepsRight y m s b steps i c → ProvenanceSteps m b steps i c
+steps-provenance trace.none = book.none
+steps-provenance (trace.more before right) = book.more (steps-provenance before) (right .provenance)

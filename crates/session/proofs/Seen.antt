@@ -4,14 +4,15 @@ use mathlib.Core.Bool.{Bool, not}
 use mathlib.Core.Path.{_≡_, ap, _∙_}
 use lib.ListN.{length}
 use Rattle.octets.specs.Bytes.{_and_}
+use Rattle.marks.specs.History.{HistoryView}
 use Rattle.ledger.specs.Layout.{Limits}
 use Rattle.ledger.specs.declared.Step.{Step}
 use Rattle.ledger.specs.Refusals.{Seen, refusalOf}
-use Rattle.session.specs.Book.{statusNumber, Mark, Book, find}
-use Rattle.session.specs.Steps.{isDropped, isToppled, bookSeen, bookRefusal}
+use Rattle.session.specs.Provenance.{statusNumber, Provenance, find}
+use Rattle.session.specs.Steps.{isDropped, isRolledBack, provenanceSeen, provenanceRefusal}
 use Rattle.session.proofs.Model.{Ledger, own, findMail, missingMail}
-use Rattle.session.proofs.Relation.{present, ParcelRel, Rel, own-mark, all2-length}
-use Rattle.session.proofs.Parcels.{find-rel, missing-same, ReceiptTests, dropped-same, toppled-same}
+use Rattle.session.proofs.Relation.{present, MessageRel, Rel, own-history, all2-length}
+use Rattle.session.proofs.Messages.{find-rel, missing-same, ReceiptTests, dropped-same, rolledBack-same}
 
 -- what the table of refusals looks at is the same, field by field
 pub record SameSeen (v w : Seen) : Type 0 where
@@ -56,39 +57,39 @@ seenOf l d e = record {
   falls = λ n. not (d n) and e n;
 }
 
-module _ (l : Ledger) (b : Book) (r : Rel l b) (d e : ℕ → Bool)
+module _ (l : Ledger) (b : Provenance) (r : Rel l b) (d e : ℕ → Bool)
     (tests : (n : ℕ) → ReceiptTests (l .nodes (findMail n (l .mails) .addressee)) (findMail n (l .mails)) (d n) (e n)) where
-  mark-shown : {A : Type 0} (f : Mark → A) (t : ℕ) → f (own t (l .nodes t)) ≡ f (b .holders t .mark)
-  mark-shown f t = ap f (own-mark (r .holders t))
+  history-shown : {A : Type 0} (f : HistoryView → A) (t : ℕ) → f (own t (l .nodes t)) ≡ f (b .holders t .history)
+  history-shown f t = ap f (own-history (r .holders t))
 
-  found : (n : ℕ) → ParcelRel (present (b .holders)) (findMail n (l .mails)) (find n (b .parcels))
-  found n = find-rel n (r .parcels)
+  found : (n : ℕ) → MessageRel (present (b .holders)) (findMail n (l .mails)) (find n (b .messages))
+  found n = find-rel n (r .messages)
 
-  dropped-shown : (n : ℕ) → d n ≡ isDropped (b .holders (find n (b .parcels) .addressee)) (find n (b .parcels))
+  dropped-shown : (n : ℕ) → d n ≡ isDropped (b .holders (find n (b .messages) .addressee)) (find n (b .messages))
   dropped-shown n =
       dropped-same (r .holders (findMail n (l .mails) .addressee)) (found n) (d n) (tests n .dropped)
-      ∙ ap (λ t. isDropped (b .holders t) (find n (b .parcels))) (found n .addressee)
+      ∙ ap (λ t. isDropped (b .holders t) (find n (b .messages))) (found n .addressee)
 
-  toppled-shown : (n : ℕ) → e n ≡ isToppled (b .holders (find n (b .parcels) .addressee)) (find n (b .parcels))
-  toppled-shown n =
-      toppled-same (r .holders (findMail n (l .mails) .addressee)) (found n) (e n) (tests n .toppled)
-      ∙ ap (λ t. isToppled (b .holders t) (find n (b .parcels))) (found n .addressee)
+  rolledBack-shown : (n : ℕ) → e n ≡ isRolledBack (b .holders (find n (b .messages) .addressee)) (find n (b .messages))
+  rolledBack-shown n =
+      rolledBack-same (r .holders (findMail n (l .mails) .addressee)) (found n) (e n) (tests n .rolls-back)
+      ∙ ap (λ t. isRolledBack (b .holders t) (find n (b .messages))) (found n .addressee)
 
-  pub seen-same : SameSeen (seenOf l d e) (bookSeen b)
-  unfolding seenOf bookSeen
+  pub seen-same : SameSeen (seenOf l d e) (provenanceSeen b)
+  unfolding seenOf provenanceSeen
   seen-same = record {
     opened = r .opened;
     next = r .next;
-    waiting = all2-length (r .parcels);
+    waiting = all2-length (r .messages);
     status = λ t. ap statusNumber (r .holders t .status);
-    stable = mark-shown (λ m. m .stable);
-    checkpoints = mark-shown (λ m. length (m .incarnation .checkpoints));
-    incarnation = mark-shown (λ m. m .incarnation .number);
-    missing = λ n. missing-same n (r .parcels);
+    stable = history-shown (λ m. m .stable);
+    checkpoints = history-shown (λ m. length (m .incarnation .checkpoints));
+    incarnation = history-shown (λ m. m .incarnation .number);
+    missing = λ n. missing-same n (r .messages);
     addressee = λ n. found n .addressee;
-    falls = λ n i. not (dropped-shown n i) and toppled-shown n i;
+    falls = λ n i. not (dropped-shown n i) and rolledBack-shown n i;
   }
 
-  pub refusal-same : (m : Limits) (p : Step) → refusalOf m (seenOf l d e) p ≡ bookRefusal m b p
-  unfolding bookRefusal
+  pub refusal-same : (m : Limits) (p : Step) → refusalOf m (seenOf l d e) p ≡ provenanceRefusal m b p
+  unfolding provenanceRefusal
   refusal-same m p = ap (λ v. refusalOf m v p) (same-seen seen-same)

@@ -11,27 +11,29 @@ use lib.Dec.{eqb}
 use borrow.Author.Tests.{eqb-true, eq-eqb}
 use Rattle.octets.specs.Bytes.{_and_}
 use Rattle.marks.specs.Incarnation.{Incarnation, Superseded, supersededBy}
+use Rattle.marks.specs.History.{HistoryView, newerView}
 use Rattle.marks.proofs.Trail.{Precedes, Under}
 use Rattle.marks.proofs.Order.{precedes-refl, precedes-trans, precedes-antisym, precedes-split, comparable, superseded-up, superseded-not-under, under-trans}
 use Rattle.octets.proofs.Zero.{both}
 use Rattle.marks.proofs.Tests.{superseded-test}
-use Rattle.session.specs.Book.{Entry, Lives, In, one, Mark, anyEntry, supersededEntry, anySuperseded}
-use Rattle.session.proofs.Model.{Map, joinCell, join, noMarks, only}
-use Rattle.session.proofs.Marks.{Newer, newer-view, newer-which, newer-later, newer-right}
-use Rattle.session.proofs.Tables.{or-to, or-of, and-of, updated-view, updated-same}
+use Rattle.marks.proofs.Histories.{newerView-which, newerView-later, newerView-right}
+use Rattle.maps.specs.View.{MapView, joinEntry, joinView, emptyView, singletonView, SupersededView, superseded-entry}
+use Rattle.maps.proofs.Tables.{updated-view, updated-same}
+use Rattle.session.specs.Provenance.{Entry, Incarnations, In, one, anyEntry, supersededEntry, anySuperseded}
+use Rattle.session.proofs.Tables.{or-to, or-of, and-of}
 
 -- ---- known: mark m may stand in a map where c is the present mark of its take
 
 -- An earlier life; or the present one, and frozen only if it is frozen.
 infix 4 _⊑_
-pub record _⊑_ (m c : Mark) : Type 0 where
+pub record _⊑_ (m c : HistoryView) : Type 0 where
   pub incarnation : Precedes (m .incarnation) (c .incarnation)
   pub stable : m .incarnation ≡ c .incarnation → m .stable ≡ true → c .stable ≡ true
 
-pub ⊑-refl : (m : Mark) → m ⊑ m
+pub ⊑-refl : (m : HistoryView) → m ⊑ m
 ⊑-refl m = record { incarnation = precedes-refl _; stable = λ e f. f }
 
-pub ⊑-trans : {a b c : Mark} → a ⊑ b → b ⊑ c → a ⊑ c
+pub ⊑-trans : {a b c : HistoryView} → a ⊑ b → b ⊑ c → a ⊑ c
 ⊑-trans {a} {b} {c} h k = record { incarnation = precedes-trans (h .incarnation) (k .incarnation); stable = carry }
   where
     carry : a .incarnation ≡ c .incarnation → a .stable ≡ true → c .stable ≡ true
@@ -42,36 +44,36 @@ pub ⊑-trans : {a b c : Mark} → a ⊑ b → b ⊑ c → a ⊑ c
 -- ---- A and B at one take: P the lives of the set, c the take's present mark
 
 -- A: its life is in the set, and every life of the set precedes it. B: it is known.
-pub record Newest (P : Incarnation → Type 0) (c m : Mark) : Type 0 where
+pub record Newest (P : Incarnation → Type 0) (c m : HistoryView) : Type 0 where
   pub has : P (m .incarnation)
   pub top : (a : Incarnation) → P a → Precedes a (m .incarnation)
   pub known : m ⊑ c
 
-pub data Cell (P : Incarnation → Type 0) (c : Mark) : Option Mark → Type 0 where
+pub data Cell (P : Incarnation → Type 0) (c : HistoryView) : Option HistoryView → Type 0 where
   empty : ((a : Incarnation) → P a → ⊥) → Cell P c none
-  newest : {m : Mark} → Newest P c m → Cell P c (some m)
+  newest : {m : HistoryView} → Newest P c m → Cell P c (some m)
 
 -- the same lives, said otherwise
-pub cell-map : {P Q : Incarnation → Type 0} {c : Mark} {o : Option Mark}
+pub cell-map : {P Q : Incarnation → Type 0} {c : HistoryView} {o : Option HistoryView}
     → ((a : Incarnation) → P a → Q a) → ((a : Incarnation) → Q a → P a) → Cell P c o → Cell Q c o
 cell-map f g (empty e) = empty (λ a q. e a (g a q))
 cell-map f g (newest h) = newest (record { has = f _ (h .has); top = λ a q. h .top a (g a q); known = h .known })
 
 -- a later present mark keeps what is known
-pub cell-later : {P : Incarnation → Type 0} {c d : Mark} {o : Option Mark} → c ⊑ d → Cell P c o → Cell P d o
+pub cell-later : {P : Incarnation → Type 0} {c d : HistoryView} {o : Option HistoryView} → c ⊑ d → Cell P c o → Cell P d o
 cell-later l (empty e) = empty e
 cell-later l (newest h) = newest (record { has = h .has; top = h .top; known = ⊑-trans (h .known) l })
 
 -- the newest mark of a set that has a life
-pub cell-some : {P : Incarnation → Type 0} {c : Mark} {o : Option Mark} (a : Incarnation) → P a → Cell P c o → (m : Mark) × (o ≡ some m) × Newest P c m
+pub cell-some : {P : Incarnation → Type 0} {c : HistoryView} {o : Option HistoryView} (a : Incarnation) → P a → Cell P c o → (m : HistoryView) × (o ≡ some m) × Newest P c m
 cell-some a p (empty e) = absurd (e a p)
 cell-some a p (newest {m = m} h) = (m, refl, h)
 
-pub cell-has : {P : Incarnation → Type 0} {c m : Mark} {o : Option Mark} → o ≡ some m → Cell P c o → Newest P c m
+pub cell-has : {P : Incarnation → Type 0} {c m : HistoryView} {o : Option HistoryView} → o ≡ some m → Cell P c o → Newest P c m
 cell-has e (empty f) = let z : _≡_ {A = ℕ} 0 1 = cc in absurd (omega arith)
 cell-has {m = n} e (newest {m = k} h) = let q : k ≡ n = cc in rw q at h
 
-pub cell-none : {P : Incarnation → Type 0} {c : Mark} {o : Option Mark} → ((a : Incarnation) → P a → ⊥) → Cell P c o → o ≡ none
+pub cell-none : {P : Incarnation → Type 0} {c : HistoryView} {o : Option HistoryView} → ((a : Incarnation) → P a → ⊥) → Cell P c o → o ≡ none
 cell-none f (empty e) = refl
 cell-none f (newest h) = absurd (f _ (h .has))
 
@@ -79,10 +81,10 @@ either : {A : Type 0} (R : A → Type 0) {x m n : A} → (x ≡ m) ⊎ (x ≡ n)
 either R (inl e) p q = rw e p
 either R (inr e) p q = rw e q
 
-newest-join : {P Q : Incarnation → Type 0} {c m n r : Mark} → Newest P c m → Newest Q c n → Newer m n r → Newest (λ a. P a ⊎ Q a) c r
-newest-join {P} {Q} {c} h k v =
-    let w = newer-which v in
-    let l = newer-later (c .incarnation) (h .known .incarnation) (k .known .incarnation) v in
+newest-join : {P Q : Incarnation → Type 0} {c m n : HistoryView} → Newest P c m → Newest Q c n → Newest (λ a. P a ⊎ Q a) c (newerView m n)
+newest-join {P} {Q} {c} {m} {n} h k =
+    let w = newerView-which m n in
+    let l = newerView-later m n (c .incarnation) (h .known .incarnation) (k .known .incarnation) in
     record {
       has = either (λ x. P (x .incarnation) ⊎ Q (x .incarnation)) w (inl (h .has)) (inr (k .has));
       top = λ a. ⊎-elim (λ p. precedes-trans (h .top a p) (l .0)) (λ q. precedes-trans (k .top a q) (l .1));
@@ -90,49 +92,49 @@ newest-join {P} {Q} {c} h k v =
     }
 
 -- joined cells hold the newest mark of the united sets: both are known, so the newer one is the later one
-pub cell-join : {P Q : Incarnation → Type 0} {c : Mark} {x y : Option Mark} → Cell P c x → Cell Q c y → Cell (λ a. P a ⊎ Q a) c (joinCell x y)
-unfolding joinCell
+pub cell-join : {P Q : Incarnation → Type 0} {c : HistoryView} {x y : Option HistoryView} → Cell P c x → Cell Q c y → Cell (λ a. P a ⊎ Q a) c (joinEntry x y)
+unfolding joinEntry
 cell-join (empty e) (empty f) = empty (λ a. ⊎-elim (e a) (f a))
 cell-join (empty e) (newest k) = newest (record { has = inr (k .has); top = λ a. ⊎-elim (λ p. absurd (e a p)) (k .top a); known = k .known })
 cell-join (newest h) (empty f) = newest (record { has = inl (h .has); top = λ a. ⊎-elim (h .top a) (λ q. absurd (f a q)); known = h .known })
-cell-join (newest h) (newest k) = newest (newest-join h k (newer-view _ _))
+cell-join (newest h) (newest k) = newest (newest-join h k)
 
 -- joining what is known to the present mark leaves the present mark
-pub own-kept : {P : Incarnation → Type 0} {m : Mark} {o e : Option Mark} → Cell P m o → e ≡ some m → joinCell o e ≡ some m
-unfolding joinCell
+pub own-kept : {P : Incarnation → Type 0} {m : HistoryView} {o e : Option HistoryView} → Cell P m o → e ≡ some m → joinEntry o e ≡ some m
+unfolding joinEntry
 own-kept (empty k) e = e
-own-kept {m = m} (newest {m = n} k) e = rw e (ap some (newer-right (k .known .incarnation) (k .known .stable) (newer-view n m)))
+own-kept {m = m} (newest {m = n} k) e = rw e (ap some (newerView-right n m (k .known .incarnation) (k .known .stable)))
 
 -- ---- A and B of a map and a set, at the present marks `now`
 
-abbrev pub SetRel : (ℕ → Mark) → Map → Lives → Type 0
+abbrev pub SetRel : (ℕ → HistoryView) → MapView → Incarnations → Type 0
 SetRel now M X = (u : ℕ) → Cell (λ a. In u a X) (now u) (M u)
 
-pub set-join : (now : ℕ → Mark) (M N : Map) (X Y : Lives) → SetRel now M X → SetRel now N Y → SetRel now (join M N) (X ++ Y)
+pub set-join : (now : ℕ → HistoryView) (M N : MapView) (X Y : Incarnations) → SetRel now M X → SetRel now N Y → SetRel now (joinView M N) (X ++ Y)
 set-join now M N X Y h k u =
     cell-map (λ a. ⊎-elim (Memᴰ·append-left Y) (Memᴰ·append-right X)) (λ a. List·Memᴰ·append-cases X) (cell-join (h u) (k u))
 
-pub set-later : (now later : ℕ → Mark) (M : Map) (X : Lives) → ((u : ℕ) → now u ⊑ later u) → SetRel now M X → SetRel later M X
+pub set-later : (now later : ℕ → HistoryView) (M : MapView) (X : Incarnations) → ((u : ℕ) → now u ⊑ later u) → SetRel now M X → SetRel later M X
 set-later now later M X l h u = cell-later (l u) (h u)
 
 -- every life of the set is a past or present one
-pub set-known : (now : ℕ → Mark) (M : Map) (X : Lives) → SetRel now M X → (u : ℕ) (a : Incarnation) → In u a X → Precedes a (now u .incarnation)
+pub set-known : (now : ℕ → HistoryView) (M : MapView) (X : Incarnations) → SetRel now M X → (u : ℕ) (a : Incarnation) → In u a X → Precedes a (now u .incarnation)
 set-known now M X h u a x = let k = cell-some a x (h u) in precedes-trans (k .2 .top a x) (k .2 .known .incarnation)
 
-pub none-rel : (now : ℕ → Mark) → SetRel now noMarks []
+pub none-rel : (now : ℕ → HistoryView) → SetRel now emptyView []
 none-rel now u = empty (λ a x. List·Memᴰ·not-nil x)
 
 -- one life alone
 pub in-one : {t u : ℕ} {a c : Incarnation} → In u a (one t c) → (u ≡ t) × (a ≡ c)
 in-one k = let e = List·Memᴰ·eq-of-singleton k in (ap (λ z. z .transactor) e, ap (λ z. z .incarnation) e)
 
-pub only-same : (t : ℕ) (m : Mark) → only t m t ≡ some m
-unfolding only
-only-same t m = updated-same noMarks t (some m)
+pub only-same : (t : ℕ) (m : HistoryView) → singletonView t m t ≡ some m
+unfolding singletonView
+only-same t m = updated-same emptyView t (some m)
 
-pub only-rel : (now : ℕ → Mark) (t : ℕ) (m : Mark) → m ⊑ now t → SetRel now (only t m) (one t (m .incarnation))
-unfolding only
-only-rel now t m h = updated-view (λ u o. Cell (λ a. In u a (one t (m .incarnation))) (now u) o) noMarks t (some m)
+pub only-rel : (now : ℕ → HistoryView) (t : ℕ) (m : HistoryView) → m ⊑ now t → SetRel now (singletonView t m) (one t (m .incarnation))
+unfolding singletonView
+only-rel now t m h = updated-view (λ u o. Cell (λ a. In u a (one t (m .incarnation))) (now u) o) emptyView t (some m)
     (newest (record { has = List·Memᴰ·head refl; top = λ a x. rw (in-one x .1) (precedes-refl _); known = h }))
     (λ u n. empty (λ a x. n (sym (in-one x .0))))
 
@@ -141,7 +143,7 @@ only-rel now t m h = updated-view (λ u o. Cell (λ a. In u a (one t (m .incarna
 abbrev pub Coherent : (ℕ → Incarnation → Type 0) → Type 0
 Coherent P = (u : ℕ) (a b : Incarnation) → P u a → P u b → Superseded a b → ⊥
 
-abbrev pub Members : Lives → ℕ → Incarnation → Type 0
+abbrev pub Members : Incarnations → ℕ → Incarnation → Type 0
 Members X u a = In u a X
 
 pub coherent-part : (P Q : ℕ → Incarnation → Type 0) → ((u : ℕ) (a : Incarnation) → Q u a → P u a) → Coherent P → Coherent Q
@@ -150,12 +152,8 @@ coherent-part P Q f h u a b x y = h u a b (f u a x) (f u b y)
 -- ---- the tests at a receipt
 
 -- a life of X is stale by one of the same take in Y
-pub data StaleSet (X Y : Lives) : Type 0 where
+pub data StaleSet (X Y : Incarnations) : Type 0 where
   stale-set : (u : ℕ) (a b : Incarnation) → In u a X → In u b Y → Superseded a b → StaleSet X Y
-
--- a mark of M is stale by N's of the same take
-pub data StaleMap (M N : Map) : Type 0 where
-  stale-map : (u : ℕ) (a b : Mark) → M u ≡ some a → N u ≡ some b → Superseded (a .incarnation) (b .incarnation) → StaleMap M N
 
 -- a is stale by b; p and j are the newest of their sets, a in p's, b in j's; in p's set nothing is stale by p: then p is stale by j.
 -- For a is stale by j, and a is under p; p under j would put a under j, and j before p would make a stale by p.
@@ -173,27 +171,27 @@ newest-stale {a} {b} {p} {j} s bj ap nap pc jc = go (comparable pc jc)
     go (inr h) = absurd (nap (superseded-up aj h))
 
 -- the test on sets and the test on their newest marks
-pub stale-same : (now : ℕ → Mark) (M N : Map) (X Y : Lives) → SetRel now M X → SetRel now N Y → Coherent (Members X) → StaleSet X Y ↔ StaleMap M N
+pub stale-same : (now : ℕ → HistoryView) (M N : MapView) (X Y : Incarnations) → SetRel now M X → SetRel now N Y → Coherent (Members X) → StaleSet X Y ↔ SupersededView M N
 stale-same now M N X Y h k coherent = (to, from)
   where
-    to : StaleSet X Y → StaleMap M N
+    to : StaleSet X Y → SupersededView M N
     to (stale-set u a b x y s) =
         let p = cell-some a x (h u) in
         let j = cell-some b y (k u) in
-        stale-map u (p .0) (j .0) (p .1) (j .1)
+        superseded-entry u (p .0) (j .0) (p .1) (j .1)
         (newest-stale s (j .2 .top b y) (p .2 .top a x) (coherent u a (p .0 .incarnation) x (p .2 .has)) (p .2 .known .incarnation) (j .2 .known .incarnation))
 
-    from : StaleMap M N → StaleSet X Y
-    from (stale-map u a b p q s) = stale-set u (a .incarnation) (b .incarnation) (cell-has p (h u) .has) (cell-has q (k u) .has) s
+    from : SupersededView M N → StaleSet X Y
+    from (superseded-entry u a b p q s) = stale-set u (a .incarnation) (b .incarnation) (cell-has p (h u) .has) (cell-has q (k u) .has) s
 
 -- ---- the book's test says whether there is such a life
 
-any-to : (f : Entry → Bool) (X : Lives) → anyEntry f X ≡ true → (e : Entry) × List·Memᴰ e X × (f e ≡ true)
+any-to : (f : Entry → Bool) (X : Incarnations) → anyEntry f X ≡ true → (e : Entry) × List·Memᴰ e X × (f e ≡ true)
 unfolding anyEntry
 any-to f [] p = absurd (false≢true p)
 any-to f (x ∷ X) p = ⊎-elim (λ q. (x, List·Memᴰ·head refl, q)) (λ q. let k = any-to f X q in (k .0, List·Memᴰ·tail (k .1), k .2)) (or-to (f x) (anyEntry f X) p)
 
-any-of : (f : Entry → Bool) (X : Lives) (e : Entry) → List·Memᴰ e X → f e ≡ true → anyEntry f X ≡ true
+any-of : (f : Entry → Bool) (X : Incarnations) (e : Entry) → List·Memᴰ e X → f e ≡ true → anyEntry f X ≡ true
 unfolding anyEntry
 any-of f [] e x p = absurd (List·Memᴰ·not-nil x)
 any-of f (y ∷ X) e x p = or-of (f y) (anyEntry f X) (⊎-elim (λ q. inl (rw q at p)) (λ k. inr (any-of f X e k p)) (List·Memᴰ·cases-cons x))
@@ -215,7 +213,7 @@ entry-test x z = (to, of)
     of : (x .transactor ≡ z .transactor) × Superseded (x .incarnation) (z .incarnation) → same and stale ≡ true
     of h = and-of same stale (eq-eqb (x .transactor) (z .transactor) (h .0)) (superseded-test (x .incarnation) (z .incarnation) .1 (h .1))
 
-pub stale-test : (X Y : Lives) → (anySuperseded X Y ≡ true) ↔ StaleSet X Y
+pub stale-test : (X Y : Incarnations) → (anySuperseded X Y ≡ true) ↔ StaleSet X Y
 unfolding anySuperseded
 stale-test X Y = (to, of)
   where

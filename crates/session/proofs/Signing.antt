@@ -6,22 +6,23 @@ use mathlib.Core.List.{List, [], _∷_, _++_}
 use mathlib.Core.Logic.{_⊎_, inl, inr}
 use native.Mathlib.Omega.{arith}
 use Rattle.marks.specs.Incarnation.{Incarnation, checkpointIncarnation, Checkpointed}
+use Rattle.marks.specs.History.{HistoryView}
 use Rattle.marks.proofs.Order.{precedes-checkpoint, checkpointed-up, checkpointed-checkpoint, checkpointed-ne}
 use Rattle.ledger.specs.Refusals.{named}
-use Rattle.session.specs.Book.{unused, ready, Live, idle, Mark, Holder, Book}
-use Rattle.session.specs.Grounds.{Signed, FrozenPresent}
-use Rattle.session.specs.Steps.{anew, signedAt, NotedBy, before, now-signed, signs}
-use Rattle.session.proofs.Model.{Ledger, own, anewNode, signedNodes, signLedger}
+use Rattle.session.specs.Provenance.{unused, ready, Live, idle, Holder, Provenance}
+use Rattle.session.specs.Grounds.{CheckpointedNow, StablePresent}
+use Rattle.session.specs.Steps.{anew, checkpointedAt, NotedBy, before, now-checkpointed, signs}
+use Rattle.session.proofs.Model.{Ledger, own, anewNode, checkpointedNodes, signLedger}
 use Rattle.session.proofs.Tables.{pick-view, pick-both}
 use Rattle.session.proofs.Sets.{_⊑_, ⊑-refl}
-use Rattle.session.proofs.Relation.{live-used, presentOf, present, present-live, HolderRel, Rel, own-mark, holder-kept, parcels-kept, noted-kept}
+use Rattle.session.proofs.Relation.{live-used, presentOf, present, present-live, HolderRel, Rel, own-history, holder-kept, messages-kept, noted-kept}
 use Rattle.session.proofs.Locals.{anew-rel}
-use Rattle.session.proofs.Sign.{Ready, ready-live, settled, signed-to}
+use Rattle.session.proofs.Sign.{Ready, ready-live, settled, checkpointedNow-to}
 
-abbrev renewed : Mark → Mark
+abbrev renewed : HistoryView → HistoryView
 renewed m = record { stable = false; incarnation = checkpointIncarnation (m .incarnation) }
 
-renewed-grows : (m : Mark) → m ⊑ renewed m
+renewed-grows : (m : HistoryView) → m ⊑ renewed m
 renewed-grows m = record {
   incarnation = precedes-checkpoint (m .incarnation);
   stable = λ e. absurd (checkpointed-ne (checkpointed-checkpoint (m .incarnation)) e);
@@ -31,39 +32,39 @@ snoc-ne : (s : List ℕ) (n : ℕ) → s ++ n ∷ [] ≡ [] → ⊥
 snoc-ne [] n e = let z : _≡_ {A = ℕ} 0 1 = cc in omega arith
 snoc-ne (x ∷ s) n e = let z : _≡_ {A = ℕ} 0 1 = cc in omega arith
 
-module _ (l : Ledger) (b : Book) (r : Rel l b) (g : ℕ) (ok : Ready l (named g)) where
-  abbrev later : ℕ → Mark
-  later = present (signedAt b g)
+module _ (l : Ledger) (b : Provenance) (r : Rel l b) (g : ℕ) (ok : Ready l (named g)) where
+  abbrev later : ℕ → HistoryView
+  later = present (checkpointedAt b g)
 
   live : (t : ℕ) → named g t ≡ true → Live (b .holders t .status)
   live = ready-live l b r g ok
 
   abbrev anewAt : ℕ → Holder
-  anewAt t = anew t (renewed (b .holders t .mark))
+  anewAt t = anew t (renewed (b .holders t .history))
 
   -- the present mark of a named take is the renewed one, that of any other stays
-  named-now : (t : ℕ) → named g t ≡ true → later t ≡ renewed (b .holders t .mark)
-  unfolding signedAt
-  named-now t n = pick-view (λ (h : Holder). presentOf (h .status) (h .mark) ≡ renewed (b .holders t .mark)) (named g t) (anewAt t) (b .holders t)
-      (λ e. present-live ready (renewed (b .holders t .mark)) idle) (λ e. absurd (true≢false (sym n ∙ e)))
+  named-now : (t : ℕ) → named g t ≡ true → later t ≡ renewed (b .holders t .history)
+  unfolding checkpointedAt
+  named-now t n = pick-view (λ (h : Holder). presentOf (h .status) (h .history) ≡ renewed (b .holders t .history)) (named g t) (anewAt t) (b .holders t)
+      (λ e. present-live ready (renewed (b .holders t .history)) idle) (λ e. absurd (true≢false (sym n ∙ e)))
 
   grow : (t : ℕ) → present (b .holders) t ⊑ later t
-  unfolding signedAt
-  grow t = pick-view (λ (h : Holder). present (b .holders) t ⊑ presentOf (h .status) (h .mark)) (named g t) (anewAt t) (b .holders t)
-      (λ e. rw (present-live (b .holders t .status) (b .holders t .mark) (live t e), present-live ready (renewed (b .holders t .mark)) idle) (renewed-grows (b .holders t .mark)))
+  unfolding checkpointedAt
+  grow t = pick-view (λ (h : Holder). present (b .holders) t ⊑ presentOf (h .status) (h .history)) (named g t) (anewAt t) (b .holders t)
+      (λ e. rw (present-live (b .holders t .status) (b .holders t .history) (live t e), present-live ready (renewed (b .holders t .history)) idle) (renewed-grows (b .holders t .history)))
       (λ e. ⊑-refl _)
 
   -- E: what a named take rests on was signed, or is the present life of a named take, which is signed now
   noted-now : (t : ℕ) (a : Incarnation) (u : ℕ) (c : Incarnation) → NotedBy b g t a u c → Checkpointed c (later u .incarnation)
   noted-now t a u c (before k) = noted-kept l b r later grow t a u c k
-  noted-now t a u c (now-signed n e rests) = go (settled l b r g ok t n u c rests)
+  noted-now t a u c (now-checkpointed n e rests) = go (settled l b r g ok t n u c rests)
     where
-      go : Signed b u c ⊎ FrozenPresent b g u c → Checkpointed c (later u .incarnation)
-      go (inl s) = checkpointed-up (signed-to b s) (grow u .incarnation)
-      go (inr f) = rw (named-now u (f .named), f .present .is) (checkpointed-checkpoint (b .holders u .mark .incarnation))
+      go : CheckpointedNow b u c ⊎ StablePresent b g u c → Checkpointed c (later u .incarnation)
+      go (inl s) = checkpointed-up (checkpointedNow-to b s) (grow u .incarnation)
+      go (inr f) = rw (named-now u (f .named), f .present .is) (checkpointed-checkpoint (b .holders u .history .incarnation))
 
   pub step-sign : Rel (signLedger l (named g)) (signs b g)
-  unfolding signedNodes signedAt
+  unfolding checkpointedNodes checkpointedAt
   step-sign = record {
     opened = r .opened;
     next = r .next;
@@ -72,9 +73,9 @@ module _ (l : Ledger) (b : Book) (r : Rel l b) (g : ℕ) (ok : Ready l (named g)
         (λ e. absurd (live-used (live t e) (r .fresh t k))) (λ e. r .fresh t k);
     holders = λ t. pick-both (λ x h. HolderRel later t x h) (named g t) (named g t) refl
         (anewNode t (renewed (own t (l .nodes t)))) (l .nodes t) (anewAt t) (b .holders t)
-        (λ e. rw (own-mark (r .holders t)) (anew-rel later t (renewed (b .holders t .mark)) (rw (named-now t e) (⊑-refl _))
-        (λ k. absurd (snoc-ne (b .holders t .mark .incarnation .checkpoints) (b .holders t .mark .incarnation .number) k))))
+        (λ e. rw (own-history (r .holders t)) (anew-rel later t (renewed (b .holders t .history)) (rw (named-now t e) (⊑-refl _))
+        (λ k. absurd (snoc-ne (b .holders t .history .incarnation .checkpoints) (b .holders t .history .incarnation .number) k))))
         (λ e. holder-kept l b r later grow t);
-    parcels = parcels-kept l b r later grow;
+    messages = messages-kept l b r later grow;
     noted = noted-now;
   }

@@ -6,6 +6,7 @@ use mathlib.Core.Logic.{_↔_}
 use native.Mathlib.Omega.{arith}
 use lib.Dec.{eqb}
 use borrow.Author.Tests.{eq-eqb}
+use Rattle.marks.specs.History.{HistoryView, viewOf}
 use Rattle.ledger.specs.Layout.{Layout, Limits, Allowed}
 use Rattle.ledger.specs.Layout as layout
 use Rattle.ledger.specs.State.{Transactor, Message, State, transactorAt, messageAt, ownHistory, placeOf}
@@ -14,18 +15,18 @@ use Rattle.ledger.specs.Step.{notReady, root, letter, receive, new, send, read,
 use Rattle.ledger.specs.Rules.{Effect, Result, messageSuperseded, receiverSuperseded, rollback, readBy, writeBy, freezeBy, finishBy, fallBy, failBy, localBy, receiveBy, groupReady, seen, refusal, answer, applyRoot, applyLetter, applyReceive, applyNew, applySend, applyLocal, applyLose, applySign, apply, stepOf}
 use Rattle.ledger.specs.Well.{StepOk, WellFormed}
 use Rattle.ledger.proofs.KeepStep.{refused-same, applied-same, keeps}
-use Rattle.session.specs.Book.{Mark, Book, statusNumber}
+use Rattle.session.specs.Provenance.{Provenance, statusNumber}
 use Rattle.session.specs.Grounds.{Equal}
-use Rattle.session.specs.Steps.{bookRefusal}
-use Rattle.session.specs.Trace.{Matches, SigningRight, signed, unsigned, StepRight}
-use Rattle.session.proofs.Model.{markOf, view}
+use Rattle.session.specs.Steps.{provenanceRefusal}
+use Rattle.session.specs.Trace.{Matches, SigningRight, checkpointed, uncheckpointed, StepRight}
+use Rattle.session.proofs.Model.{view}
 use Rattle.session.proofs.Tables.{pick-view}
-use Rattle.session.proofs.Relation.{Rel, own-mark}
+use Rattle.session.proofs.Relation.{Rel, own-history}
 use Rattle.session.proofs.Sign.{rel-sound}
-use Rattle.session.proofs.Accepted.{accepted}
+use Rattle.ledger.proofs.KeepAccepted.{accepted}
 use Rattle.session.proofs.Kept.{sign-exact}
 use Rattle.session.proofs.ViewState.{own-view}
-use Rattle.session.proofs.ViewRules.{droppedAt, toppledAt}
+use Rattle.session.proofs.ViewRules.{droppedAt, rolledBackAt}
 use Rattle.session.proofs.ViewSeen.{seen-status}
 use Rattle.session.proofs.ViewStep.{readyAt, ready-same, step-tests, applicable, same-refusal, state-kept}
 
@@ -81,32 +82,34 @@ apply-sign y s p k = rw k
 
 -- ---- marks and statuses are those of a book that is related to the view
 
-pub matches-rel : {y : Layout} {s : State} {b : Book} → WellFormed y s → Rel (view s) b → Matches s b
+pub matches-rel : {y : Layout} {s : State} {b : Provenance} → WellFormed y s → Rel (view s) b → Matches s b
 unfolding view
 matches-rel {y} {s} {b} well r t =
-    let own : markOf (ownHistory t (transactorAt s t)) ≡ b .holders t .mark = sym (own-view well t) ∙ own-mark (r .holders t) in
+    let own : viewOf (ownHistory t (transactorAt s t)) ≡ b .holders t .history = sym (own-view well t) ∙ own-history (r .holders t) in
     record {
       status = seen-status well t ∙ ap statusNumber (r .holders t .status);
-      incarnation = λ k. ap (λ (m : Mark). m .incarnation) own;
-      stable = λ k. ap (λ (m : Mark). m .stable) own;
+      incarnation = λ k. ap (λ (m : HistoryView). m .incarnation) own;
+      stable = λ k. ap (λ (m : HistoryView). m .stable) own;
     }
 
 -- ---- every step
 
 -- the book after step p: all that is claimed of the step, and the relation after it
-pub record Stepped (y : Layout) (m : Limits) (s : State) (b : Book) (p : Step) : Type 1 where
-  pub after : Book
+pub record Stepped (y : Layout) (m : Limits) (s : State) (b : Provenance) (p : Step) : Type 1 where
+  pub after : Provenance
   pub right : StepRight y m s b p after
   pub rel : Rel (view (stepOf y m s p .state)) after
 
-module _ {y : Layout} {m : Limits} (z : layout.Fitting y) (l : Allowed y m) {s : State} (well : WellFormed y s) {b : Book} (r : Rel (view s) b) {p : Step} (ok : StepOk p) where
-  same : refusal y m s p ≡ bookRefusal m b p
+module _ {y : Layout} {m : Limits} (z : layout.Fitting y) (l : Allowed y m) {s : State} (well : WellFormed y s) {b : Provenance} (r : Rel (view s) b) {p : Step} (ok : StepOk p) where
+  same : refusal y m s p ≡ provenanceRefusal m b p
   same = same-refusal well m r p
 
-  reply-refused : (bookRefusal m b p ≡ 0 → ⊥) → stepOf y m s p .reply ≡ answer (bookRefusal m b p) 0 0 0
-  reply-refused n = ap (λ (x : Result). x .reply) (refused-same y m s p (λ e. n (sym same ∙ e))) ∙ ap (λ (n : ℕ). answer n 0 0 0) same
+  is-refused : (provenanceRefusal m b p ≡ 0 → ⊥) → (stepOf y m s p .reply ≡ answer (provenanceRefusal m b p) 0 0 0) × (stepOf y m s p .state ≡ s)
+  is-refused n =
+      let e : stepOf y m s p ≡ record { reply = answer (refusal y m s p) 0 0 0; state = s } = refused-same y m s p (λ e. n (sym same ∙ e)) in
+      (ap (λ (x : Result). x .reply) e ∙ ap (λ (n : ℕ). answer n 0 0 0) same, ap (λ (x : Result). x .state) e)
 
-  module _ (zero : bookRefusal m b p ≡ 0) where
+  module _ (zero : provenanceRefusal m b p ≡ 0) where
     is-applied : stepOf y m s p ≡ apply y s p
     is-applied = applied-same y m s p (same ∙ zero)
 
@@ -123,15 +126,15 @@ module _ {y : Layout} {m : Limits} (z : layout.Fitting y) (l : Allowed y m) {s :
       ready-exact =
           let a = applicable well l (ok .message) (accepted m (seen y s) p (same ∙ zero)) in
           rw (ready-same well (p .message) (ok .message) (a .among (eq-eqb (p .kind) sign k)))
-          (sign-exact (view s) b r m p zero (droppedAt y s (p .message)) (toppledAt y s (p .message)) (readyAt y s (p .message)) (step-tests well p (ok .message)) k (ok .message))
+          (sign-exact (view s) b r m p zero (droppedAt y s (p .message)) (rolledBackAt y s (p .message)) (readyAt y s (p .message)) (step-tests well p (ok .message)) k (ok .message))
 
       signing-right : SigningRight y m s b p
       unfolding applySign
       signing-right = go (groupReady y s (p .message)) refl
         where
           go : (t : Bool) → groupReady y s (p .message) ≡ t → SigningRight y m s b p
-          go true e = signed (ready-exact .0 e) (rw (is-signing, e)) (rw (is-signing, e))
-          go false e = unsigned (λ q. false≢true (sym e ∙ ready-exact .1 q)) (rw (is-signing, e)) (rw (is-signing, e))
+          go true e = checkpointed (ready-exact .0 e) (rw (is-signing, e)) (rw (is-signing, e))
+          go false e = uncheckpointed (λ q. false≢true (sym e ∙ ready-exact .1 q)) (rw (is-signing, e)) (rw (is-signing, e))
 
   pub step-right : Stepped y m s b p
   step-right =
@@ -139,8 +142,8 @@ module _ {y : Layout} {m : Limits} (z : layout.Fitting y) (l : Allowed y m) {s :
       record {
         after = k .after;
         right = record {
-          book = k .step;
-          refused = reply-refused;
+          provenance = k .step;
+          refused = is-refused;
           accepted = reply-accepted;
           signing = signing-right;
           matches = matches-rel (keeps z l well ok) (k .rel);

@@ -1,18 +1,15 @@
 -- Choices by a test and tables that change at one place, as the steps of both sides make them.
 use Prim.Native.Nat.{ℕ}
 use mathlib.Core.Bool.{Bool, true, false, true≢false, false≢true}
-use mathlib.Core.Path.{_≡_, refl, sym, subst}
+use mathlib.Core.Path.{_≡_, refl, subst}
 use mathlib.Core.Logic.{_⊎_, inl, inr, _≢_}
 use lib.Dec.{eqb}
-use borrow.Author.Tests.{eqb-true, eqb-false, eq-eqb, ne-eqb}
+use borrow.Author.Tests.{eqb-true, eqb-false}
 use Rattle.octets.specs.Bytes.{pick, _and_, _or_}
-use Rattle.session.specs.Book.{updated}
+pub use Rattle.octets.proofs.Tests.{pick-view, same-test}
+use Rattle.maps.specs.Table.{updated}
 
 -- ---- tests
-
-pub pick-view {ℓ} : {A : Type ℓ} (P : A → Type 0) (t : Bool) (x y : A) → (t ≡ true → P x) → (t ≡ false → P y) → P (pick t x y)
-pick-view P true x y f g = f refl
-pick-view P false x y f g = g refl
 
 -- two choices by equal tests
 pub pick-both {ℓ κ} : {A : Type ℓ} {B : Type κ} (P : A → B → Type 0) (t u : Bool) → t ≡ u → (x y : A) (z w : B)
@@ -34,32 +31,9 @@ or-of true u h = refl
 or-of false u (inl e) = absurd (false≢true e)
 or-of false u (inr e) = e
 
--- two tests of equivalent facts are equal
-pub same-tests : (t u : Bool) → (t ≡ true → u ≡ true) → (u ≡ true → t ≡ true) → t ≡ u
-same-tests true true f g = refl
-same-tests true false f g = sym (f refl)
-same-tests false true f g = g refl
-same-tests false false f g = refl
-
 -- ---- tables
 
-module _ {A : Type 0} (f : ℕ → A) (t : ℕ) (x : A) where
-  pub updated-same : updated f t x t ≡ x
-  unfolding updated
-  updated-same = rw (eq-eqb t t refl)
-
-  pub updated-other : (u : ℕ) → t ≢ u → updated f t x u ≡ f u
-  unfolding updated
-  updated-other u n = rw (ne-eqb t u n)
-
--- what holds at the place and away from it holds everywhere
-pub updated-view : {A : Type 0} (P : ℕ → A → Type 0) (f : ℕ → A) (t : ℕ) (x : A)
-    → P t x → ((u : ℕ) → t ≢ u → P u (f u)) → (u : ℕ) → P u (updated f t x u)
-unfolding updated
-updated-view P f t x p q u =
-    pick-view (P u) (eqb t u) x (f u) (λ e. subst (λ v. P v x) (eqb-true t u e) p) (λ e. q u (eqb-false t u e))
-
--- the same of two tables that change at one place
+-- what holds of two tables at the place where both change and away from it holds everywhere
 pub updated-both : {A B : Type 0} (P : ℕ → A → B → Type 0) (f : ℕ → A) (g : ℕ → B) (t : ℕ) (x : A) (y : B)
     → P t x y → ((u : ℕ) → t ≢ u → P u (f u) (g u)) → (u : ℕ) → P u (updated f t x u) (updated g t y u)
 unfolding updated

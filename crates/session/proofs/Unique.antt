@@ -4,39 +4,40 @@ use mathlib.Core.Path.{_≡_, refl, subst}
 use mathlib.Core.List.{List}
 use Rattle.ledger.specs.Layout.{Layout, Limits}
 use Rattle.ledger.specs.Step.{stepAt}
-use Rattle.session.specs.Book.{Book}
-use Rattle.session.specs.Steps.{BookStep}
-use Rattle.session.specs.Trace as trace
-use Rattle.session.specs.Trace.{Call, Trace, BookSteps, BookCall, book-refuses, book-begins, book-runs, book-offers, book-shows, callsOf, BookOf, new-book, fed, Right, opened-right, called-right}
-use Rattle.session.proofs.Kept.{book-determined}
+use Rattle.session.specs.Provenance.{Provenance}
+use Rattle.session.specs.Steps.{ProvenanceStep}
+use Rattle.session.specs.Fed as book
+use Rattle.session.specs.Fed.{Call, ProvenanceSteps, ProvenanceCall, provenance-refuses, provenance-begins, provenance-runs, provenance-offers, provenance-shows, ProvenanceOf, new-provenance, fed}
+use Rattle.session.specs.Trace.{Trace, callsOf, Right, opened-right, called-right}
+use Rattle.session.proofs.Kept.{provenance-determined}
 
-steps-determined : {m : Limits} {b c d : Book} {steps : List ℕ} {i : ℕ} → BookSteps m b steps i c → BookSteps m b steps i d → c ≡ d
-steps-determined trace.none trace.none = refl
-steps-determined {m} {b} {c} {d} {steps} (trace.more {i} p q) (trace.more r s) =
-    book-determined (subst (λ x. BookStep m x (stepAt steps i) c) (steps-determined p r) q) s
+steps-determined : {m : Limits} {b c d : Provenance} {steps : List ℕ} {i : ℕ} → ProvenanceSteps m b steps i c → ProvenanceSteps m b steps i d → c ≡ d
+steps-determined book.none book.none = refl
+steps-determined {m} {b} {c} {d} {steps} (book.more {i} p q) (book.more r s) =
+    provenance-determined (subst (λ x. ProvenanceStep m x (stepAt steps i) c) (steps-determined p r) q) s
 
-call-determined : {m : Limits} {b d e : Book} {c : Call} → BookCall m b c d → BookCall m b c e → d ≡ e
-call-determined (book-refuses n) (book-refuses k) = refl
-call-determined (book-refuses n) book-begins = absurd (n refl)
-call-determined (book-refuses n) (book-runs z p) = absurd (n z)
-call-determined (book-refuses n) (book-offers z) = refl
-call-determined (book-refuses n) (book-shows z) = refl
-call-determined book-begins (book-refuses n) = absurd (n refl)
-call-determined book-begins book-begins = refl
-call-determined (book-runs z p) (book-refuses n) = absurd (n z)
-call-determined (book-runs z p) (book-runs y q) = steps-determined p q
-call-determined (book-offers z) (book-refuses n) = refl
-call-determined (book-offers z) (book-offers y) = refl
-call-determined (book-shows z) (book-refuses n) = refl
-call-determined (book-shows z) (book-shows y) = refl
+call-determined : {m : Limits} {b d e : Provenance} {c : Call} → ProvenanceCall m b c d → ProvenanceCall m b c e → d ≡ e
+call-determined (provenance-refuses n) (provenance-refuses k) = refl
+call-determined (provenance-refuses n) provenance-begins = absurd (n refl)
+call-determined (provenance-refuses n) (provenance-runs z p) = absurd (n z)
+call-determined (provenance-refuses n) (provenance-offers z) = refl
+call-determined (provenance-refuses n) (provenance-shows z) = refl
+call-determined provenance-begins (provenance-refuses n) = absurd (n refl)
+call-determined provenance-begins provenance-begins = refl
+call-determined (provenance-runs z p) (provenance-refuses n) = absurd (n z)
+call-determined (provenance-runs z p) (provenance-runs y q) = steps-determined p q
+call-determined (provenance-offers z) (provenance-refuses n) = refl
+call-determined (provenance-offers z) (provenance-offers y) = refl
+call-determined (provenance-shows z) (provenance-refuses n) = refl
+call-determined (provenance-shows z) (provenance-shows y) = refl
 
 -- Two books that are fed the same calls are equal.
-pub book-unique : {m : Limits} {cs : List Call} {b c : Book} → BookOf m cs b → BookOf m cs c → b ≡ c
-book-unique new-book new-book = refl
-book-unique {m} {b = b} (fed {c = k} p q) (fed r s) = call-determined (subst (λ x. BookCall m x k b) (book-unique p r) q) s
+pub provenance-unique : {m : Limits} {cs : List Call} {b c : Provenance} → ProvenanceOf m cs b → ProvenanceOf m cs c → b ≡ c
+provenance-unique new-provenance new-provenance = refl
+provenance-unique {m} {b = b} (fed {c = k} p q) (fed r s) = call-determined (subst (λ x. ProvenanceCall m x k b) (provenance-unique p r) q) s
 
 -- The book that is right of a trace is the one that is fed its calls.
-pub right-book : {y : Layout} {m : Limits} {img : List ℕ} {τ : Trace y m img} {b : Book} → Right y m img τ b → BookOf m (callsOf τ) b
+pub right-provenance : {y : Layout} {m : Limits} {img : List ℕ} {τ : Trace y m img} {b : Provenance} → Right y m img τ b → ProvenanceOf m (callsOf τ) b
 unfolding callsOf
-right-book (opened-right h) = new-book
-right-book (called-right r k) = fed (right-book r) (k .book)
+right-provenance (opened-right h s) = new-provenance
+right-provenance (called-right r k) = fed (right-provenance r) (k .provenance)

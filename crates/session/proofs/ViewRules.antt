@@ -1,6 +1,6 @@
 -- The rules through the view: what each kind does there, and the tests of receive and sign.
 use Prim.Native.Nat.{ℕ, zero, suc, _≤_, _<_}
-use mathlib.Core.Bool.{Bool, true, false, not}
+use mathlib.Core.Bool.{Bool, true, false, not, false≢true}
 use mathlib.Core.Path.{_≡_, refl, ap, ap₂, sym, _∙_, subst}
 use mathlib.Core.List.{List, [], _∷_}
 use mathlib.Core.Logic.{_⊎_, inl, inr, ⊎-elim, _↔_}
@@ -14,30 +14,31 @@ use Rattle.octets.proofs.Chunks.{sides}
 use Rattle.octets.proofs.Zero.{both, every-all, every-at}
 use Rattle.marks.specs.declared.History.{History}
 use Rattle.marks.specs.Incarnation.{Incarnation, nextIncarnation, Checkpointed, checkpointedIn, sameIncarnation}
-use Rattle.marks.specs.History.{incarnationOf, initialHistory, stabilized, rolledBack, Roomy}
+use Rattle.marks.specs.History.{incarnationOf, initialHistory, stabilized, rolledBack, Roomy, HistoryView, initialView, viewOf}
 use Rattle.marks.proofs.Histories.{roomy-length, roomy-initial}
 use Rattle.marks.proofs.Tests.{checkpointed-test, same-test}
 use Rattle.maps.specs.declared.DependenceMap.{DependenceMap}
 use Rattle.maps.specs.Map.{heldAt, historyAt}
+use Rattle.maps.specs.Table.{updated}
+use Rattle.maps.specs.View.{joinEntry, emptyView, singletonView, mapView, SupersededView}
+use Rattle.maps.proofs.View.{Answers, one, no-one, view-superseded, view-held, view-some, Within, roomy-entry, within-none, within-ok, within-singleton, within-join, view-empty, view-withEntry, view-singleton, view-join}
 use Rattle.ledger.specs.Layout.{Layout}
 use Rattle.ledger.specs.State.{Transactor, Message, State, transactorAt, messageAt, ownHistory, live, withTransactor, withoutMessage, numbered, placeOf}
 use Rattle.ledger.specs.State as state
 use Rattle.ledger.specs.declared.Step.{Step}
 use Rattle.ledger.specs.Step.{read, write, freeze, finish, fall}
 use Rattle.ledger.specs.Refusals.{named}
-use Rattle.ledger.specs.Rules.{Effect, carried, rollback, readBy, writeBy, freezeBy, finishBy, fallBy, failBy, localBy, known, messageSuperseded, receiverSuperseded, receiveBy, entryReady, mapReady, transactorReady, groupReady, opening, applyRoot, applyLetter, applyReceive, applyNew, applySend, applyLocal, applyLose, applySign}
+use Rattle.ledger.specs.Rules.{Effect, isSome, carried, rollback, readBy, writeBy, freezeBy, finishBy, fallBy, failBy, localBy, known, messageSuperseded, receiverSuperseded, receiveBy, entryReady, mapReady, transactorReady, groupReady, opening, applyRoot, applyLetter, applyReceive, applyNew, applySend, applyLocal, applyLose, applySign}
 use Rattle.ledger.specs.Rules as rules
 use Rattle.ledger.specs.Well.{TransactorOk, WellFormed}
-use Rattle.session.specs.Book.{Mark, initialMark, Live, idle, working, updated}
+use Rattle.session.specs.Provenance.{Live, idle, working}
 use Rattle.session.specs.Steps.{isNil}
-use Rattle.session.proofs.Model.{joinCell, noMarks, only, Node, Ledger, own, withNode, openNode, withMail, withoutMail, findMail, anewNode, readNode, freezeNode, finishNode, fallenNode, knownMap, sentMap, childNode, openerNode, signLedger, markOf, viewMap, statusOf, viewNode, view}
+use Rattle.session.proofs.Model.{Node, Ledger, own, withNode, openNode, withMail, withoutMail, findMail, anewNode, readNode, freezeNode, finishNode, rollbackNode, knownMap, sentMap, childNode, openerNode, signLedger, statusOf, viewNode, view}
 use Rattle.session.proofs.Tables.{pick-both, and-of, or-to, or-of}
-use Rattle.session.proofs.Sets.{StaleMap}
 use Rattle.session.proofs.Locals.{writtenNode, fallNode, failNode, actedNode}
-use Rattle.session.proofs.Parcels.{receivedNode, receiveMail}
+use Rattle.session.proofs.Messages.{receivedNode, receiveMail}
 use Rattle.session.proofs.Sign.{EntryReady, Ready}
-use Rattle.session.proofs.ViewMaps.{view-held, view-some, Within, roomy-entry, within-none, within-ok, within-singleton, within-join, view-empty, view-withEntry, view-singleton, view-join, view-stale}
-use Rattle.session.proofs.ViewState.{node-same, view-bare, view-anew, view-withTransactor, view-opened, view-own, at-take, own-view, no-message, view-withMessage, view-find, view-withoutMessage, view-checkpointGroup}
+use Rattle.session.proofs.ViewState.{node-same, view-bare, view-anew, view-withTransactor, view-opened, view-own, at-transactor, own-view, no-message, view-withMessage, view-find, view-withoutMessage, view-checkpointGroup}
 
 -- ---- one take alone
 
@@ -60,7 +61,7 @@ module _ {y : Layout} {x : Transactor} (ok : TransactorOk y x) where
 
   module _ (t : ℕ) where
     stable-view : ownHistory t x .stable ≡ own t (viewNode x) .stable
-    stable-view = ap (λ (m : Mark). m .stable) (sym (view-own (ok .state) t))
+    stable-view = ap (λ (m : HistoryView). m .stable) (sym (view-own (ok .state) t))
 
     pub view-write : (v : ℕ) → viewNode (writeBy y t v x .transactor) ≡ writtenNode t (viewNode x)
     unfolding writeBy
@@ -76,32 +77,32 @@ module _ {y : Layout} {x : Transactor} (ok : TransactorOk y x) where
       unfolding freezeBy
       view-freeze = node-same refl
           (λ u. view-withEntry (ok .state) t (stabilized (ownHistory t x)) below u
-          ∙ ap (λ (m : Mark). updated (viewMap (x .state)) t (some (record { stable = true; incarnation = m .incarnation })) u) (sym (view-own (ok .state) t)))
+          ∙ ap (λ (m : HistoryView). updated (mapView (x .state)) t (some (record { stable = true; incarnation = m .incarnation })) u) (sym (view-own (ok .state) t)))
           (λ u. refl)
           (λ u. refl)
 
       -- nothing signed: the list is empty
-      never-signed : eqb (ownHistory t x .count) 0 ≡ isNil (own t (viewNode x) .incarnation .checkpoints)
-      never-signed =
+      never-checkpointed : eqb (ownHistory t x .count) 0 ≡ isNil (own t (viewNode x) .incarnation .checkpoints)
+      never-checkpointed =
           ap (λ (n : ℕ). eqb n 0) (sym (roomy-length own-room))
           ∙ sym (nil-length (incarnationOf (ownHistory t x) .checkpoints))
-          ∙ ap (λ (m : Mark). isNil (m .incarnation .checkpoints)) (sym (view-own (ok .state) t))
+          ∙ ap (λ (m : HistoryView). isNil (m .incarnation .checkpoints)) (sym (view-own (ok .state) t))
 
-      pub view-rollback : viewNode (rollback y t x .transactor) ≡ fallenNode t (viewNode x)
-      unfolding rollback fallenNode statusOf
-      view-rollback = pick-both Leaves (eqb (ownHistory t x .count) 0) (isNil (own t (viewNode x) .incarnation .checkpoints)) never-signed _ _ _ _
+      pub view-rollback : viewNode (rollback y t x .transactor) ≡ rollbackNode t (viewNode x)
+      unfolding rollback rollbackNode statusOf
+      view-rollback = pick-both Leaves (eqb (ownHistory t x .count) 0) (isNil (own t (viewNode x) .incarnation .checkpoints)) never-checkpointed _ _ _ _
           (λ e. view-bare y state.annihilated)
           (λ e. view-anew y t (x .saved) (x .saved) (rolledBack (ownHistory t x)) below
-          ∙ ap (λ (m : Mark). anewNode t (record { stable = false; incarnation = nextIncarnation (m .incarnation) })) (sym (view-own (ok .state) t)))
+          ∙ ap (λ (m : HistoryView). anewNode t (record { stable = false; incarnation = nextIncarnation (m .incarnation) })) (sym (view-own (ok .state) t)))
 
-      pub view-carried : (u : ℕ) → viewMap (carried y t x) u ≡ sentMap t (viewNode x) u
+      pub view-carried : (u : ℕ) → mapView (carried y t x) u ≡ sentMap t (viewNode x) u
       unfolding carried
       view-carried u =
           let c = within-ok (ok .creation) in
           let b = within-ok (ok .behaviour) in
           view-join (within-join c b) (within-singleton (y .places) (y .transactors) t below own-room) u
-          ∙ ap₂ joinCell (view-join c b u)
-          (view-singleton (y .places) (y .transactors) t (ownHistory t x) below u ∙ ap (λ (m : Mark). only t m u) (sym (view-own (ok .state) t)))
+          ∙ ap₂ joinEntry (view-join c b u)
+          (view-singleton (y .places) (y .transactors) t (ownHistory t x) below u ∙ ap (λ (m : HistoryView). singletonView t m u) (sym (view-own (ok .state) t)))
 
       pub view-fall : viewNode (fallBy y t x .transactor) ≡ fallNode t (viewNode x)
       unfolding fallBy finishBy
@@ -121,7 +122,7 @@ module _ {y : Layout} {x : Transactor} (ok : TransactorOk y x) where
           pick-both Leaves (eqb k fall) (eqb k fall) refl _ _ _ _ (λ e. view-fall) (λ e. view-fail)
 
       pub view-received : (m : Message)
-          → viewNode (receiveBy y t x m .transactor) ≡ receivedNode (messageSuperseded y x m) (receiverSuperseded y x m) t (viewNode x) (viewMap (m .dependences))
+          → viewNode (receiveBy y t x m .transactor) ≡ receivedNode (messageSuperseded y x m) (receiverSuperseded y x m) t (viewNode x) (mapView (m .dependences))
       unfolding receiveBy statusOf
       view-received m =
           pick-both Leaves (messageSuperseded y x m) (messageSuperseded y x m) refl _ _ _ _ (λ e. refl) λ e.
@@ -134,8 +135,13 @@ unfoldable pub droppedAt : Layout → State → ℕ → Bool
 droppedAt y s n = messageSuperseded y (transactorAt s (messageAt s (placeOf s n) .addressee)) (messageAt s (placeOf s n))
 
 -- a mark of its addressee is stale by the parcel's
-unfoldable pub toppledAt : Layout → State → ℕ → Bool
-toppledAt y s n = receiverSuperseded y (transactorAt s (messageAt s (placeOf s n) .addressee)) (messageAt s (placeOf s n))
+unfoldable pub rolledBackAt : Layout → State → ℕ → Bool
+rolledBackAt y s n = receiverSuperseded y (transactorAt s (messageAt s (placeOf s n) .addressee)) (messageAt s (placeOf s n))
+
+-- the test by an answer of the comparison
+is-some : {P : Type 0} {o : Option ℕ} → Answers P o → (isSome o ≡ true) ↔ P
+is-some (one p) = (λ e. p, λ q. refl)
+is-some (no-one n) = (λ e. absurd (false≢true e), λ p. absurd (n p))
 
 module _ {y : Layout} {s : State} (well : WellFormed y s) where
   within-message : (k : ℕ) → Within (y .places) (y .transactors) (messageAt s k .dependences)
@@ -145,28 +151,28 @@ module _ {y : Layout} {s : State} (well : WellFormed y s) where
       (sides k (length (s .messages)))
 
   within-known : (t : ℕ) → Within (y .places) (y .transactors) (transactorAt s t .state) × Within (y .places) (y .transactors) (transactorAt s t .creation)
-  within-known = at-take well (λ t x. Within (y .places) (y .transactors) (x .state) × Within (y .places) (y .transactors) (x .creation))
+  within-known = at-transactor well (λ t x. Within (y .places) (y .transactors) (x .state) × Within (y .places) (y .transactors) (x .creation))
       (λ t h. (within-ok (well .packable .transactors t h .state), within-ok (well .packable .transactors t h .creation)))
       (λ t. (within-none (y .places) (y .transactors), within-none (y .places) (y .transactors)))
 
-  pub view-known : (t : ℕ) → viewMap (known y (transactorAt s t)) ≡ knownMap (viewNode (transactorAt s t))
+  pub view-known : (t : ℕ) → mapView (known y (transactorAt s t)) ≡ knownMap (viewNode (transactorAt s t))
   view-known t = λ i u. view-join (within-known t .0) (within-known t .1) u i
 
   -- for every number, of a parcel that waits or not
   module _ (n : ℕ) where
-    pub dropped-test : (droppedAt y s n ≡ true) ↔ StaleMap (findMail n (view s .mails) .dependences) (knownMap (view s .nodes (findMail n (view s .mails) .addressee)))
+    pub dropped-test : (droppedAt y s n ≡ true) ↔ SupersededView (findMail n (view s .mails) .dependences) (knownMap (view s .nodes (findMail n (view s .mails) .addressee)))
     unfolding droppedAt messageSuperseded view
     dropped-test =
         let m : Message = messageAt s (placeOf s n) in
         let x : Transactor = transactorAt s (m .addressee) in
-        rw (view-find s n, ← view-known (m .addressee)) (view-stale (within-message (placeOf s n)) (known y x))
+        rw (view-find s n, ← view-known (m .addressee)) (is-some (view-superseded (within-message (placeOf s n)) (known y x)))
 
-    pub toppled-test : (toppledAt y s n ≡ true) ↔ StaleMap (knownMap (view s .nodes (findMail n (view s .mails) .addressee))) (findMail n (view s .mails) .dependences)
-    unfolding toppledAt receiverSuperseded view
-    toppled-test =
+    pub rolledBack-test : (rolledBackAt y s n ≡ true) ↔ SupersededView (knownMap (view s .nodes (findMail n (view s .mails) .addressee))) (findMail n (view s .mails) .dependences)
+    unfolding rolledBackAt receiverSuperseded view
+    rolledBack-test =
         let m : Message = messageAt s (placeOf s n) in
         let t : ℕ = m .addressee in
-        rw (view-find s n, ← view-known t) (view-stale (within-join (within-known t .0) (within-known t .1)) (m .dependences))
+        rw (view-find s n, ← view-known t) (is-some (view-superseded (within-join (within-known t .0) (within-known t .1)) (m .dependences)))
 
 -- ---- the kinds
 
@@ -181,13 +187,13 @@ module _ {y : Layout} {s : State} (well : WellFormed y s) (p : Step) where
   ok-at : (t : ℕ) → t < y .transactors → TransactorOk y (transactorAt s t)
   ok-at t h = well .packable .transactors t h
 
-  pub view-root : s .opened < y .transactors → view (applyRoot y s p .state) ≡ openNode (view s) (anewNode (view s .opened) initialMark)
+  pub view-root : s .opened < y .transactors → view (applyRoot y s p .state) ≡ openNode (view s) (anewNode (view s .opened) initialView)
   unfolding applyRoot view
   view-root h =
       view-opened s (opening y (s .opened) (p .value) (rules.noDependences y)) (inside (s .opened) h)
       ∙ ap (openNode (view s)) (view-anew y (s .opened) (p .value) 0 (initialHistory (y .places)) h)
 
-  pub view-letter : view (applyLetter y s p .state) ≡ withMail (view s) (p .transactor) noMarks
+  pub view-letter : view (applyLetter y s p .state) ≡ withMail (view s) (p .transactor) emptyView
   unfolding applyLetter
   view-letter =
       view-withMessage s (p .transactor) (p .value) (rules.noDependences y)
@@ -231,7 +237,7 @@ module _ {y : Layout} {s : State} (well : WellFormed y s) (p : Step) where
         let x : Transactor = transactorAt s (p .transactor) in
         node-same refl (λ u. refl) (λ u. refl) (λ u.
         view-join (within-singleton (y .places) (y .transactors) (s .opened) k (roomy-initial (y .places))) (within-ok (ok-at (p .transactor) h .behaviour)) u
-        ∙ ap (λ (o : Option Mark). joinCell o (viewMap (x .behaviour) u)) (view-singleton (y .places) (y .transactors) (s .opened) (initialHistory (y .places)) k u))
+        ∙ ap (λ (o : Option HistoryView). joinEntry o (mapView (x .behaviour) u)) (view-singleton (y .places) (y .transactors) (s .opened) (initialHistory (y .places)) k u))
 
     pub view-new : view (applyNew y s p .state)
         ≡ openNode (withNode (view s) (p .transactor) (openerNode (view s .opened) (view s .nodes (p .transactor))))
@@ -255,8 +261,8 @@ module _ {y : Layout} {s : State} (well : WellFormed y s) (p : Step) where
     pub addressee-below : messageAt s (placeOf s (p .message)) .addressee < y .transactors
     addressee-below = omega (arith, well .opened, well .addressees (placeOf s (p .message)) waits)
 
-    pub view-receive : view (applyReceive y s p .state) ≡ receiveMail (droppedAt y s (p .message)) (toppledAt y s (p .message)) (view s) (p .message)
-    unfolding applyReceive view droppedAt toppledAt
+    pub view-receive : view (applyReceive y s p .state) ≡ receiveMail (droppedAt y s (p .message)) (rolledBackAt y s (p .message)) (view s) (p .message)
+    unfolding applyReceive view droppedAt rolledBackAt
     view-receive =
         let m : Message = messageAt s (placeOf s (p .message)) in
         let t : ℕ = m .addressee in
@@ -295,9 +301,9 @@ settled-test n a b = (λ e. to (or-to (checkpointedIn a b) (n and sameIncarnatio
 module _ {y : Layout} {s : State} (well : WellFormed y s) (g : ℕ) where
   module _ (u : ℕ) (h : History) where
     own-is : incarnationOf (ownHistory u (transactorAt s u)) ≡ own u (viewNode (transactorAt s u)) .incarnation
-    own-is = ap (λ (m : Mark). m .incarnation) (sym (own-view well u))
+    own-is = ap (λ (m : HistoryView). m .incarnation) (sym (own-view well u))
 
-    entry-test : (entryReady s g u h ≡ true) ↔ EntryReady (view s) (named g) u (markOf h)
+    entry-test : (entryReady s g u h ≡ true) ↔ EntryReady (view s) (named g) u (viewOf h)
     unfolding entryReady view
     entry-test =
         let x : Transactor = transactorAt s u in
@@ -311,24 +317,24 @@ module _ {y : Layout} {s : State} (well : WellFormed y s) (g : ℕ) where
         )
 
   map-test : {m : DependenceMap} → Within (y .places) (y .transactors) m
-      → (mapReady y s g m ≡ true) ↔ ((u : ℕ) (x : Mark) → viewMap m u ≡ some x → EntryReady (view s) (named g) u x)
+      → (mapReady y s g m ≡ true) ↔ ((u : ℕ) (x : HistoryView) → mapView m u ≡ some x → EntryReady (view s) (named g) u x)
   unfolding mapReady
   map-test {m} i = (to, of)
     where
       f : ℕ → Bool
       f u = not (heldAt m u) or entryReady s g u (historyAt m u)
 
-      to : every (y .transactors) f ≡ true → (u : ℕ) (x : Mark) → viewMap m u ≡ some x → EntryReady (view s) (named g) u x
+      to : every (y .transactors) f ≡ true → (u : ℕ) (x : HistoryView) → mapView m u ≡ some x → EntryReady (view s) (named g) u x
       to e u x k =
           let p = view-some m u x k in
           let q = every-at f (y .transactors) u e (i .below u (p .0)) in
           rw (p .1) (entry-test u (historyAt m u) .0 (rw (p .0) at q))
 
-      of : ((u : ℕ) (x : Mark) → viewMap m u ≡ some x → EntryReady (view s) (named g) u x) → every (y .transactors) f ≡ true
+      of : ((u : ℕ) (x : HistoryView) → mapView m u ≡ some x → EntryReady (view s) (named g) u x) → every (y .transactors) f ≡ true
       of k = every-all f (y .transactors) (λ u h. at u (heldAt m u) refl)
         where
           at : (u : ℕ) (c : Bool) → heldAt m u ≡ c → not c or entryReady s g u (historyAt m u) ≡ true
-          at u true e = entry-test u (historyAt m u) .1 (k u (markOf (historyAt m u)) (view-held m u e))
+          at u true e = entry-test u (historyAt m u) .1 (k u (viewOf (historyAt m u)) (view-held m u e))
           at u false e = refl
 
   transactor-test : (t : ℕ) → transactorReady y s g t ≡ true
@@ -351,7 +357,7 @@ module _ {y : Layout} {s : State} (well : WellFormed y s) (g : ℕ) where
 
         to : every (y .transactors) f ≡ true → Ready (view s) (named g)
         to e = record {
-          stable = λ t k. ap (λ (m : Mark). m .stable) (own-view well t) ∙ each t k .0;
+          stable = λ t k. ap (λ (m : HistoryView). m .stable) (own-view well t) ∙ each t k .0;
           state = λ t k. map-test (within-known well t .0) .0 (each t k .1);
           creation = λ t k. map-test (within-known well t .1) .0 (each t k .2);
         }
@@ -365,7 +371,7 @@ module _ {y : Layout} {s : State} (well : WellFormed y s) (g : ℕ) where
           where
             at : (t : ℕ) (c : Bool) → named g t ≡ c → not c or transactorReady y s g t ≡ true
             at t true k = rw (
-              sym (ap (λ (m : Mark). m .stable) (own-view well t)) ∙ r .stable t k,
+              sym (ap (λ (m : HistoryView). m .stable) (own-view well t)) ∙ r .stable t k,
               map-test (within-known well t .0) .1 (r .state t k),
               map-test (within-known well t .1) .1 (r .creation t k),
             )

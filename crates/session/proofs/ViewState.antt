@@ -14,11 +14,16 @@ use Rattle.octets.specs.Bytes.{pick, tabulate}
 use Rattle.octets.proofs.Chunks.{sides, length-tabulate, getD-tabulate}
 use Rattle.marks.specs.declared.History.{History}
 use Rattle.marks.specs.Incarnation.{checkpointIncarnation}
-use Rattle.marks.specs.History.{checkpointed, Roomy}
+use Rattle.marks.specs.History.{checkpointed, Roomy, HistoryView, initialView, viewOf}
+use Rattle.marks.proofs.Histories.{view-checkpointed}
 use Rattle.maps.specs.declared.DependenceMap.{DependenceMap}
 use Rattle.maps.specs.Map.{historyAt}
 use Rattle.maps.specs.Packed.{EntryOk, present, absent, MapOk}
+use Rattle.maps.specs.Table.{updated}
+use Rattle.maps.specs.View.{mapView}
 use Rattle.maps.proofs.Map.{outside}
+use Rattle.maps.proofs.Tables.{updated-is}
+use Rattle.maps.proofs.View.{roomy-entry, within-ok, view-past, view-empty, view-singleton}
 use Rattle.ledger.specs.Layout.{Layout}
 use Rattle.ledger.specs.State.{Transactor, Message, State, bare, noMap, noTransactor, noMessage, transactorAt, messageAt, fresh, ownHistory, withTransactor, withOpened, withMessage, withoutMessage, placeFrom, numbered, placeOf}
 use Rattle.ledger.specs.State as state
@@ -26,10 +31,9 @@ use Rattle.ledger.specs.Refusals.{named}
 use Rattle.ledger.specs.Rules.{opened, checkpointBy, checkpointAt, checkpointGroup}
 use Rattle.ledger.specs.Rules as rules
 use Rattle.ledger.specs.Well.{WellFormed}
-use Rattle.session.specs.Book.{Mark, initialMark, unused, updated}
-use Rattle.session.proofs.Model.{Node, Mail, own, withNode, openNode, withMail, removeMail, withoutMail, findMail, missingMail, bareNode, anewNode, signedNodes, signLedger, markOf, viewMap, statusOf, viewNode, viewMail, view}
+use Rattle.session.specs.Provenance.{unused}
+use Rattle.session.proofs.Model.{Node, Mail, own, withNode, openNode, withMail, removeMail, withoutMail, findMail, missingMail, bareNode, anewNode, checkpointedNodes, signLedger, statusOf, viewNode, viewMail, view}
 use Rattle.session.proofs.Relation.{freshLedger}
-use Rattle.session.proofs.ViewMaps.{updated-is, mark-checkpointed, roomy-entry, within-ok, view-past, view-empty, view-singleton}
 
 -- ---- equal by their values
 
@@ -42,12 +46,12 @@ node-same e f g h = λ i. record { status = e i; state = λ u. f u i; creation =
 pub view-bare : (y : Layout) (n : ℕ) → viewNode (bare y n) ≡ bareNode (statusOf n)
 view-bare y n = node-same refl none-at none-at none-at
   where
-    none-at : (u : ℕ) → viewMap (state.bare y n .state) u ≡ none
+    none-at : (u : ℕ) → mapView (state.bare y n .state) u ≡ none
     none-at = view-empty (y .places) (y .transactors)
 
 -- past the end of the takes
-pub view-no-map : (u : ℕ) → viewMap noMap u ≡ none
-unfolding viewMap
+pub view-no-map : (u : ℕ) → mapView noMap u ≡ none
+unfolding mapView
 view-no-map u = refl
 
 pub view-no-transactor : viewNode noTransactor ≡ bareNode unused
@@ -56,7 +60,7 @@ view-no-transactor = node-same refl view-no-map view-no-map view-no-map
 
 -- a take with its own mark alone
 pub view-anew : (y : Layout) (t v w : ℕ) (h : History) → t < y .transactors
-    → viewNode (record { status = state.ready; value = v; saved = w; state = rules.only y t h; creation = rules.noDependences y; behaviour = rules.noDependences y }) ≡ anewNode t (markOf h)
+    → viewNode (record { status = state.ready; value = v; saved = w; state = rules.only y t h; creation = rules.noDependences y; behaviour = rules.noDependences y }) ≡ anewNode t (viewOf h)
 unfolding statusOf
 view-anew y t v w h below = node-same refl
     (view-singleton (y .places) (y .transactors) t h below) (view-empty (y .places) (y .transactors)) (view-empty (y .places) (y .transactors))
@@ -90,16 +94,16 @@ view-fresh y = λ i. record { opened = 0; next = 0; nodes = λ t. each t i; mail
 -- ---- own marks
 
 -- an absent mark reads as the opening one, in a map and in its view
-pub view-own : {w l n : ℕ} {m : DependenceMap} → MapOk w l n m → (t : ℕ) → Option·getD (viewMap m t) initialMark ≡ markOf (historyAt m t)
-unfolding viewMap
+pub view-own : {w l n : ℕ} {m : DependenceMap} → MapOk w l n m → (t : ℕ) → Option·getD (mapView m t) initialView ≡ viewOf (historyAt m t)
+unfolding mapView
 view-own {w} {l} {n} {m} ok t = ⊎-elim
     (λ h. entry (ok .each t h))
     (λ (h : n ≤ t).
-    ap (λ (c : Option Mark). Option·getD c initialMark) (view-past (within-ok ok) t h)
-    ∙ sym (ap markOf (List·getD-eq-default (m .histories) outside {n = t} (omega (arith, ok .histories)))))
+    ap (λ (c : Option HistoryView). Option·getD c initialView) (view-past (within-ok ok) t h)
+    ∙ sym (ap viewOf (List·getD-eq-default (m .histories) outside {n = t} (omega (arith, ok .histories)))))
     (sides t n)
   where
-    entry : {p : Bool} {h : History} → EntryOk w l p h → Option·getD (pick p (some (markOf h)) none) initialMark ≡ markOf h
+    entry : {p : Bool} {h : History} → EntryOk w l p h → Option·getD (pick p (some (viewOf h)) none) initialView ≡ viewOf h
     entry (present r k) = refl
     entry absent = refl
 
@@ -114,20 +118,20 @@ module _ {y : Layout} {s : State} (well : WellFormed y s) where
   no-transactor t h = List·getD-eq-default (s .transactors) noTransactor {n = t} (omega (arith, well .packable .many))
 
   -- what holds of each take, and past the last one
-  pub at-take : (P : ℕ → Transactor → Type 0) → ((t : ℕ) → t < y .transactors → P t (transactorAt s t)) → ((t : ℕ) → P t noTransactor) → (t : ℕ) → P t (transactorAt s t)
-  at-take P f g t = ⊎-elim (f t) (λ (h : y .transactors ≤ t). subst (P t) (sym (no-transactor t h)) (g t)) (sides t (y .transactors))
+  pub at-transactor : (P : ℕ → Transactor → Type 0) → ((t : ℕ) → t < y .transactors → P t (transactorAt s t)) → ((t : ℕ) → P t noTransactor) → (t : ℕ) → P t (transactorAt s t)
+  at-transactor P f g t = ⊎-elim (f t) (λ (h : y .transactors ≤ t). subst (P t) (sym (no-transactor t h)) (g t)) (sides t (y .transactors))
 
-  pub own-view : (t : ℕ) → own t (viewNode (transactorAt s t)) ≡ markOf (ownHistory t (transactorAt s t))
-  own-view = at-take (λ t x. own t (viewNode x) ≡ markOf (ownHistory t x))
+  pub own-view : (t : ℕ) → own t (viewNode (transactorAt s t)) ≡ viewOf (ownHistory t (transactorAt s t))
+  own-view = at-transactor (λ t x. own t (viewNode x) ≡ viewOf (ownHistory t x))
       (λ t h. view-own (well .packable .transactors t h .state) t)
-      (λ t. ap (λ (c : Option Mark). Option·getD c initialMark) (view-no-map t))
+      (λ t. ap (λ (c : Option HistoryView). Option·getD c initialView) (view-no-map t))
 
   pub own-roomy : (t : ℕ) → t < y .transactors → Roomy (y .places) (ownHistory t (transactorAt s t))
   own-roomy t h = roomy-entry (well .packable .transactors t h .state .each t h)
 
 -- ---- parcels
 
-pub view-withMessage : (s : State) (to v : ℕ) (m : DependenceMap) → view (withMessage s to v m) ≡ withMail (view s) to (viewMap m)
+pub view-withMessage : (s : State) (to v : ℕ) (m : DependenceMap) → view (withMessage s to v m) ≡ withMail (view s) to (mapView m)
 unfolding view withMessage transactorAt
 view-withMessage s to v m = λ i. record {
   opened = s .opened;
@@ -211,36 +215,36 @@ module _ (s : State) (p : ℕ) where
 module _ {y : Layout} {s : State} (well : WellFormed y s) (g : ℕ) where
   module _ (bounded : (t : ℕ) → named g t ≡ true → t < y .transactors)
       (room : (t : ℕ) → named g t ≡ true → ownHistory t (transactorAt s t) .count < y .places) where
-    pub view-checkpointed : (t : ℕ) → named g t ≡ true
+    pub view-checkpointBy : (t : ℕ) → named g t ≡ true
         → viewNode (checkpointBy y t (transactorAt s t)) ≡ anewNode t (record { stable = false; incarnation = checkpointIncarnation (own t (viewNode (transactorAt s t)) .incarnation) })
     unfolding checkpointBy
-    view-checkpointed t e =
+    view-checkpointBy t e =
         let below : t < y .transactors = bounded t e in
         let x : Transactor = transactorAt s t in
         view-anew y t (x .value) (x .value) (checkpointed (ownHistory t x)) below
-        ∙ ap (anewNode t) (mark-checkpointed (own-roomy well t below) (room t e))
-        ∙ ap (λ (m : Mark). anewNode t (record { stable = false; incarnation = checkpointIncarnation (m .incarnation) })) (sym (own-view well t))
+        ∙ ap (anewNode t) (view-checkpointed (own-roomy well t below) (room t e))
+        ∙ ap (λ (m : HistoryView). anewNode t (record { stable = false; incarnation = checkpointIncarnation (m .incarnation) })) (sym (own-view well t))
 
-    signed-at : (t : ℕ) → viewNode (getD (tabulate (y .transactors) (checkpointAt y s g)) t noTransactor) ≡ signedNodes (named g) (λ u. viewNode (transactorAt s u)) t
-    unfolding signedNodes checkpointAt
-    signed-at t = ⊎-elim
+    checkpointed-at : (t : ℕ) → viewNode (getD (tabulate (y .transactors) (checkpointAt y s g)) t noTransactor) ≡ checkpointedNodes (named g) (λ u. viewNode (transactorAt s u)) t
+    unfolding checkpointedNodes checkpointAt
+    checkpointed-at t = ⊎-elim
         (λ (h : t < y .transactors). ap viewNode (getD-tabulate (checkpointAt y s g) (y .transactors) t noTransactor h) ∙ within (named g t) refl)
         (λ (h : y .transactors ≤ t).
         ap viewNode (List·getD-eq-default (tabulate (y .transactors) (checkpointAt y s g)) noTransactor {n = t} (rw length-tabulate h))
         ∙ past h (named g t) refl)
         (sides t (y .transactors))
       where
-        marked : Node
-        marked = anewNode t (record { stable = false; incarnation = checkpointIncarnation (own t (viewNode (transactorAt s t)) .incarnation) })
+        renewed-node : Node
+        renewed-node = anewNode t (record { stable = false; incarnation = checkpointIncarnation (own t (viewNode (transactorAt s t)) .incarnation) })
 
-        within : (c : Bool) → named g t ≡ c → viewNode (pick c (checkpointBy y t (transactorAt s t)) (transactorAt s t)) ≡ pick c marked (viewNode (transactorAt s t))
-        within true e = view-checkpointed t e
+        within : (c : Bool) → named g t ≡ c → viewNode (pick c (checkpointBy y t (transactorAt s t)) (transactorAt s t)) ≡ pick c renewed-node (viewNode (transactorAt s t))
+        within true e = view-checkpointBy t e
         within false e = refl
 
-        past : y .transactors ≤ t → (c : Bool) → named g t ≡ c → viewNode noTransactor ≡ pick c marked (viewNode (transactorAt s t))
+        past : y .transactors ≤ t → (c : Bool) → named g t ≡ c → viewNode noTransactor ≡ pick c renewed-node (viewNode (transactorAt s t))
         past h true e = absurd (omega (arith, bounded t e))
         past h false e = ap viewNode (sym (no-transactor well t h))
 
     pub view-checkpointGroup : view (checkpointGroup y s g) ≡ signLedger (view s) (named g)
     unfolding view checkpointGroup transactorAt
-    view-checkpointGroup = λ i. record { opened = s .opened; next = s .next; nodes = λ t. signed-at t i; mails = map viewMail (s .messages) }
+    view-checkpointGroup = λ i. record { opened = s .opened; next = s .next; nodes = λ t. checkpointed-at t i; mails = map viewMail (s .messages) }

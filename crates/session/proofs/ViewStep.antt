@@ -2,7 +2,7 @@
 use Prim.Native.Nat.{ℕ, _≤_, _<_}
 use mathlib.Core.Bool.{Bool, true, false, not, false≢true}
 use mathlib.Core.Path.{_≡_, refl, ap, sym, _∙_}
-use mathlib.Core.Logic.{inr, ⊎-elim, _↔_}
+use mathlib.Core.Logic.{_↔_, inl, inr, ⊎-elim}
 use native.Mathlib.Omega.{arith}
 use lib.Dec.{eqb, ltb, leb}
 use lib.ListN.{length}
@@ -11,38 +11,40 @@ use Rattle.octets.specs.Bytes.{_and_, _or_, every}
 use Rattle.octets.specs.Numbers.{bound}
 use Rattle.octets.proofs.Chunks.{sides}
 use Rattle.octets.proofs.Zero.{both, every-all, every-at}
+use Rattle.marks.specs.History.{HistoryView}
 use Rattle.ledger.specs.Layout.{Layout, Limits, Allowed}
 use Rattle.ledger.specs.State.{Transactor, State, transactorAt, ownHistory, placeOf}
 use Rattle.ledger.specs.declared.Step.{Step}
 use Rattle.ledger.specs.Step.{root, letter, receive, new, send, fail, lose, sign}
-use Rattle.ledger.specs.Refusals.{groupBits, named, acts, notWaiting, allOpened, allCheckpointed, refusalOf}
+use Rattle.ledger.specs.Refusals.{groupBits, named, acts, refusalOf}
 use Rattle.ledger.specs.Rules.{Result, groupReady, seen, refusal, apply, stepOf}
 use Rattle.ledger.specs.Well.{WellFormed}
-use Rattle.session.specs.Book.{Mark, Book}
-use Rattle.session.specs.Steps.{bookRefusal}
+use Rattle.session.specs.Provenance.{Provenance}
+use Rattle.session.specs.Steps.{provenanceRefusal}
 use Rattle.session.proofs.Model.{Ledger, own, findMail, viewNode, view}
 use Rattle.session.proofs.Tables.{pick-both, and-of, or-of}
 use Rattle.session.proofs.Relation.{Rel}
-use Rattle.session.proofs.Parcels.{ReceiptTests}
+use Rattle.session.proofs.Messages.{ReceiptTests}
 use Rattle.session.proofs.Seen.{seenOf, refusal-same}
 use Rattle.session.proofs.Sign.{Ready}
-use Rattle.session.proofs.Accepted.{Accepted, accepted, named-false, named-below, accepted-kind, accepted-acts, accepted-names}
+use Rattle.ledger.proofs.KeepAccepted.{Accepted, accepted, kind-known, message-waits, one-unopened, transactor-opened, named-opened, named-room}
+use Rattle.session.proofs.Accepted.{named-below}
 use Rattle.session.proofs.Kept.{appliedLedger, stepLedger, StepTests, Kept, step-kept}
 use Rattle.session.proofs.ViewState.{no-transactor, own-view}
-use Rattle.session.proofs.ViewRules.{droppedAt, toppledAt, dropped-test, toppled-test, view-root, view-letter, view-receive, view-new, view-send, view-acted, view-lose, ready-test, view-sign}
+use Rattle.session.proofs.ViewRules.{droppedAt, rolledBackAt, dropped-test, rolledBack-test, view-root, view-letter, view-receive, view-new, view-send, view-acted, view-lose, ready-test, view-sign}
 use Rattle.session.proofs.ViewSeen.{view-seen}
 
 -- ---- the test of a signing
 
 -- Every take that g names is one of the layout's. The rules look at no other; a signing that names another is refused.
-unfoldable pub namesTakes : Layout → ℕ → Bool
-namesTakes y g = every groupBits (λ t. not (named g t) or ltb t (y .transactors))
+unfoldable pub namesTransactors : Layout → ℕ → Bool
+namesTransactors y g = every groupBits (λ t. not (named g t) or ltb t (y .transactors))
 
 unfoldable pub readyAt : Layout → State → ℕ → Bool
-readyAt y s g = namesTakes y g and groupReady y s g
+readyAt y s g = namesTransactors y g and groupReady y s g
 
-names-test : (y : Layout) (g : ℕ) → g < bound 2 → (namesTakes y g ≡ true) ↔ ((t : ℕ) → named g t ≡ true → t < y .transactors)
-unfolding namesTakes
+names-test : (y : Layout) (g : ℕ) → g < bound 2 → (namesTransactors y g ≡ true) ↔ ((t : ℕ) → named g t ≡ true → t < y .transactors)
+unfolding namesTransactors
 names-test y g bits = (to, of)
   where
     f : ℕ → Bool
@@ -63,7 +65,7 @@ stable-below : {y : Layout} {s : State} → WellFormed y s → (t : ℕ) → own
 stable-below {y} well t e = ⊎-elim
     (λ h. h)
     (λ h. absurd (false≢true (
-    sym (ap (λ (x : Transactor). ownHistory t x .stable) (no-transactor well t h)) ∙ sym (ap (λ (m : Mark). m .stable) (own-view well t)) ∙ e)))
+    sym (ap (λ (x : Transactor). ownHistory t x .stable) (no-transactor well t h)) ∙ sym (ap (λ (m : HistoryView). m .stable) (own-view well t)) ∙ e)))
     (sides t (y .transactors))
 
 module _ {y : Layout} {s : State} (well : WellFormed y s) (g : ℕ) (bits : g < bound 2) where
@@ -71,11 +73,11 @@ module _ {y : Layout} {s : State} (well : WellFormed y s) (g : ℕ) (bits : g < 
   unfolding readyAt view
   ready-at = (
     λ e.
-        let p = both (namesTakes y g) (groupReady y s g) e in
+        let p = both (namesTransactors y g) (groupReady y s g) e in
         ready-test well g (names-test y g bits .0 (p .0)) .0 (p .1),
     λ r.
         let k : (t : ℕ) → named g t ≡ true → t < y .transactors = λ t n. stable-below well t (r .stable t n) in
-        and-of (namesTakes y g) (groupReady y s g) (names-test y g bits .1 k) (ready-test well g k .1 r),
+        and-of (namesTransactors y g) (groupReady y s g) (names-test y g bits .1 k) (ready-test well g k .1 r),
   )
 
   pub ready-same : ((t : ℕ) → named g t ≡ true → t < y .transactors) → groupReady y s g ≡ readyAt y s g
@@ -85,11 +87,11 @@ module _ {y : Layout} {s : State} (well : WellFormed y s) (g : ℕ) (bits : g < 
 -- ---- what the tests stand for
 
 pub receipt-tests : {y : Layout} {s : State} → WellFormed y s → (n : ℕ)
-    → ReceiptTests (view s .nodes (findMail n (view s .mails) .addressee)) (findMail n (view s .mails)) (droppedAt y s n) (toppledAt y s n)
-receipt-tests well n = record { dropped = dropped-test well n; toppled = toppled-test well n }
+    → ReceiptTests (view s .nodes (findMail n (view s .mails) .addressee)) (findMail n (view s .mails)) (droppedAt y s n) (rolledBackAt y s n)
+receipt-tests well n = record { dropped = dropped-test well n; rolls-back = rolledBack-test well n }
 
 pub step-tests : {y : Layout} {s : State} → WellFormed y s → (p : Step) → p .message < bound 2
-    → StepTests (view s) p (droppedAt y s (p .message)) (toppledAt y s (p .message)) (readyAt y s (p .message))
+    → StepTests (view s) p (droppedAt y s (p .message)) (rolledBackAt y s (p .message)) (readyAt y s (p .message))
 step-tests well p bits = record { receipt = receipt-tests well (p .message); ready = ready-at well (p .message) bits }
 
 -- ---- a step that is not refused
@@ -112,7 +114,7 @@ abbrev Leaves : Result → Ledger → Type 0
 Leaves r l = view (r .state) ≡ l
 
 module _ {y : Layout} {s : State} {p : Step} (well : WellFormed y s) (bits : p .message < bound 2) (a : Applicable y s p) where
-  pub view-apply : view (apply y s p .state) ≡ appliedLedger (droppedAt y s (p .message)) (toppledAt y s (p .message)) (readyAt y s (p .message)) (view s) p
+  pub view-apply : view (apply y s p .state) ≡ appliedLedger (droppedAt y s (p .message)) (rolledBackAt y s (p .message)) (readyAt y s (p .message)) (view s) p
   unfolding apply appliedLedger
   view-apply =
       let k : ℕ = p .kind in
@@ -133,27 +135,25 @@ module _ {y : Layout} {s : State} {p : Step} (well : WellFormed y s) (bits : p .
 
 module _ {y : Layout} {m : Limits} {s : State} {p : Step} (well : WellFormed y s) (allowed : Allowed y m) (bits : p .message < bound 2) (ok : Accepted m (seen y s) p) where
   pub applicable : Applicable y s p
-  unfolding seen notWaiting allOpened allCheckpointed
+  unfolding seen
   applicable = record {
-    kind = accepted-kind m (seen y s) p ok;
-    opens = λ e. omega (arith, allowed .transactors-high, leb-false (m .transactors) (s .opened) (rw e at (ok .openable)));
-    acting = λ e. omega (arith, well .opened, accepted-acts m (seen y s) p ok e .0);
-    waits = λ e. leb-false (length (s .messages)) (placeOf s (p .message)) (rw e at (ok .waiting));
-    among = λ e t n. omega (arith, well .opened, accepted-names m (seen y s) p ok (eqb-true (p .kind) sign e) t (named-below (p .message) t bits n) n .0);
-    room = λ e t n.
-        let f = named-false (p .message) (λ t. leb (m .checkpoints) (ownHistory t (transactorAt s t) .count)) (rw e at (ok .checkpoints)) t (named-below (p .message) t bits n) n in
-        omega (arith, allowed .checkpoints-high, leb-false (m .checkpoints) (ownHistory t (transactorAt s t) .count) f);
+    kind = kind-known ok;
+    opens = λ e. omega (arith, allowed .transactors-high, one-unopened ok e);
+    acting = λ e. omega (arith, well .opened, transactor-opened ok (or-of (eqb (p .kind) letter) (acts (p .kind)) (inr e)));
+    waits = λ e. leb-false (length (s .messages)) (placeOf s (p .message)) (message-waits ok (or-of (eqb (p .kind) receive) (eqb (p .kind) lose) (inl e)));
+    among = λ e t n. omega (arith, well .opened, named-opened ok e t (named-below (p .message) t bits n) n);
+    room = λ e t n. omega (arith, allowed .checkpoints-high, named-room ok e t (named-below (p .message) t bits n) n);
   }
 
 -- ---- every step
 
 module _ {y : Layout} {s : State} (well : WellFormed y s) (m : Limits) where
-  pub view-refusal : (p : Step) → refusal y m s p ≡ refusalOf m (seenOf (view s) (droppedAt y s) (toppledAt y s)) p
+  pub view-refusal : (p : Step) → refusal y m s p ≡ refusalOf m (seenOf (view s) (droppedAt y s) (rolledBackAt y s)) p
   unfolding refusal
   view-refusal p = ap (λ v. refusalOf m v p) (view-seen well)
 
   pub view-step : Allowed y m → (p : Step) → p .message < bound 2
-      → view (stepOf y m s p .state) ≡ stepLedger (refusal y m s p) (droppedAt y s (p .message)) (toppledAt y s (p .message)) (readyAt y s (p .message)) (view s) p
+      → view (stepOf y m s p .state) ≡ stepLedger (refusal y m s p) (droppedAt y s (p .message)) (rolledBackAt y s (p .message)) (readyAt y s (p .message)) (view s) p
   unfolding stepOf stepLedger refusal
   view-step allowed p bits =
       let n : ℕ = refusal y m s p in
@@ -162,10 +162,10 @@ module _ {y : Layout} {s : State} (well : WellFormed y s) (m : Limits) where
       (λ e. refl)
 
   -- beside a book that is related to the view: refused with the same number, and related again after
-  module _ {b : Book} (r : Rel (view s) b) where
-    pub same-refusal : (p : Step) → refusal y m s p ≡ bookRefusal m b p
-    same-refusal p = view-refusal p ∙ refusal-same (view s) b r (droppedAt y s) (toppledAt y s) (receipt-tests well) m p
+  module _ {b : Provenance} (r : Rel (view s) b) where
+    pub same-refusal : (p : Step) → refusal y m s p ≡ provenanceRefusal m b p
+    same-refusal p = view-refusal p ∙ refusal-same (view s) b r (droppedAt y s) (rolledBackAt y s) (receipt-tests well) m p
 
     pub state-kept : Allowed y m → (p : Step) → p .message < bound 2 → Kept m b p (view (stepOf y m s p .state))
     state-kept allowed p bits = rw (view-step allowed p bits)
-        (step-kept (view s) b r m p bits (droppedAt y s (p .message)) (toppledAt y s (p .message)) (readyAt y s (p .message)) (step-tests well p bits) (refusal y m s p) (same-refusal p))
+        (step-kept (view s) b r m p bits (droppedAt y s (p .message)) (rolledBackAt y s (p .message)) (readyAt y s (p .message)) (step-tests well p bits) (refusal y m s p) (same-refusal p))

@@ -11,7 +11,8 @@ use Rattle.ledger.specs.Step.{stepBytes, stepAt, receive, lose, done, dropped, 
 use Rattle.ledger.specs.Refusals.{sends}
 use Rattle.ledger.specs.Pack.{unpack}
 use Rattle.ledger.specs.Calls.{stepsIn}
-use Rattle.session.specs.Trace.{Call, Answer, begin, run, offer, show, begun, ran, offered, showed, refusalIn, Trace, opened, called}
+use Rattle.session.specs.Fed.{Call, begin, run, offer, show}
+use Rattle.session.specs.Trace.{Answer, begun, ran, offered, showed, refusalIn, Trace, opened, called}
 
 -- ---- what is counted, by a step's kind and the first byte of its reply
 
@@ -23,6 +24,7 @@ made kind outcome = sends kind and eqb outcome done
 unfoldable pub received : ℕ → ℕ → Bool
 received kind outcome = eqb kind receive and (eqb outcome done or eqb outcome dropped or eqb outcome fallenBack or eqb outcome vanished)
 
+-- lost: lose that is not refused
 unfoldable pub lost : ℕ → ℕ → Bool
 lost kind outcome = eqb kind lose and eqb outcome done
 
@@ -51,6 +53,7 @@ countCall f (run list o start end lent) a n =
 countCall f (offer t) a n = n
 countCall f (show k) a n = n
 
+-- the whole session
 unfoldable pub count : {y : Layout} {m : Limits} {img : List ℕ} → (ℕ → ℕ → Bool) → Trace y m img → ℕ
 count f (opened img e) = 0
 count f (called τ c a p) = countCall f c a (count f τ)

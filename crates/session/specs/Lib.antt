@@ -1,5 +1,6 @@
-pub mod Book
+pub mod Provenance
 pub mod Grounds
 pub mod Steps
+pub mod Fed
 pub mod Trace
 pub mod Count

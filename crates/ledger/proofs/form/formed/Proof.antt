@@ -4,7 +4,7 @@ use native.Mathlib.Omega.{arith}
 use borrow.Author.Tests.{le-leb, lt-leb, eq-eqb, ne-eqb}
 use Rattle.ledger.specs.Layout.{base}
 use Rattle.ledger.specs.Tests.{formedImage}
-use Rattle.ledger.proofs.Bools.{passed, failed}
+use Rattle.octets.proofs.Tests.{passed, failed}
 use Rattle.ledger.proofs.Loads.{read-opened, read-next}
 use Rattle.ledger.proofs.FormTest.{image-tested}
 use borrow.Author.Needs.{needs}

@@ -2,7 +2,7 @@
 use borrow.Author.Tests.{eq-eqb, ne-eqb}
 use Rattle.ledger.specs.Form.{mapFormed}
 use Rattle.ledger.specs.Tests.{formedLiveAt}
-use Rattle.ledger.proofs.Bools.{passed, failed}
+use Rattle.octets.proofs.Tests.{passed, failed}
 use borrow.Author.Needs.{needs}
 use Rattle.ledger.proofs.form.live_formed.Statement.{statement}
 use Rattle.ledger.proofs.form.live_formed.Tie as tie

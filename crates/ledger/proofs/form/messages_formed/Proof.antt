@@ -7,7 +7,7 @@ use Rattle.octets.specs.Bytes.{every}
 use Rattle.octets.proofs.Zero.{every-none, every-more, every-off}
 use Rattle.ledger.specs.Layout.{base}
 use Rattle.ledger.specs.Tests.{formedMessageAt}
-use Rattle.ledger.proofs.Bools.{passed, failed}
+use Rattle.octets.proofs.Tests.{passed, failed}
 use borrow.Author.Needs.{needs}
 use Rattle.ledger.proofs.form.messages_formed.Statement.{statement}
 use Rattle.ledger.proofs.form.messages_formed.Tie as tie

@@ -2,7 +2,7 @@
 use mathlib.Core.Path.{sym}
 use borrow.Author.Tests.{eq-eqb, ne-eqb}
 use Rattle.ledger.specs.Tests.{formedOwnAt}
-use Rattle.ledger.proofs.Bools.{passed, failed}
+use Rattle.octets.proofs.Tests.{passed, failed}
 use borrow.Author.Needs.{needs}
 use Rattle.ledger.proofs.form.own_formed.Statement.{statement}
 use Rattle.ledger.proofs.form.own_formed.Tie as tie

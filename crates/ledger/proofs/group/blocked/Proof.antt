@@ -9,7 +9,8 @@ use Rattle.ledger.specs.Layout.{base, standard}
 use Rattle.ledger.specs.Refusals.{any}
 use Rattle.ledger.specs.Pack.{unpack}
 use Rattle.ledger.specs.Parts.{blocksAt}
-use Rattle.ledger.proofs.Readiness.{any-none, any-more, namedAnd, named-off, named-on, anyNamed-found, anyNamed-end}
+use Rattle.ledger.proofs.Any.{any-none, any-more}
+use Rattle.ledger.proofs.Readiness.{namedAnd, named-off, named-on, anyNamed-found, anyNamed-end}
 use Rattle.ledger.proofs.group.blocked.Statement.{statement}
 use Rattle.ledger.proofs.group.blocked.Tie as tie
 

@@ -1,5 +1,11 @@
-use mathlib.Core.Path.{sym, _∙_}
+-- Past the test for 20 each kind is asked as its function wants it.
+use Prim.Native.Nat.{ℕ}
+use mathlib.Core.Bool.{false}
+use mathlib.Core.Path.{_≡_, sym, _∙_}
 use borrow.Author.Needs.{needs}
+use Rattle.ledger.specs.Step.{root, letter, receive, new, send, lose, sign}
+use Rattle.ledger.specs.Refusals.{malformed}
+use Rattle.ledger.specs.Parts.{Asked}
 use Rattle.ledger.proofs.KeepKinds.{lowest, highest}
 use Rattle.ledger.proofs.Images.{stepped-malformed}
 use Rattle.ledger.proofs.Refused.{kind-formed}
@@ -16,40 +22,41 @@ returns : tie.Need-returns
 returns c = let p = c .before .before .before .before .pre in
     stepped-malformed _ _ _ (p .0) (sym (c .before .before .malformed .ensures) ∙ c .before .if1 .taken) (c .answered .ensures)
 
+-- past the test for 20
+well : (c : tie.Else1) → malformed (c .before .before .before .args .p) ≡ false
+well c = sym (c .before .malformed .ensures) ∙ c .if1 .left
+
+asked : (c : tie.Else1) (k : ℕ) → c .before .before .before .args .p .kind ≡ k → Asked k (c .before .before .before .args .image .now) (c .before .before .before .args .p)
+asked c k e = let p = c .before .before .before .pre in record { good = p .0; step = p .1; formed = well c; kind = e }
+
 root-requires : tie.Need-root-requires
-root-requires c κs = let p = c .before .before .before .before .before .pre in
-    record { good = p .0; step = p .1; formed = sym (c .before .before .before .malformed .ensures) ∙ c .before .before .if1 .left; kind = c .before .match .keys1 }
+root-requires c κs = asked (c .before .before) root (c .before .match .keys1)
 
 letter-requires : tie.Need-letter-requires
-letter-requires c κs = let p = c .before .before .before .before .before .pre in
-    record { good = p .0; step = p .1; formed = sym (c .before .before .before .malformed .ensures) ∙ c .before .before .if1 .left; kind = c .before .match .keys2 }
+letter-requires c κs = asked (c .before .before) letter (c .before .match .keys2)
 
 receive-requires : tie.Need-receive-requires
-receive-requires c κs = let p = c .before .before .before .before .before .pre in
-    record { good = p .0; step = p .1; formed = sym (c .before .before .before .malformed .ensures) ∙ c .before .before .if1 .left; kind = c .before .match .keys3 }
+receive-requires c κs = asked (c .before .before) receive (c .before .match .keys3)
 
 new-requires : tie.Need-new-requires
-new-requires c κs = let p = c .before .before .before .before .before .pre in
-    record { good = p .0; step = p .1; formed = sym (c .before .before .before .malformed .ensures) ∙ c .before .before .if1 .left; kind = c .before .match .keys4 }
+new-requires c κs = asked (c .before .before) new (c .before .match .keys4)
 
 send-requires : tie.Need-send-requires
-send-requires c κs = let p = c .before .before .before .before .before .pre in
-    record { good = p .0; step = p .1; formed = sym (c .before .before .before .malformed .ensures) ∙ c .before .before .if1 .left; kind = c .before .match .keys5 }
+send-requires c κs = asked (c .before .before) send (c .before .match .keys5)
 
 lose-requires : tie.Need-lose-requires
-lose-requires c κs = let p = c .before .before .before .before .before .pre in
-    record { good = p .0; step = p .1; formed = sym (c .before .before .before .malformed .ensures) ∙ c .before .before .if1 .left; kind = c .before .match .keys6 }
+lose-requires c κs = asked (c .before .before) lose (c .before .match .keys6)
 
 sign-requires : tie.Need-sign-requires
-sign-requires c κs = let p = c .before .before .before .before .before .pre in
-    record { good = p .0; step = p .1; formed = sym (c .before .before .before .malformed .ensures) ∙ c .before .before .if1 .left; kind = c .before .match .keys7 }
+sign-requires c κs = asked (c .before .before) sign (c .before .match .keys7)
 
 local-requires : tie.Need-local-requires
-local-requires c κs = let p = c .before .before .before .before .before .pre in
-    let f = sym (c .before .before .before .malformed .ensures) ∙ c .before .before .if1 .left in
+local-requires c κs =
+    let e = c .before .before in
+    let p = e .before .before .before .pre in
     let n = c .before .match .rest in
     let low = lowest _ (n .0 .0 .0 .0 .0 .0 .1) (n .0 .0 .0 .0 .0 .1) (n .0 .0 .0 .0 .1) (n .0 .0 .0 .1) (n .0 .0 .1) in
-    (p .0, p .1, f, low, highest _ (kind-formed _ f) (n .0 .1) (n .1))
+    (p .0, p .1, well e, low, highest _ (kind-formed _ (well e)) (n .0 .1) (n .1))
 
 same-length : tie.Need-same-length
 same-length c = search needs

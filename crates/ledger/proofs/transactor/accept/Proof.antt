@@ -4,7 +4,7 @@ use native.Mathlib.Omega.{arith}
 use lib.ListN.{length-set}
 use borrow.Author.Needs.{needs}
 use Rattle.ledger.specs.Layout.{base, standard}
-use Rattle.ledger.specs.State.{busy}
+use Rattle.ledger.specs.Status.{busy}
 use Rattle.ledger.specs.Pack.{unpackTransactor}
 use Rattle.ledger.proofs.Fields.{put-behaviour}
 use Rattle.ledger.proofs.Acts.{status-stored, map-stored, loaded-bounded, joined-bounded, acts-as, acted, accepts-dropped, accepts-rollback, accepts-done}

@@ -1,13 +1,23 @@
 -- Each return is a case of the rule.
-use mathlib.Core.Path.{refl, sym}
+use Prim.Native.Nat.{ℕ, _<_}
+use mathlib.Core.Path.{_≡_, refl, sym}
 use native.Mathlib.Omega.{arith}
 use borrow.Author.Needs.{needs}
 use Rattle.ledger.specs.Layout.{base, standard}
-use Rattle.ledger.specs.Rules.{finishBy, localBy}
+use Rattle.ledger.specs.Step.{fall}
+use Rattle.ledger.specs.Rules.{Effect, finishBy, localBy}
 use Rattle.ledger.specs.Pack.{unpackTransactor}
+use Rattle.ledger.specs.Parts.{actBy}
 use Rattle.ledger.proofs.Acts.{acts-as, acted, act-gone, act-idle, act-early, act-late}
 use Rattle.ledger.proofs.transactor.act.Statement.{statement}
 use Rattle.ledger.proofs.transactor.act.Tie as tie
+
+-- kinds 5 to 8, past the refusals
+early : (e : tie.Joined2) {n : ℕ} {f : Effect} → e .before .before .before .before .args .kind ≡ n → n < fall
+    → localBy base n (e .before .before .before .before .args .t) (e .before .before .before .before .args .value) (unpackTransactor base (e .before .before .before .before .args .part .now)) ≡ f
+    → actBy base standard (e .before .before .before .before .args .kind) (e .before .before .before .before .args .t) (e .before .before .before .before .args .value) (unpackTransactor base (e .before .before .before .before .args .part .now)) ≡ f
+unfolding unpackTransactor
+early e = act-early base standard _ _ _ _ (e .before .if1 .left) (λ w. w .1 .left) (λ w. w .left) (e .if2 .came)
 
 slice-read-status : tie.Need-slice-read-status
 slice-read-status c = search needs
@@ -58,9 +68,8 @@ returns-3 : tie.Need-returns-3
 unfolding unpackTransactor localBy
 returns-3 c =
     let d = c .before .before .before .before in
-    let e = d .before in
     acts-as
-    (act-early base standard _ _ _ _ (e .before .if1 .left) (λ w. w .1 .left) (λ w. w .left) (e .if2 .came) (d .match .keys1) (omega arith) refl)
+    (early (d .before) (d .match .keys1) (omega arith) refl)
     (c .before .before .read .ensures)
 
 same-length-2 : tie.Need-same-length-2
@@ -70,9 +79,8 @@ returns-4 : tie.Need-returns-4
 unfolding unpackTransactor localBy
 returns-4 c =
     let d = c .before .before .before .before in
-    let e = d .before in
     acts-as
-    (act-early base standard _ _ _ _ (e .before .if1 .left) (λ w. w .1 .left) (λ w. w .left) (e .if2 .came) (d .match .keys2) (omega arith) refl)
+    (early (d .before) (d .match .keys2) (omega arith) refl)
     (c .before .before .write .ensures)
 
 same-length-3 : tie.Need-same-length-3
@@ -82,9 +90,8 @@ returns-5 : tie.Need-returns-5
 unfolding unpackTransactor localBy
 returns-5 c =
     let d = c .before .before .before .before in
-    let e = d .before in
     acts-as
-    (act-early base standard _ _ _ _ (e .before .if1 .left) (λ w. w .1 .left) (λ w. w .left) (e .if2 .came) (d .match .keys3) (omega arith) refl)
+    (early (d .before) (d .match .keys3) (omega arith) refl)
     (c .before .before .freeze .ensures)
 
 same-length-4 : tie.Need-same-length-4
@@ -94,9 +101,8 @@ returns-6 : tie.Need-returns-6
 unfolding unpackTransactor localBy finishBy
 returns-6 c =
     let d = c .before .before .before .before .before in
-    let e = d .before in
     acted
-    (act-early base standard _ _ _ _ (e .before .if1 .left) (λ w. w .1 .left) (λ w. w .left) (e .if2 .came) (d .match .keys4) (omega arith) refl)
+    (early (d .before) (d .match .keys4) (omega arith) refl)
     (c .outcome-of3 .ensures) (c .before .before .before .become-ready .ensures)
 
 same-length-5 : tie.Need-same-length-5

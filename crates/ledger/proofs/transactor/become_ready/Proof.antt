@@ -5,7 +5,7 @@ use lib.ListN.{length-set}
 use borrow.Author.Needs.{needs}
 use Rattle.maps.proofs.Packed.{bounded-empty}
 use Rattle.ledger.specs.Layout.{base}
-use Rattle.ledger.specs.State.{ready}
+use Rattle.ledger.specs.Status.{ready}
 use Rattle.ledger.specs.Rules.{finishBy}
 use Rattle.ledger.proofs.Fields.{put-behaviour}
 use Rattle.ledger.proofs.Acts.{status-stored, map-stored}

@@ -1,18 +1,42 @@
--- Tests as facts.
-use Prim.Native.Nat.{ℕ}
+-- Laws of tests: pick, and, or, not.
+use Prim.Native.Nat.{ℕ, _<_}
 use mathlib.Core.Bool.{Bool, true, false, not}
 use mathlib.Core.Path.{_≡_, refl, sym, _∙_}
 use native.Mathlib.Omega.{arith}
 use borrow.Author.Tests.{not-true, not-false}
-use Rattle.octets.specs.Bytes.{_or_}
+use Rattle.octets.specs.Bytes.{pick, _and_, _or_}
 
-pub never : {A : Type 0} → false ≡ true → A
+pub never : {A : Type 0} → _≡_ {A = Bool} true false → A
 never e = let z : _≡_ {A = ℕ} 0 1 = cc in absurd (omega arith)
+
+-- one of two values, by what decides
+pub pick-view {ℓ} : {A : Type ℓ} (P : A → Type 0) (c : Bool) (x y : A) → (c ≡ true → P x) → (c ≡ false → P y) → P (pick c x y)
+pick-view P true x y f g = f refl
+pick-view P false x y f g = g refl
+
+-- 0, which a number before it is not
+pub pick-zero : (c : Bool) (n r : ℕ) → 0 < n → pick c n r ≡ 0 → (c ≡ false) × (r ≡ 0)
+pick-zero true n r h e = absurd (omega arith)
+pick-zero false n r h e = (refl, e)
+
+-- ---- and, or
+
+pub or-none : (c : Bool) → c or false ≡ c
+or-none true = refl
+or-none false = refl
+
+pub or-off : (a b : Bool) → a or b ≡ false → (a ≡ false) × (b ≡ false)
+or-off true b e = never e
+or-off false b e = (refl, e)
+
+pub and-off : (a b : Bool) → a and b ≡ false → a ≡ true → b ≡ false
+and-off true b e p = e
+and-off false b e p = never (sym p)
 
 -- `not a or b` says that a implies b
 pub implied : (a b : Bool) → not a or b ≡ true → a ≡ true → b ≡ true
 implied true b e h = e
-implied false b e h = never h
+implied false b e h = never (sym h)
 
 pub implying : (a b : Bool) → (a ≡ true → b ≡ true) → not a or b ≡ true
 implying true b f = f refl
@@ -20,7 +44,7 @@ implying false b f = refl
 
 -- `a or b` says that b holds unless a does
 pub otherwise : (a b : Bool) → a or b ≡ true → a ≡ false → b ≡ true
-otherwise true b e h = never (sym h)
+otherwise true b e h = never h
 otherwise false b e h = e
 
 pub unless : (a b : Bool) → (a ≡ false → b ≡ true) → a or b ≡ true

@@ -1,0 +1,341 @@
+//! Times the proved library against the Rust ledger: the same calls on the same bytes, in turns, in one process.
+//!
+//!     benchmark [REPETITIONS [ROW ..]]                every row, or some
+//!     benchmark profile library|rust ROW N            N passes of one row, for a profiler
+//!     benchmark kinds ..                              the same for steps of one kind
+//!
+//! Before each pass, and outside the time measured, the image is set back and the replies are cleared.
+
+use bench::generate::{self, packed, Random, MAP, MARK, STATE};
+use bench::ledger::{self, IMAGE, STEP};
+use bench::library;
+use std::hint::black_box;
+use std::time::{Duration, Instant};
+
+struct Calls {
+    name: &'static str,
+    begin: fn(&mut [u8]) -> u8,
+    run: fn(&mut [u8], &[u8], usize, usize, &mut [u8]) -> u8,
+    offer: fn(&[u8], usize) -> Result<Option<u16>, u8>,
+    show: for<'a> fn(&'a [u8], u16) -> Result<&'a [u8], u8>,
+}
+
+const LIBRARY: Calls =
+    Calls { name: "library", begin: library::begin, run: library::run, offer: library::offer, show: library::show };
+const RUST: Calls =
+    Calls { name: "rust", begin: ledger::begin, run: ledger::run, offer: ledger::offer, show: ledger::show };
+
+enum Call {
+    Begin,
+    /// The steps of the list, this many to a run.
+    Run(Vec<u8>, usize),
+    /// An empty part: the form test alone.
+    Form,
+    Offer(usize),
+    Show(u16),
+}
+
+/// A call, repeated on an image.
+struct Work {
+    image: Vec<u8>,
+    call: Call,
+    times: usize,
+}
+
+struct Row {
+    name: &'static str,
+    /// What one unit is: a step or a call.
+    unit: &'static str,
+    works: Vec<Work>,
+}
+
+impl Work {
+    fn units(&self) -> usize {
+        match &self.call {
+            Call::Run(list, _) => list.len() / STEP * self.times,
+            _ => self.times,
+        }
+    }
+
+    #[inline(never)]
+    fn timed(&self, by: &Calls, image: &mut [u8], replies: &mut [u8]) -> u64 {
+        let mut sum = 0;
+        for _ in 0..self.times {
+            sum += match &self.call {
+                Call::Begin => (by.begin)(image) as u64,
+                Call::Form => (by.run)(image, &[], 0, 0, &mut []) as u64,
+                Call::Offer(t) => (by.offer)(image, *t).unwrap().map_or(7, |n| n as u64),
+                Call::Show(n) => (by.show)(image, *n).unwrap()[0] as u64,
+                Call::Run(list, n) => {
+                    let (mut at, mut sum) = (0, 0);
+                    while at < list.len() {
+                        let end = (at + STEP * n).min(list.len());
+                        sum += (by.run)(image, list, at, end, &mut replies[at..end]) as u64;
+                        at = end;
+                    }
+                    sum
+                }
+            };
+        }
+        sum
+    }
+
+    fn replies(&self) -> Vec<u8> {
+        match &self.call {
+            Call::Run(list, _) => vec![0; list.len()],
+            _ => Vec::new(),
+        }
+    }
+
+    fn pass(&self, by: &Calls, image: &mut [u8], replies: &mut [u8]) -> Duration {
+        image.copy_from_slice(&self.image);
+        replies.fill(0);
+        let start = Instant::now();
+        black_box(self.timed(by, black_box(image), black_box(replies)));
+        start.elapsed()
+    }
+
+    /// Both leave the same bytes.
+    fn check(&self, name: &str) {
+        let (mut a, mut b) = (self.image.clone(), self.image.clone());
+        let (mut p, mut q) = (self.replies(), self.replies());
+        self.pass(&LIBRARY, &mut a, &mut p);
+        self.pass(&RUST, &mut b, &mut q);
+        assert!(a == b && p == q, "{name}: the two ledgers differ");
+    }
+}
+
+impl Row {
+    fn units(&self) -> f64 {
+        self.works.iter().map(Work::units).sum::<usize>() as f64
+    }
+
+    /// Nanoseconds a unit, of each side. The sides take turns at each piece of work, and of each piece the least of some
+    /// passes counts: a pass that the machine interrupts does not. All pieces are passed before the first comes again, so
+    /// that no list is learnt by heart.
+    fn sample(&self, sides: &[&Calls], passes: usize) -> Vec<f64> {
+        let mut image = vec![0; IMAGE];
+        let mut least = vec![vec![Duration::MAX; self.works.len()]; sides.len()];
+        for i in 0..passes {
+            for (k, w) in self.works.iter().enumerate() {
+                let mut replies = w.replies();
+                for side in 0..sides.len() {
+                    let side = (side + i) % sides.len();
+                    let spent = w.pass(sides[side], &mut image, &mut replies);
+                    least[side][k] = least[side][k].min(spent);
+                }
+            }
+        }
+        least.iter().map(|l| l.iter().sum::<Duration>().as_nanos() as f64 / self.units()).collect()
+    }
+
+    /// How many steps of a hundred reply with each outcome or refusal.
+    fn outcomes(&self) -> String {
+        let (mut image, mut counts) = (vec![0; IMAGE], [0; 32]);
+        for w in &self.works {
+            let mut replies = w.replies();
+            w.pass(&RUST, &mut image, &mut replies);
+            replies.chunks(STEP).for_each(|r| counts[r[0] as usize] += 1);
+        }
+        let share = |n: usize| 100.0 * counts[n] as f64 / self.units();
+        let shares: Vec<String> = (0..32).filter(|n| counts[*n] > 0).map(|n| format!("{n}: {:.1}", share(n))).collect();
+        shares.join("  ")
+    }
+
+    fn measure(&self, repetitions: usize) {
+        self.works.iter().for_each(|w| w.check(self.name));
+        let samples: Vec<Vec<f64>> = (0..repetitions).map(|_| self.sample(&[&LIBRARY, &RUST], 8)).collect();
+        let spread = |f: fn(&Vec<f64>) -> f64| Spread::of(samples.iter().map(f).collect());
+        let (library, rust, ratio) = (spread(|s| s[0]), spread(|s| s[1]), spread(|s| s[0] / s[1]));
+        print!("{:44} {:>5}", self.name, self.unit);
+        println!(" {library:9.1} {rust:9.1} {ratio:6.2}");
+    }
+}
+
+/// The median, and the quartiles around it.
+struct Spread {
+    low: f64,
+    median: f64,
+    high: f64,
+}
+
+impl Spread {
+    fn of(mut all: Vec<f64>) -> Spread {
+        all.sort_by(f64::total_cmp);
+        let at = |n: usize| all[(all.len() - 1) * n / 4];
+        Spread { low: at(1), median: at(2), high: at(3) }
+    }
+}
+
+impl std::fmt::Display for Spread {
+    fn fmt(&self, f: &mut std::fmt::Formatter) -> std::fmt::Result {
+        let (width, digits) = (f.width().unwrap_or(0), f.precision().unwrap_or(1));
+        let quartiles = format!("({:.digits$} to {:.digits$})", self.low, self.high);
+        write!(f, "{:width$.digits$} {quartiles:<19}", self.median)
+    }
+}
+
+// ---- inputs
+
+fn apply(image: &mut [u8], list: &[u64]) {
+    for s in list {
+        let reply = ledger::step_unchecked(image, *s);
+        assert!(reply >> 56 == 0, "step {s:x}: reply {reply:x}");
+    }
+}
+
+fn bytes(list: &[u64]) -> Vec<u8> {
+    list.iter().flat_map(|s| s.to_be_bytes()).collect()
+}
+
+/// A session some steps old, and the next n steps of it.
+fn mixed(seed: u64, old: usize, n: usize) -> (Vec<u8>, Vec<u8>) {
+    let mut r = Random(seed);
+    let mut image = vec![0; IMAGE];
+    generate::prelude(&mut r, &mut image);
+    generate::steps(&mut r, &generate::MIXED, &mut image, old);
+    let list = generate::steps(&mut r, &generate::MIXED, &mut image.clone(), n);
+    (image, list)
+}
+
+/// Sixteen takes, all at work; a parcel has gone round them twice, so that each knows all.
+fn ring() -> Vec<u8> {
+    let mut image = vec![0; IMAGE];
+    apply(&mut image, &[packed(0, 0, 0, 0, 1); 16]);
+    apply(&mut image, &[packed(1, 0, 0, 0, 5)]);
+    for i in 0..32 {
+        let (t, next) = (i % 16, (i + 1) % 16);
+        apply(
+            &mut image,
+            &[packed(2, 0, 0, i, 0), packed(6, t, 0, 0, 9), packed(4, t, next, 0, 7), packed(8, t, 0, 0, 0)],
+        );
+    }
+    apply(&mut image, &[packed(11, 0, 0, 32, 0)]);
+    for t in 0..16 {
+        apply(&mut image, &[packed(1, t, 0, 0, 5), packed(2, 0, 0, 33 + t, 0), packed(5, t, 0, 0, 0)]);
+    }
+    image
+}
+
+/// 31 parcels with full maps wait; a list of receipts of the oldest, each followed by a send of one more.
+fn crowded() -> (Vec<u8>, Vec<u8>) {
+    let mut image = ring();
+    let first = 49;
+    for i in 0..31 {
+        apply(&mut image, &[packed(4, i % 16, i % 16, 0, 5)]);
+    }
+    for t in 0..16 {
+        apply(&mut image, &[packed(8, t, 0, 0, 0)]);
+    }
+    let mut list = Vec::new();
+    for i in 0..341 {
+        let t = i % 31 % 16;
+        list.extend([packed(2, 0, 0, first + i, 0), packed(4, t, t, 0, 5), packed(8, t, 0, 0, 0)]);
+    }
+    let mut after = image.clone();
+    apply(&mut after, &list);
+    assert_eq!(generate::waiting(&after), 31);
+    (image, bytes(&list))
+}
+
+/// Sixteen frozen takes that rest on each other.
+fn frozen() -> Vec<u8> {
+    let mut image = ring();
+    for t in 0..16 {
+        apply(&mut image, &[packed(7, t, 0, 0, 0)]);
+    }
+    image
+}
+
+const ALL: u64 = 12 << 60 | 0xffff << 32;
+
+fn rows() -> Vec<Row> {
+    let run = |(image, list): (Vec<u8>, Vec<u8>), n: usize| Work { image, call: Call::Run(list, n), times: 1 };
+    let row = |name, unit, works| Row { name, unit, works };
+    let many = |image: &[u8], call| vec![Work { image: image.to_vec(), call, times: 64 }];
+    let long = (0..32).map(|seed| run(mixed(seed, 128 * (seed as usize % 8), 1024), 1024)).collect();
+    let short = (0..32).map(|seed| run(mixed(seed, 128 * (seed as usize % 8), 64), 1)).collect();
+    let crowded = crowded();
+    let signing = frozen();
+    let mut unready = signing.clone();
+    // The last mark of the last take's creation map is of a withdrawn life.
+    let last = generate::take_at(15) + STATE + MAP + MARK * 15;
+    unready[last..last + 2].copy_from_slice(&[0x80, 1]);
+    let (session, _) = mixed(3, 512, 1);
+    let waiting = generate::waiting(&session);
+    let full = generate::full_image(&mut Random(2));
+    let newest = |image: &[u8], n: usize| generate::number(image, n - 1);
+    let owner = |image: &[u8], n: usize| generate::addressee(image, n - 1);
+    vec![
+        row("mixed, runs of 1,024 steps", "step", long),
+        row("mixed, runs of one step", "call", short),
+        row("receive, send, done with 31 waiting", "step", vec![run(crowded.clone(), 1024)]),
+        row("sign of 16 takes, not ready at the last mark", "step", vec![run((unready, bytes(&[ALL; 256])), 1024)]),
+        row(
+            "sign of 16 takes, a run of one step",
+            "call",
+            (0..16).map(|_| run((signing.clone(), bytes(&[ALL])), 1)).collect(),
+        ),
+        row("form test alone, fresh image", "call", many(&vec![0; IMAGE], Call::Form)),
+        row("form test alone, session", "call", many(&session, Call::Form)),
+        row("form test alone, full image", "call", many(&full, Call::Form)),
+        row("show, session", "call", many(&session, Call::Show(newest(&session, waiting)))),
+        row("show, full image", "call", many(&full, Call::Show(newest(&full, 32)))),
+        row("offer, session", "call", many(&session, Call::Offer(owner(&session, waiting)))),
+        row("offer, full image", "call", many(&full, Call::Offer(owner(&full, 32)))),
+        row("begin", "call", many(&session, Call::Begin)),
+    ]
+}
+
+/// The same steps again and again, in runs of 1,024: what one kind costs, for the profile.
+fn kinds() -> Vec<Row> {
+    let image = ring();
+    let repeat = |steps: &[u64], image: &[u8]| {
+        let list: Vec<u64> = steps.iter().copied().cycle().take(1024 / steps.len() * steps.len()).collect();
+        Work { image: image.to_vec(), call: Call::Run(bytes(&list), 1024), times: 1 }
+    };
+    let pairs = |make: fn(usize) -> u64, image: &[u8]| {
+        let next = u16::from_be_bytes([image[1], image[2]]) as usize;
+        let list: Vec<u64> = (0..512).flat_map(|i| [make(i), packed(11, 0, 0, next + i, 0)]).collect();
+        Work { image: image.to_vec(), call: Call::Run(bytes(&list), 1024), times: 1 }
+    };
+    let row = |name, work| Row { name, unit: "step", works: vec![work] };
+    let mut still = image.clone();
+    apply(&mut still, &[packed(7, 3, 0, 0, 0)]);
+    vec![
+        row("refused 20", repeat(&[u64::MAX], &image)),
+        row("letter, lose", pairs(|_| packed(1, 3, 0, 0, 5), &image)),
+        row("send, lose", pairs(|_| packed(4, 3, 4, 0, 5), &image)),
+        row("read", repeat(&[packed(5, 3, 0, 0, 0)], &image)),
+        row("write", repeat(&[packed(6, 3, 0, 0, 9)], &image)),
+        row("write, held", repeat(&[packed(6, 3, 0, 0, 9)], &still)),
+        row("freeze", repeat(&[packed(7, 3, 0, 0, 0)], &image)),
+        row("fail, held", repeat(&[packed(10, 3, 0, 0, 0)], &still)),
+    ]
+}
+
+fn main() {
+    let args: Vec<String> = std::env::args().skip(1).collect();
+    let one_kind = args.first().map(String::as_str) == Some("kinds");
+    let rows = if one_kind { kinds() } else { rows() };
+    let args = &args[one_kind as usize..];
+    if args.first().map(String::as_str) == Some("profile") {
+        let by = if args[1] == LIBRARY.name { LIBRARY } else { RUST };
+        let row = &rows[args[2].parse::<usize>().expect("a row")];
+        let passes = args[3].parse().expect("a number of passes");
+        println!("{} by {}: {:.1} ns a {}", row.name, by.name, row.sample(&[&by], passes)[0], row.unit);
+        return;
+    }
+    let repetitions = args.first().map_or(31, |n| n.parse().expect("a number of repetitions"));
+    if !one_kind {
+        println!("of a hundred mixed steps reply with {}", rows[0].outcomes());
+    }
+    println!("nanoseconds and ratio, median of {repetitions} (quartiles)");
+    println!("{:44} {:>5} {:>9} {:19} {:>9} {:19} {:>6}", "", "unit", "library", "", "Rust", "", "ratio");
+    let wanted: Vec<usize> = args.iter().skip(1).map(|n| n.parse().expect("a row")).collect();
+    for (i, row) in rows.iter().enumerate() {
+        if wanted.is_empty() || wanted.contains(&i) {
+            row.measure(repetitions);
+        }
+    }
+}

@@ -1,0 +1,355 @@
+//! Compares the proved library with the Rust ledger, call by call: every answer, reply and image byte, and after each
+//! refusal that nothing changed.
+//!
+//!     differential [SEED [STEPS [ROUND]]]
+//!
+//! Each round has a seed of its own; with ROUND that one alone is run.
+
+use bench::generate::{self, Random};
+use bench::ledger::{self, IMAGE, LONGEST, STEP, TAKES};
+use bench::library;
+use std::process::exit;
+
+struct Test {
+    seed: u64,
+    round: u64,
+    r: Random,
+    /// The image as the Rust ledger leaves it, and as the library does: the same before and after each call.
+    ours: Vec<u8>,
+    theirs: Vec<u8>,
+    calls: [[u64; 32]; 4],  // begin, run, offer, show by answer
+    steps: [[u64; 32]; 16], // by kind and outcome or refusal
+    offered: u64,
+    damaged: u64,
+    still_formed: u64,
+}
+
+const CALLS: [&str; 4] = ["begin", "run", "offer", "show"];
+
+impl Test {
+    fn fail(&self, what: &str) -> ! {
+        eprintln!("FAILED: seed {} round {}: {what}", self.seed, self.round);
+        eprintln!("again: differential {} 1 {}", self.seed, self.round);
+        exit(1);
+    }
+
+    fn expect(&self, holds: bool, what: &str) {
+        if !holds {
+            self.fail(what);
+        }
+    }
+
+    fn images(&self, what: &str) {
+        if let Some(at) = (0..self.ours.len()).find(|i| self.ours[*i] != self.theirs[*i]) {
+            let (a, b) = (self.theirs[at], self.ours[at]);
+            self.fail(&format!("{what}: image byte {at} is {a} in the library and {b} in the Rust ledger"));
+        }
+    }
+
+    fn set(&mut self, image: Vec<u8>) {
+        self.theirs.clone_from(&image);
+        self.ours = image;
+    }
+
+    fn begin(&mut self) {
+        let before = self.ours.clone();
+        let (a, b) = (library::begin(&mut self.theirs), ledger::begin(&mut self.ours));
+        self.expect(a == b, &format!("begin answers {a}, and {b} in the Rust ledger"));
+        self.calls[0][a as usize] += 1;
+        if self.ours != self.theirs {
+            self.images("begin");
+        }
+        self.expect(a == 0 || self.theirs == before, "a refused begin changed the image");
+    }
+
+    fn run(&mut self, list: &[u8], start: usize, end: usize, length: usize) {
+        let before = self.ours.clone();
+        let mut blank = vec![0; length];
+        self.r.fill(&mut blank);
+        let (mut mine, mut other) = (blank.clone(), blank.clone());
+        let a = library::run(&mut self.theirs, list, start, end, &mut other);
+        let b = ledger::run(&mut self.ours, list, start, end, &mut mine);
+        self.expect(a == b, &format!("run answers {a}, and {b} in the Rust ledger"));
+        self.calls[1][a as usize] += 1;
+        if let Some(at) = (0..length).find(|i| mine[*i] != other[*i]) {
+            let i = at / STEP;
+            let (from, to) = (STEP * i, STEP * i + STEP);
+            let step = &list[start + from..start + to];
+            self.fail(&format!(
+                "step {i}, {step:?}: reply {:?}, and {:?} in the Rust ledger",
+                &other[from..to],
+                &mine[from..to]
+            ));
+        }
+        if self.ours != self.theirs {
+            self.images("run");
+        }
+        if a != 0 {
+            self.expect(other == blank, "a refused run changed the replies");
+            self.expect(self.theirs == before, "a refused run changed the image");
+            return;
+        }
+        for (step, reply) in list[start..end].chunks(STEP).zip(other.chunks(STEP)) {
+            self.steps[(step[0] >> 4) as usize][reply[0] as usize & 31] += 1;
+        }
+    }
+
+    fn offer(&mut self, take: usize) {
+        let before = self.ours.clone();
+        let (a, b) = (library::offer(&self.theirs, take), ledger::offer(&self.ours, take));
+        self.calls[2][a.err().unwrap_or(0) as usize] += 1;
+        let agree = match (a, b) {
+            (Ok(Some(n)), Ok(Some(_))) => {
+                self.offered += 1;
+                (0..generate::waiting(&self.ours))
+                    .any(|k| generate::number(&self.ours, k) == n && generate::addressee(&self.ours, k) == take)
+            }
+            _ => a == b,
+        };
+        self.expect(agree, &format!("offer to {take}: {a:?}, and {b:?} in the Rust ledger"));
+        self.expect(self.theirs == before, "an offer changed the image");
+    }
+
+    fn show(&mut self, number: u16) {
+        let before = self.ours.clone();
+        let place = |image: &[u8], part: &[u8]| part.as_ptr() as usize - image.as_ptr() as usize;
+        let a = library::show(&self.theirs, number).map(|p| (place(&self.theirs, p), p.len()));
+        let b = ledger::show(&self.ours, number).map(|p| (place(&self.ours, p), p.len()));
+        self.expect(a == b, &format!("show of {number}: {a:?}, and {b:?} in the Rust ledger"));
+        self.calls[3][a.err().unwrap_or(0) as usize] += 1;
+        self.expect(self.theirs == before, "a show changed the image");
+    }
+
+    /// A good list of n steps somewhere in a longer one: the list and where the part starts.
+    fn list(&mut self, n: usize) -> (Vec<u8>, usize) {
+        let mix = generate::MIXES[self.r.below(generate::MIXES.len())];
+        let start = self.r.below(40);
+        let mut list = vec![0; start];
+        self.r.fill(&mut list);
+        // The image may be ill-formed or of another length: steps are then drawn for a fresh one.
+        let whole = self.ours.len() == IMAGE && ledger::offer(&self.ours, 0) != Err(19);
+        let mut image = if whole { self.ours.clone() } else { vec![0; IMAGE] };
+        list.extend(generate::steps(&mut self.r, &mix, &mut image, n));
+        let mut rest = vec![0; self.r.below(40)];
+        self.r.fill(&mut rest);
+        list.extend(rest);
+        (list, start)
+    }
+
+    fn good_run(&mut self) {
+        let n = match self.r.below(10) {
+            0 | 1 => 1,
+            2..=4 => 1 + self.r.below(16),
+            5..=8 => 1 + self.r.below(1024),
+            _ => 1024,
+        };
+        let (list, start) = self.list(n);
+        self.run(&list, start, start + STEP * n, STEP * n);
+    }
+
+    /// Runs with a bad part, a wrong reply length, or both.
+    fn bad_run(&mut self) {
+        let n = self.r.below(1060);
+        let (list, start) = self.list(n);
+        let (mut start, mut end) = (start, start + STEP * n);
+        let mut length = end - start;
+        let fault = self.r.below(14);
+        match fault {
+            0 => end = list.len() + 1 + self.r.below(20),
+            1 => end += 1 + self.r.below(7),
+            2 => start = end + 1 + self.r.below(20),
+            3 => (start, end) = (usize::MAX - self.r.below(9), self.r.below(9)),
+            4 => end = usize::MAX - self.r.below(9),
+            5 => start += 1 + self.r.below(7),
+            6 => {
+                // A part of 8,200 bytes and more, in a list that has it.
+                let long = vec![0; LONGEST + STEP * (1 + self.r.below(4))];
+                let length = long.len() - self.r.below(2);
+                return self.run(&long, 0, long.len(), length);
+            }
+            _ => {}
+        }
+        if fault > 6 || self.r.one_in(2) {
+            length = match self.r.below(4) {
+                0 => 0,
+                1 => length + 1,
+                2 => length.saturating_sub(1),
+                _ => self.r.below(9000),
+            };
+        }
+        self.run(&list, start, end, length);
+    }
+
+    fn take(&mut self) -> usize {
+        match self.r.below(8) {
+            0 => self.r.below(40),
+            1 => usize::MAX - self.r.below(20),
+            _ => self.r.below(TAKES),
+        }
+    }
+
+    fn number(&mut self) -> u16 {
+        let n = generate::waiting(&self.ours);
+        if n == 0 || self.r.one_in(4) {
+            return self.r.next() as u16 >> self.r.below(16);
+        }
+        generate::number(&self.ours, self.r.below(n))
+    }
+
+    /// Every call once on an image of another length.
+    fn wrong_length(&mut self) {
+        let kept = self.ours.clone();
+        let length = match self.r.below(4) {
+            0 => IMAGE - 1,
+            1 => IMAGE + 1,
+            2 => 0,
+            _ => self.r.below(2 * IMAGE),
+        };
+        let mut image = kept.clone();
+        image.resize(length, 0);
+        self.set(image);
+        self.begin();
+        let (list, start) = self.list(2);
+        let end = start + self.r.below(20);
+        self.run(&list, start, end, 16);
+        let (take, number) = (self.take(), self.r.next() as u16);
+        self.offer(take);
+        self.show(number);
+        self.set(kept);
+    }
+
+    /// Calls on a copy with one to five bytes changed: ill-formed, or another well-formed image.
+    fn damaged(&mut self) {
+        let kept = self.ours.clone();
+        let mut image = kept.clone();
+        generate::damage(&mut self.r, &mut image);
+        self.damaged += 1;
+        self.still_formed += (ledger::offer(&image, 0) != Err(19)) as u64;
+        self.set(image);
+        let (take, number) = (self.take(), self.number());
+        self.offer(take);
+        self.show(number);
+        if self.r.one_in(4) {
+            self.bad_run();
+        }
+        let n = self.r.below(20);
+        let (list, start) = self.list(n);
+        self.run(&list, start, start + STEP * n, STEP * n);
+        self.set(kept);
+    }
+
+    fn round(&mut self) {
+        if self.r.one_in(2) {
+            let mut bytes = vec![0; IMAGE];
+            self.r.fill(&mut bytes);
+            self.set(bytes);
+            self.begin();
+            if self.r.one_in(2) {
+                let list = generate::prelude(&mut self.r, &mut self.ours.clone());
+                self.run(&list, 0, list.len(), list.len());
+            }
+        } else {
+            let image = generate::image(&mut self.r);
+            self.expect(ledger::offer(&image, 0) != Err(19), "a generated image is ill-formed");
+            self.set(image);
+        }
+        for _ in 0..1 + self.r.below(10) {
+            match self.r.below(20) {
+                0..=9 => self.good_run(),
+                10 | 11 => {
+                    let take = self.take();
+                    self.offer(take);
+                }
+                12 | 13 => {
+                    let number = self.number();
+                    self.show(number);
+                }
+                14 => self.bad_run(),
+                15 => self.wrong_length(),
+                16..=18 => self.damaged(),
+                _ if self.r.one_in(4) => self.begin(),
+                _ => {}
+            }
+        }
+    }
+
+    fn total(&self) -> u64 {
+        self.steps.iter().flatten().sum()
+    }
+
+    /// Every answer that document 01 has must have been seen.
+    fn covered(&self) {
+        let outcome = |n: usize| self.steps.iter().map(|kind| kind[n]).sum::<u64>();
+        for n in (0..=5).chain(20..=30) {
+            self.expect(outcome(n) > 0, &format!("no step had outcome or refusal {n}"));
+        }
+        for n in [0, 2, 3, 4, 20, 22, 23, 24, 28] {
+            self.expect(self.steps[2][n] > 0, &format!("no receive had outcome or refusal {n}"));
+        }
+        let answers: [&[usize]; 4] = [&[0, 16], &[0, 16, 17, 18, 19], &[0, 16, 19, 21, 22], &[0, 16, 19, 24]];
+        for (call, wanted) in answers.iter().enumerate() {
+            for n in *wanted {
+                self.expect(self.calls[call][*n] > 0, &format!("no {} answered {n}", CALLS[call]));
+            }
+        }
+    }
+
+    fn print(&self) {
+        let row = |name: &str, counts: &[u64]| {
+            let seen: Vec<String> =
+                counts.iter().enumerate().filter(|c| *c.1 > 0).map(|(n, c)| format!("{n}: {c}")).collect();
+            println!("{name:9} {}", seen.join("  "));
+        };
+        for (name, counts) in CALLS.iter().zip(&self.calls) {
+            row(name, counts);
+        }
+        println!(
+            "offers that gave a parcel {}; damaged images {}, still well-formed {}",
+            self.offered, self.damaged, self.still_formed
+        );
+        let mut all = [0; 32];
+        for (kind, counts) in self.steps.iter().enumerate() {
+            row(&format!("kind {kind}"), counts);
+            counts.iter().enumerate().for_each(|(n, c)| all[n] += c);
+        }
+        row("steps", &all);
+    }
+}
+
+fn main() {
+    let args: Vec<u64> = std::env::args().skip(1).map(|a| a.parse().expect("a number")).collect();
+    let seed = args.first().copied().unwrap_or(1);
+    let steps = args.get(1).copied().unwrap_or(5_000_000);
+    let mut test = Test {
+        seed,
+        round: 0,
+        r: Random(0),
+        ours: Vec::new(),
+        theirs: Vec::new(),
+        calls: [[0; 32]; 4],
+        steps: [[0; 32]; 16],
+        offered: 0,
+        damaged: 0,
+        still_formed: 0,
+    };
+    let round = |test: &mut Test, n: u64| {
+        test.round = n;
+        test.r = Random(seed.wrapping_mul(0x1_0000_0001).wrapping_add(n << 20));
+        test.round();
+    };
+    if let Some(n) = args.get(2) {
+        round(&mut test, *n);
+        test.print();
+        return;
+    }
+    let mut n = 0;
+    while test.total() < steps {
+        n += 1;
+        round(&mut test, n);
+    }
+    test.print();
+    if steps >= 1_000_000 {
+        test.covered();
+    }
+    println!("differential: seed {seed}, {n} rounds, {} steps, no difference", test.total());
+}

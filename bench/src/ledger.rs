@@ -1,0 +1,683 @@
+//! A ledger written from document 01 alone, for speed: the yardstick of the differential test and of the benchmark.
+//! Names are document 01's. It works in place on the caller's bytes.
+
+pub const IMAGE: usize = 22_132;
+pub const TAKES: usize = 16;
+pub const PARCELS: usize = 32;
+pub const STEP: usize = 8;
+pub const LONGEST: usize = 8_192;
+pub const MAP: usize = 272;
+
+// The packed forms as structs of bytes: each has alignment 1, so that an image is a cast away.
+#[derive(Clone, Copy)]
+#[repr(C)]
+struct Mark {
+    head: u8,       // present 1, frozen 1, zero 2, count of L 4
+    rest: [u8; 16], // n, then L, oldest first
+}
+
+type Map = [Mark; TAKES];
+
+#[derive(Clone, Copy)]
+#[repr(C)]
+struct Take {
+    status: u8,
+    text: [u8; 4],
+    saved: [u8; 4],
+    state: Map,
+    creation: Map,
+    behaviour: Map,
+}
+
+#[derive(Clone, Copy)]
+#[repr(C)]
+struct Parcel {
+    head: u8, // waiting 1, zero 3, addressee 4
+    number: [u8; 2],
+    text: [u8; 4],
+    map: Map,
+}
+
+#[repr(C)]
+struct Image {
+    opened: u8,
+    next: [u8; 2],
+    zero: u8,
+    takes: [Take; TAKES],
+    parcels: [Parcel; PARCELS],
+}
+
+const _: () = assert!(size_of::<Mark>() == 17 && size_of::<Map>() == MAP);
+const _: () = assert!(size_of::<Image>() == IMAGE && align_of::<Image>() == 1);
+
+const PRESENT: u8 = 0x80;
+const FROZEN: u8 = 0x40;
+const COUNT: u8 = 0x0f;
+const WAITING: u8 = 0x80;
+
+const IDLE: u8 = 1 << 6;
+const AT_WORK: u8 = 2 << 6;
+const VANISHED: u8 = 3 << 6;
+
+const ABSENT: Mark = Mark { head: 0, rest: [0; 16] };
+const OPENING: Mark = Mark { head: PRESENT, rest: [0; 16] };
+const EMPTY: Map = [ABSENT; TAKES];
+const UNUSED: Take = Take { status: 0, text: [0; 4], saved: [0; 4], state: EMPTY, creation: EMPTY, behaviour: EMPTY };
+const FREE: Parcel = Parcel { head: 0, number: [0; 2], text: [0; 4], map: EMPTY };
+
+const DONE: u64 = 0;
+const HELD: u64 = 1;
+const DROPPED: u64 = 2;
+const FALLEN_BACK: u64 = 3;
+const GONE: u64 = 4;
+const NOT_READY: u64 = 5;
+
+// What must be zero past n and so many entries of L, with n in the lowest byte.
+const PAST: [u128; 16] = {
+    let mut past = [0; 16];
+    let mut count = 0;
+    while count < 15 {
+        past[count] = u128::MAX << (8 * count + 8);
+        count += 1;
+    }
+    past
+};
+
+impl Mark {
+    /// Orders marks: the newer has the greater key, and an absent one has 0.
+    #[inline(always)]
+    fn key(&self) -> u32 {
+        let head = self.head as u32;
+        (head & 0x8f) << 9 | (self.rest[0] as u32) << 1 | (head >> 6 & 1)
+    }
+
+    #[inline(always)]
+    fn count(&self) -> usize {
+        (self.head & COUNT) as usize
+    }
+
+    /// n in the lowest byte, then L, oldest first.
+    #[inline(always)]
+    fn rest(&self) -> u128 {
+        u128::from_le_bytes(self.rest)
+    }
+
+    /// Whether the first `count` entries of both lists are the same.
+    #[inline(always)]
+    fn agrees(&self, other: &Mark, count: usize) -> bool {
+        (self.rest() ^ other.rest()) & !PAST[count] & !0xff == 0
+    }
+
+    /// Both present: stale by the other.
+    #[inline(always)]
+    fn stale_by(&self, other: &Mark) -> bool {
+        let (a, b) = (self.count(), other.count());
+        if a > b {
+            return false;
+        }
+        let next = if a == b { other.rest[0] } else { other.rest[1 + a] };
+        self.rest[0] < next && self.agrees(other, a)
+    }
+
+    /// The life of this mark is signed, where the take's present mark is `present`.
+    #[inline(always)]
+    fn signed(&self, present: &Mark) -> bool {
+        let (a, b) = (self.count(), present.count());
+        a < b && present.rest[1 + a] == self.rest[0] && self.agrees(present, a)
+    }
+
+    #[inline(always)]
+    fn same_life(&self, present: &Mark) -> bool {
+        self.count() == present.count() && self.rest() == present.rest()
+    }
+
+    fn next(&self) -> Mark {
+        let mut rest = self.rest;
+        rest[0] += 1;
+        Mark { head: self.head & !FROZEN, rest }
+    }
+
+    fn signed_now(&self) -> Mark {
+        let mut rest = self.rest;
+        rest[1 + self.count()] = rest[0];
+        rest[0] = 0;
+        Mark { head: (self.head & !FROZEN) + 1, rest }
+    }
+
+    /// No zero bit set, nothing past the count; absent: nothing at all.
+    #[inline(always)]
+    fn formed(&self) -> bool {
+        if self.head & PRESENT == 0 {
+            return self.head == 0 && self.rest() == 0;
+        }
+        self.head & 0x30 == 0 && self.rest() & PAST[self.count()] == 0
+    }
+}
+
+fn bytes<T>(part: &[T]) -> &[u8] {
+    // Only the structs above are passed: bytes without padding.
+    unsafe { std::slice::from_raw_parts(part.as_ptr().cast(), size_of_val(part)) }
+}
+
+fn zero(part: &[u8]) -> bool {
+    part.iter().fold(0, |a, b| a | b) == 0
+}
+
+fn map_formed(map: &Map, opened: usize) -> bool {
+    let (named, unnamed) = map.split_at(opened);
+    zero(bytes(unnamed)) && named.iter().all(|m| m.formed())
+}
+
+fn take_formed(take: &Take, own: usize, opened: usize) -> bool {
+    if take.status == VANISHED {
+        return zero(&bytes(std::slice::from_ref(take))[1..]);
+    }
+    if take.status != IDLE && take.status != AT_WORK {
+        return false;
+    }
+    let mark = &take.state[own];
+    if mark.head & PRESENT == 0 || (mark.count() == 0 && take.saved != [0; 4]) {
+        return false;
+    }
+    if take.status == IDLE {
+        if !zero(bytes(&take.behaviour)) {
+            return false;
+        }
+    } else if !map_formed(&take.behaviour, opened) {
+        return false;
+    }
+    map_formed(&take.state, opened) && map_formed(&take.creation, opened)
+}
+
+impl Image {
+    fn of(image: &[u8]) -> &Image {
+        assert!(image.len() == IMAGE);
+        unsafe { &*image.as_ptr().cast() }
+    }
+
+    fn of_mut(image: &mut [u8]) -> &mut Image {
+        assert!(image.len() == IMAGE);
+        unsafe { &mut *image.as_mut_ptr().cast() }
+    }
+
+    fn waiting(&self) -> usize {
+        self.parcels.partition_point(|p| p.head & WAITING != 0)
+    }
+
+    fn formed(&self) -> bool {
+        let opened = self.opened as usize;
+        if opened > TAKES || self.zero != 0 || !zero(bytes(&self.takes[opened..])) {
+            return false;
+        }
+        for (t, take) in self.takes[..opened].iter().enumerate() {
+            if !take_formed(take, t, opened) {
+                return false;
+            }
+        }
+        let next = u16::from_be_bytes(self.next) as u32;
+        let mut least = 0;
+        for (k, p) in self.parcels.iter().enumerate() {
+            if p.head == 0 {
+                return zero(bytes(&self.parcels[k..]));
+            }
+            let number = u16::from_be_bytes(p.number) as u32;
+            if p.head & 0xf0 != WAITING || (p.head & 15) as usize >= opened || number < least || number >= next {
+                return false;
+            }
+            least = number + 1;
+            if !map_formed(&p.map, opened) {
+                return false;
+            }
+        }
+        true
+    }
+}
+
+/// into: the newer of each of its marks and the right ones.
+#[inline(always)]
+fn join_right(into: &mut [Mark], right: &[Mark]) {
+    for (m, r) in into.iter_mut().zip(right) {
+        if r.key() > m.key() {
+            *m = *r;
+        }
+    }
+}
+
+/// into: the newer of the left marks and each of its own.
+#[inline(always)]
+fn join_left(into: &mut [Mark], left: &[Mark]) {
+    for (m, l) in into.iter_mut().zip(left) {
+        if l.head != 0 && l.key() >= m.key() {
+            *m = *l;
+        }
+    }
+}
+
+impl Take {
+    /// Its own mark alone in state, the other maps empty, idle.
+    fn bare(&mut self, own: usize, mark: Mark) {
+        self.status = IDLE;
+        self.state = EMPTY;
+        self.state[own] = mark;
+        self.creation = EMPTY;
+        self.behaviour = EMPTY;
+    }
+
+    /// The outcome of a fall, or nothing from life 255.
+    fn fall(&mut self, own: usize) -> Option<u64> {
+        let mark = self.state[own];
+        if mark.count() == 0 {
+            *self = UNUSED;
+            self.status = VANISHED;
+            return Some(GONE);
+        }
+        if mark.rest[0] == 255 {
+            return None;
+        }
+        self.text = self.saved;
+        self.bare(own, mark.next());
+        Some(FALLEN_BACK)
+    }
+
+    fn idle(&mut self) {
+        self.status = IDLE;
+        self.behaviour = EMPTY;
+    }
+
+    /// Creation, behaviour and own mark joined.
+    fn ground(&self, own: usize, opened: usize) -> Map {
+        let mut map = self.creation;
+        join_right(&mut map[..opened], &self.behaviour[..opened]);
+        join_right(&mut map[own..=own], &self.state[own..=own]);
+        map
+    }
+}
+
+enum Compared {
+    Dropped,
+    Fallen,
+    Fit,
+}
+
+fn compare(parcel: &Map, take: &Take, opened: usize) -> Compared {
+    let mut answer = Compared::Fit;
+    for u in 0..opened {
+        let p = &parcel[u];
+        if p.head == 0 {
+            continue;
+        }
+        let (s, c) = (&take.state[u], &take.creation[u]);
+        let t = if c.key() > s.key() { c } else { s };
+        if t.head == 0 || (p.head ^ t.head) & COUNT == 0 && p.rest[0] == t.rest[0] {
+            continue;
+        }
+        if p.stale_by(t) {
+            return Compared::Dropped;
+        }
+        if t.stale_by(p) {
+            answer = Compared::Fallen;
+        }
+    }
+    answer
+}
+
+// The fields that a step of each kind may use.
+const fn used(take: bool, other: bool, parcel: bool, text: bool) -> u64 {
+    15 << 60
+        | (take as u64 * 15) << 56
+        | (other as u64 * 15) << 52
+        | (parcel as u64 * 0xffff) << 32
+        | text as u64 * 0xffff_ffff
+}
+
+const USED: [u64; 16] = [
+    used(false, false, false, true),
+    used(true, false, false, true),
+    used(false, false, true, false),
+    used(true, false, false, true),
+    used(true, true, false, true),
+    used(true, false, false, false),
+    used(true, false, false, true),
+    used(true, false, false, false),
+    used(true, false, false, false),
+    used(true, false, false, false),
+    used(true, false, false, false),
+    used(false, false, true, false),
+    used(false, false, true, false),
+    0,
+    0,
+    0,
+];
+
+fn reply(outcome: u64, take: usize, parcel: u16, text: u32) -> u64 {
+    outcome << 56 | (take as u64) << 48 | (parcel as u64) << 32 | text as u64
+}
+
+fn refuse(number: u64) -> u64 {
+    number << 56
+}
+
+/// A well-formed image and the number of its waiting parcels.
+struct Session<'a> {
+    image: &'a mut Image,
+    waiting: usize,
+}
+
+impl Session<'_> {
+    #[inline(always)]
+    fn opened(&self) -> usize {
+        (self.image.opened as usize).min(TAKES)
+    }
+
+    fn open(&mut self, text: u32) -> Option<usize> {
+        let t = self.opened();
+        if t == TAKES {
+            return None;
+        }
+        self.image.opened += 1;
+        let take = &mut self.image.takes[t];
+        take.status = IDLE;
+        take.text = text.to_be_bytes();
+        take.state[t] = OPENING;
+        Some(t)
+    }
+
+    /// The refusal of a new parcel, if any.
+    fn full(&self) -> Option<u64> {
+        if self.waiting == PARCELS {
+            return Some(26);
+        }
+        (self.image.next == [255; 2]).then_some(27)
+    }
+
+    fn post(&mut self, addressee: usize, text: u32, map: Map) -> u16 {
+        let number = u16::from_be_bytes(self.image.next);
+        self.image.next = (number + 1).to_be_bytes();
+        self.image.parcels[self.waiting] =
+            Parcel { head: WAITING | addressee as u8, number: number.to_be_bytes(), text: text.to_be_bytes(), map };
+        self.waiting += 1;
+        number
+    }
+
+    fn find(&self, number: u16) -> Option<usize> {
+        let waiting = &self.image.parcels[..self.waiting];
+        waiting.binary_search_by_key(&number, |p| u16::from_be_bytes(p.number)).ok()
+    }
+
+    fn remove(&mut self, place: usize) {
+        self.image.parcels.copy_within(place + 1..self.waiting, place);
+        self.waiting -= 1;
+        self.image.parcels[self.waiting] = FREE;
+    }
+
+    fn receive(&mut self, number: u16) -> u64 {
+        let Some(place) = self.find(number) else {
+            return refuse(24);
+        };
+        let opened = self.opened();
+        let parcel = &self.image.parcels[place];
+        let t = (parcel.head & 15) as usize;
+        let take = &mut self.image.takes[t];
+        if take.status == VANISHED {
+            return refuse(22);
+        }
+        if take.status != IDLE {
+            return refuse(23);
+        }
+        let answer = match compare(&parcel.map, take, opened) {
+            Compared::Dropped => reply(DROPPED, t, number, 0),
+            Compared::Fallen => match take.fall(t) {
+                Some(outcome) => reply(outcome, t, number, 0),
+                None => return refuse(28),
+            },
+            Compared::Fit => {
+                take.status = AT_WORK;
+                take.behaviour = parcel.map;
+                reply(DONE, t, number, u32::from_be_bytes(parcel.text))
+            }
+        };
+        self.remove(place);
+        answer
+    }
+
+    fn sign(&mut self, volume: usize) -> u64 {
+        let opened = self.opened();
+        if volume == 0 {
+            return refuse(29);
+        }
+        if volume >> opened != 0 {
+            return refuse(21);
+        }
+        let named = |t: usize| volume >> t & 1 == 1;
+        let (mut vanished, mut full, mut frozen) = (false, false, true);
+        for (t, take) in self.image.takes[..opened].iter().enumerate() {
+            let head = take.state[t].head;
+            vanished |= named(t) && take.status == VANISHED;
+            full |= named(t) && head & COUNT == 15;
+            frozen &= !named(t) || head & FROZEN != 0;
+        }
+        if vanished {
+            return refuse(22);
+        }
+        if full {
+            return refuse(30);
+        }
+        if !frozen || !self.grounded(volume, opened) {
+            return reply(NOT_READY, 0, 0, 0);
+        }
+        for (t, take) in self.image.takes[..opened].iter_mut().enumerate() {
+            if named(t) {
+                take.saved = take.text;
+                take.bare(t, take.state[t].signed_now());
+            }
+        }
+        reply(DONE, 0, 0, 0)
+    }
+
+    /// Every mark that the named takes rest on is of a signed life or of the present life of a named take.
+    fn grounded(&self, volume: usize, opened: usize) -> bool {
+        let takes = &self.image.takes[..opened];
+        for (t, take) in takes.iter().enumerate() {
+            if volume >> t & 1 == 0 {
+                continue;
+            }
+            for (u, other) in takes.iter().enumerate() {
+                let present = &other.state[u];
+                for m in [&take.state[u], &take.creation[u]] {
+                    let good = m.head == 0 || volume >> u & 1 == 1 && m.same_life(present) || m.signed(present);
+                    if !good {
+                        return false;
+                    }
+                }
+            }
+        }
+        true
+    }
+
+    fn letter(&mut self, t: usize, text: u32) -> u64 {
+        if t >= self.opened() {
+            return refuse(21);
+        }
+        if let Some(number) = self.full() {
+            return refuse(number);
+        }
+        let parcel = self.post(t, text, EMPTY);
+        reply(DONE, t, parcel, 0)
+    }
+
+    fn send(&mut self, t: usize, other: usize, text: u32) -> u64 {
+        let opened = self.opened();
+        if t >= opened || other >= opened {
+            return refuse(21);
+        }
+        let take = &self.image.takes[t];
+        if take.status == VANISHED {
+            return refuse(22);
+        }
+        if take.status != AT_WORK {
+            return refuse(23);
+        }
+        if let Some(number) = self.full() {
+            return refuse(number);
+        }
+        let map = take.ground(t, opened);
+        let parcel = self.post(other, text, map);
+        reply(DONE, t, parcel, 0)
+    }
+
+    fn new(&mut self, t: usize, text: u32) -> u64 {
+        let opened = self.opened();
+        let Some(child) = self.open(text) else {
+            return refuse(25);
+        };
+        let opener = &mut self.image.takes[t];
+        let creation = opener.ground(t, opened);
+        join_left(&mut opener.behaviour[child..=child], &[OPENING]);
+        self.image.takes[child].creation = creation;
+        reply(DONE, child, 0, 0)
+    }
+
+    /// Kinds 3 and 5 to 10: what one take does.
+    fn act(&mut self, kind: u64, t: usize, text: u32) -> u64 {
+        let opened = self.opened();
+        if t >= opened {
+            return refuse(21);
+        }
+        let take = &mut self.image.takes[t];
+        if take.status == VANISHED {
+            return refuse(22);
+        }
+        if kind != 10 && take.status != AT_WORK {
+            return refuse(23);
+        }
+        let frozen = take.state[t].head & FROZEN != 0;
+        match kind {
+            3 => return self.new(t, text),
+            5 => {
+                join_left(&mut take.behaviour[..opened], &take.state[..opened]);
+                return reply(DONE, t, 0, u32::from_be_bytes(take.text));
+            }
+            6 if !frozen => {
+                take.text = text.to_be_bytes();
+                join_left(&mut take.state[..opened], &take.behaviour[..opened]);
+            }
+            7 => take.state[t].head |= FROZEN,
+            8 => take.idle(),
+            9 if frozen => {
+                take.idle();
+                return reply(HELD, t, 0, 0);
+            }
+            9 | 10 if !frozen => {
+                return match take.fall(t) {
+                    Some(outcome) => reply(outcome, t, 0, 0),
+                    None => refuse(28),
+                }
+            }
+            _ => return reply(HELD, t, 0, 0),
+        }
+        reply(DONE, t, 0, 0)
+    }
+
+    fn step(&mut self, step: u64) -> u64 {
+        let kind = step >> 60;
+        if step & !USED[kind as usize] != 0 {
+            return refuse(20);
+        }
+        let take = (step >> 56 & 15) as usize;
+        let other = (step >> 52 & 15) as usize;
+        let parcel = (step >> 32) as u16;
+        let text = step as u32;
+        match kind {
+            0 => match self.open(text) {
+                Some(t) => reply(DONE, t, 0, 0),
+                None => refuse(25),
+            },
+            1 => self.letter(take, text),
+            2 => self.receive(parcel),
+            4 => self.send(take, other, text),
+            11 => match self.find(parcel) {
+                Some(place) => {
+                    self.remove(place);
+                    reply(DONE, 0, parcel, 0)
+                }
+                None => refuse(24),
+            },
+            12 => self.sign(parcel as usize),
+            _ => self.act(kind, take, text),
+        }
+    }
+}
+
+// ---- the four calls
+
+pub fn begin(image: &mut [u8]) -> u8 {
+    if image.len() != IMAGE {
+        return 16;
+    }
+    image.fill(0);
+    0
+}
+
+pub fn run(image: &mut [u8], list: &[u8], start: usize, end: usize, replies: &mut [u8]) -> u8 {
+    if image.len() != IMAGE {
+        return 16;
+    }
+    let Some(part) = list.get(start..end) else {
+        return 17;
+    };
+    if part.len() % STEP != 0 || part.len() > LONGEST {
+        return 17;
+    }
+    if replies.len() != part.len() {
+        return 18;
+    }
+    let image = Image::of_mut(image);
+    if !image.formed() {
+        return 19;
+    }
+    let waiting = image.waiting();
+    let mut session = Session { image, waiting };
+    for (step, reply) in part.chunks_exact(STEP).zip(replies.chunks_exact_mut(STEP)) {
+        let step = u64::from_be_bytes(step.try_into().unwrap());
+        reply.copy_from_slice(&session.step(step).to_be_bytes());
+    }
+    0
+}
+
+pub fn offer(image: &[u8], take: usize) -> Result<Option<u16>, u8> {
+    if image.len() != IMAGE {
+        return Err(16);
+    }
+    let image = Image::of(image);
+    if !image.formed() {
+        return Err(19);
+    }
+    if take >= image.opened as usize {
+        return Err(21);
+    }
+    if image.takes[take].status == VANISHED {
+        return Err(22);
+    }
+    let head = WAITING | take as u8;
+    Ok(image.parcels.iter().find(|p| p.head == head).map(|p| u16::from_be_bytes(p.number)))
+}
+
+pub fn show(image: &[u8], number: u16) -> Result<&[u8], u8> {
+    if image.len() != IMAGE {
+        return Err(16);
+    }
+    let image = Image::of(image);
+    if !image.formed() {
+        return Err(19);
+    }
+    let number = number.to_be_bytes();
+    let found = image.parcels.iter().find(|p| p.head != 0 && p.number == number);
+    found.map(|p| bytes(&p.map)).ok_or(24)
+}
+
+/// One step on an image known to be well-formed: for the generator of step lists.
+pub fn step_unchecked(image: &mut [u8], step: u64) -> u64 {
+    let image = Image::of_mut(image);
+    let waiting = image.waiting();
+    Session { image, waiting }.step(step)
+}

@@ -1,0 +1,5 @@
+//! Differential test and benchmark of the proved ledger against one written in Rust.
+
+pub mod generate;
+pub mod ledger;
+pub mod library;

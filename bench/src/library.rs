@@ -1,0 +1,57 @@
+//! The proved library, as include/ledger.h declares it, behind safe functions. No call of it has a precondition besides
+//! valid slices, so nothing is tested here before a call.
+
+/// The number that stands for "no parcel": a parcel's is at most 65,534.
+const NONE: u16 = 65_535;
+
+#[repr(C)]
+struct Part {
+    offset: usize,
+    length: usize,
+}
+
+extern "C" {
+    fn ledger_begin(image: *mut u8, image_length: usize) -> u8;
+    fn ledger_run(
+        image: *mut u8,
+        image_length: usize,
+        list: *const u8,
+        list_length: usize,
+        start: usize,
+        end: usize,
+        replies: *mut u8,
+        replies_length: usize,
+    ) -> u8;
+    fn ledger_offer(image: *const u8, image_length: usize, take: usize, refusal: *mut u8) -> u16;
+    fn ledger_show(image: *const u8, image_length: usize, number: u16, refusal: *mut u8) -> Part;
+}
+
+pub fn begin(image: &mut [u8]) -> u8 {
+    unsafe { ledger_begin(image.as_mut_ptr(), image.len()) }
+}
+
+pub fn run(image: &mut [u8], list: &[u8], start: usize, end: usize, replies: &mut [u8]) -> u8 {
+    let (i, n) = (image.as_mut_ptr(), image.len());
+    let (r, m) = (replies.as_mut_ptr(), replies.len());
+    unsafe { ledger_run(i, n, list.as_ptr(), list.len(), start, end, r, m) }
+}
+
+pub fn offer(image: &[u8], take: usize) -> Result<Option<u16>, u8> {
+    let mut refusal = 255;
+    let number = unsafe { ledger_offer(image.as_ptr(), image.len(), take, &mut refusal) };
+    if refusal != 0 {
+        assert_eq!(number, NONE, "a refused offer gives a parcel");
+        return Err(refusal);
+    }
+    Ok((number != NONE).then_some(number))
+}
+
+pub fn show(image: &[u8], number: u16) -> Result<&[u8], u8> {
+    let mut refusal = 255;
+    let part = unsafe { ledger_show(image.as_ptr(), image.len(), number, &mut refusal) };
+    if refusal != 0 {
+        assert_eq!((part.offset, part.length), (0, 0), "a refused show gives a part that is not empty");
+        return Err(refusal);
+    }
+    Ok(&image[part.offset..part.offset + part.length])
+}

@@ -1,0 +1,123 @@
+-- What an accepted offer or show says of the image, and the numbers that stand for their answers.
+use Prim.Native.Nat.{ℕ, _+_, _≤_, _<_}
+use mathlib.Core.Bool.{Bool, true, false, not}
+use mathlib.Core.Path.{_≡_, refl, sym, subst, _∙_}
+use mathlib.Core.List.{List, []}
+use mathlib.Core.Option.{Option, none, some}
+use mathlib.Core.Logic.{⊎-elim}
+use native.Mathlib.Omega.{arith}
+use borrow.Author.Tests.{eq-eqb, ne-eqb, eqb-true, leb-false, not-false}
+use lib.ListN.{length}
+use lib.Dec.{eqb, leb}
+use Rattle.octets.specs.Bytes.{pick, part, Octets}
+use Rattle.octets.specs.Numbers.{ofBe, bound}
+use Rattle.ledger.specs.declared.Offered.{Offered}
+use Rattle.ledger.specs.Layout.{Layout, base, imageBytes, messageAddress, dependencesAt, mapBytes}
+use Rattle.ledger.specs.State.{placeOf, numbered}
+use Rattle.ledger.specs.Pack.{waitingIn, unpack}
+use Rattle.ledger.specs.Form.{wellFormed}
+use Rattle.ledger.specs.Calls.{wrongLength, offerRefusal, offeredNumber, Offers, waiting, showRefusal, shown}
+use Rattle.ledger.proofs.FormedState.{formed-state}
+use Rattle.ledger.proofs.Loads.{unpack-waiting}
+use Rattle.octets.proofs.Chunks.{sides}
+use Rattle.octets.proofs.Tests.{never}
+use Rattle.ledger.proofs.Places.{Place, place}
+use Rattle.ledger.proofs.Queue.{numbered-so, numbered-not}
+use Rattle.ledger_c.specs.declared.Part.{Part}
+use Rattle.ledger_c.specs.Interface.{noParcel, numberOf, answerOf, shownPart}
+
+module _ (img : List ℕ) where
+  -- a call that is turned back with neither 16 nor 19 goes on to the refusal n
+  record Entered (n : ℕ) : Type 0 where
+    pub whole : length img ≡ imageBytes base
+    pub formed : wellFormed base img ≡ true
+    pub rest : n ≡ 0
+
+  entered : (n : ℕ) → pick (wrongLength base img) 16 (pick (not (wellFormed base img)) 19 n) ≡ 0 → Entered n
+  entered n e = go (wrongLength base img) (wellFormed base img) refl refl e
+    where
+      go : (w f : Bool) → wrongLength base img ≡ w → wellFormed base img ≡ f → _≡_ {A = ℕ} (pick w 16 (pick (not f) 19 n)) 0 → Entered n
+      go true f p q d = absurd (omega arith)
+      go false false p q d = absurd (omega arith)
+      go false true p q d = record { whole = eqb-true (length img) (imageBytes base) (not-false _ p); formed = q; rest = d }
+
+  -- ---- offer
+
+  module _ (t : ℕ) (o : Octets img) where
+    -- a parcel's number is below that of the next, which fits two bytes
+    parcel : (n : ℕ) → Offers base img t (some n) → n < noParcel
+    unfolding offerRefusal bound
+    parcel n (waiting r w) =
+        let i = entered _ r in
+        let s = formed-state base img (i .whole) o (i .formed) in
+        omega (arith, s .numbers (w .place) (w .waits), w .number, s .packable .next)
+
+    -- so the number that stands for an answer stands for no other
+    stands : (a : Option ℕ) → Offers base img t a → Offers base img t (answerOf (numberOf a))
+    unfolding answerOf
+    stands none f = f
+    stands (some n) f = let h : n ≡ noParcel → ⊥ = λ d. omega (arith, parcel n f) in rw (ne-eqb n noParcel h) f
+
+    pub answered : {a b : Offered} → a ≡ b → Offers base img t (offeredNumber a) → Offers base img t (answerOf (numberOf (offeredNumber b)))
+    answered {a} e f = subst (λ (b : Offered). Offers base img t (answerOf (numberOf (offeredNumber b)))) e (stands (offeredNumber a) f)
+
+  -- ---- show, accepted
+
+  module _ (v : ℕ) (e : showRefusal base img v ≡ 0) where
+    accepted : Entered (pick (leb (length (unpack base img .messages)) (placeOf (unpack base img) v)) 24 0)
+    unfolding showRefusal
+    accepted = entered (pick (leb (length (unpack base img .messages)) (placeOf (unpack base img) v)) 24 0) e
+
+    pub shown-length : length img ≡ imageBytes base
+    shown-length = accepted .whole
+
+    -- the parcel's place is one of those that wait
+    pub waits : placeOf (unpack base img) v < waitingIn base img
+    waits = go _ refl (accepted .rest)
+      where
+        go : (b : Bool) → leb (length (unpack base img .messages)) (placeOf (unpack base img) v) ≡ b → _≡_ {A = ℕ} (pick b 24 0) 0 → placeOf (unpack base img) v < waitingIn base img
+        go true f d = absurd (omega arith)
+        go false f d = omega (arith, leb-false (length (unpack base img .messages)) (placeOf (unpack base img) v) f, unpack-waiting base img)
+
+    found : Place (numbered (unpack base img) v) 0 (waitingIn base img) (placeOf (unpack base img) v)
+    unfolding placeOf
+    found = rw (unpack-waiting base img) (place (numbered (unpack base img) v) 0 (waitingIn base img))
+
+    -- a search has come to place k, which has number r
+    module _ (k r : ℕ) (low : k ≤ placeOf (unpack base img) v) (n : r ≡ ofBe 2 (part (messageAddress base k + 1) 2 img)) where
+      below : k < waitingIn base img
+      below = omega (arith, waits)
+
+      pub place-here : r ≡ v → k ≡ placeOf (unpack base img) v
+      place-here d = ⊎-elim
+          (λ (h : k < placeOf (unpack base img) v). never (sym (numbered-so base img k r v below n d) ∙ found .before k (omega arith) h))
+          (λ (h : placeOf (unpack base img) v ≤ k). omega arith)
+          (sides k (placeOf (unpack base img) v))
+
+      pub place-later : (r ≡ v → ⊥) → k + 1 ≤ placeOf (unpack base img) v
+      place-later d = ⊎-elim
+          (λ (h : k < placeOf (unpack base img) v). omega arith)
+          (λ (h : placeOf (unpack base img) v ≤ k).
+          let same : k ≡ placeOf (unpack base img) v = omega arith in
+          never (sym (rw same (found .here (omega (arith, waits)))) ∙ numbered-not base img k r v below n d))
+          (sides k (placeOf (unpack base img) v))
+
+    pub part-shown : (k : ℕ) → k ≡ placeOf (unpack base img) v → record { offset = messageAddress base k + dependencesAt; length = mapBytes base } ≡ shownPart base img v
+    unfolding shownPart
+    part-shown k d = rw (eq-eqb (showRefusal base img v) 0 e, d)
+
+  pub part-refused : (v : ℕ) → (showRefusal base img v ≡ 0 → ⊥) → record { offset = 0; length = 0 } ≡ shownPart base img v
+  unfolding shownPart
+  part-refused v n = rw (ne-eqb (showRefusal base img v) 0 n)
+
+-- These bytes of the image are what show gives.
+pub part-is-shown : (y : Layout) (img : List ℕ) (v : ℕ) → part (shownPart y img v .offset) (shownPart y img v .length) img ≡ shown y img v
+unfolding shownPart shown part
+part-is-shown y img v = go (eqb (showRefusal y img v) 0)
+  where
+    at : ℕ
+    at = messageAddress y (placeOf (unpack y img) v) + dependencesAt
+
+    go : (b : Bool) → part (pick {A = Part} b (record { offset = at; length = mapBytes y }) (record { offset = 0; length = 0 }) .offset) (pick {A = Part} b (record { offset = at; length = mapBytes y }) (record { offset = 0; length = 0 }) .length) img ≡ pick b (part at (mapBytes y) img) []
+    go true = refl
+    go false = refl

@@ -1,0 +1,27 @@
+use borrow.Author.Needs.{needs}
+use Rattle.octets.proofs.Put.{octets-of}
+use Rattle.ledger_c.proofs.Answers.{answered}
+use Rattle.ledger_c.proofs.ledger_offer.Statement.{statement}
+use Rattle.ledger_c.proofs.ledger_offer.Tie as tie
+
+offer-requires : tie.Need-offer-requires
+offer-requires c κs = search needs
+
+enum-known-n : tie.Need-enum-known-n
+enum-known-n c = search needs
+
+enum-told : tie.Need-enum-told
+enum-told c = search needs
+
+returns : tie.Need-returns
+returns c =
+    let f = c .before .before .offer .ensures in
+    (f .0, answered _ _ (octets-of _ (c .before .before .before .before .shared-slice-known .given)) (c .enum-told .given .1) (f .1))
+
+returns-2 : tie.Need-returns-2
+returns-2 c =
+    let f = c .before .before .before .offer .ensures in
+    (f .0, answered _ _ (octets-of _ (c .before .before .before .before .before .shared-slice-known .given)) (c .before .n .given .1) (f .1))
+
+pub ledger-offer-spec : {M : Type 1} → statement M
+ledger-offer-spec = tie.close (tie.spec offer-requires enum-known-n enum-told returns returns-2)

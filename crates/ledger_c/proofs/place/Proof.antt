@@ -1,0 +1,72 @@
+-- The search never passes the parcel's place.
+use Prim.Native.Nat.{_-_, _≤_}
+use native.Mathlib.Omega.{arith}
+use borrow.Author.Needs.{needs}
+use Rattle.ledger.specs.Layout.{base}
+use Rattle.ledger.specs.State.{placeOf}
+use Rattle.ledger.specs.Pack.{unpack}
+use Rattle.ledger.proofs.Loads.{waiting-few}
+use Rattle.ledger_c.proofs.Answers.{shown-length, waits, place-here, place-later}
+use Rattle.ledger_c.proofs.place.Statement.{statement}
+use Rattle.ledger_c.proofs.place.Tie as tie
+
+abbrev Inv-loop : tie.InvT-loop
+Inv-loop image number k₀ k = k ≤ placeOf (unpack base image) number
+
+abbrev μ-loop : tie.MeasureT-loop
+μ-loop image number k₀ k = 32 - k
+
+loop-holds : tie.Need-loop-holds Inv-loop μ-loop
+loop-holds c = search needs
+
+mul-load16 : tie.Need-mul-load16 Inv-loop μ-loop
+mul-load16 c = search needs
+
+add-load16 : tie.Need-add-load16 Inv-loop μ-loop
+add-load16 c = search needs
+
+add-load16-2 : tie.Need-add-load16-2 Inv-loop μ-loop
+add-load16-2 c = search needs
+
+load16-requires : tie.Need-load16-requires Inv-loop μ-loop
+load16-requires c κs = omega (arith, shown-length _ _ (c .before .before .before .pre))
+
+returns : tie.Need-returns Inv-loop μ-loop
+returns c =
+    let l = c .before .before .before .loop in
+    let p = c .before .before .before .before .before .pre in
+    (place-here _ _ p _ _ (l .inv) (c .before .load16 .ensures) (c .if1 .taken), search needs)
+
+add-k : tie.Need-add-k Inv-loop μ-loop
+add-k c = search needs
+
+loop-less : tie.Need-loop-less Inv-loop μ-loop
+loop-less c = search needs
+
+loop-again : tie.Need-loop-again Inv-loop μ-loop
+loop-again c =
+    let l = c .before .before .before .loop in
+    let p = c .before .before .before .before .before .pre in
+    place-later _ _ p _ _ (l .inv) (c .before .load16 .ensures) (c .if1 .left)
+
+returns-2 : tie.Need-returns-2 Inv-loop μ-loop
+returns-2 c =
+    let a = c .before .before .before .args in
+    absurd (omega (arith, c .before .loop .inv, waits (a .image .now) (a .number) (c .before .before .before .pre), waiting-few base (a .image .now)))
+
+pub place-spec : {M : Type 1} → statement M
+place-spec =
+    tie.close
+    (tie.spec
+    Inv-loop
+    μ-loop
+    loop-holds
+    mul-load16
+    add-load16
+    add-load16-2
+    load16-requires
+    returns
+    add-k
+    loop-less
+    loop-again
+    returns-2)

@@ -1,0 +1,31 @@
+-- How the answers of offer and show are put in numbers.
+use Prim.Native.Nat.{ℕ, _+_}
+use mathlib.Core.List.{List}
+use mathlib.Core.Option.{Option, none, some}
+use lib.Dec.{eqb}
+use Rattle.octets.specs.Bytes.{pick}
+use Rattle.ledger.specs.Layout.{Layout, messageAddress, dependencesAt, mapBytes}
+use Rattle.ledger.specs.State.{placeOf}
+use Rattle.ledger.specs.Pack.{unpack}
+use Rattle.ledger.specs.Calls.{showRefusal}
+use Rattle.ledger_c.specs.declared.Part.{Part}
+
+-- no parcel has this number: they run 0 to 65,534
+abbrev pub noParcel : ℕ
+noParcel = 65535
+
+-- The number that stands for an answer of offer: a parcel's own, or noParcel for none.
+abbrev pub numberOf : Option ℕ → ℕ
+numberOf (some n) = n
+numberOf none = noParcel
+
+-- The answer that a number stands for.
+unfoldable pub answerOf : ℕ → Option ℕ
+answerOf n = pick (eqb n noParcel) none (some n)
+
+-- The bytes of the image that hold a waiting parcel's map: where they start, and how many. Refused: an empty part.
+unfoldable pub shownPart : Layout → List ℕ → ℕ → Part
+shownPart y img n =
+    pick (eqb (showRefusal y img n) 0)
+    (record { offset = messageAddress y (placeOf (unpack y img) n) + dependencesAt; length = mapBytes y })
+    (record { offset = 0; length = 0 })

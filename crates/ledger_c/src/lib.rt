@@ -1,0 +1,99 @@
+// The ledger's calls for programs in other languages, as include/ledger.h declares them: a slice is a pointer and a length, a
+// lent number a pointer. None has a precondition, and each promises what the call of crate ledger promises.
+use ledger::Offered;
+ghost use mathlib.Core.Path.{_≡_};
+ghost use Prim.Native.Nat.{_<_};
+ghost use Rattle.ledger.specs.Layout.{base, standard};
+ghost use Rattle.ledger.specs.State.{placeOf};
+ghost use Rattle.ledger.specs.Pack.{unpack};
+ghost use Rattle.ledger.specs.Calls.{beginAnswer, beginImage, runAnswer, runImage, runReplies, offerRefusal, Offers, showRefusal};
+ghost use Rattle.ledger_c.specs.Interface.{answerOf, shownPart};
+
+// The number that stands for no message.
+pub const NONE: u16 = 65535;
+
+// Where the messages start, how long one is, and where its map stands in it.
+const FIRST_MESSAGE: usize = 4 + (9 + maps::SIZE * 3) * maps::ENTRIES;
+
+const MESSAGE: usize = 7 + maps::SIZE;
+
+const MESSAGES: usize = 32;
+
+// A part of the image.
+#[repr(C)]
+pub struct Part {
+    pub offset: usize,
+    pub length: usize,
+}
+
+// Begins a fresh session: 0, or 16.
+#[no_mangle]
+pub extern "C" fn ledger_begin(image: &mut [u8]) -> u8
+    ensures { λ r. ⌜ (r ≡ beginAnswer base (now (image .entry))) × (now (image .exit) ≡ beginImage base (now (image .entry))) ⌝ }
+{
+    ledger::begin(image)
+}
+
+// Runs the steps of the list from start up to end, and writes a reply for each: 0, or 16, 17, 18, 19 with no byte changed.
+#[no_mangle]
+pub extern "C" fn ledger_run(
+    image: &mut [u8],
+    list: &[u8],
+    start: usize,
+    end: usize,
+    replies: &mut [u8],
+) -> u8
+    ensures { λ r. ⌜ (r ≡ runAnswer base (now (image .entry)) (now (list .entry)) start end (now (replies .entry)))
+        × (now (image .exit) ≡ runImage base standard (now (image .entry)) (now (list .entry)) start end (now (replies .entry)))
+        × (now (replies .exit) ≡ runReplies base standard (now (image .entry)) (now (list .entry)) start end (now (replies .entry))) ⌝ }
+{
+    ledger::run(image, list, start, end, replies)
+}
+
+// The number of a waiting message addressed to the transactor, or NONE exactly if there is none. The lent number takes the
+// refusal, 16, 19, 21 or 22, or 0; refused, NONE.
+#[no_mangle]
+pub extern "C" fn ledger_offer(image: &[u8], transactor: usize, refusal: &mut u8) -> u16
+    ensures { λ r. ⌜ (now (refusal .exit) ≡ offerRefusal base (now (image .entry)) transactor) × Offers base (now (image .entry)) transactor (answerOf r) ⌝ }
+{
+    let Offered::Message(n) = ledger::offer(image, transactor, refusal) else {
+        return NONE;
+    };
+    n
+}
+
+// The place of the message with this number, which waits.
+fn place(image: &[u8], number: u16) -> usize
+    requires { ⌜ showRefusal base (now image) number ≡ 0 ⌝ }
+    ensures { λ r. ⌜ (r ≡ placeOf (unpack base (now (image .entry))) number) × (r < base .messages) ⌝ }
+{
+    let mut k: usize = 0;
+    while k < MESSAGES {
+        if octets::load16(image, FIRST_MESSAGE + MESSAGE * k + 1) == number {
+            return k;
+        }
+        k += 1;
+    }
+    k
+}
+
+// The part of the image that holds a waiting message's map. The lent number takes the refusal, 16, 19 or 24, or 0; refused, an
+// empty part.
+#[no_mangle]
+pub extern "C" fn ledger_show(image: &[u8], number: u16, refusal: &mut u8) -> Part
+    ensures { λ r. ⌜ (now (refusal .exit) ≡ showRefusal base (now (image .entry)) number) × (r ≡ shownPart base (now (image .entry)) number) ⌝ }
+{
+    ledger::show(image, number, refusal);
+    if *refusal != 0 {
+        return Part {
+            offset: 0,
+            length: 0,
+        };
+    }
+    let k = place(image, number);
+    let offset = FIRST_MESSAGE + MESSAGE * k + 7;
+    Part {
+        offset,
+        length: maps::SIZE,
+    }
+}

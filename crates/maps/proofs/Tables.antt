@@ -1,0 +1,32 @@
+-- Tables that change at one place.
+use Prim.Native.Nat.{ℕ}
+use mathlib.Core.Bool.{Bool, true, false}
+use mathlib.Core.Path.{_≡_, refl, subst}
+use mathlib.Core.Logic.{_≢_}
+use lib.Dec.{eqb}
+use borrow.Author.Tests.{eqb-true, eqb-false, eq-eqb, ne-eqb}
+use Rattle.octets.specs.Bytes.{pick}
+use Rattle.maps.specs.Table.{updated}
+
+module _ {A : Type 0} (f : ℕ → A) (t : ℕ) (x : A) where
+  pub updated-same : updated f t x t ≡ x
+  unfolding updated
+  updated-same = rw (eq-eqb t t refl)
+
+  pub updated-other : (u : ℕ) → t ≢ u → updated f t x u ≡ f u
+  unfolding updated
+  updated-other u n = rw (ne-eqb t u n)
+
+-- what holds at the place and away from it holds everywhere
+pub updated-view : {A : Type 0} (P : ℕ → A → Type 0) (f : ℕ → A) (t : ℕ) (x : A)
+    → P t x → ((u : ℕ) → t ≢ u → P u (f u)) → (u : ℕ) → P u (updated f t x u)
+unfolding updated
+updated-view {A} P f t x p q u = go (eqb t u) refl
+  where
+    go : (c : Bool) → eqb t u ≡ c → P u (pick c x (f u))
+    go true e = subst (λ v. P v x) (eqb-true t u e) p
+    go false e = q u (eqb-false t u e)
+
+-- a table that is x at t and f elsewhere
+pub updated-is : {A : Type 0} (f : ℕ → A) (t : ℕ) (x : A) (g : ℕ → A) → g t ≡ x → ((u : ℕ) → t ≢ u → g u ≡ f u) → (u : ℕ) → g u ≡ updated f t x u
+updated-is f t x g here else = updated-view (λ u z. g u ≡ z) f t x here else

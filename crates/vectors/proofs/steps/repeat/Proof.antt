@@ -1,0 +1,48 @@
+-- The image keeps its length; the measure is how many turns are left.
+use Prim.Native.Nat.{_-_}
+use mathlib.Core.Path.{_≡_}
+use lib.ListN.{length}
+use borrow.Author.Needs.{needs}
+use Rattle.vectors.proofs.steps.repeat.Statement.{statement}
+use Rattle.vectors.proofs.steps.repeat.Tie as tie
+
+abbrev Inv-loop : tie.InvT-loop
+Inv-loop image₀ n p i₀ image i = length image ≡ length image₀
+
+abbrev μ-loop : tie.MeasureT-loop
+μ-loop image₀ n p i₀ image i = n - i
+
+loop-holds : tie.Need-loop-holds Inv-loop μ-loop
+loop-holds c = search needs
+
+run-requires : tie.Need-run-requires Inv-loop μ-loop
+run-requires c κs = search needs
+
+add-i : tie.Need-add-i Inv-loop μ-loop
+add-i c = search needs
+
+loop-less : tie.Need-loop-less Inv-loop μ-loop
+loop-less c = search needs
+
+loop-again : tie.Need-loop-again Inv-loop μ-loop
+loop-again c = search needs
+
+same-length : tie.Need-same-length Inv-loop μ-loop
+same-length c = search needs
+
+returns : tie.Need-returns Inv-loop μ-loop
+returns c = search needs
+
+pub repeat-spec : {M : Type 1} → statement M
+repeat-spec =
+    tie.close
+    (tie.spec
+    Inv-loop
+    μ-loop
+    loop-holds
+    run-requires
+    add-i
+    loop-less
+    loop-again
+    same-length
+    returns)

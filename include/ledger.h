@@ -1,0 +1,103 @@
+/* The take ledger. Words and numbers are document 01's; packed forms are its "Packed forms", most significant bit first.
+ *
+ * The library is built by `rt staticlib ledger_c` as target/staticlib/libledger_c.a, for x86-64 Linux. It keeps nothing between
+ * calls, allocates nothing and needs only memcpy, memmove and memset: a session is the image and nothing else.
+ *
+ * A buffer is a pointer and its length in bytes. The caller owes, for each call: pointers that are not null (also for a
+ * length of 0), as many bytes behind each as its length says, readable, and writable where the pointer is not to const; and
+ * that what is written (image or replies, refusal) overlaps no other buffer of the call. Every other input is allowed, and
+ * refused where document 01 refuses it. */
+#ifndef LEDGER_H
+#define LEDGER_H
+
+#include <stddef.h>
+#include <stdint.h>
+
+#ifdef __cplusplus
+extern "C" {
+#endif
+
+enum {
+    LEDGER_IMAGE = 22132,  /* bytes of an image */
+    LEDGER_STEP = 8,       /* bytes of a step, and of a reply */
+    LEDGER_LONGEST = 8192, /* bytes of a run's longest part */
+    LEDGER_MAP = 272,      /* bytes of a map */
+    LEDGER_MARK = 17,      /* bytes of a mark */
+    LEDGER_TAKES = 16,
+    LEDGER_PARCELS = 32,
+    LEDGER_NONE = 65535    /* stands for no parcel: numbers run 0 to 65,534 */
+};
+
+/* The kind of a step, its first four bits. */
+enum ledger_kind {
+    LEDGER_ROOT = 0,
+    LEDGER_LETTER = 1,
+    LEDGER_RECEIVE = 2,
+    LEDGER_NEW = 3,
+    LEDGER_SEND = 4,
+    LEDGER_READ = 5,
+    LEDGER_WRITE = 6,
+    LEDGER_FREEZE = 7,
+    LEDGER_FINISH = 8, /* document 01: done */
+    LEDGER_FALL = 9,
+    LEDGER_FAIL = 10,
+    LEDGER_LOSE = 11,
+    LEDGER_SIGN = 12
+};
+
+/* The outcome of a step or its refusal, a reply's first byte; the answer of a call, or its refusal. */
+enum ledger_outcome {
+    LEDGER_DONE = 0,
+    LEDGER_HELD = 1,
+    LEDGER_DROPPED = 2,
+    LEDGER_FALLEN_BACK = 3,
+    LEDGER_VANISHED = 4,
+    LEDGER_NOT_READY = 5,
+    /* calls */
+    LEDGER_WRONG_LENGTH = 16, /* image not 22,132 bytes */
+    LEDGER_WRONG_PART = 17,   /* part not inside the list, not a multiple of 8, over 8,192 bytes */
+    LEDGER_WRONG_ROOM = 18,   /* replies not as long as the part */
+    LEDGER_ILL_FORMED = 19,   /* image ill-formed */
+    /* steps; 21, 22 also offer, 24 also show */
+    LEDGER_MALFORMED = 20,    /* kind 13 to 15, or an unused field or the zero bits not zero */
+    LEDGER_UNOPENED = 21,     /* acting take, addressee or named take not opened */
+    LEDGER_GONE = 22,         /* acting, receiving or named take vanished */
+    LEDGER_WRONG_STATUS = 23, /* receive when not idle; kinds 3 to 9 when not at work */
+    LEDGER_NOT_WAITING = 24,  /* parcel not waiting */
+    LEDGER_ALL_OPENED = 25,   /* sixteen takes opened */
+    LEDGER_ALL_WAITING = 26,  /* 32 parcels waiting */
+    LEDGER_ALL_NUMBERED = 27, /* next parcel number is 65,535 */
+    LEDGER_LAST_FALLS = 28,   /* a signed take would fall from life 255 */
+    LEDGER_EMPTY_VOLUME = 29, /* volume empty */
+    LEDGER_ALL_SIGNED = 30    /* a named take has 15 signings */
+};
+
+/* A part of the image: the length bytes from image + offset on. */
+struct ledger_part {
+    size_t offset;
+    size_t length;
+};
+
+/* Begins a fresh session: the image is all zero bytes, whatever it held, and the answer is 0.
+ * 16: no byte is changed. */
+uint8_t ledger_begin(uint8_t *image, size_t image_length);
+
+/* Runs the steps of list from byte start up to byte end, writes a reply of 8 bytes for each, leaves the image as the rules give
+ * it, and answers 0, whatever the steps reply: 20 to 30 are replies, and the list goes on. 16 to 19: no byte is changed. */
+uint8_t ledger_run(uint8_t *image, size_t image_length,
+                   const uint8_t *list, size_t list_length, size_t start, size_t end,
+                   uint8_t *replies, size_t replies_length);
+
+/* The number of a waiting parcel addressed to the take, or LEDGER_NONE exactly if there is none; *refusal is 0.
+ * Refused with 16, 19, 21 or 22, which is put in *refusal: LEDGER_NONE. */
+uint16_t ledger_offer(const uint8_t *image, size_t image_length, size_t take, uint8_t *refusal);
+
+/* Where the 272 bytes of the image are that hold the map of the waiting parcel with this number; *refusal is 0.
+ * Refused with 16, 19 or 24, which is put in *refusal: offset and length are 0. */
+struct ledger_part ledger_show(const uint8_t *image, size_t image_length, uint16_t number, uint8_t *refusal);
+
+#ifdef __cplusplus
+}
+#endif
+
+#endif
