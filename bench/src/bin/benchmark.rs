@@ -114,14 +114,16 @@ impl Row {
     /// passes counts: a pass that the machine interrupts does not. All pieces are passed before the first comes again, so
     /// that no list is learnt by heart.
     fn sample(&self, sides: &[&Calls], passes: usize) -> Vec<f64> {
-        let mut image = vec![0; IMAGE];
+        let mut room = vec![0; IMAGE + 63];
+        let at = room.as_ptr().align_offset(64);
+        let image = &mut room[at..at + IMAGE];
         let mut least = vec![vec![Duration::MAX; self.works.len()]; sides.len()];
         for i in 0..passes {
             for (k, w) in self.works.iter().enumerate() {
                 let mut replies = w.replies();
                 for side in 0..sides.len() {
                     let side = (side + i) % sides.len();
-                    let spent = w.pass(sides[side], &mut image, &mut replies);
+                    let spent = w.pass(sides[side], image, &mut replies);
                     least[side][k] = least[side][k].min(spent);
                 }
             }

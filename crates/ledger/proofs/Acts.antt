@@ -8,28 +8,32 @@ use native.Mathlib.Nat.{zero-add}
 use native.Mathlib.Omega.{arith}
 use borrow.Author.Tests.{lt-ltb, le-leb, lt-leb, eq-eqb, ne-eqb, eqb-false}
 use lib.Dec.{eqb, ltb, leb}
-use lib.ListN.{length, set, length-append}
-use Rattle.octets.specs.Bytes.{pick, _and_, _or_, put, part}
+use lib.ListN.{length, set, length-append, length-set}
+use Rattle.octets.specs.Bytes.{pick, _and_, _or_, put, part, zeros}
 use Rattle.octets.specs.Numbers.{be, ofBe}
 use Rattle.octets.proofs.Put.{put-behind, put-whole, part-put-before}
 use Rattle.octets.proofs.Numbers.{length-be, put-be-one}
+use Rattle.octets.proofs.Zero.{length-zeros}
 use Rattle.marks.specs.declared.History.{History}
 use Rattle.marks.specs.History.{rolledBack}
+use Rattle.marks.specs.Packed.{packHistory}
 use Rattle.maps.specs.declared.DependenceMap.{DependenceMap}
 use Rattle.maps.specs.declared.Comparison.{Comparison}
 use Rattle.maps.specs.declared.Comparison.the-variants.{Superseded, Current}
 use Rattle.maps.specs.Map.{withEntry, firstSuperseded, answerOf}
 use Rattle.maps.specs.Packed.{Bounded}
-use Rattle.maps.proofs.Packed.{length-packMap, bounded-at, bounded-unpack, bounded-join, bounded-withEntry}
-use Rattle.ledger.specs.Layout.{Layout, Limits, base, mapBytes, valueAt, savedAt, stateAt, creationAt, behaviourAt, transactorBytes}
+use Rattle.maps.proofs.Map.{Sized}
+use Rattle.maps.proofs.Packed.{length-packMap, pack-emptyMap, bounded-at, bounded-unpack, bounded-join}
+use Rattle.ledger.specs.Layout.{Layout, Limits, base, historyBytes, mapBytes, valueAt, savedAt, stateAt, creationAt, behaviourAt, transactorBytes}
 use Rattle.ledger.specs.Step.{done, held, dropped, fallenBack, vanished, read, write, freeze, finish, fall, fail}
-use Rattle.ledger.specs.Status.{busy, annihilated}
+use Rattle.ledger.specs.Status.{unused, busy, annihilated}
 use Rattle.ledger.specs.State.{Transactor, bare, ownHistory, withStatus, withValue, withState, withBehaviour}
 use Rattle.ledger.specs.Rules.{Effect, noDependences, join, unchanged, renewed, rollback, writeBy, madeReady, finishBy, fallBy, failBy, localBy, known}
 use Rattle.ledger.specs.Pack.{packDependences, packTransactor, unpackDependences, unpackTransactor}
 use Rattle.ledger.specs.Parts.{Acts, isLastIncarnation, rollbackOr28, rollbackUnlessStable, actBy, acceptBy}
 use Rattle.ledger.proofs.Sizes.{length-packTransactor}
-use Rattle.ledger.proofs.Fields.{put-status}
+use Rattle.ledger.proofs.Fields.{put-status, put-own, put-behaviour}
+use Rattle.ledger.proofs.Fresh.{pack-unused}
 use Rattle.octets.proofs.Tests.{pick-view}
 
 -- ---- stores
@@ -56,6 +60,26 @@ module _ (y : Layout) where
       → ((n : DependenceMap) → put at (packDependences y n) (packTransactor y x) ≡ packTransactor y (f n)) → b ≡ packTransactor y x → m ≡ m' → b' ≡ put at (packDependences y m) b
       → b' ≡ packTransactor y (f m')
   map-stored x at f {m} {m'} {b} p e q r = stored x (f m') at (packDependences y m') (p m') e (r ∙ ap (λ (n : DependenceMap). put at (packDependences y n) b) q)
+
+  -- one history of the state map
+  pub history-stored : (x : Transactor) (t : ℕ) {h h' : History} {b b' : List ℕ} → Sized (y .transactors) (x .state) → t < y .transactors → b ≡ packTransactor y x → h ≡ h'
+      → b' ≡ put (stateAt + historyBytes y * t) (packHistory (y .width) (y .places) h) b → b' ≡ packTransactor y (withState x (withEntry (x .state) t h'))
+  history-stored x t {h} {h'} {b} s below e q r =
+      let at : ℕ = stateAt + historyBytes y * t in
+      stored x (withState x (withEntry (x .state) t h')) at (packHistory (y .width) (y .places) h') (put-own y x t h' s below) e
+      (r ∙ ap (λ (g : History). put at (packHistory (y .width) (y .places) g) b) q)
+
+  -- the behaviour map emptied
+  pub behaviour-cleared : (x : Transactor) {b b' : List ℕ} → b ≡ packTransactor y x → b' ≡ put (behaviourAt y) (zeros (mapBytes y)) b → b' ≡ packTransactor y (withBehaviour x (noDependences y))
+  behaviour-cleared x {b} e f = stored x (withBehaviour x (noDependences y)) (behaviourAt y) (packDependences y (noDependences y)) (put-behaviour y x (noDependences y)) e
+      (f ∙ ap (λ (z : List ℕ). put (behaviourAt y) z b) (sym (pack-emptyMap (y .width) (y .places) (y .transactors))))
+
+  -- all of it
+  pub cleared : (b : List ℕ) {b' : List ℕ} → length b ≡ transactorBytes y → b' ≡ put 0 (zeros (transactorBytes y)) b → b' ≡ packTransactor y (bare y unused)
+  cleared b n e = e ∙ put-whole (zeros (transactorBytes y)) b (length-zeros (transactorBytes y) ∙ sym n) ∙ sym (pack-unused y)
+
+  pub cleared-long : (v : ℕ) (b : List ℕ) {b' : List ℕ} → length b ≡ transactorBytes y → b' ≡ put 0 (zeros (transactorBytes y)) b → length (set b' 0 v) ≡ transactorBytes y
+  cleared-long v b {b'} n e = length-set b' 0 v ∙ ap length (cleared b n e) ∙ length-packTransactor y (bare y unused)
 
   -- the text, after a store behind it
   pub value-behind : (m : DependenceMap) {v : ℕ} (b : List ℕ) {b' : List ℕ} → length b ≡ transactorBytes y → b' ≡ put (behaviourAt y) (packDependences y m) b → v ≡ ofBe 4 (part valueAt 4 b')
@@ -100,9 +124,6 @@ unfolding unpackTransactor
 own-bounded t b e =
     let m : DependenceMap = unpackDependences base stateAt b in
     rw e (bounded-at (base .places) m (loaded-bounded stateAt b refl) t)
-
-pub entry-bounded : (at t : ℕ) (b : List ℕ) {m n : DependenceMap} (h : History) → m ≡ unpackDependences base at b → n ≡ withEntry m t h → h .count ≤ base .places → Bounded (base .places) n
-entry-bounded at t b h e f k = rw (f, e) (bounded-withEntry (base .places) (unpackDependences base at b) t h k (loaded-bounded at b refl))
 
 -- ---- what a function on the bytes answers
 

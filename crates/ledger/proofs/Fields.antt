@@ -14,9 +14,15 @@ use Rattle.octets.specs.Numbers.{be}
 use Rattle.octets.proofs.Put.{put-left, put-right, put-whole, put-first, put-last, put-mid, put-behind, part-right}
 use Rattle.octets.proofs.Numbers.{length-be}
 use Rattle.octets.proofs.Chunks.{step, sides, length-chunks, put-chunk, remove-chunk, fill-none, fill-more, fill-all}
+use Rattle.marks.specs.declared.History.{History}
+use Rattle.marks.specs.Packed.{packHistory}
+use Rattle.marks.proofs.Packed.{length-packHistory}
 use Rattle.maps.specs.declared.DependenceMap.{DependenceMap}
+use Rattle.maps.specs.Map.{withEntry}
+use Rattle.maps.proofs.Map.{Sized}
 use Rattle.maps.proofs.Packed.{length-packMap}
-use Rattle.ledger.specs.Layout.{Layout, mapBytes, valueAt, savedAt, stateAt, creationAt, behaviourAt, transactorBytes, dependencesAt, messageBytes, headBytes, transactorAddress, messageAddress}
+use Rattle.maps.proofs.Placed.{put-entry}
+use Rattle.ledger.specs.Layout.{Layout, historyBytes, mapBytes, valueAt, savedAt, stateAt, creationAt, behaviourAt, transactorBytes, dependencesAt, messageBytes, headBytes, transactorAddress, messageAddress}
 use Rattle.ledger.specs.State.{Transactor, Message, State, noTransactor, noMessage, transactorAt, messageAt, withStatus, withValue, withState, withBehaviour, withTransactor, withOpened, withMessage, withoutMessage}
 use Rattle.ledger.specs.Pack.{packDependences, packTransactor, packMessage, packTransactorAt, packMessageAt, packHead, pack}
 use Rattle.ledger.proofs.Sizes.{length-packHead, length-packTransactor, length-packMessage, length-packTransactorAt, length-packMessageAt}
@@ -89,6 +95,24 @@ module _ (y : Layout) (x : Transactor) where
   pub put-state : (m : DependenceMap) → put stateAt (packDependences y m) (packTransactor y x) ≡ packTransactor y (withState x m)
   unfolding packTransactor
   put-state m = simp append-assoc (simp append-assoc at (put-mid stateAt (packDependences y m) head3 (packDependences y (x .state)) tail4 (simp (length-append, length-be)) (simp length-packMap)))
+
+  -- one history of the state map
+  pub put-own : (t : ℕ) (h : History) → Sized (y .transactors) (x .state) → t < y .transactors
+      → put (stateAt + historyBytes y * t) (packHistory (y .width) (y .places) h) (packTransactor y x) ≡ packTransactor y (withState x (withEntry (x .state) t h))
+  unfolding packTransactor
+  put-own t h s below =
+      let at : ℕ = historyBytes y * t in
+      let bs : List ℕ = packHistory (y .width) (y .places) h in
+      let long : length bs ≡ historyBytes y = length-packHistory (y .width) (y .places) h in
+      let three : length head3 ≡ stateAt = simp (length-append, length-be) in
+      let map : length (packDependences y (x .state)) ≡ mapBytes y = length-packMap (y .width) (y .places) (y .transactors) (x .state) in
+      let four : length head4 ≡ creationAt y = rw (length-append, three, map) in
+      let fits : stateAt + at + length bs ≤ length head4 = omega (arith, step (historyBytes y) t (y .transactors) below) in
+      let more : stateAt + at + length bs ≤ length head5 = rw length-append (omega arith) in
+      put-left (stateAt + at) bs head5 tail5 more
+      ∙ ap (λ (l : List ℕ). l ++ tail5) (put-left (stateAt + at) bs head4 (packDependences y (x .creation)) fits)
+      ∙ ap (λ (l : List ℕ). l ++ packDependences y (x .creation) ++ tail5)
+      (ap (λ (i : ℕ). put (i + at) bs head4) (sym three) ∙ put-right at bs head3 (packDependences y (x .state)) ∙ ap (λ (l : List ℕ). head3 ++ l) (put-entry (y .width) (y .places) (y .transactors) s t h below))
 
   pub put-creation : (m : DependenceMap) → put (creationAt y) (packDependences y m) (packTransactor y x) ≡ packTransactor y (withCreation x m)
   unfolding packTransactor

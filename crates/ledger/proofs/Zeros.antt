@@ -12,8 +12,7 @@ use Rattle.octets.specs.Bytes.{part, allZero, zeros}
 use Rattle.octets.proofs.Put.{part-def, length-part}
 use Rattle.octets.proofs.Zero.{both, zeros-is, part-zeros}
 use Rattle.maps.specs.Packed.{formedMap}
-use Rattle.maps.proofs.Map.{held-empty}
-use Rattle.maps.proofs.Packed.{pack-emptyMap, mapOk-empty, formed-packMap}
+use Rattle.maps.proofs.Packed.{formed-zeroMap}
 use Rattle.ledger.specs.Layout.{Layout, mapBytes}
 use Rattle.ledger.specs.Form.{mapFormed}
 
@@ -48,6 +47,5 @@ module _ (at n : ℕ) (b : List ℕ) (fits : at + n ≤ length b) where
 -- a map of zeros is well-formed
 pub mapFormed-zeros : (y : Layout) (opened at : ℕ) (b : List ℕ) → part at (mapBytes y) b ≡ zeros (mapBytes y) → mapFormed y opened at b ≡ true
 unfolding mapFormed
-mapFormed-zeros y opened at b e = subst (λ (z : List ℕ). formedMap (y .width) (y .places) (y .transactors) opened z ≡ true)
-    (pack-emptyMap (y .width) (y .places) (y .transactors) ∙ sym e)
-    (formed-packMap opened (mapOk-empty (y .width) (y .places) (y .transactors)) (λ i h. held-empty (y .places) (y .transactors) i))
+mapFormed-zeros y opened at b e = subst (λ (z : List ℕ). formedMap (y .width) (y .places) (y .transactors) opened z ≡ true) (sym e)
+    (formed-zeroMap (y .width) (y .places) (y .transactors) opened)

@@ -83,7 +83,13 @@ fn covered(h: History, own: History, member: bool) -> bool
     requires { ⌜ (h .count ≤ base .places) × (own .count ≤ base .places) ⌝ }
     ensures { λ r. ⌜ r ≡ checkpointedIn (incarnationOf h) (incarnationOf own) or (member and sameIncarnation (incarnationOf h) (incarnationOf own)) ⌝ }
 {
-    h.checkpointed_in(own) || member && h.same_incarnation(own)
+    // In either order the same; docs/BENCHMARKS.md, change 6.
+    if member {
+        if h.same_incarnation(own) {
+            return true;
+        }
+    }
+    h.checkpointed_in(own)
 }
 
 // Whether the history at at, if there is one, of transactor u, is checkpointed, or of the present incarnation of a named one.
@@ -94,11 +100,13 @@ fn entry_ready(image: &[u8], group: u16, at: usize, u: usize) -> bool
     if !History::present(image, at) {
         return true;
     }
+    // Loaded before the test; docs/BENCHMARKS.md, change 6.
+    let h = History::load(image, at);
+    let o = own(image, u);
     if !is_live(image, u) {
         return false;
     }
-    let h = History::load(image, at);
-    covered(h, own(image, u), is_named(group, u))
+    covered(h, o, is_named(group, u))
 }
 
 // The entries u of the state and creation maps of transactor t.

@@ -3,6 +3,7 @@ use crate::layout::BEHAVIOUR;
 use crate::layout::CREATION;
 use crate::layout::SAVED;
 use crate::layout::STATE;
+use crate::layout::TRANSACTOR;
 use crate::layout::VALUE;
 use crate::numbers;
 use maps::Comparison;
@@ -61,11 +62,11 @@ pub fn renew(part: &mut [u8], t: usize, h: History, value: u32, saved: u32)
     requires { ⌜ (length (now part) ≡ transactorBytes base) × (t < base .transactors) × (h .count ≤ base .places) ⌝ }
     ensures { λ _. ⌜ now (part .exit) ≡ packTransactor base (renewed base t h value saved) ⌝ }
 {
-    strip(part, numbers::READY);
+    octets::clear(part, 0, TRANSACTOR);
+    part[0] = 64 * numbers::READY;
     octets::store32(part, VALUE, value);
     octets::store32(part, SAVED, saved);
-    let one = DependenceMap::one(t, h);
-    one.store(part, STATE);
+    h.store(part, STATE + marks::SIZE * t);
 }
 
 // Ready, with the initial history, and a creation map.
@@ -123,8 +124,7 @@ fn become_ready(part: &mut [u8])
     ensures { λ _. ⌜ now (part .exit) ≡ packTransactor base (finishBy base (unpackTransactor base (now (part .entry))) .transactor) ⌝ }
 {
     part[0] = 64 * numbers::READY;
-    let none = DependenceMap::empty();
-    none.store(part, BEHAVIOUR);
+    octets::clear(part, BEHAVIOUR, maps::SIZE);
 }
 
 fn read(part: &mut [u8]) -> Acted
@@ -163,8 +163,7 @@ fn freeze(part: &mut [u8], t: usize) -> Acted
     ensures { λ r. ⌜ Acts (freezeBy t (unpackTransactor base (now (part .entry)))) (r .outcome) (r .value) (now (part .exit)) ⌝ }
 {
     let h = own(part, t).stabilize();
-    let state = DependenceMap::load(part, STATE).with(t, h);
-    state.store(part, STATE);
+    h.store(part, STATE + marks::SIZE * t);
     outcome_of(numbers::DONE)
 }
 

@@ -8,14 +8,14 @@ use native.Mathlib.Omega.{arith}
 use lib.ListN.{length, replicate, length-set, length-replicate, getD-replicate, List·getD-eq-default}
 use lib.Seq.{getD-set-same, getD-set-other}
 use borrow.Author.Tests.{not-true}
-use Rattle.octets.specs.Bytes.{_or_}
+use Rattle.octets.specs.Bytes.{pick, _or_}
 use Rattle.octets.proofs.Chunks.{sides, length-tabulate, getD-tabulate, tabulate-same, tabulate-getD}
 use Rattle.octets.proofs.Zero.{every-all, every-at}
 use Rattle.marks.specs.declared.History.{History}
-use Rattle.marks.specs.History.{initialHistory, newerOf}
-use Rattle.marks.proofs.Histories.{Newer, newer-view, newer-idem}
+use Rattle.marks.specs.History.{initialHistory, newerOf, isOlder}
+use Rattle.marks.proofs.Histories.{Newer, newer-view, newer-idem, newer-older}
 use Rattle.maps.specs.declared.DependenceMap.{DependenceMap}
-use Rattle.maps.specs.Map.{heldAt, historyAt, emptyMap, withEntry, singleton, isEmpty, joinedHistory, joinedHeldAt, joinedHistoryAt, joinOf}
+use Rattle.maps.specs.Map.{heldAt, historyAt, emptyMap, withEntry, singleton, isEmpty, joinedHistory, takesRight, joinedHeldAt, joinedHistoryAt, joinOf}
 
 -- what stands past the end
 abbrev pub outside : History
@@ -125,18 +125,46 @@ module _ (p : Bool) (x : History) (q : Bool) (y : History) where
   unfolding joinedHistory
   joined-right e = rw e
 
-module _ (a b : DependenceMap) (i : ℕ) where
-  pub joined-held-left : heldAt a i ≡ true → joinedHeldAt a b i ≡ heldAt a i
-  unfolding joinedHeldAt
-  joined-held-left e = rw e
+  pub takes-newer : p ≡ true → q ≡ true → takesRight p x q y ≡ isOlder x y
+  unfolding takesRight
+  takes-newer e f = rw (e, f)
 
-  pub joined-held-right : heldAt a i ≡ false → joinedHeldAt a b i ≡ heldAt b i
-  unfolding joinedHeldAt
-  joined-held-right e = rw e
+  pub takes-left : p ≡ true → q ≡ false → takesRight p x q y ≡ false
+  unfolding takesRight
+  takes-left e f = rw (e, f)
 
-  pub joined-history : joinedHistoryAt a b i ≡ joinedHistory (heldAt a i) (historyAt a i) (heldAt b i) (historyAt b i)
+  pub takes-other : p ≡ false → takesRight p x q y ≡ true
+  unfolding takesRight
+  takes-other e = rw e
+
+joined-pick : (p : Bool) (x : History) (q : Bool) (y : History) → joinedHistory p x q y ≡ pick (takesRight p x q y) y x
+unfolding joinedHistory takesRight
+joined-pick true x true y = newer-older x y
+joined-pick true x false y = refl
+joined-pick false x q y = refl
+
+joined-pick-held : (p : Bool) (x : History) (q : Bool) (y : History) → p or q ≡ pick (takesRight p x q y) q p
+unfolding takesRight
+joined-pick-held true x true y = alike (isOlder x y)
+  where
+    alike : (t : Bool) → true ≡ pick t true true
+    alike true = refl
+    alike false = refl
+joined-pick-held true x false y = refl
+joined-pick-held false x q y = refl
+
+-- entry i is the right one's where the test says so, else the left one's
+abbrev pub takesRightAt : DependenceMap → DependenceMap → ℕ → Bool
+takesRightAt a b i = takesRight (heldAt a i) (historyAt a i) (heldAt b i) (historyAt b i)
+
+module _ (a b : DependenceMap) (i : ℕ) (t : Bool) (e : takesRightAt a b i ≡ t) where
+  pub held-picked : pick t (heldAt b i) (heldAt a i) ≡ joinedHeldAt a b i
+  unfolding joinedHeldAt
+  held-picked = sym (joined-pick-held (heldAt a i) (historyAt a i) (heldAt b i) (historyAt b i) ∙ ap (λ (s : Bool). pick s (heldAt b i) (heldAt a i)) e)
+
+  pub history-picked : pick t (historyAt b i) (historyAt a i) ≡ joinedHistoryAt a b i
   unfolding joinedHistoryAt
-  joined-history = refl
+  history-picked = sym (joined-pick (heldAt a i) (historyAt a i) (heldAt b i) (historyAt b i) ∙ ap (λ (s : Bool). pick s (historyAt b i) (historyAt a i)) e)
 
 -- what two entries join to, whether and with what history
 pub data Joined (p : Bool) (x : History) (q : Bool) (y : History) : Bool → History → Type 0 where

@@ -314,3 +314,7 @@ pack-emptyMap w l n =
 
 pub unpack-zeros : (w l n : ℕ) → unpackMap w l n (zeros (mapSize w l n)) ≡ emptyMap l n
 unpack-zeros w l n = ap (unpackMap w l n) (sym (pack-emptyMap w l n)) ∙ unpack-packMap (mapOk-empty w l n)
+
+pub formed-zeroMap : (w l n opened : ℕ) → formedMap w l n opened (zeros (mapSize w l n)) ≡ true
+formed-zeroMap w l n opened =
+    subst (λ (b : List ℕ). formedMap w l n opened b ≡ true) (pack-emptyMap w l n) (formed-packMap opened (mapOk-empty w l n) (λ i h. held-empty l n i))

@@ -2,20 +2,24 @@
 -- number, the length l of a list and the number n of entries.
 use Prim.Native.Nat.{ℕ, _+_, _*_, _≤_, _<_}
 use mathlib.Core.Bool.{Bool, true, false}
-use mathlib.Core.Path.{_≡_, sym, ap, _∙_}
+use mathlib.Core.Path.{_≡_, sym, ap, _∙_, subst}
 use mathlib.Core.List.{List}
+use native.Mathlib.Nat.{add-zero}
+use native.Mathlib.Omega.{arith}
 use lib.Dec.{ltb}
 use lib.ListN.{length}
 use Rattle.octets.specs.Bytes.{put, part, zeros, allZero}
-use Rattle.octets.proofs.Put.{part-part}
-use Rattle.octets.proofs.Zero.{every-none, every-more, every-off}
-use Rattle.octets.proofs.Chunks.{step, put-none, put-more}
+use Rattle.octets.proofs.Put.{part-part, put-whole, length-part}
+use Rattle.octets.proofs.Zero.{zeros-is, every-none, every-more, every-off}
+use Rattle.octets.proofs.Chunks.{step, put-none, put-more, put-chunk}
 use Rattle.marks.specs.declared.History.{History}
 use Rattle.marks.specs.Packed.{historySize, packHistory, unpackHistory, presentIn, formedHistory}
+use Rattle.marks.proofs.Packed.{length-packHistory}
 use Rattle.maps.specs.declared.DependenceMap.{DependenceMap}
-use Rattle.maps.specs.Map.{heldAt, historyAt}
+use Rattle.maps.specs.Map.{heldAt, historyAt, withEntry}
 use Rattle.maps.specs.Packed.{mapSize, packEntry, packEntryAt, packMap, entryBytes, unpackHeldAt, unpackHistoryAt, formedEntry, formedEntryAt, formedMap}
-use Rattle.maps.proofs.Packed.{length-packEntryAt}
+use Rattle.maps.proofs.Map.{Sized, held-withEntry, history-withEntry, held-withEntry-other, history-withEntry-other}
+use Rattle.maps.proofs.Packed.{length-packEntryAt, formed-zeroMap}
 
 -- ---- one entry
 
@@ -53,6 +57,25 @@ module _ (w l at : ℕ) (m : DependenceMap) where
   pub put-map-all : (i n : ℕ) (b b' : List ℕ) → b' ≡ put at (packMap w l i m) b → i ≡ n → b' ≡ put at (packMap w l n m) b
   put-map-all i n b b' e h = e ∙ ap (λ (k : ℕ). put at (packMap w l k m) b) h
 
+-- one history is stored in a packed map
+module _ (w l n : ℕ) {m : DependenceMap} (s : Sized n m) (i : ℕ) (h : History) (below : i < n) where
+  stored-here : packEntryAt w l (withEntry m i h) i ≡ packHistory w l h
+  unfolding packEntryAt packEntry
+  stored-here = rw (held-withEntry s i h below, history-withEntry s i h below)
+
+  stored-other : (j : ℕ) → (j ≡ i → ⊥) → packEntryAt w l (withEntry m i h) j ≡ packEntryAt w l m j
+  unfolding packEntryAt
+  stored-other j e = rw (held-withEntry-other m i h j e, history-withEntry-other m i h j e)
+
+  pub put-entry : put (historySize w l * i) (packHistory w l h) (packMap w l n m) ≡ packMap w l n (withEntry m i h)
+  unfolding packMap
+  put-entry =
+      let long : length (packHistory w l h) ≡ historySize w l = length-packHistory w l h in
+      ap (λ (k : ℕ). put k (packHistory w l h) (packMap w l n m)) (sym (add-zero (historySize w l * i)))
+      ∙ put-chunk (historySize w l) (packEntryAt w l m) (packEntryAt w l (withEntry m i h)) (length-packEntryAt w l m) n i 0 (packHistory w l h) below (omega arith)
+      (stored-here ∙ sym (put-whole (packHistory w l h) (packEntryAt w l m i) (long ∙ sym (length-packEntryAt w l m i))))
+      stored-other
+
 -- ---- entry i of a map that stands from at on
 
 module _ (w l n at : ℕ) (s : List ℕ) (i : ℕ) (below : i < n) where
@@ -88,3 +111,11 @@ module _ (w l opened : ℕ) (b : List ℕ) where
 
   pub formed-all : (i n : ℕ) → formedMap w l i opened b ≡ true → i ≡ n → formedMap w l n opened b ≡ true
   formed-all i n e h = rw h at e
+
+-- bytes that are all zero
+pub formed-zero : (w l n at opened : ℕ) (s : List ℕ) → at + mapSize w l n ≤ length s → allZero (part at (mapSize w l n) s) ≡ true
+    → formedMap w l n opened (part at (mapSize w l n) s) ≡ true
+formed-zero w l n at opened s h e =
+    subst (λ (b : List ℕ). formedMap w l n opened b ≡ true)
+    (sym (zeros-is (part at (mapSize w l n) s) e ∙ ap zeros (length-part at (mapSize w l n) s h)))
+    (formed-zeroMap w l n opened)

@@ -12,13 +12,13 @@ use Rattle.marks.specs.History.{incarnationOf}
 use Rattle.marks.specs.Incarnation.{supersededBy, Superseded}
 use Rattle.marks.proofs.Tests.{superseded-test}
 use Rattle.maps.specs.declared.DependenceMap.{DependenceMap}
-use Rattle.maps.specs.Map.{heldAt, historyAt, supersededAt, firstFrom, firstSuperseded}
+use Rattle.maps.specs.Map.{heldAt, historyAt, supersededEntry, supersededAt, firstFrom, firstSuperseded}
 
 -- ---- one entry: both maps hold it, and the left one's life is stale by the right one's
 
 pub supersededAt-test : (a b : DependenceMap) (i : ℕ) → (supersededAt a b i ≡ true)
     ↔ ((heldAt a i ≡ true) × (heldAt b i ≡ true) × Superseded (incarnationOf (historyAt a i)) (incarnationOf (historyAt b i)))
-unfolding supersededAt
+unfolding supersededAt supersededEntry
 supersededAt-test a b i = (to, of)
   where
     stale : Bool

@@ -6,7 +6,7 @@ use mathlib.Core.Option.{Option, none, some}
 use lib.ListN.{getD, set, replicate}
 use Rattle.octets.specs.Bytes.{pick, _and_, _or_, tabulate, every}
 use Rattle.marks.specs.declared.History.{History}
-use Rattle.marks.specs.History.{incarnationOf, initialHistory, newerOf}
+use Rattle.marks.specs.History.{incarnationOf, initialHistory, newerOf, isOlder}
 use Rattle.marks.specs.Incarnation.{supersededBy}
 use Rattle.maps.specs.declared.DependenceMap.{DependenceMap}
 use Rattle.maps.specs.declared.Comparison.{Comparison}
@@ -40,6 +40,10 @@ isEmpty n m = every n (λ i. not (heldAt m i))
 unfoldable pub joinedHistory : Bool → History → Bool → History → History
 joinedHistory p x q y = pick p (pick q (newerOf x y) x) y
 
+-- whether that is the right entry; where neither is held too
+unfoldable pub takesRight : Bool → History → Bool → History → Bool
+takesRight p x q y = pick p (pick q (isOlder x y) false) true
+
 unfoldable pub joinedHeldAt : DependenceMap → DependenceMap → ℕ → Bool
 joinedHeldAt a b i = heldAt a i or heldAt b i
 
@@ -51,9 +55,13 @@ joinOf n a b = record { held = tabulate n (joinedHeldAt a b); histories = tabula
 
 -- ---- "a mark of the parcel is stale by the take's mark": of one and the same take
 
+-- both are held, and x is stale by y
+unfoldable pub supersededEntry : Bool → History → Bool → History → Bool
+supersededEntry p x q y = p and q and supersededBy (incarnationOf x) (incarnationOf y)
+
 -- both have a mark of take i, and that of a is stale by that of b
 unfoldable pub supersededAt : DependenceMap → DependenceMap → ℕ → Bool
-supersededAt a b i = heldAt a i and heldAt b i and supersededBy (incarnationOf (historyAt a i)) (incarnationOf (historyAt b i))
+supersededAt a b i = supersededEntry (heldAt a i) (historyAt a i) (heldAt b i) (historyAt b i)
 
 -- the first of the n numbers from k on at which f holds
 unfoldable pub firstFrom : (ℕ → Bool) → ℕ → ℕ → Option ℕ

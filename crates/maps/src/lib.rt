@@ -5,7 +5,7 @@ ghost use Prim.Native.Nat.{_+_, _≤_, _<_};
 ghost use lib.ListN.{length};
 ghost use Rattle.octets.specs.Bytes.{put, part};
 ghost use Rattle.marks.specs.Packed.{width, places, historySize};
-ghost use Rattle.maps.specs.Map.{heldAt, historyAt, emptyMap, withEntry, singleton, isEmpty, joinedHistory, joinOf, supersededAt, firstSuperseded, answerOf};
+ghost use Rattle.maps.specs.Map.{heldAt, historyAt, emptyMap, withEntry, singleton, isEmpty, takesRight, joinOf, supersededEntry, firstSuperseded, answerOf};
 ghost use Rattle.maps.specs.Packed.{entries, mapSize, packEntry, packMap, unpackMap, formedEntry, formedMap, Bounded};
 
 // One entry for each transactor, and the bytes of a packed map.
@@ -98,8 +98,10 @@ impl DependenceMap {
             let q = other.held[i];
             let x = self.histories[i];
             let y = other.histories[i];
-            r.held[i] = p || q;
-            r.histories[i] = joined(p, x, q, y);
+            if takes_right(p, x, q, y) {
+                r.held[i] = q;
+                r.histories[i] = y;
+            }
             i += 1;
         }
         r
@@ -112,28 +114,16 @@ impl DependenceMap {
     {
         let mut i: usize = 0;
         while i < ENTRIES {
-            if self.superseded_at(other, i) {
+            let p = self.held[i];
+            let q = other.held[i];
+            let x = self.histories[i];
+            let y = other.histories[i];
+            if superseded_entry(p, x, q, y) {
                 return Comparison::Superseded(i);
             }
             i += 1;
         }
         Comparison::Current
-    }
-
-    // Whether both have a history of transactor i, and self's is superseded by other's.
-    fn superseded_at(self, other: DependenceMap, i: usize) -> bool
-        requires { ⌜ (i < entries) × Bounded places self × Bounded places other ⌝ }
-        ensures { λ r. ⌜ r ≡ supersededAt self other i ⌝ }
-    {
-        if !self.held[i] {
-            return false;
-        }
-        if !other.held[i] {
-            return false;
-        }
-        let x = self.histories[i];
-        let y = other.histories[i];
-        x.superseded_by(y)
     }
 
     // Writes the packed form from at on.
@@ -171,6 +161,10 @@ impl DependenceMap {
         requires { ⌜ at + mapSize width places entries ≤ length (now s) ⌝ }
         ensures { λ r. ⌜ r ≡ formedMap width places entries opened (part at (mapSize width places entries) (now (s .entry))) ⌝ }
     {
+        // A map without entries: one test of all its bytes.
+        if octets::all_zero(s, at, SIZE) {
+            return true;
+        }
         let mut i: usize = 0;
         while i < ENTRIES {
             if !formed_entry(s, at + marks::SIZE * i, i < opened) {
@@ -182,16 +176,31 @@ impl DependenceMap {
     }
 }
 
-fn joined(p: bool, x: History, q: bool, y: History) -> History
-    ensures { λ r. ⌜ r ≡ joinedHistory p x q y ⌝ }
+// Whether the join's entry is the right one.
+fn takes_right(p: bool, x: History, q: bool, y: History) -> bool
+    ensures { λ r. ⌜ r ≡ takesRight p x q y ⌝ }
 {
     if p {
         if q {
-            return x.newer(y);
+            return x.older(y);
         }
-        return x;
+        return false;
     }
-    y
+    true
+}
+
+// Whether both are held, and x is superseded by y.
+fn superseded_entry(p: bool, x: History, q: bool, y: History) -> bool
+    requires { ⌜ (x .count ≤ places) × (y .count ≤ places) ⌝ }
+    ensures { λ r. ⌜ r ≡ supersededEntry p x q y ⌝ }
+{
+    if !p {
+        return false;
+    }
+    if !q {
+        return false;
+    }
+    x.superseded_by(y)
 }
 
 fn store_entry(image: &mut [u8], at: usize, p: bool, h: History)

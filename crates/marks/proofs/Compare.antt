@@ -3,7 +3,6 @@ use Prim.Native.Nat.{ℕ, suc, _≤_, _<_}
 use mathlib.Core.Bool.{Bool, true, false}
 use mathlib.Core.Path.{_≡_, refl, sym, _∙_}
 use mathlib.Core.List.{List, [], _∷_, _++_}
-use mathlib.Core.Logic.{⊎-elim}
 use native.Mathlib.Omega.{arith}
 use lib.Dec.{eqb, ltb}
 use lib.ListN.{length, take, getD, length-append, length-take}
@@ -13,7 +12,6 @@ use Rattle.octets.specs.Bytes.{_and_, _or_}
 use Rattle.marks.specs.declared.History.{History}
 use Rattle.marks.specs.Incarnation.{sameList, beginsWith, strictPrefix, supersededBy, checkpointedIn, sameIncarnation}
 use Rattle.marks.specs.History.{incarnationOf}
-use Rattle.marks.proofs.Trail.{eq-or-lt}
 use Rattle.marks.proofs.Tests.{same-length}
 
 and-true : (t : Bool) → t and true ≡ t
@@ -81,18 +79,19 @@ module _ (l : ℕ) (a b : History) (pa : length (a .checkpoints) ≡ l) (pb : le
   unfolding supersededBy strictPrefix
   superseded-even h = rw (la, lb, le-ltb (a .count) (b .count) (omega arith), h) (or-false _)
 
-  pub superseded-off : agree a b ≡ false → a .count ≤ b .count → false ≡ supersededBy (incarnationOf a) (incarnationOf b)
-  superseded-off e h = ⊎-elim
-      (λ (k : a .count ≡ b .count). sym (superseded-even k ∙ rw e))
-      (λ (k : a .count < b .count). sym (superseded-longer k ∙ rw e))
-      (eq-or-lt (a .count) (b .count) h)
+  module _ (h : a .count < b .count) where
+    pub superseded-entry-off : getD (b .checkpoints) (a .count) 0 ≤ a .incarnation → false ≡ supersededBy (incarnationOf a) (incarnationOf b)
+    superseded-entry-off k = sym (superseded-longer h ∙ rw (le-ltb (a .incarnation) (getD (b .checkpoints) (a .count) 0) k) (and-false (agree a b)))
 
-  module _ (e : agree a b ≡ true) where
-    pub superseded-entry : a .count < b .count → ltb (a .incarnation) (getD (b .checkpoints) (a .count) 0) ≡ supersededBy (incarnationOf a) (incarnationOf b)
-    superseded-entry h = sym (superseded-longer h ∙ rw e)
+    pub superseded-entry : a .incarnation < getD (b .checkpoints) (a .count) 0 → agree a b ≡ supersededBy (incarnationOf a) (incarnationOf b)
+    superseded-entry k = sym (superseded-longer h ∙ rw (lt-ltb (a .incarnation) (getD (b .checkpoints) (a .count) 0) k) (and-true (agree a b)))
 
-    pub superseded-number : a .count ≡ b .count → ltb (a .incarnation) (b .incarnation) ≡ supersededBy (incarnationOf a) (incarnationOf b)
-    superseded-number h = sym (superseded-even h ∙ rw e)
+  module _ (h : a .count ≡ b .count) where
+    pub superseded-number-off : b .incarnation ≤ a .incarnation → false ≡ supersededBy (incarnationOf a) (incarnationOf b)
+    superseded-number-off k = sym (superseded-even h ∙ rw (le-ltb (a .incarnation) (b .incarnation) k) (and-false (agree a b)))
+
+    pub superseded-number : a .incarnation < b .incarnation → agree a b ≡ supersededBy (incarnationOf a) (incarnationOf b)
+    superseded-number k = sym (superseded-even h ∙ rw (lt-ltb (a .incarnation) (b .incarnation) k) (and-true (agree a b)))
 
   -- ---- checkpointed (signed)
 
@@ -115,11 +114,12 @@ module _ (l : ℕ) (a b : History) (pa : length (a .checkpoints) ≡ l) (pb : le
       rw (one-more, take-take (suc (a .count)) (b .count) (b .checkpoints) h, take-suc (b .checkpoints) (a .count) 0 k)
       (same-snoc (incarnationOf a .checkpoints) (take (a .count) (b .checkpoints)) (a .incarnation) (getD (b .checkpoints) (a .count) 0) (la ∙ sym m))
 
-  pub checkpointed-off : agree a b ≡ false → a .count < b .count → false ≡ checkpointedIn (incarnationOf a) (incarnationOf b)
-  checkpointed-off e h = sym (checkpointed-longer h ∙ rw e)
+  module _ (h : a .count < b .count) where
+    pub checkpointed-off : (a .incarnation ≡ getD (b .checkpoints) (a .count) 0 → ⊥) → false ≡ checkpointedIn (incarnationOf a) (incarnationOf b)
+    checkpointed-off k = sym (checkpointed-longer h ∙ rw (ne-eqb (a .incarnation) (getD (b .checkpoints) (a .count) 0) k) (and-false (agree a b)))
 
-  pub checkpointed-entry : agree a b ≡ true → a .count < b .count → eqb (a .incarnation) (getD (b .checkpoints) (a .count) 0) ≡ checkpointedIn (incarnationOf a) (incarnationOf b)
-  checkpointed-entry e h = sym (checkpointed-longer h ∙ rw e)
+    pub checkpointed-entry : a .incarnation ≡ getD (b .checkpoints) (a .count) 0 → agree a b ≡ checkpointedIn (incarnationOf a) (incarnationOf b)
+    checkpointed-entry k = sym (checkpointed-longer h ∙ rw (eq-eqb (a .incarnation) (getD (b .checkpoints) (a .count) 0) k) (and-true (agree a b)))
 
   -- ---- one life
 

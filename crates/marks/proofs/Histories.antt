@@ -10,10 +10,11 @@ use lib.ListN.{length, length-set}
 use lib.Seq.{take-all, length-take-le, take-suc-set, getD-set-other}
 use borrow.Author.Tests.{ltb-true, ltb-false, lt-ltb, le-ltb}
 use Rattle.octets.specs.Bytes.{pick}
+use Rattle.octets.proofs.Chunks.{sides}
 use Rattle.octets.proofs.Zero.{length-zeros, getD-zeros}
 use Rattle.marks.specs.declared.History.{History}
 use Rattle.marks.specs.Incarnation.{Incarnation, initialIncarnation, nextIncarnation, checkpointIncarnation}
-use Rattle.marks.specs.History.{incarnationOf, initialHistory, stabilized, rolledBack, checkpointed, newerOf, Roomy, HistoryView, viewOf, historyOf, newerView}
+use Rattle.marks.specs.History.{incarnationOf, initialHistory, stabilized, rolledBack, checkpointed, newerOf, isOlder, Roomy, HistoryView, viewOf, historyOf, newerView}
 use Rattle.marks.proofs.Trail.{Precedes}
 use Rattle.marks.proofs.Order.{precedes-refl, by-size, by-number, later-size, same-incarnation}
 
@@ -96,6 +97,45 @@ newer-is {a} {b} (left-number e l) = simp (level _ _ e, level _ _ (sym e), le-lt
 newer-is (left-stable e n p) = simp (level _ _ e, level _ _ (sym e), level _ _ n, level _ _ (sym n), p)
 newer-is (right-stable e n p q) = simp (level _ _ e, level _ _ (sym e), level _ _ n, level _ _ (sym n), p, q)
 newer-is (left-same e n p q) = simp (level _ _ e, level _ _ (sym e), level _ _ n, level _ _ (sym n), p, q)
+
+pub newer-older : (a b : History) → newerOf a b ≡ pick (isOlder a b) b a
+unfolding newerOf isOlder
+newer-older a b = go (ltb (a .count) (b .count)) (ltb (b .count) (a .count)) (ltb (a .incarnation) (b .incarnation)) (ltb (b .incarnation) (a .incarnation)) (a .stable) (b .stable)
+  where
+    go : (s t u v w x : Bool) → pick s b (pick t a (pick u b (pick v a (pick w a (pick x b a))))) ≡ pick (pick s true (pick t false (pick u true (pick v false (pick w false x))))) b a
+    go true t u v w x = refl
+    go false true u v w x = refl
+    go false false true v w x = refl
+    go false false false true w x = refl
+    go false false false false true x = refl
+    go false false false false false x = refl
+
+-- what the code compares
+module _ (a b : History) where
+  pub older-count : (a .count ≡ b .count → ⊥) → ltb (a .count) (b .count) ≡ isOlder a b
+  unfolding isOlder
+  older-count h = ⊎-elim
+      (λ (k : a .count < b .count). rw (lt-ltb (a .count) (b .count) k))
+      (λ (k : b .count ≤ a .count). let m : b .count < a .count = omega arith in rw (le-ltb (a .count) (b .count) k, lt-ltb (b .count) (a .count) m))
+      (sides (a .count) (b .count))
+
+  module _ (e : a .count ≡ b .count) where
+    pub older-number : (a .incarnation ≡ b .incarnation → ⊥) → ltb (a .incarnation) (b .incarnation) ≡ isOlder a b
+    unfolding isOlder
+    older-number h = rw (level (a .count) (b .count) e, level (b .count) (a .count) (sym e)) (⊎-elim
+        (λ (k : a .incarnation < b .incarnation). rw (lt-ltb (a .incarnation) (b .incarnation) k))
+        (λ (k : b .incarnation ≤ a .incarnation). let m : b .incarnation < a .incarnation = omega arith in rw (le-ltb (a .incarnation) (b .incarnation) k, lt-ltb (b .incarnation) (a .incarnation) m))
+        (sides (a .incarnation) (b .incarnation)))
+
+    pub older-stable : a .incarnation ≡ b .incarnation → (s : Bool) → a .stable ≡ s → pick s false (b .stable) ≡ isOlder a b
+    unfolding isOlder
+    older-stable f s g = rw (
+      level (a .count) (b .count) e,
+      level (b .count) (a .count) (sym e),
+      level (a .incarnation) (b .incarnation) f,
+      level (b .incarnation) (a .incarnation) (sym f),
+      g,
+    )
 
 pub newer-which : {a b m : History} → Newer a b m → (m ≡ a) ⊎ (m ≡ b)
 newer-which (right-longer l) = inr refl

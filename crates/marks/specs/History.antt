@@ -38,6 +38,15 @@ newerOf a b =
     (pick (a .stable) a
     (pick (b .stable) b a)))))
 
+-- Whether the newer of two marks is the right one.
+unfoldable pub isOlder : History → History → Bool
+isOlder a b =
+    pick (ltb (a .count) (b .count)) true
+    (pick (ltb (b .count) (a .count)) false
+    (pick (ltb (a .incarnation) (b .incarnation)) true
+    (pick (ltb (b .incarnation) (a .incarnation)) false
+    (pick (a .stable) false (b .stable)))))
+
 -- A mark with room for l signings: the list has l places, the count uses no more, and those past it are zero.
 pub record Roomy (l : ℕ) (h : History) : Type 0 where
   pub places : length (h .checkpoints) ≡ l

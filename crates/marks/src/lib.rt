@@ -5,7 +5,7 @@ ghost use lib.ListN.{length, take};
 ghost use Rattle.octets.specs.Bytes.{put, part, chunks, tabulate};
 ghost use Rattle.octets.specs.Numbers.{ofBe, be};
 ghost use Rattle.marks.specs.Incarnation.{sameList, supersededBy, checkpointedIn, sameIncarnation};
-ghost use Rattle.marks.specs.History.{incarnationOf, initialHistory, stabilized, rolledBack, checkpointed, newerOf};
+ghost use Rattle.marks.specs.History.{incarnationOf, initialHistory, stabilized, rolledBack, checkpointed, newerOf, isOlder};
 ghost use Rattle.marks.specs.Packed.{width, places, largest, historySize, bit, packNumberAt, packHistory, unpackHistory, loadNumberAt, presentIn, formedHistory};
 
 // Bytes of a life number, places of the list, bytes of a packed history.
@@ -100,6 +100,22 @@ impl History {
         self
     }
 
+    // Whether other is the newer one.
+    pub fn older(self, other: History) -> bool
+        ensures { λ r. ⌜ r ≡ isOlder self other ⌝ }
+    {
+        if self.count != other.count {
+            return self.count < other.count;
+        }
+        if self.incarnation != other.incarnation {
+            return self.incarnation < other.incarnation;
+        }
+        if self.stable {
+            return false;
+        }
+        other.stable
+    }
+
     // Whether the first n places of the two lists are the same.
     fn agrees(self, other: History, n: usize) -> bool
         requires { ⌜ n ≤ places ⌝ }
@@ -125,13 +141,17 @@ impl History {
         if m < n {
             return false;
         }
-        if !self.agrees(other, n) {
+        // the lists last: that is the longer test
+        if n < m {
+            if other.checkpoints[n] <= self.incarnation {
+                return false;
+            }
+            return self.agrees(other, n);
+        }
+        if other.incarnation <= self.incarnation {
             return false;
         }
-        if n < m {
-            return self.incarnation < other.checkpoints[n];
-        }
-        self.incarnation < other.incarnation
+        self.agrees(other, n)
     }
 
     // Document 01: signed, where other is the present mark of the same take.
@@ -144,10 +164,10 @@ impl History {
         if m <= n {
             return false;
         }
-        if !self.agrees(other, n) {
+        if self.incarnation != other.checkpoints[n] {
             return false;
         }
-        self.incarnation == other.checkpoints[n]
+        self.agrees(other, n)
     }
 
     // Whether the two are of one life.

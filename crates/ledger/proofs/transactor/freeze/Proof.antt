@@ -1,11 +1,12 @@
 -- One mark of the state map changes.
-use mathlib.Core.Path.{refl, sym, _∙_}
+use mathlib.Core.Path.{refl, sym, ap, _∙_}
 use borrow.Author.Needs.{needs}
+use Rattle.marks.specs.History.{stabilized}
+use Rattle.maps.proofs.Packed.{sized-unpack}
 use Rattle.ledger.specs.Layout.{base}
 use Rattle.ledger.specs.Rules.{freezeBy}
 use Rattle.ledger.specs.Pack.{unpackTransactor}
-use Rattle.ledger.proofs.Fields.{put-state}
-use Rattle.ledger.proofs.Acts.{map-stored, entry-bounded, own-bounded, acted}
+use Rattle.ledger.proofs.Acts.{history-stored, own-bounded, acted}
 use Rattle.ledger.proofs.transactor.freeze.Statement.{statement}
 use Rattle.ledger.proofs.transactor.freeze.Tie as tie
 
@@ -15,14 +16,14 @@ own-requires c κs = search needs
 stabilize-requires : tie.Need-stabilize-requires
 stabilize-requires c κs = search needs
 
-load-requires : tie.Need-load-requires
-load-requires c κs = search needs
+mul-store : tie.Need-mul-store
+mul-store c = search needs
 
-with-requires : tie.Need-with-requires
-with-requires c κs = search needs
+add-store : tie.Need-add-store
+add-store c = search needs
 
 store-requires : tie.Need-store-requires
-store-requires c κs = (search needs, let d = c .before in let e = d .before in let f = e .before .before in entry-bounded _ _ _ _ (e .load .ensures) (d .with .ensures) (rw (f .stabilize .ensures) (own-bounded _ _ (f .before .own .ensures))))
+store-requires c κs = (search needs, rw (c .before .stabilize .ensures) (own-bounded _ _ (c .before .before .own .ensures)))
 
 outcome-of-requires : tie.Need-outcome-of-requires
 outcome-of-requires c κs = search needs
@@ -36,9 +37,9 @@ returns c =
     let d = c .before .before .before in
     let e = d .before .before in
     let f = e .before in
-    let g = f .before .before in
+    let s = f .before .before .before in
     acted refl (c .outcome-of .ensures)
-    (map-stored base _ _ _ (put-state base _) (sym (g .before .before .before .before .pre .0 .back)) (e .with .ensures ∙ rw (f .load .ensures, g .stabilize .ensures, g .before .own .ensures)) (d .store .ensures))
+    (history-stored base _ _ (sized-unpack _ _ _ _) (s .pre .1) (sym (s .pre .0 .back)) (e .stabilize .ensures ∙ ap stabilized (f .own .ensures)) (d .store .ensures))
 
 pub freeze-spec : {M : Type 1} → statement M
 freeze-spec =
@@ -46,8 +47,8 @@ freeze-spec =
     (tie.spec
     own-requires
     stabilize-requires
-    load-requires
-    with-requires
+    mul-store
+    add-store
     store-requires
     outcome-of-requires
     same-length

@@ -1,13 +1,13 @@
--- After i turns the first i entries are well-formed.
+-- Zeros are well-formed; after i turns the first i entries are.
 use Prim.Native.Nat.{_-_, _≤_}
 use mathlib.Core.Bool.{true}
-use mathlib.Core.Path.{_≡_, sym}
+use mathlib.Core.Path.{_≡_, sym, _∙_}
 use native.Mathlib.Omega.{arith}
 use borrow.Author.Tests.{not-true, not-false}
 use Rattle.octets.specs.Bytes.{part}
 use Rattle.marks.specs.Packed.{width, places}
 use Rattle.maps.specs.Packed.{entries, mapSize, formedMap}
-use Rattle.maps.proofs.Placed.{formed-none, formed-more, formed-off, formed-all}
+use Rattle.maps.proofs.Placed.{formed-zero, formed-none, formed-more, formed-off, formed-all}
 use borrow.Author.Needs.{needs}
 use Rattle.maps.proofs.DependenceMap.formed.Statement.{statement}
 use Rattle.maps.proofs.DependenceMap.formed.Tie as tie
@@ -17,6 +17,14 @@ Inv-loop s at opened i₀ i = (i ≤ entries) × (formedMap width places i opene
 
 abbrev μ-loop : tie.MeasureT-loop
 μ-loop s at opened i₀ i = entries - i
+
+all-zero-requires : tie.Need-all-zero-requires Inv-loop μ-loop
+all-zero-requires c κs = search needs
+
+returns : tie.Need-returns Inv-loop μ-loop
+returns c =
+    let z = c .before in
+    sym (formed-zero width places entries _ _ _ (search needs) (sym (z .all-zero .ensures) ∙ c .if1 .taken))
 
 loop-holds : tie.Need-loop-holds Inv-loop μ-loop
 loop-holds c = (search needs, formed-none width places _ _)
@@ -30,10 +38,10 @@ add-formed-entry c = search needs
 formed-entry-requires : tie.Need-formed-entry-requires Inv-loop μ-loop
 formed-entry-requires c κs = search needs
 
-returns : tie.Need-returns Inv-loop μ-loop
-returns c =
+returns-2 : tie.Need-returns-2 Inv-loop μ-loop
+returns-2 c =
     let b = c .before .before .before .loop in
-    sym (formed-off width places entries _ _ (b .i) (omega arith) _ _ (c .before .formed-entry .ensures) (not-true _ (c .if1 .taken)))
+    sym (formed-off width places entries _ _ (b .i) (omega arith) _ _ (c .before .formed-entry .ensures) (not-true _ (c .if2 .taken)))
 
 add-i : tie.Need-add-i Inv-loop μ-loop
 add-i c = search needs
@@ -44,10 +52,10 @@ loop-less c = search needs
 loop-again : tie.Need-loop-again Inv-loop μ-loop
 loop-again c =
     let b = c .before .before .before .loop in
-    (omega arith, formed-more width places entries _ _ (b .i) (omega arith) _ _ (c .before .formed-entry .ensures) (b .inv .1) (not-false _ (c .if1 .left)))
+    (omega arith, formed-more width places entries _ _ (b .i) (omega arith) _ _ (c .before .formed-entry .ensures) (b .inv .1) (not-false _ (c .if2 .left)))
 
-returns-2 : tie.Need-returns-2 Inv-loop μ-loop
-returns-2 c = let b = c .before .loop in sym (formed-all width places _ _ (b .i) entries (b .inv .1) (omega arith))
+returns-3 : tie.Need-returns-3 Inv-loop μ-loop
+returns-3 c = let b = c .before .loop in sym (formed-all width places _ _ (b .i) entries (b .inv .1) (omega arith))
 
 pub formed-spec : {M : Type 1} → statement M
 formed-spec =
@@ -55,12 +63,14 @@ formed-spec =
     (tie.spec
     Inv-loop
     μ-loop
+    all-zero-requires
+    returns
     loop-holds
     mul-formed-entry
     add-formed-entry
     formed-entry-requires
-    returns
+    returns-2
     add-i
     loop-less
     loop-again
-    returns-2)
+    returns-3)

@@ -1,7 +1,6 @@
--- The counts, then the first places, then the next entry.
-use mathlib.Core.Path.{sym, _∙_}
+-- The counts, then the next entry, then the first places.
+use mathlib.Core.Path.{_∙_}
 use native.Mathlib.Omega.{arith}
-use borrow.Author.Tests.{not-true, not-false}
 use Rattle.marks.specs.Packed.{places}
 use Rattle.marks.proofs.Compare.{checkpointed-short, checkpointed-off, checkpointed-entry}
 use borrow.Author.Needs.{needs}
@@ -19,23 +18,23 @@ returns c =
     let a = c .before .before .args in
     checkpointed-short places (a .self) (a .t2) (search needs) (search needs) (omega arith) (omega arith) (omega arith)
 
-agrees-requires : tie.Need-agrees-requires
-agrees-requires c κs = search needs
+element-copy-out-if2 : tie.Need-element-copy-out-if2
+element-copy-out-if2 c = search needs
 
 returns-2 : tie.Need-returns-2
 returns-2 c =
-    let a = c .before .before .before .before .args in
-    checkpointed-off places (a .self) (a .t2) (search needs) (search needs) (omega arith) (omega arith) (sym (c .before .agrees .ensures) ∙ not-true _ (c .if2 .taken)) (omega arith)
+    let a = c .before .before .before .before .before .args in
+    checkpointed-off places (a .self) (a .t2) (search needs) (search needs) (omega arith) (omega arith) (omega arith) (search needs)
 
-element-copy-out-result : tie.Need-element-copy-out-result
-element-copy-out-result c = search needs
+agrees-requires : tie.Need-agrees-requires
+agrees-requires c κs = search needs
 
 returns-3 : tie.Need-returns-3
 returns-3 c =
     let a = c .before .before .before .before .before .before .args in
-    checkpointed-entry places (a .self) (a .t2) (search needs) (search needs) (omega arith) (omega arith) (sym (c .before .before .before .agrees .ensures) ∙ not-false _ (c .before .before .if2 .left)) (omega arith)
+    c .agrees .ensures ∙ checkpointed-entry places (a .self) (a .t2) (search needs) (search needs) (omega arith) (omega arith) (omega arith) (search needs)
 
 pub checkpointed-in-spec : {M : Type 1} → statement M
 checkpointed-in-spec =
     tie.close
-    (tie.spec cast-n cast-m returns agrees-requires returns-2 element-copy-out-result returns-3)
+    (tie.spec cast-n cast-m returns element-copy-out-if2 returns-2 agrees-requires returns-3)

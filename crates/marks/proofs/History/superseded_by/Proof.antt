@@ -1,9 +1,8 @@
--- The counts, then the first places, then the next entry or the numbers.
-use mathlib.Core.Path.{sym, _∙_}
+-- The counts, then the next entry or the numbers, then the first places.
+use mathlib.Core.Path.{_∙_}
 use native.Mathlib.Omega.{arith}
-use borrow.Author.Tests.{not-true, not-false}
 use Rattle.marks.specs.Packed.{places}
-use Rattle.marks.proofs.Compare.{superseded-short, superseded-off, superseded-entry, superseded-number}
+use Rattle.marks.proofs.Compare.{superseded-short, superseded-entry-off, superseded-entry, superseded-number-off, superseded-number}
 use borrow.Author.Needs.{needs}
 use Rattle.marks.proofs.History.superseded_by.Statement.{statement}
 use Rattle.marks.proofs.History.superseded_by.Tie as tie
@@ -19,26 +18,34 @@ returns c =
     let a = c .before .before .args in
     superseded-short places (a .self) (a .t2) (search needs) (search needs) (omega arith) (omega arith) (omega arith)
 
-agrees-requires : tie.Need-agrees-requires
-agrees-requires c κs = search needs
+element-copy-out-if3 : tie.Need-element-copy-out-if3
+element-copy-out-if3 c = search needs
 
 returns-2 : tie.Need-returns-2
 returns-2 c =
-    let a = c .before .before .before .before .args in
-    superseded-off places (a .self) (a .t2) (search needs) (search needs) (omega arith) (omega arith) (sym (c .before .agrees .ensures) ∙ not-true _ (c .if2 .taken)) (omega arith)
+    let a = c .before .before .before .before .before .before .args in
+    superseded-entry-off places (a .self) (a .t2) (search needs) (search needs) (omega arith) (omega arith) (omega arith) (search needs)
 
-element-copy-out-result : tie.Need-element-copy-out-result
-element-copy-out-result c = search needs
+agrees-requires : tie.Need-agrees-requires
+agrees-requires c κs = search needs
 
 returns-3 : tie.Need-returns-3
 returns-3 c =
     let a = c .before .before .before .before .before .before .before .args in
-    superseded-entry places (a .self) (a .t2) (search needs) (search needs) (omega arith) (omega arith) (sym (c .before .before .before .before .agrees .ensures) ∙ not-false _ (c .before .before .before .if2 .left)) (omega arith)
+    c .agrees .ensures ∙ superseded-entry places (a .self) (a .t2) (search needs) (search needs) (omega arith) (omega arith) (omega arith) (search needs)
 
 returns-4 : tie.Need-returns-4
 returns-4 c =
+    let a = c .before .before .before .before .before .args in
+    superseded-number-off places (a .self) (a .t2) (search needs) (search needs) (omega arith) (omega arith) (omega arith) (omega arith)
+
+agrees-requires-2 : tie.Need-agrees-requires-2
+agrees-requires-2 c κs = search needs
+
+returns-5 : tie.Need-returns-5
+returns-5 c =
     let a = c .before .before .before .before .before .before .args in
-    superseded-number places (a .self) (a .t2) (search needs) (search needs) (omega arith) (omega arith) (sym (c .before .before .before .agrees .ensures) ∙ not-false _ (c .before .before .if2 .left)) (omega arith)
+    c .agrees2 .ensures ∙ superseded-number places (a .self) (a .t2) (search needs) (search needs) (omega arith) (omega arith) (omega arith) (omega arith)
 
 pub superseded-by-spec : {M : Type 1} → statement M
 superseded-by-spec =
@@ -47,8 +54,10 @@ superseded-by-spec =
     cast-n
     cast-m
     returns
-    agrees-requires
+    element-copy-out-if3
     returns-2
-    element-copy-out-result
+    agrees-requires
     returns-3
-    returns-4)
+    returns-4
+    agrees-requires-2
+    returns-5)
