@@ -11,29 +11,28 @@ use lib.Dec.{eqb, ltb, leb}
 use lib.ListN.{length, set, length-append, length-set}
 use Rattle.octets.specs.Bytes.{pick, _and_, _or_, put, part, zeros}
 use Rattle.octets.specs.Numbers.{be, ofBe}
-use Rattle.octets.proofs.Put.{put-behind, put-whole, part-put-before}
+use Rattle.octets.proofs.Put.{put-behind, put-whole, part-put-before, part-put-after}
 use Rattle.octets.proofs.Numbers.{length-be, put-be-one}
 use Rattle.octets.proofs.Zero.{length-zeros}
 use Rattle.marks.specs.declared.History.{History}
 use Rattle.marks.specs.History.{rolledBack}
 use Rattle.marks.specs.Packed.{packHistory}
 use Rattle.maps.specs.declared.DependenceMap.{DependenceMap}
-use Rattle.maps.specs.declared.Comparison.{Comparison}
-use Rattle.maps.specs.declared.Comparison.the-variants.{Superseded, Current}
-use Rattle.maps.specs.Map.{withEntry, firstSuperseded, answerOf}
-use Rattle.maps.specs.Packed.{Bounded}
+use Rattle.maps.specs.Map.{withEntry}
+use Rattle.maps.specs.Packed.{unpackMap, Exact}
 use Rattle.maps.proofs.Map.{Sized}
-use Rattle.maps.proofs.Packed.{length-packMap, pack-emptyMap, bounded-at, bounded-unpack, bounded-join}
+use Rattle.maps.proofs.Packed.{length-packMap, pack-emptyMap, bounded-at, bounded-unpack}
 use Rattle.ledger.specs.Layout.{Layout, Limits, base, historyBytes, mapBytes, valueAt, savedAt, stateAt, creationAt, behaviourAt, transactorBytes}
-use Rattle.ledger.specs.Step.{done, held, dropped, fallenBack, vanished, read, write, freeze, finish, fall, fail}
+use Rattle.ledger.specs.Step.{done, held, fallenBack, vanished, read, write, freeze, finish, fall, fail}
 use Rattle.ledger.specs.Status.{unused, busy, annihilated}
 use Rattle.ledger.specs.State.{Transactor, bare, ownHistory, withStatus, withValue, withState, withBehaviour}
-use Rattle.ledger.specs.Rules.{Effect, noDependences, join, unchanged, renewed, rollback, writeBy, madeReady, finishBy, fallBy, failBy, localBy, known}
+use Rattle.ledger.specs.Rules.{Effect, noDependences, join, unchanged, renewed, rollback, writeBy, madeReady, finishBy, fallBy, failBy, localBy}
 use Rattle.ledger.specs.Pack.{packDependences, packTransactor, unpackDependences, unpackTransactor}
-use Rattle.ledger.specs.Parts.{Acts, isLastIncarnation, rollbackOr28, rollbackUnlessStable, actBy, acceptBy}
+use Rattle.ledger.specs.Parts.{Acts, isLastIncarnation, rollbackOr28, rollbackUnlessStable, actBy}
 use Rattle.ledger.proofs.Sizes.{length-packTransactor}
 use Rattle.ledger.proofs.Fields.{put-status, put-own, put-behaviour}
 use Rattle.ledger.proofs.Fresh.{pack-unused}
+use Rattle.ledger.proofs.There.{map-part}
 use Rattle.octets.proofs.Tests.{pick-view}
 
 -- ---- stores
@@ -55,11 +54,13 @@ module _ (y : Layout) where
       → b' ≡ packTransactor y x'
   stored x x' at bs p e f = f ∙ ap (put at bs) e ∙ p
 
-  -- one map of packed bytes
-  pub map-stored : (x : Transactor) (at : ℕ) (f : DependenceMap → Transactor) {m m' : DependenceMap} {b b' : List ℕ}
-      → ((n : DependenceMap) → put at (packDependences y n) (packTransactor y x) ≡ packTransactor y (f n)) → b ≡ packTransactor y x → m ≡ m' → b' ≡ put at (packDependences y m) b
-      → b' ≡ packTransactor y (f m')
-  map-stored x at f {m} {m'} {b} p e q r = stored x (f m') at (packDependences y m') (p m') e (r ∙ ap (λ (n : DependenceMap). put at (packDependences y n) b) q)
+  -- one map of packed bytes packs to the bytes that it stands in
+  pub map-exact : (x : Transactor) (at : ℕ) (m : DependenceMap) {b : List ℕ} → at + mapBytes y ≤ transactorBytes y → put at (packDependences y m) (packTransactor y x) ≡ packTransactor y x
+      → b ≡ packTransactor y x → unpackDependences y at b ≡ m → Exact (y .width) (y .places) (y .transactors) b at
+  unfolding Exact
+  map-exact x at m h same e q =
+      ap (packDependences y) q
+      ∙ sym (ap (part at (mapBytes y)) e ∙ map-part y at m (packTransactor y x) (rw length-packTransactor h) same)
 
   -- one history of the state map
   pub history-stored : (x : Transactor) (t : ℕ) {h h' : History} {b b' : List ℕ} → Sized (y .transactors) (x .state) → t < y .transactors → b ≡ packTransactor y x → h ≡ h'
@@ -88,6 +89,14 @@ module _ (y : Layout) where
       let w : length (packDependences y m) ≡ mapBytes y = length-packMap (y .width) (y .places) (y .transactors) m in
       f ∙ ap (λ (l : List ℕ). ofBe 4 (part valueAt 4 l)) e ∙ ap (ofBe 4) (part-put-before (behaviourAt y) (packDependences y m) b (omega arith) valueAt 4 (omega arith))
 
+  -- a map, after a store of the text before it
+  pub map-behind : (v : ℕ) (b : List ℕ) {b' : List ℕ} → length b ≡ transactorBytes y → b' ≡ put valueAt (be 4 v) b → (at : ℕ) → savedAt ≤ at
+      → unpackDependences y at b' ≡ unpackDependences y at b
+  map-behind v b n e at h =
+      let w : length (be 4 v) ≡ 4 = length-be 4 v in
+      ap (unpackDependences y at) e
+      ∙ ap (unpackMap (y .width) (y .places) (y .transactors)) (part-put-after valueAt (be 4 v) b (omega arith) at (mapBytes y) (omega arith))
+
   -- the status of packed bytes
   pub status-stored : (x : Transactor) (st : ℕ) {b : List ℕ} → b ≡ packTransactor y x → st < 4 → set b 0 (64 * st) ≡ packTransactor y (withStatus x st)
   status-stored x st {b} e h =
@@ -113,17 +122,11 @@ module _ (y : Layout) where
 
 -- ---- counts within their lists
 
-pub loaded-bounded : (at : ℕ) (b : List ℕ) {m : DependenceMap} → m ≡ unpackDependences base at b → Bounded (base .places) m
-loaded-bounded at b e = rw e (bounded-unpack (base .width) (base .places) (base .transactors) (part at (mapBytes base) b) (omega arith))
-
-pub joined-bounded : (y : Layout) (a b : DependenceMap) {j : DependenceMap} → j ≡ join y a b → Bounded (y .places) a → Bounded (y .places) b → Bounded (y .places) j
-joined-bounded y a b e p q = rw e (bounded-join (y .places) (y .transactors) a b p q)
-
 pub own-bounded : (t : ℕ) (b : List ℕ) {h : History} → h ≡ ownHistory t (unpackTransactor base b) → h .count ≤ base .places
 unfolding unpackTransactor
 own-bounded t b e =
     let m : DependenceMap = unpackDependences base stateAt b in
-    rw e (bounded-at (base .places) m (loaded-bounded stateAt b refl) t)
+    rw e (bounded-at (base .places) m (bounded-unpack (base .width) (base .places) (base .transactors) (part stateAt (mapBytes base) b) (omega arith)) t)
 
 -- ---- what a function on the bytes answers
 
@@ -238,19 +241,3 @@ module _ (y : Layout) (m : Limits) (k t v : ℕ) (x : Transactor) where
               ≡ pick (ownHistory t x .stable) (unchanged held (pick z (madeReady y x) x)) (pick (isLastIncarnation m t x) (unchanged 28 x) (rollback y t x))
           go true = swap (ownHistory t x .stable) (isLastIncarnation m t x) _ _ _
           go false = swap (ownHistory t x .stable) (isLastIncarnation m t x) _ _ _
-
--- ---- receipt, k being the state and creation maps joined
-
-module _ (y : Layout) (m : Limits) (t : ℕ) (x : Transactor) (deps : DependenceMap) {k : DependenceMap} (is : k ≡ known y x) (f : Comparison) (e : answerOf f ≡ firstSuperseded (y .transactors) deps k) where
-  pub accepts-dropped : {i : ℕ} → f ≡ Superseded i → acceptBy y m t x deps ≡ unchanged dropped x
-  unfolding acceptBy
-  accepts-dropped p = rw (← is, ← e, p)
-
-  module _ (p : f ≡ Current) (g : Comparison) (q : answerOf g ≡ firstSuperseded (y .transactors) k deps) where
-    pub accepts-rollback : {i : ℕ} → g ≡ Superseded i → acceptBy y m t x deps ≡ rollbackOr28 y m t x
-    unfolding acceptBy
-    accepts-rollback r = rw (← is, ← e, p, ← q, r)
-
-    pub accepts-done : g ≡ Current → acceptBy y m t x deps ≡ unchanged done (withBehaviour (withStatus x busy) deps)
-    unfolding acceptBy
-    accepts-done r = rw (← is, ← e, p, ← q, r)

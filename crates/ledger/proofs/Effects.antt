@@ -13,7 +13,7 @@ use Rattle.ledger.specs.Status.{busy, annihilated}
 use Rattle.ledger.specs.State.{Transactor, Message, bare, ownHistory}
 use Rattle.ledger.specs.Step.{done, dropped, fallenBack, vanished, read, write, freeze, finish, fall, fail}
 use Rattle.ledger.specs.Rules.{Effect, isSome, known, unchanged, renewed, rollback, readBy, writeBy, freezeBy, finishBy, fallBy, failBy, localBy, taken, messageSuperseded, receiverSuperseded, receiveBy}
-use Rattle.ledger.specs.Parts.{isLastIncarnation, rollbackOr28, actBy, acceptBy}
+use Rattle.ledger.specs.Parts.{isLastIncarnation, rollbackOr28, actBy, takenIn, acceptBy}
 use Rattle.ledger.proofs.Refused.{localRefusal}
 
 -- what a fall answers
@@ -81,7 +81,7 @@ answering v e = record { outcome = e .outcome; value = pick (eqb (e .outcome) do
 
 pub receipt-judged : (y : Layout) (m : Limits) (t : ℕ) (x : Transactor) (p : Message)
     → Judged (pick ((not (messageSuperseded y x p) and receiverSuperseded y x p) and isLastIncarnation m t x) 28 0) x (receiveBy y t x p) (answering (p .value) (acceptBy y m t x (p .dependences)))
-unfolding acceptBy rollbackOr28 messageSuperseded receiverSuperseded receiveBy
+unfolding acceptBy takenIn rollbackOr28 messageSuperseded receiverSuperseded receiveBy
 receipt-judged y m t x p =
     go (isSome (firstSuperseded (y .transactors) (p .dependences) (known y x))) (isSome (firstSuperseded (y .transactors) (known y x) (p .dependences))) (isLastIncarnation m t x) (rollback y t x) (fell y t x)
   where

@@ -8,7 +8,7 @@ use native.Mathlib.Numerals.{add-one}
 use native.Mathlib.Omega.{arith}
 use borrow.Author.Tests.{lt-ltb, le-ltb}
 use lib.ListN.{length, take, drop, getD, length-append, length-drop, length-set, List·getD-append}
-use lib.Seq.{set-getD, getD-set-same, getD-set-other, getD-take, getD-drop, getD-append-add, getD-at, length-take-le}
+use lib.Seq.{set-getD, set-set, getD-set-same, getD-set-other, getD-take, getD-drop, getD-append-add, getD-at, length-take-le}
 use Rattle.octets.specs.Bytes.{put, part, chunks, tabulate, zeros}
 use Rattle.octets.specs.Numbers.{be}
 use Rattle.octets.proofs.Put.{put-left, put-right, put-whole, put-first, put-last, put-mid, put-behind, part-right}
@@ -194,6 +194,11 @@ module _ (s : State) (t : ℕ) where
   pub withTransactor-same : withTransactor s t (transactorAt s t) ≡ s
   unfolding transactorAt withTransactor
   withTransactor-same = rw set-getD
+
+  -- what was put there before does not matter
+  pub withTransactor-again : (x z : Transactor) → withTransactor (withTransactor s t x) t z ≡ withTransactor s t z
+  unfolding withTransactor
+  withTransactor-again x z = rw set-set
 
 module _ (y : Layout) (s : State) (t : ℕ) (below : t < y .transactors) (many : length (s .transactors) ≡ y .transactors) where
   -- some bytes of it

@@ -32,7 +32,8 @@ pub mod Effects
 pub mod Applied
 pub mod Images
 pub mod Takes
-pub mod Receipt
+pub mod Accepting
+pub mod Receiving
 pub mod Running
 pub mod Stored
 pub mod Offering

@@ -14,7 +14,7 @@ use Rattle.maps.specs.declared.DependenceMap.{DependenceMap}
 use Rattle.maps.specs.Map.{firstSuperseded}
 use Rattle.ledger.specs.Layout.{Layout, Limits, lastNumber, base, standard, historyBytes, stateAt, creationAt, transactorBytes, transactorAddress, imageBytes}
 use Rattle.ledger.specs.Status.{busy, annihilated}
-use Rattle.ledger.specs.State.{Transactor, State, ownHistory, transactorAt, messageAt, withBehaviour}
+use Rattle.ledger.specs.State.{Transactor, State, ownHistory, transactorAt, messageAt, withTransactor, withBehaviour}
 use Rattle.ledger.specs.Step.{Step, Reply, done, held, dropped, fall, fail}
 use Rattle.ledger.specs.Refusals.{named, malformed}
 use Rattle.ledger.specs.Rules.{Effect, isSome, join, only, known, unchanged, madeReady, rollback, localBy, entryReady, opening, stepOf}
@@ -38,6 +38,12 @@ pub record Acts (e : Effect) (o v : ℕ) (b : List ℕ) : Type 0 where
   pub outcome : o ≡ e .outcome
   pub value : v ≡ e .value
   pub bytes : b ≡ packTransactor base (e .transactor)
+
+-- what a function on an image says that changes the bytes of take t alone
+pub record ActsAt (img : List ℕ) (t : ℕ) (e : Effect) (o v : ℕ) (after : List ℕ) : Type 0 where
+  pub outcome : o ≡ e .outcome
+  pub value : v ≡ e .value
+  pub image : after ≡ pack base (withTransactor (unpack base img) t (e .transactor))
 
 -- a step on an image: the reply, and the image after it
 pub record Stepped (img : List ℕ) (p : Step) (r : Reply) (after : List ℕ) : Type 0 where
@@ -72,12 +78,16 @@ actBy y m k t v x =
     (pick ((eqb k fall or eqb k fail) and not (ownHistory t x .stable) and isLastIncarnation m t x) (unchanged 28 x)
     (localBy y k t v x)))
 
+-- at work, with the parcel's map
+unfoldable pub takenIn : Transactor → DependenceMap → Transactor
+takenIn x deps = record { status = busy; value = x .value; saved = x .saved; state = x .state; creation = x .creation; behaviour = deps }
+
 -- a receipt's effect on the addressee, without the text, or 28
 unfoldable pub acceptBy : Layout → Limits → ℕ → Transactor → DependenceMap → Effect
 acceptBy y m t x deps =
     pick (isSome (firstSuperseded (y .transactors) deps (known y x))) (unchanged dropped x)
     (pick (isSome (firstSuperseded (y .transactors) (known y x) deps)) (rollbackOr28 y m t x)
-    (unchanged done (record { status = busy; value = x .value; saved = x .saved; state = x .state; creation = x .creation; behaviour = deps })))
+    (unchanged done (takenIn x deps)))
 
 -- the refusals of an acting take, 21 and 22, and of one that must be at work, 23
 unfoldable pub actingRefusal : State → ℕ → ℕ

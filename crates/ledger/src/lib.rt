@@ -4,6 +4,7 @@ mod group;
 mod layout;
 mod messages;
 mod numbers;
+mod receipt;
 mod steps;
 mod transactor;
 

@@ -77,14 +77,6 @@ pub fn content(image: &[u8], k: usize) -> u32
     octets::load32(image, FIRST_MESSAGE + MESSAGE * k + CONTENT)
 }
 
-// The map of the message in place k.
-pub fn dependences(image: &[u8], k: usize) -> DependenceMap
-    requires { ⌜ (length (now image) ≡ imageBytes base) × (k < waitingIn base (now image)) ⌝ }
-    ensures { λ r. ⌜ r ≡ messageAt (unpack base (now (image .entry))) k .dependences ⌝ }
-{
-    DependenceMap::load(image, FIRST_MESSAGE + MESSAGE * k + DEPENDENCES)
-}
-
 // One more message, with the next number, in place n, the first that is free.
 pub fn append(image: &mut [u8], n: usize, to: u8, value: u32, m: DependenceMap)
     requires { ⌜ Good (now image) × (n ≡ waitingIn base (now image)) × (n < base .messages) × (to < 16) × (unpack base (now image) .next < lastNumber) × Bounded (base .places) m ⌝ }

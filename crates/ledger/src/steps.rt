@@ -9,6 +9,7 @@ use crate::layout::TRANSACTOR;
 use crate::layout::TRANSACTORS;
 use crate::messages;
 use crate::numbers;
+use crate::receipt;
 use crate::transactor;
 use maps::DependenceMap;
 ghost use mathlib.Core.Path.{_≡_};
@@ -236,10 +237,7 @@ fn receive(image: &mut [u8], p: Step) -> Reply
         return answered(numbers::WRONG_STATUS);
     }
     let content = messages::content(image, k);
-    let m = messages::dependences(image, k);
-    let at = HEAD + TRANSACTOR * t;
-    let end = at + TRANSACTOR;
-    let a = transactor::accept(&mut image[at..end], t, m);
+    let a = receipt::accept(image, t, k);
     let outcome = a.outcome;
     if outcome == numbers::LAST_FALLS {
         return answered(numbers::LAST_FALLS);

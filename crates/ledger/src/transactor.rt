@@ -1,4 +1,4 @@
-// One transactor's part of an image: kinds 5 to 10, falls, receipt and checkpoint, with the refusals that its bytes decide.
+// One transactor's part of an image: kinds 5 to 10, falls and checkpoint, with the refusals that its bytes decide.
 use crate::layout::BEHAVIOUR;
 use crate::layout::CREATION;
 use crate::layout::SAVED;
@@ -6,7 +6,6 @@ use crate::layout::STATE;
 use crate::layout::TRANSACTOR;
 use crate::layout::VALUE;
 use crate::numbers;
-use maps::Comparison;
 use maps::DependenceMap;
 use marks::History;
 ghost use mathlib.Core.Path.{_≡_};
@@ -17,7 +16,7 @@ ghost use Rattle.ledger.specs.Layout.{base, standard, transactorBytes};
 ghost use Rattle.ledger.specs.State.{bare, ownHistory};
 ghost use Rattle.ledger.specs.Rules.{renewed, opening, carried, readBy, writeBy, freezeBy, finishBy, checkpointBy};
 ghost use Rattle.ledger.specs.Pack.{packTransactor, unpackTransactor};
-ghost use Rattle.ledger.specs.Parts.{GoodPart, Acts, adopts, rollbackOr28, rollbackUnlessStable, actBy, acceptBy};
+ghost use Rattle.ledger.specs.Parts.{GoodPart, Acts, adopts, rollbackOr28, rollbackUnlessStable, actBy};
 
 // Largest incarnation number.
 pub const LAST: u8 = 255;
@@ -29,7 +28,7 @@ pub struct Acted {
 }
 
 // An outcome or a refusal alone.
-fn outcome_of(outcome: u8) -> Acted
+pub fn outcome_of(outcome: u8) -> Acted
     ensures { λ r. ⌜ (r .outcome ≡ outcome) × (r .value ≡ 0) ⌝ }
 {
     Acted { outcome, value: 0 }
@@ -83,25 +82,20 @@ pub fn adopt(part: &mut [u8], c: usize)
     requires { ⌜ GoodPart (now part) × (c < base .transactors) ⌝ }
     ensures { λ _. ⌜ now (part .exit) ≡ packTransactor base (adopts base c (unpackTransactor base (now (part .entry)))) ⌝ }
 {
-    let behaviour = DependenceMap::load(part, BEHAVIOUR);
-    let one = DependenceMap::one(c, History::INITIAL);
-    let joined = one.join(behaviour);
-    joined.store(part, BEHAVIOUR);
+    maps::in_place::join_entry_into(part, BEHAVIOUR, c, History::INITIAL);
 }
 
 // Creation, behaviour and own history joined: what a message carries and a child is created from.
 pub fn carry(part: &[u8], t: usize) -> DependenceMap
-    requires { ⌜ (length (now part) ≡ transactorBytes base) × (t < base .transactors) ⌝ }
+    requires { ⌜ GoodPart (now part) × (t < base .transactors) ⌝ }
     ensures { λ r. ⌜ r ≡ carried base t (unpackTransactor base (now (part .entry))) ⌝ }
 {
-    let created = DependenceMap::load(part, CREATION);
-    let behaviour = DependenceMap::load(part, BEHAVIOUR);
-    let one = DependenceMap::one(t, own(part, t));
-    created.join(behaviour).join(one)
+    let h = own(part, t);
+    DependenceMap::load_join(part, CREATION, BEHAVIOUR).join_entry(t, h)
 }
 
 // Falls: annihilated if never checkpointed, else the next incarnation; 28 at the last one.
-fn roll_back(part: &mut [u8], t: usize) -> Acted
+pub fn roll_back(part: &mut [u8], t: usize) -> Acted
     requires { ⌜ GoodPart (now part) × (t < base .transactors) ⌝ }
     ensures { λ r. ⌜ Acts (rollbackOr28 base standard t (unpackTransactor base (now (part .entry)))) (r .outcome) (r .value) (now (part .exit)) ⌝ }
 {
@@ -131,10 +125,7 @@ fn read(part: &mut [u8]) -> Acted
     requires { ⌜ GoodPart (now part) ⌝ }
     ensures { λ r. ⌜ Acts (readBy base (unpackTransactor base (now (part .entry)))) (r .outcome) (r .value) (now (part .exit)) ⌝ }
 {
-    let state = DependenceMap::load(part, STATE);
-    let behaviour = DependenceMap::load(part, BEHAVIOUR);
-    let joined = state.join(behaviour);
-    joined.store(part, BEHAVIOUR);
+    maps::in_place::join_into(part, STATE, BEHAVIOUR);
     let value = octets::load32(part, VALUE);
     Acted {
         outcome: numbers::DONE,
@@ -150,11 +141,8 @@ fn write(part: &mut [u8], t: usize, value: u32) -> Acted
     if h.stable {
         return outcome_of(numbers::HELD);
     }
-    let behaviour = DependenceMap::load(part, BEHAVIOUR);
-    let state = DependenceMap::load(part, STATE);
-    let joined = behaviour.join(state);
     octets::store32(part, VALUE, value);
-    joined.store(part, STATE);
+    maps::in_place::join_into(part, BEHAVIOUR, STATE);
     outcome_of(numbers::DONE)
 }
 
@@ -204,25 +192,6 @@ pub fn act(part: &mut [u8], kind: u8, t: usize, value: u32) -> Acted
         }
         _ => roll_back_unless_stable(part, t, kind),
     }
-}
-
-// A receipt: dropped, or a fall, or taken in.
-pub fn accept(part: &mut [u8], t: usize, m: DependenceMap) -> Acted
-    requires { ⌜ GoodPart (now part) × (t < base .transactors) × Bounded (base .places) m ⌝ }
-    ensures { λ r. ⌜ Acts (acceptBy base standard t (unpackTransactor base (now (part .entry))) m) (r .outcome) (r .value) (now (part .exit)) ⌝ }
-{
-    let state = DependenceMap::load(part, STATE);
-    let creation = DependenceMap::load(part, CREATION);
-    let known = state.join(creation);
-    let Comparison::Superseded(first) = m.compare(known) else {
-        let Comparison::Superseded(first) = known.compare(m) else {
-            part[0] = 64 * numbers::BUSY;
-            m.store(part, BEHAVIOUR);
-            return outcome_of(numbers::DONE);
-        };
-        return roll_back(part, t);
-    };
-    outcome_of(numbers::DROPPED)
 }
 
 // Saves the value, and takes the history of the next checkpoint.

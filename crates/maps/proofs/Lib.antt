@@ -1,3 +1,5 @@
+pub mod InPlace
+pub mod Joins
 pub mod Loops
 pub mod Map
 pub mod Packed

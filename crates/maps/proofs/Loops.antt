@@ -9,7 +9,7 @@ use native.Mathlib.Numerals.{add-one}
 use native.Mathlib.Omega.{arith}
 use lib.ListN.{length, take, set, getD, length-map, length-set}
 use lib.Seq.{getD-set-same, getD-set-other}
-use Rattle.octets.specs.Bytes.{tabulate}
+use Rattle.octets.specs.Bytes.{pick, tabulate}
 use Rattle.octets.proofs.Chunks.{sides, fill-none, fill-more, fill-all}
 use Rattle.octets.proofs.Zero.{every-none, every-more, every-off}
 use Rattle.marks.specs.declared.History.{History}
@@ -17,7 +17,7 @@ use Rattle.marks.specs.History.{incarnationOf}
 use Rattle.marks.specs.Incarnation.{supersededBy}
 use Rattle.maps.specs.declared.DependenceMap.{DependenceMap}
 use Rattle.maps.specs.Map.{heldAt, historyAt, isEmpty, joinedHeldAt, joinedHistoryAt, joinOf, supersededEntry, supersededAt, firstFrom, firstSuperseded}
-use Rattle.maps.proofs.Map.{outside, Sized, same-map, takesRightAt, held-picked, history-picked, sized-join, held-join, history-join}
+use Rattle.maps.proofs.Map.{outside, Sized, same-map, choosesRightAt, held-picked, history-picked, sized-join, held-join, history-join}
 
 -- an array of structs: what owning it tells stands at a map of its list
 pub length-of-map : (X Y : Type 0) (f : X → Y) (l : List X) (n : ℕ) → length (map f l) ≡ n → length l ≡ n
@@ -92,7 +92,7 @@ module _ {n : ℕ} (a b : DependenceMap) where
   }
 
   module _ {r : DependenceMap} (i : ℕ) (k : Joining n a b i r) (below : i < n) where
-    pub joining-right : takesRightAt a b i ≡ true
+    pub joining-right : choosesRightAt a b i ≡ true
         → Joining n a b (i + 1) (record { held = set (r .held) i (heldAt b i); histories = set (r .histories) i (historyAt b i) })
     joining-right e = record {
       held = begun-set false (joinedHeldAt a b) (heldAt a) (r .held) i (heldAt b i) (k .held) (omega (arith, k .sized .helds)) (held-picked a b i true e);
@@ -103,7 +103,7 @@ module _ {n : ℕ} (a b : DependenceMap) where
       };
     }
 
-    pub joining-left : takesRightAt a b i ≡ false → Joining n a b (i + 1) r
+    pub joining-left : choosesRightAt a b i ≡ false → Joining n a b (i + 1) r
     joining-left e = record {
       held = begun-keep false (joinedHeldAt a b) (heldAt a) (r .held) i (k .held) (held-picked a b i false e);
       histories = begun-keep outside (joinedHistoryAt a b) (historyAt a) (r .histories) i (k .histories) (history-picked a b i false e);
@@ -170,6 +170,12 @@ module _ (n : ℕ) (a b : DependenceMap) where
     pub first-on : supersededAt a b i ≡ true → firstRest n a b i ≡ some i
     unfolding firstRest firstFrom
     first-on e = let k : n - i ≡ suc (n - (i + 1)) = omega arith in rw (k, e)
+
+  -- from the last entry to the first: the answer r from j on, and r' from the entry before it on
+  pub first-back : (i j : ℕ) → i + 1 ≡ j → j ≤ n → (t : Bool) → supersededAt a b i ≡ t → (r r' : Option ℕ)
+      → r ≡ firstRest n a b j → r' ≡ pick t (some i) r → r' ≡ firstRest n a b i
+  first-back i j e h true f r r' k z = z ∙ sym (first-on i (omega arith) f)
+  first-back i j e h false f r r' k z = z ∙ k ∙ ap (firstRest n a b) (sym e) ∙ sym (first-off i (omega arith) f)
 
   pub first-end : (i : ℕ) → i ≡ n → firstRest n a b i ≡ none
   unfolding firstRest firstFrom

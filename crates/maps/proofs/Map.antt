@@ -9,13 +9,14 @@ use lib.ListN.{length, replicate, length-set, length-replicate, getD-replicate, 
 use lib.Seq.{getD-set-same, getD-set-other}
 use borrow.Author.Tests.{not-true}
 use Rattle.octets.specs.Bytes.{pick, _or_}
+use Rattle.octets.proofs.Tests.{or-none}
 use Rattle.octets.proofs.Chunks.{sides, length-tabulate, getD-tabulate, tabulate-same, tabulate-getD}
 use Rattle.octets.proofs.Zero.{every-all, every-at}
 use Rattle.marks.specs.declared.History.{History}
 use Rattle.marks.specs.History.{initialHistory, newerOf, isOlder}
 use Rattle.marks.proofs.Histories.{Newer, newer-view, newer-idem, newer-older}
 use Rattle.maps.specs.declared.DependenceMap.{DependenceMap}
-use Rattle.maps.specs.Map.{heldAt, historyAt, emptyMap, withEntry, singleton, isEmpty, joinedHistory, takesRight, joinedHeldAt, joinedHistoryAt, joinOf}
+use Rattle.maps.specs.Map.{heldAt, historyAt, emptyMap, withEntry, singleton, isEmpty, joinedHistory, choosesRight, joinedHeldAt, joinedHistoryAt, joinOf}
 
 -- what stands past the end
 abbrev pub outside : History
@@ -125,26 +126,26 @@ module _ (p : Bool) (x : History) (q : Bool) (y : History) where
   unfolding joinedHistory
   joined-right e = rw e
 
-  pub takes-newer : p ≡ true → q ≡ true → takesRight p x q y ≡ isOlder x y
-  unfolding takesRight
-  takes-newer e f = rw (e, f)
+  pub chooses-newer : p ≡ true → q ≡ true → choosesRight p x q y ≡ isOlder x y
+  unfolding choosesRight
+  chooses-newer e f = rw (e, f)
 
-  pub takes-left : p ≡ true → q ≡ false → takesRight p x q y ≡ false
-  unfolding takesRight
-  takes-left e f = rw (e, f)
+  pub chooses-left : p ≡ true → q ≡ false → choosesRight p x q y ≡ false
+  unfolding choosesRight
+  chooses-left e f = rw (e, f)
 
-  pub takes-other : p ≡ false → takesRight p x q y ≡ true
-  unfolding takesRight
-  takes-other e = rw e
+  pub chooses-other : p ≡ false → choosesRight p x q y ≡ true
+  unfolding choosesRight
+  chooses-other e = rw e
 
-joined-pick : (p : Bool) (x : History) (q : Bool) (y : History) → joinedHistory p x q y ≡ pick (takesRight p x q y) y x
-unfolding joinedHistory takesRight
+joined-pick : (p : Bool) (x : History) (q : Bool) (y : History) → joinedHistory p x q y ≡ pick (choosesRight p x q y) y x
+unfolding joinedHistory choosesRight
 joined-pick true x true y = newer-older x y
 joined-pick true x false y = refl
 joined-pick false x q y = refl
 
-joined-pick-held : (p : Bool) (x : History) (q : Bool) (y : History) → p or q ≡ pick (takesRight p x q y) q p
-unfolding takesRight
+joined-pick-held : (p : Bool) (x : History) (q : Bool) (y : History) → p or q ≡ pick (choosesRight p x q y) q p
+unfolding choosesRight
 joined-pick-held true x true y = alike (isOlder x y)
   where
     alike : (t : Bool) → true ≡ pick t true true
@@ -154,10 +155,10 @@ joined-pick-held true x false y = refl
 joined-pick-held false x q y = refl
 
 -- entry i is the right one's where the test says so, else the left one's
-abbrev pub takesRightAt : DependenceMap → DependenceMap → ℕ → Bool
-takesRightAt a b i = takesRight (heldAt a i) (historyAt a i) (heldAt b i) (historyAt b i)
+abbrev pub choosesRightAt : DependenceMap → DependenceMap → ℕ → Bool
+choosesRightAt a b i = choosesRight (heldAt a i) (historyAt a i) (heldAt b i) (historyAt b i)
 
-module _ (a b : DependenceMap) (i : ℕ) (t : Bool) (e : takesRightAt a b i ≡ t) where
+module _ (a b : DependenceMap) (i : ℕ) (t : Bool) (e : choosesRightAt a b i ≡ t) where
   pub held-picked : pick t (heldAt b i) (heldAt a i) ≡ joinedHeldAt a b i
   unfolding joinedHeldAt
   held-picked = sym (joined-pick-held (heldAt a i) (historyAt a i) (heldAt b i) (historyAt b i) ∙ ap (λ (s : Bool). pick s (heldAt b i) (heldAt a i)) e)
@@ -210,6 +211,27 @@ module _ (n : ℕ) (a b : DependenceMap) where
     unfolding joinedHistoryAt
     join-right e = history-join ∙ joined-right (heldAt a i) (historyAt a i) (heldAt b i) (historyAt b i) e
 
+    -- by the test of the code
+    module _ (t : Bool) (e : choosesRightAt a b i ≡ t) where
+      pub held-chosen : heldAt (joinOf n a b) i ≡ pick t (heldAt b i) (heldAt a i)
+      held-chosen = held-join ∙ sym (held-picked a b i t e)
+
+      pub history-chosen : historyAt (joinOf n a b) i ≡ pick t (historyAt b i) (historyAt a i)
+      history-chosen = history-join ∙ sym (history-picked a b i t e)
+
+    -- where the right one holds nothing
+    module _ (off : heldAt b i ≡ false) where
+      pub held-join-off : heldAt (joinOf n a b) i ≡ heldAt a i
+      unfolding joinedHeldAt
+      held-join-off = held-join ∙ ap (λ (q : Bool). heldAt a i or q) off ∙ or-none (heldAt a i)
+
+      pub history-join-off : (heldAt a i ≡ false → historyAt a i ≡ historyAt b i) → historyAt (joinOf n a b) i ≡ historyAt a i
+      history-join-off f = go (heldAt a i) refl
+        where
+          go : (p : Bool) → heldAt a i ≡ p → historyAt (joinOf n a b) i ≡ historyAt a i
+          go true e = join-left e off
+          go false e = join-right e ∙ sym (f e)
+
 -- an entry is held in the join exactly if one of the two holds it
 pub held-join-test : (n : ℕ) (a b : DependenceMap) (i : ℕ) → i < n → (heldAt (joinOf n a b) i ≡ true) ↔ ((heldAt a i ≡ true) ⊎ (heldAt b i ≡ true))
 held-join-test n a b i h = (λ e. to e (join-view n a b i h), λ e. of e (join-view n a b i h))
@@ -252,15 +274,6 @@ module _ (l n : ℕ) where
 
   pub join-empty-right : {a : DependenceMap} → Sized n a → ((i : ℕ) → i < n → heldAt a i ≡ false → historyAt a i ≡ initialHistory l)
       → joinOf n a (emptyMap l n) ≡ a
-  unfolding joinedHeldAt joinedHistoryAt
   join-empty-right {a} s f = same-map (sized-join n a (emptyMap l n)) s
-      (λ i h. held-join n a (emptyMap l n) i h ∙ ap (λ (q : Bool). heldAt a i or q) (held-empty l n i) ∙ held (heldAt a i))
-      (λ i h. history i h (heldAt a i) refl)
-    where
-      held : (p : Bool) → p or false ≡ p
-      held true = refl
-      held false = refl
-
-      history : (i : ℕ) → i < n → (p : Bool) → heldAt a i ≡ p → historyAt (joinOf n a (emptyMap l n)) i ≡ historyAt a i
-      history i h true e = join-left n a (emptyMap l n) i h e (held-empty l n i)
-      history i h false e = join-right n a (emptyMap l n) i h e ∙ history-empty l n i h ∙ sym (f i h e)
+      (λ i h. held-join-off n a (emptyMap l n) i h (held-empty l n i))
+      (λ i h. history-join-off n a (emptyMap l n) i h (held-empty l n i) (λ e. f i h e ∙ sym (history-empty l n i h)))

@@ -22,7 +22,7 @@ use Rattle.marks.proofs.Packed.{length-packHistory, octets-packHistory, unpack-
 use Rattle.maps.specs.declared.DependenceMap.{DependenceMap}
 use Rattle.maps.specs.Map.{heldAt, historyAt, emptyMap, withEntry, singleton, isEmpty, joinOf}
 use Rattle.maps.specs.Packed.{mapSize, packEntry, packEntryAt, packMap, entryBytes, unpackHeldAt, unpackHistoryAt, unpackMap, formedEntry, formedEntryAt, formedMap, EntryOk, present, absent, MapOk, Bounded}
-use Rattle.maps.proofs.Map.{outside, Sized, same-map, sized-empty, held-empty, history-empty, isEmpty-test, sized-withEntry, held-withEntry, history-withEntry, held-withEntry-other, history-withEntry-other, Joined, both, left, right, neither, sized-join, join-view, join-empty-right}
+use Rattle.maps.proofs.Map.{outside, Sized, same-map, sized-empty, held-empty, history-empty, isEmpty-test, isEmpty-empty, sized-withEntry, held-withEntry, history-withEntry, held-withEntry-other, history-withEntry-other, Joined, both, left, right, neither, sized-join, join-view, join-empty-right}
 
 -- ---- one entry
 
@@ -303,14 +303,17 @@ bounded-join l n a b p q = bounded-within l (sized-join n a b) (λ i h. go (boun
     go c d (right e f) = d
     go c d (neither e f) = d
 
--- ---- the empty map is all zero
+-- ---- a map with no entry is all zero
+
+pub pack-isEmpty : (w l n : ℕ) (m : DependenceMap) → isEmpty n m ≡ true → packMap w l n m ≡ zeros (mapSize w l n)
+unfolding packMap packEntryAt packEntry
+pack-isEmpty w l n m e =
+    chunks-same n (packEntryAt w l m) (λ i. zeros (historySize w l))
+    (λ i h. ap (λ (p : Bool). packEntry w l p (historyAt m i)) (isEmpty-test n m .0 e i h))
+    ∙ chunks-zeros (historySize w l) n
 
 pub pack-emptyMap : (w l n : ℕ) → packMap w l n (emptyMap l n) ≡ zeros (mapSize w l n)
-unfolding packMap packEntryAt packEntry
-pack-emptyMap w l n =
-    chunks-same n (packEntryAt w l (emptyMap l n)) (λ i. zeros (historySize w l))
-    (λ i h. ap (λ (p : Bool). packEntry w l p (historyAt (emptyMap l n) i)) (held-empty l n i))
-    ∙ chunks-zeros (historySize w l) n
+pack-emptyMap w l n = pack-isEmpty w l n (emptyMap l n) (isEmpty-empty l n)
 
 pub unpack-zeros : (w l n : ℕ) → unpackMap w l n (zeros (mapSize w l n)) ≡ emptyMap l n
 unpack-zeros w l n = ap (unpackMap w l n) (sym (pack-emptyMap w l n)) ∙ unpack-packMap (mapOk-empty w l n)

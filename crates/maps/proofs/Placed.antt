@@ -16,10 +16,10 @@ use Rattle.marks.specs.declared.History.{History}
 use Rattle.marks.specs.Packed.{historySize, packHistory, unpackHistory, presentIn, formedHistory}
 use Rattle.marks.proofs.Packed.{length-packHistory}
 use Rattle.maps.specs.declared.DependenceMap.{DependenceMap}
-use Rattle.maps.specs.Map.{heldAt, historyAt, withEntry}
-use Rattle.maps.specs.Packed.{mapSize, packEntry, packEntryAt, packMap, entryBytes, unpackHeldAt, unpackHistoryAt, formedEntry, formedEntryAt, formedMap}
+use Rattle.maps.specs.Map.{heldAt, historyAt, withEntry, isEmpty}
+use Rattle.maps.specs.Packed.{mapSize, packEntry, packEntryAt, packMap, entryBytes, unpackHeldAt, unpackHistoryAt, mapIn, formedEntry, formedEntryAt, formedMap}
 use Rattle.maps.proofs.Map.{Sized, held-withEntry, history-withEntry, held-withEntry-other, history-withEntry-other}
-use Rattle.maps.proofs.Packed.{length-packEntryAt, formed-zeroMap}
+use Rattle.maps.proofs.Packed.{length-packEntryAt, held-unpack, history-unpack, pack-isEmpty, formed-zeroMap}
 
 -- ---- one entry
 
@@ -54,6 +54,9 @@ module _ (w l at : ℕ) (m : DependenceMap) where
   unfolding packMap packEntryAt
   put-map-more i b b' b'' e f h = put-more at (historySize w l) (packEntryAt w l m) (length-packEntryAt w l m) i b b' b'' e f h
 
+  pub put-map-zeros : (n : ℕ) (b b' : List ℕ) → isEmpty n m ≡ true → b' ≡ put at (zeros (mapSize w l n)) b → b' ≡ put at (packMap w l n m) b
+  put-map-zeros n b b' e f = f ∙ ap (λ (z : List ℕ). put at z b) (sym (pack-isEmpty w l n m e))
+
   pub put-map-all : (i n : ℕ) (b b' : List ℕ) → b' ≡ put at (packMap w l i m) b → i ≡ n → b' ≡ put at (packMap w l n m) b
   put-map-all i n b b' e h = e ∙ ap (λ (k : ℕ). put at (packMap w l k m) b) h
 
@@ -79,7 +82,7 @@ module _ (w l n : ℕ) {m : DependenceMap} (s : Sized n m) (i : ℕ) (h : Histor
 -- ---- entry i of a map that stands from at on
 
 module _ (w l n at : ℕ) (s : List ℕ) (i : ℕ) (below : i < n) where
-  entry-here : entryBytes w l (part at (mapSize w l n) s) i ≡ part (at + historySize w l * i) (historySize w l) s
+  pub entry-here : entryBytes w l (part at (mapSize w l n) s) i ≡ part (at + historySize w l * i) (historySize w l) s
   unfolding entryBytes
   entry-here = part-part (historySize w l * i) (historySize w l) at (mapSize w l n) s (step (historySize w l) i n below)
 
@@ -90,6 +93,12 @@ module _ (w l n at : ℕ) (s : List ℕ) (i : ℕ) (below : i < n) where
   pub history-here : unpackHistory w l (part (at + historySize w l * i) (historySize w l) s) ≡ unpackHistoryAt w l (part at (mapSize w l n) s) i
   unfolding unpackHistoryAt
   history-here = ap (unpackHistory w l) (sym entry-here)
+
+  pub held-in : heldAt (mapIn w l n s at) i ≡ presentIn (part (at + historySize w l * i) (historySize w l) s)
+  held-in = held-unpack w l n (part at (mapSize w l n) s) i below ∙ ap presentIn entry-here
+
+  pub history-in : historyAt (mapIn w l n s at) i ≡ unpackHistory w l (part (at + historySize w l * i) (historySize w l) s)
+  history-in = history-unpack w l n (part at (mapSize w l n) s) i below ∙ ap (unpackHistory w l) entry-here
 
   module _ (opened : ℕ) (t : Bool) (e : t ≡ formedEntry w l (ltb i opened) (part (at + historySize w l * i) (historySize w l) s)) where
     formed-here : formedEntryAt w l opened (part at (mapSize w l n) s) i ≡ t

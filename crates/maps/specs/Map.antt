@@ -41,8 +41,8 @@ unfoldable pub joinedHistory : Bool → History → Bool → History → History
 joinedHistory p x q y = pick p (pick q (newerOf x y) x) y
 
 -- whether that is the right entry; where neither is held too
-unfoldable pub takesRight : Bool → History → Bool → History → Bool
-takesRight p x q y = pick p (pick q (isOlder x y) false) true
+unfoldable pub choosesRight : Bool → History → Bool → History → Bool
+choosesRight p x q y = pick p (pick q (isOlder x y) false) true
 
 unfoldable pub joinedHeldAt : DependenceMap → DependenceMap → ℕ → Bool
 joinedHeldAt a b i = heldAt a i or heldAt b i

@@ -1,12 +1,14 @@
 // Dependence maps (document 01: maps): at most one history for each transactor, and the packed form.
+pub mod in_place;
+
 use marks::History;
 ghost use mathlib.Core.Path.{_≡_};
 ghost use Prim.Native.Nat.{_+_, _≤_, _<_};
 ghost use lib.ListN.{length};
 ghost use Rattle.octets.specs.Bytes.{put, part};
 ghost use Rattle.marks.specs.Packed.{width, places, historySize};
-ghost use Rattle.maps.specs.Map.{heldAt, historyAt, emptyMap, withEntry, singleton, isEmpty, takesRight, joinOf, supersededEntry, firstSuperseded, answerOf};
-ghost use Rattle.maps.specs.Packed.{entries, mapSize, packEntry, packMap, unpackMap, formedEntry, formedMap, Bounded};
+ghost use Rattle.maps.specs.Map.{heldAt, historyAt, emptyMap, withEntry, singleton, isEmpty, choosesRight, joinOf, supersededEntry, firstSuperseded, answerOf};
+ghost use Rattle.maps.specs.Packed.{entries, mapSize, packEntry, packMap, unpackMap, mapIn, formedEntry, formedMap, Bounded, MapOk};
 
 // One entry for each transactor, and the bytes of a packed map.
 pub const ENTRIES: usize = 16;
@@ -98,13 +100,27 @@ impl DependenceMap {
             let q = other.held[i];
             let x = self.histories[i];
             let y = other.histories[i];
-            if takes_right(p, x, q, y) {
+            if chooses_right(p, x, q, y) {
                 r.held[i] = q;
                 r.histories[i] = y;
             }
             i += 1;
         }
         r
+    }
+
+    // Joined with the map of h for transactor i alone.
+    pub fn join_entry(mut self, i: usize, h: History) -> DependenceMap
+        requires { ⌜ (i < entries) × MapOk width places entries self ⌝ }
+        ensures { λ r. ⌜ r ≡ joinOf entries self (singleton places entries i h) ⌝ }
+    {
+        let p = self.held[i];
+        let x = self.histories[i];
+        if chooses_right(p, x, true, h) {
+            self.held[i] = true;
+            self.histories[i] = h;
+        }
+        self
     }
 
     // The first transactor of which self's history is superseded by other's.
@@ -131,6 +147,11 @@ impl DependenceMap {
         requires { ⌜ (at + mapSize width places entries ≤ length (now image)) × Bounded places self ⌝ }
         ensures { λ _. ⌜ now (image .exit) ≡ put at (packMap width places entries self) (now (image .entry)) ⌝ }
     {
+        // A map without entries: one stretch of zeros.
+        if self.is_empty() {
+            octets::clear(image, at, SIZE);
+            return;
+        }
         let mut i: usize = 0;
         while i < ENTRIES {
             let p = self.held[i];
@@ -149,6 +170,23 @@ impl DependenceMap {
         let mut i: usize = 0;
         while i < ENTRIES {
             let from = at + marks::SIZE * i;
+            r.held[i] = History::present(s, from);
+            r.histories[i] = History::load(s, from);
+            i += 1;
+        }
+        r
+    }
+
+    // The join of the maps packed from left and from right on, loaded entry by entry.
+    pub fn load_join(s: &[u8], left: usize, right: usize) -> DependenceMap
+        requires { ⌜ (left + mapSize width places entries ≤ length (now s)) × (right + mapSize width places entries ≤ length (now s)) ⌝ }
+        ensures { λ r. ⌜ r ≡ joinOf entries (mapIn width places entries (now (s .entry)) left) (mapIn width places entries (now (s .entry)) right) ⌝ }
+    {
+        let mut r = DependenceMap::EMPTY;
+        let mut i: usize = 0;
+        while i < ENTRIES {
+            let step = marks::SIZE * i;
+            let from = in_place::chosen(s, left + step, right + step);
             r.held[i] = History::present(s, from);
             r.histories[i] = History::load(s, from);
             i += 1;
@@ -177,8 +215,8 @@ impl DependenceMap {
 }
 
 // Whether the join's entry is the right one.
-fn takes_right(p: bool, x: History, q: bool, y: History) -> bool
-    ensures { λ r. ⌜ r ≡ takesRight p x q y ⌝ }
+fn chooses_right(p: bool, x: History, q: bool, y: History) -> bool
+    ensures { λ r. ⌜ r ≡ choosesRight p x q y ⌝ }
 {
     if p {
         if q {

@@ -4,17 +4,18 @@ use Prim.Native.Nat.{ℕ, _+_, _-_, _*_, _/_, _%_, _≤_, _<_}
 use mathlib.Core.Bool.{false}
 use mathlib.Core.Path.{_≡_, ap, sym, _∙_, subst}
 use mathlib.Core.List.{List, _++_}
-use native.Mathlib.Nat.{add-zero, mul-add}
+use native.Mathlib.Nat.{add-zero, mul-add, mul-le-mul-left}
 use native.Mathlib.Omega.{arith}
 use lib.Dec.{leb}
 use lib.ListN.{length, take, drop, getD, set, length-drop}
 use lib.Seq.{take-all}
 use borrow.Author.Tests.{le-leb, lt-leb, eq-eqb, ne-eqb}
-use Rattle.octets.specs.Bytes.{put, part, chunks, tabulate, allZero}
+use Rattle.octets.specs.Bytes.{_and_, put, part, chunks, tabulate, allZero}
 use Rattle.octets.specs.Numbers.{be, ofBe}
 use Rattle.octets.proofs.Put.{put-append, part-part, getD-part, part-def, length-part}
 use Rattle.octets.proofs.Numbers.{length-be, put-be-one}
 use Rattle.octets.proofs.Chunks.{step, tabulate-same, fill-more, fill-all, put-more}
+use Rattle.octets.proofs.Zero.{allZero-windows}
 use Rattle.marks.specs.declared.History.{History}
 use Rattle.marks.proofs.Packed.{headOf, head-fits, front, numbers, length-packNumberAt, length-front, length-numbers}
 use Rattle.marks.specs.Packed.{historySize, bit, packNumberAt, packHistory, unpackHistory, loadNumberAt, presentIn, formedHistory}
@@ -36,6 +37,15 @@ number-filled w at i n s l e f h = fill-more (loadNumberAt w s at) l i n e h f
 
 pub numbers-filled : (w at i n : ℕ) (s l : List ℕ) → take i l ≡ tabulate i (loadNumberAt w s at) → i ≡ n → length l ≡ n → l ≡ tabulate n (loadNumberAt w s at)
 numbers-filled w at i n s l e h k = fill-all (loadNumberAt w s at) l n (subst (λ (j : ℕ). take j l ≡ tabulate j (loadNumberAt w s at)) h e) k
+
+-- the places from c on, by the first k and the last k of them, where k is at least half of all
+pub unused-halves : (w l k at c : ℕ) (s : List ℕ) → l ≤ k + k → c + k ≤ l
+    → allZero (part (at + w * c) (w * (l - c)) s) ≡ allZero (part (at + w * c) (w * k) s) and allZero (part (at + w * (l - k)) (w * k) s)
+unused-halves w l k at c s p q =
+    let few : w * k ≤ w * (l - c) = mul-le-mul-left w (omega arith) in
+    let enough : w * (l - c) ≤ w * k + w * k = rw (← mul-add w k k) (mul-le-mul-left w (omega arith)) in
+    let end : w * (l - k) + w * k ≡ w * c + w * (l - c) = rw (← mul-add w (l - k) k, ← mul-add w c (l - c)) (ap (λ (x : ℕ). w * x) (omega arith)) in
+    allZero-windows (at + w * c) (at + w * (l - k)) (w * (l - c)) (w * k) s few enough (omega (arith, end))
 
 -- ---- a history
 

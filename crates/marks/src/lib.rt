@@ -1,8 +1,8 @@
 // Histories (document 01: marks): what a transactor's past looks like, and its packed form.
 ghost use mathlib.Core.Path.{_≡_};
-ghost use Prim.Native.Nat.{_+_, _*_, _≤_, _<_};
+ghost use Prim.Native.Nat.{_+_, _-_, _*_, _≤_, _<_};
 ghost use lib.ListN.{length, take};
-ghost use Rattle.octets.specs.Bytes.{put, part, chunks, tabulate};
+ghost use Rattle.octets.specs.Bytes.{put, part, chunks, tabulate, allZero};
 ghost use Rattle.octets.specs.Numbers.{ofBe, be};
 ghost use Rattle.marks.specs.Incarnation.{sameList, supersededBy, checkpointedIn, sameIncarnation};
 ghost use Rattle.marks.specs.History.{incarnationOf, initialHistory, stabilized, rolledBack, checkpointed, newerOf, isOlder};
@@ -12,6 +12,9 @@ ghost use Rattle.marks.specs.Packed.{width, places, largest, historySize
 pub const WIDTH: usize = 1;
 
 pub const PLACES: usize = 15;
+
+// Half of the places, rounded up.
+const HALF: usize = (PLACES + 1) / 2;
 
 pub const SIZE: usize = 1 + WIDTH + WIDTH * PLACES;
 
@@ -232,8 +235,23 @@ impl History {
             return false;
         }
         let count = (head % 16) as usize;
-        octets::all_zero(s, at + 1 + WIDTH + WIDTH * count, WIDTH * (PLACES - count))
+        unused_zero(s, at + 1 + WIDTH, count)
     }
+}
+
+// Whether the places of the list from at on that count leaves unused are zero.
+fn unused_zero(s: &[u8], at: usize, count: usize) -> bool
+    requires { ⌜ (at + width * places ≤ length (now s)) × (count ≤ places) ⌝ }
+    ensures { λ r. ⌜ r ≡ allZero (part (at + width * count) (width * (places - count)) (now (s .entry))) ⌝ }
+{
+    if PLACES - count < HALF {
+        return octets::all_zero(s, at + WIDTH * count, WIDTH * (PLACES - count));
+    }
+    // The first and the last half of them, which may overlap: tests of a fixed length have no loop.
+    if !octets::all_zero(s, at + WIDTH * count, WIDTH * HALF) {
+        return false;
+    }
+    octets::all_zero(s, at + WIDTH * (PLACES - HALF), WIDTH * HALF)
 }
 
 fn flag(b: bool) -> u8

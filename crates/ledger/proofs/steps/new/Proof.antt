@@ -56,7 +56,8 @@ part-carry-end : tie.Need-part-carry-end
 part-carry-end c = search needs
 
 carry-requires : tie.Need-carry-requires
-carry-requires c κs = search needs
+carry-requires c κs = let p = c .before .before .before .before .before .before .before .before .before .pre in
+    (good-lent _ (p .good) _ (p .step .transactor), p .step .transactor)
 
 sub-adopt : tie.Need-sub-adopt
 sub-adopt c = search needs

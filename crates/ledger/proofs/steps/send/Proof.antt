@@ -1,7 +1,7 @@
 use borrow.Author.Needs.{needs}
 use Rattle.ledger.specs.Pack.{unpack}
 use Rattle.ledger.proofs.Images.{room, send-unopened, send-idle, send-crowded, send-done}
-use Rattle.ledger.proofs.Lent.{bounded-carried}
+use Rattle.ledger.proofs.Lent.{good-lent, bounded-carried}
 use Rattle.ledger.proofs.steps.send.Statement.{statement}
 use Rattle.ledger.proofs.steps.send.Tie as tie
 
@@ -66,7 +66,8 @@ part-carry-end : tie.Need-part-carry-end
 part-carry-end c = search needs
 
 carry-requires : tie.Need-carry-requires
-carry-requires c κs = search needs
+carry-requires c κs = let p = c .before .before .before .before .before .before .before .before .before .before .before .before .before .before .pre in
+    (good-lent _ (p .good) _ (p .step .transactor), p .step .transactor)
 
 load16-requires : tie.Need-load16-requires
 load16-requires c κs = search needs

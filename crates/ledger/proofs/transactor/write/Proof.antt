@@ -1,10 +1,12 @@
 -- Frozen, nothing changes; else text and state map.
 use mathlib.Core.Path.{sym, _∙_}
+use native.Mathlib.Omega.{arith}
 use borrow.Author.Needs.{needs}
-use Rattle.ledger.specs.Layout.{base}
+use Rattle.maps.specs.Packed.{Apart}
+use Rattle.ledger.specs.Layout.{base, stateAt, behaviourAt}
 use Rattle.ledger.specs.Pack.{unpackTransactor}
 use Rattle.ledger.proofs.Fields.{put-value, put-state}
-use Rattle.ledger.proofs.Acts.{stored, map-stored, loaded-bounded, joined-bounded, acted, write-frozen, write-loose}
+use Rattle.ledger.proofs.Acts.{stored, map-exact, map-behind, acted, write-frozen, write-loose}
 use Rattle.ledger.proofs.transactor.write.Statement.{statement}
 use Rattle.ledger.proofs.transactor.write.Tie as tie
 
@@ -23,20 +25,20 @@ returns c =
     let e = d .before in
     acted (write-frozen base _ _ (e .own .ensures) _ (d .if1 .taken)) (c .outcome-of .ensures) (sym (e .before .before .before .pre .0 .back))
 
-load-requires : tie.Need-load-requires
-load-requires c κs = search needs
-
-load-requires-2 : tie.Need-load-requires-2
-load-requires-2 c κs = search needs
-
-join-requires : tie.Need-join-requires
-join-requires c κs = search needs
-
 store32-requires : tie.Need-store32-requires
 store32-requires c κs = search needs
 
-store-requires : tie.Need-store-requires
-store-requires c κs = (search needs, let d = c .before .before .before .before .before in let e = d .before in joined-bounded base _ _ (d .join .ensures) (loaded-bounded _ _ (e .before .before .load .ensures)) (loaded-bounded _ _ (e .load2 .ensures)))
+join-into-requires : tie.Need-join-into-requires
+unfolding unpackTransactor
+join-into-requires c κs =
+    let d = c .before .before .before in
+    let p = d .before .before .before .before .before .before .pre .0 in (
+      search needs,
+      search needs,
+      Apart.behind (omega arith),
+      map-exact base _ stateAt _ (omega arith) (put-state base _ _)
+          (stored base _ _ _ _ (put-value base _ _) (sym (p .back)) (d .store32 .ensures)) (map-behind base _ _ (p .long) (d .store32 .ensures) stateAt (omega arith)),
+    )
 
 outcome-of-requires-2 : tie.Need-outcome-of-requires-2
 outcome-of-requires-2 c κs = search needs
@@ -50,12 +52,12 @@ returns-2 c =
     let d = c .before .before .before in
     let e = d .before .before .before .before in
     let f = e .before .before in
-    let g = f .before in
-    let h = g .before .before in
-    let i = h .before .before in
+    let p = f .before .before .before .before .pre .0 in
+    let kept = map-behind base _ _ (p .long) (e .store32 .ensures) in
     acted
-    (write-loose base _ _ (i .before .own .ensures) _ (i .if1 .left)) (c .outcome-of2 .ensures)
-    (map-stored base _ _ _ (put-state base _) (stored base _ _ _ _ (put-value base _ _) (sym (i .before .before .before .before .pre .0 .back)) (e .store32 .ensures)) (f .join .ensures ∙ rw (h .load .ensures, g .load2 .ensures)) (d .store .ensures))
+    (write-loose base _ _ (f .before .own .ensures) _ (f .if1 .left)) (c .outcome-of2 .ensures)
+    (stored base _ _ _ _ (put-state base _ _) (stored base _ _ _ _ (put-value base _ _) (sym (p .back)) (e .store32 .ensures))
+    (d .join-into .ensures ∙ rw (kept (behaviourAt base) (omega arith), kept stateAt (omega arith))))
 
 pub write-spec : {M : Type 1} → statement M
 write-spec =
@@ -65,11 +67,8 @@ write-spec =
     outcome-of-requires
     same-length
     returns
-    load-requires
-    load-requires-2
-    join-requires
     store32-requires
-    store-requires
+    join-into-requires
     outcome-of-requires-2
     same-length-2
     returns-2)

@@ -36,8 +36,8 @@ mul-y c = search needs
 element-copy-out-y : tie.Need-element-copy-out-y Inv-loop μ-loop
 element-copy-out-y c = search needs
 
-takes-right-requires : tie.Need-takes-right-requires Inv-loop μ-loop
-takes-right-requires c κs = search needs
+chooses-right-requires : tie.Need-chooses-right-requires Inv-loop μ-loop
+chooses-right-requires c κs = search needs
 
 element-write-r : tie.Need-element-write-r Inv-loop μ-loop
 element-write-r c = search needs
@@ -60,8 +60,8 @@ loop-again c =
       omega arith,
       let P = Joining entries _ _ (b .i + 1) in
           ⊎-elim
-          (λ w. subst P (sym (w .1)) (joining-right _ _ (b .i) (b .inv .1) (omega arith) (sym (c .before .takes-right .ensures) ∙ w .0 .taken)))
-          (λ w. subst P (sym (w .1)) (joining-left _ _ (b .i) (b .inv .1) (omega arith) (sym (c .before .takes-right .ensures) ∙ w .0 .left)))
+          (λ w. subst P (sym (w .1)) (joining-right _ _ (b .i) (b .inv .1) (omega arith) (sym (c .before .chooses-right .ensures) ∙ w .0 .taken)))
+          (λ w. subst P (sym (w .1)) (joining-left _ _ (b .i) (b .inv .1) (omega arith) (sym (c .before .chooses-right .ensures) ∙ w .0 .left)))
           (c .if1 .came),
     )
 
@@ -81,7 +81,7 @@ join-spec =
     element-copy-out-x
     mul-y
     element-copy-out-y
-    takes-right-requires
+    chooses-right-requires
     element-write-r
     mul-y-2
     element-set-from-y

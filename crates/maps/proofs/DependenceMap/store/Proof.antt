@@ -1,12 +1,12 @@
--- After i turns the first i entries are put.
+-- Zeros, or after i turns the first i entries.
 use Prim.Native.Nat.{_-_, _≤_}
-use mathlib.Core.Path.{_≡_, refl}
+use mathlib.Core.Path.{_≡_, refl, sym, _∙_}
 use native.Mathlib.Omega.{arith}
 use lib.ListN.{length}
 use Rattle.octets.specs.Bytes.{put}
 use Rattle.marks.specs.Packed.{width, places}
 use Rattle.maps.specs.Packed.{entries, packMap}
-use Rattle.maps.proofs.Placed.{put-map-none, put-map-more, put-map-all}
+use Rattle.maps.proofs.Placed.{put-map-none, put-map-more, put-map-zeros, put-map-all}
 use Rattle.maps.proofs.Packed.{bounded-at}
 use borrow.Author.Needs.{needs}
 use Rattle.maps.proofs.DependenceMap.store.Statement.{statement}
@@ -17,6 +17,20 @@ Inv-loop image₀ at self i₀ image i = (i ≤ entries) × (image ≡ put at (p
 
 abbrev μ-loop : tie.MeasureT-loop
 μ-loop image₀ at self i₀ image i = entries - i
+
+is-empty-requires : tie.Need-is-empty-requires Inv-loop μ-loop
+is-empty-requires c κs = search needs
+
+clear-requires : tie.Need-clear-requires Inv-loop μ-loop
+clear-requires c κs = search needs
+
+same-length : tie.Need-same-length Inv-loop μ-loop
+same-length c = search needs
+
+returns : tie.Need-returns Inv-loop μ-loop
+returns c =
+    let b = c .before .before .before .before in
+    put-map-zeros width places _ _ entries _ _ (sym (b .before .is-empty .ensures) ∙ b .if1 .taken) (c .before .before .clear .ensures)
 
 loop-holds : tie.Need-loop-holds Inv-loop μ-loop
 loop-holds c = (search needs, put-map-none _ _ _ _ _, refl)
@@ -37,7 +51,7 @@ add-store-entry : tie.Need-add-store-entry Inv-loop μ-loop
 add-store-entry c = search needs
 
 store-entry-requires : tie.Need-store-entry-requires Inv-loop μ-loop
-store-entry-requires c κs = let s = c .before .before .before .before in (search needs, bounded-at _ _ (s .before .before .pre .1) (s .loop .i))
+store-entry-requires c κs = let s = c .before .before .before .before in (search needs, bounded-at _ _ (s .before .before .before .before .pre .1) (s .loop .i))
 
 add-i : tie.Need-add-i Inv-loop μ-loop
 add-i c = search needs
@@ -50,11 +64,11 @@ loop-again c =
     let b = c .before .before .before .before .before .before .before .loop in
     (omega arith, put-map-more width places _ _ (b .i) _ _ _ (b .inv .1) (c .before .before .store-entry .ensures) (omega arith), search needs)
 
-same-length : tie.Need-same-length Inv-loop μ-loop
-same-length c = search needs
+same-length-2 : tie.Need-same-length-2 Inv-loop μ-loop
+same-length-2 c = search needs
 
-returns : tie.Need-returns Inv-loop μ-loop
-returns c = put-map-all width places _ _ _ _ _ _ (c .before .loop .inv .1) (omega arith)
+returns-2 : tie.Need-returns-2 Inv-loop μ-loop
+returns-2 c = put-map-all width places _ _ _ _ _ _ (c .before .loop .inv .1) (omega arith)
 
 pub store-spec : {M : Type 1} → statement M
 store-spec =
@@ -62,6 +76,10 @@ store-spec =
     (tie.spec
     Inv-loop
     μ-loop
+    is-empty-requires
+    clear-requires
+    same-length
+    returns
     loop-holds
     element-copy-out-p
     mul-h
@@ -72,5 +90,5 @@ store-spec =
     add-i
     loop-less
     loop-again
-    same-length
-    returns)
+    same-length-2
+    returns-2)

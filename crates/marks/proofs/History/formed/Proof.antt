@@ -22,29 +22,17 @@ returns-2 c = formed-bits width places _ _ (omega arith) (omega arith) (c .if2 .
 cast-count : tie.Need-cast-count
 cast-count c = search needs
 
-add-all-zero : tie.Need-add-all-zero
-add-all-zero c = search needs
+add-unused-zero : tie.Need-add-unused-zero
+add-unused-zero c = search needs
 
-add-all-zero-2 : tie.Need-add-all-zero-2
-add-all-zero-2 c = search needs
+add-unused-zero-2 : tie.Need-add-unused-zero-2
+add-unused-zero-2 c = search needs
 
-mul-all-zero : tie.Need-mul-all-zero
-mul-all-zero c = search needs
-
-add-all-zero-3 : tie.Need-add-all-zero-3
-add-all-zero-3 c = search needs
-
-sub-all-zero : tie.Need-sub-all-zero
-sub-all-zero c = search needs
-
-mul-all-zero-2 : tie.Need-mul-all-zero-2
-mul-all-zero-2 c = search needs
-
-all-zero-requires-2 : tie.Need-all-zero-requires-2
-all-zero-requires-2 c κs = search needs
+unused-zero-requires : tie.Need-unused-zero-requires
+unused-zero-requires c κs = search needs
 
 returns-3 : tie.Need-returns-3
-returns-3 c = c .all-zero2 .ensures ∙ formed-list width places _ _ (omega arith) (omega arith) (c .before .if2 .left) (omega arith)
+returns-3 c = c .unused-zero .ensures ∙ formed-list width places _ _ (omega arith) (omega arith) (c .before .if2 .left) (omega arith)
 
 pub formed-spec : {M : Type 1} → statement M
 formed-spec =
@@ -55,11 +43,7 @@ formed-spec =
     returns
     returns-2
     cast-count
-    add-all-zero
-    add-all-zero-2
-    mul-all-zero
-    add-all-zero-3
-    sub-all-zero
-    mul-all-zero-2
-    all-zero-requires-2
+    add-unused-zero
+    add-unused-zero-2
+    unused-zero-requires
     returns-3)
