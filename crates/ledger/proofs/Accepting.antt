@@ -108,24 +108,24 @@ module _ (y : Layout) (img : List ℕ) (t : ℕ) (below : t < y .transactors) (k
   packedKnown = join y (unpackDependences y (transactorAddress y t + stateAt) img) (unpackDependences y (transactorAddress y t + creationAt y) img)
 
   module _ (m : Limits) (f : Comparison) (e : answerOf f ≡ firstSuperseded (y .transactors) packedDeps packedKnown) where
-    parcel-stale : firstSuperseded (y .transactors) deps (known y x) ≡ answerOf f
-    parcel-stale = rw (read-dependences y img k waits, read-state y img t below, read-creation y img t below) (sym e)
+    message-superseded : firstSuperseded (y .transactors) deps (known y x) ≡ answerOf f
+    message-superseded = rw (read-dependences y img k waits, read-state y img t below, read-creation y img t below) (sym e)
 
     pub accepts-dropped : {i : ℕ} → f ≡ Superseded i → acceptBy y m t x deps ≡ unchanged dropped x
     unfolding acceptBy
-    accepts-dropped p = rw (parcel-stale, p)
+    accepts-dropped p = rw (message-superseded, p)
 
     module _ (p : f ≡ Current) (g : Comparison) (q : answerOf g ≡ firstSuperseded (y .transactors) packedKnown packedDeps) where
-      take-stale : firstSuperseded (y .transactors) (known y x) deps ≡ answerOf g
-      take-stale = rw (read-dependences y img k waits, read-state y img t below, read-creation y img t below) (sym q)
+      receiver-superseded : firstSuperseded (y .transactors) (known y x) deps ≡ answerOf g
+      receiver-superseded = rw (read-dependences y img k waits, read-state y img t below, read-creation y img t below) (sym q)
 
       pub accepts-rollback : {i : ℕ} → g ≡ Superseded i → acceptBy y m t x deps ≡ rollbackOr28 y m t x
       unfolding acceptBy
-      accepts-rollback r = rw (parcel-stale, p, take-stale, r)
+      accepts-rollback r = rw (message-superseded, p, receiver-superseded, r)
 
       pub accepts-done : g ≡ Current → acceptBy y m t x deps ≡ unchanged done (takenIn x deps)
       unfolding acceptBy
-      accepts-done r = rw (parcel-stale, p, take-stale, r)
+      accepts-done r = rw (message-superseded, p, receiver-superseded, r)
 
 -- ---- what a function on an image answers that changes take t alone
 

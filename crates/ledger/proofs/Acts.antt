@@ -140,9 +140,9 @@ acted q r s = acts-as q (record { outcome = r .0; value = r .1; bytes = s })
 
 module _ (y : Layout) (m : Limits) (t : ℕ) (x : Transactor) {h : History} (own : h ≡ ownHistory t x) where
   -- never signed
-  pub rollback-unsigned : h .count ≡ 0 → rollbackOr28 y m t x ≡ record { outcome = vanished; value = 0; transactor = bare y annihilated }
+  pub rollback-uncheckpointed : h .count ≡ 0 → rollbackOr28 y m t x ≡ record { outcome = vanished; value = 0; transactor = bare y annihilated }
   unfolding rollbackOr28 isLastIncarnation rollback
-  rollback-unsigned z =
+  rollback-uncheckpointed z =
       let n : ownHistory t x .count ≡ 0 = ap (λ (g : History). g .count) (sym own) ∙ z in
       rw n
 
@@ -168,27 +168,27 @@ module _ (y : Layout) (m : Limits) (t : ℕ) (x : Transactor) {h : History} (own
         let l : leb (m .incarnation) (ownHistory t x .incarnation) ≡ false = rw (← own) (lt-leb (m .incarnation) (h .incarnation) k) in
         rw (positive, l, counted, e, f, own)
 
-  frozen : (z : Bool) → h .stable ≡ z → ownHistory t x .stable ≡ z
-  frozen z e = ap (λ (g : History). g .stable) (sym own) ∙ e
+  own-stable : (z : Bool) → h .stable ≡ z → ownHistory t x .stable ≡ z
+  own-stable z e = ap (λ (g : History). g .stable) (sym own) ∙ e
 
   module _ (k : ℕ) where
     pub unstable-loose : h .stable ≡ false → rollbackUnlessStable y m k t x ≡ rollbackOr28 y m t x
     unfolding rollbackUnlessStable
-    unstable-loose e = rw (frozen false e)
+    unstable-loose e = rw (own-stable false e)
 
     module _ (e : h .stable ≡ true) where
       pub unstable-fall : k ≡ fall → rollbackUnlessStable y m k t x ≡ unchanged held (finishBy y x .transactor)
       unfolding rollbackUnlessStable finishBy
-      unstable-fall f = rw (frozen true e, eq-eqb k fall f)
+      unstable-fall f = rw (own-stable true e, eq-eqb k fall f)
 
       pub unstable-fail : (k ≡ fall → ⊥) → rollbackUnlessStable y m k t x ≡ unchanged held x
       unfolding rollbackUnlessStable
-      unstable-fail n = rw (frozen true e, ne-eqb k fall n)
+      unstable-fail n = rw (own-stable true e, ne-eqb k fall n)
 
 module _ (y : Layout) (t : ℕ) (x : Transactor) {h : History} (own : h ≡ ownHistory t x) (v : ℕ) where
-  pub write-frozen : h .stable ≡ true → writeBy y t v x ≡ unchanged held x
+  pub write-stable : h .stable ≡ true → writeBy y t v x ≡ unchanged held x
   unfolding writeBy
-  write-frozen e = rw (← own, e)
+  write-stable e = rw (← own, e)
 
   pub write-loose : h .stable ≡ false → writeBy y t v x ≡ unchanged done (withState (withValue x v) (join y (x .behaviour) (x .state)))
   unfolding writeBy

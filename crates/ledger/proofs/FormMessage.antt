@@ -10,7 +10,7 @@ use borrow.Author.Tests.{eqb-true, eq-eqb, lt-ltb, ltb-true, lt-leb, leb-false}
 use lib.ListN.{length, getD, List·getD-eq-default}
 use Rattle.octets.specs.Bytes.{_and_, _or_, allZero}
 use Rattle.octets.proofs.Chunks.{sides}
-use Rattle.octets.proofs.Zero.{both}
+use Rattle.octets.proofs.Zero.{both, allZero-at}
 use Rattle.ledger.specs.Layout.{Layout, dependencesAt, messageAddress, imageBytes}
 use Rattle.ledger.specs.State.{Message, messageAt}
 use Rattle.ledger.specs.Pack.{messagePart, vacantAt, waitingIn, unpack}
@@ -19,7 +19,6 @@ use Rattle.ledger.proofs.Back.{vacant-behind}
 use Rattle.octets.proofs.Tests.{never, implying, otherwise, unless}
 use Rattle.ledger.proofs.Clauses.{Below}
 use Rattle.ledger.proofs.Loads.{read-vacant, unpack-waiting, waiting-few, waiting-taken}
-use Rattle.ledger.proofs.Zeros.{zero-first}
 
 -- ---- each clause at k, as a fact
 
@@ -51,7 +50,7 @@ module _ (y : Layout) (img : List ℕ) (k : ℕ) where
   -- a place of zeros is vacant
   zero-vacant : allZero (messagePart y img k) ≡ true → vacantAt y img k ≡ true
   unfolding vacantAt
-  zero-vacant e = rw (zero-first (messagePart y img k) e)
+  zero-vacant e = rw (allZero-at (messagePart y img k) 0 e)
 
 -- a test of the place k, asked only before place n
 module _ (n k a b : ℕ) where

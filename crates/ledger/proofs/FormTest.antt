@@ -16,7 +16,7 @@ use Rattle.octets.specs.Bytes.{pick, _and_, _or_, part, every, allZero, Octets}
 use Rattle.octets.specs.Numbers.{ofBe}
 use Rattle.octets.proofs.Put.{part-def, octet, octets-of}
 use Rattle.octets.proofs.Chunks.{sides}
-use Rattle.octets.proofs.Zero.{both, every-at, every-all}
+use Rattle.octets.proofs.Zero.{both, allZero-at, allZero-part, every-at, every-all}
 use Rattle.maps.specs.Map.{heldAt}
 use Rattle.maps.specs.Packed.{formedMap}
 use Rattle.ledger.specs.Layout.{Layout, mapBytes, stateAt, creationAt, behaviourAt, dependencesAt, transactorBytes, transactorAddress, messageAddress, imageBytes}
@@ -29,8 +29,7 @@ use Rattle.ledger.specs.Tests.{formedOwnAt, formedLiveAt, formedTransact
 use Rattle.octets.proofs.Tests.{implied, implying, same-test}
 use Rattle.ledger.proofs.Clauses.{Below}
 use Rattle.ledger.proofs.Loads.{length-transactorPart, part-transactor, first-transactor, part-message, first-message, read-status, read-saved, read-held, read-history, read-addressee, read-number, waiting-few}
-use Rattle.ledger.proofs.Zeros.{zero-first, zero-part, mapFormed-zeros}
-use Rattle.ledger.proofs.FormTransactor.{TransactorForm, TransactorFormAt, unopened, vanished, living, AliveForm, live-low, live-high, statuses}
+use Rattle.ledger.proofs.FormTransactor.{TransactorForm, TransactorFormAt, unopened, vanished, living, AliveForm, live-low, live-high, statuses, mapFormed-zeros}
 use Rattle.ledger.proofs.FormMessage.{MessageFormAt, MessagesForm}
 use Rattle.ledger.proofs.FormImage.{ImageForm, form-image, image-form}
 
@@ -140,7 +139,7 @@ module _ (y : Layout) (opened t : ℕ) (b : List ℕ) (x : Transactor) where
           → (mapFormed y opened (behaviourAt y) b ≡ true) × (x .status ≡ ready → allZero (part (behaviourAt y) (mapBytes y) b) ≡ true)
       behaves m u idle g =
           let z : allZero (part (behaviourAt y) (mapBytes y) b) ≡ true = rw u at g in
-          (mapFormed-zeros y opened (behaviourAt y) b (zero-part (behaviourAt y) (mapBytes y) b (omega arith) z), λ r. z)
+          (mapFormed-zeros y opened (behaviourAt y) b (allZero-part (behaviourAt y) (mapBytes y) b (omega arith) z), λ r. z)
       behaves m u working g = (rw u at g, λ r. absurd (omega arith))
 
   test-form : x .status ≡ getD b 0 0 / 64 → getD b 0 0 < 256 → length b ≡ transactorBytes y → testTransactor y opened t b x ≡ true → TransactorForm y opened t b x
@@ -149,7 +148,7 @@ module _ (y : Layout) (opened t : ℕ) (b : List ℕ) (x : Transactor) where
       rest : opened ≤ t → TransactorForm y opened t b x
       rest p =
           let z : allZero b ≡ true = rw (le-leb opened t p) at e in
-          unopened p (omega (arith, zero-first b z)) z
+          unopened p (omega (arith, allZero-at b 0 z)) z
 
       used : t < opened → TransactorForm y opened t b x
       used p =

@@ -8,11 +8,13 @@ use native.Mathlib.Omega.{arith}
 use lib.Dec.{eqb, ltb}
 use borrow.Author.Tests.{eqb-true, eqb-false, eq-eqb, ne-eqb, lt-ltb, le-ltb, ltb-false, not-true}
 use lib.ListN.{length, getD, drop}
-use Rattle.octets.specs.Bytes.{_or_, part, allZero, Octets}
+use Rattle.octets.specs.Bytes.{_or_, part, zeros, allZero, Octets}
 use Rattle.octets.proofs.Put.{octet}
 use Rattle.octets.proofs.Chunks.{sides}
-use Rattle.octets.proofs.Zero.{both}
+use Rattle.octets.proofs.Zero.{both, allZero-at, allZero-drop, allZero-past}
 use Rattle.maps.specs.Map.{heldAt}
+use Rattle.maps.specs.Packed.{formedMap}
+use Rattle.maps.proofs.Packed.{formed-zeroMap}
 use Rattle.ledger.specs.Layout.{Layout, mapBytes, stateAt, creationAt, behaviourAt, transactorBytes, transactorAddress}
 use Rattle.ledger.specs.Status.{unused, ready, busy, annihilated}
 use Rattle.ledger.specs.State.{Transactor, State, transactorAt, ownHistory, live}
@@ -21,7 +23,6 @@ use Rattle.ledger.specs.Form.{mapFormed, transactorZeros, statusRight, o
 use Rattle.ledger.specs.Well.{Live, idle, working}
 use Rattle.octets.proofs.Tests.{implied, implying, otherwise, unless}
 use Rattle.ledger.proofs.Loads.{first-transactor, read-status}
-use Rattle.ledger.proofs.Zeros.{zero-first, zero-rest, rest-part, mapFormed-zeros}
 
 -- ---- each clause at t, as a fact
 
@@ -150,19 +151,25 @@ pub data TransactorForm (y : Layout) (opened t : ℕ) (b : List ℕ) (x : Transa
 abbrev pub TransactorFormAt : Layout → List ℕ → ℕ → Type 0
 TransactorFormAt y img t = TransactorForm y (unpack y img .opened) t (transactorPart y img t) (transactorAt (unpack y img) t)
 
+-- a map of zeros is well-formed
+pub mapFormed-zeros : (y : Layout) (opened at : ℕ) (b : List ℕ) → part at (mapBytes y) b ≡ zeros (mapBytes y) → mapFormed y opened at b ≡ true
+unfolding mapFormed
+mapFormed-zeros y opened at b e = subst (λ (z : List ℕ). formedMap (y .width) (y .places) (y .transactors) opened z ≡ true) (sym e)
+    (formed-zeroMap (y .width) (y .places) (y .transactors) opened)
+
 -- nothing but a first byte
 bare-zeros : (y : Layout) (opened t : ℕ) (b : List ℕ) → length b ≡ transactorBytes y → getD b 0 0 % 64 ≡ 0 → allZero (drop 1 b) ≡ true → (opened ≤ t → allZero b ≡ true)
     → ZerosForm y opened t b
 bare-zeros y opened t b n d e r = record {
   head = d;
-  state = mapFormed-zeros y opened stateAt b (rest-part stateAt (mapBytes y) b (omega arith) (omega arith) e);
-  creation = mapFormed-zeros y opened (creationAt y) b (rest-part (creationAt y) (mapBytes y) b (omega arith) (omega arith) e);
-  behaviour = mapFormed-zeros y opened (behaviourAt y) b (rest-part (behaviourAt y) (mapBytes y) b (omega arith) (omega arith) e);
+  state = mapFormed-zeros y opened stateAt b (allZero-past stateAt (mapBytes y) b (omega arith) 1 (omega arith) e);
+  creation = mapFormed-zeros y opened (creationAt y) b (allZero-past (creationAt y) (mapBytes y) b (omega arith) 1 (omega arith) e);
+  behaviour = mapFormed-zeros y opened (behaviourAt y) b (allZero-past (behaviourAt y) (mapBytes y) b (omega arith) 1 (omega arith) e);
   rest = r;
 }
 
 pub zeros-form : {y : Layout} {opened t : ℕ} {b : List ℕ} {x : Transactor} → length b ≡ transactorBytes y → TransactorForm y opened t b x → ZerosForm y opened t b
-zeros-form {y} {opened} {t} {b} n (unopened p u e) = bare-zeros y opened t b n (omega (arith, zero-first b e)) (zero-rest b e) (λ h. e)
+zeros-form {y} {opened} {t} {b} n (unopened p u e) = bare-zeros y opened t b n (omega (arith, allZero-at b 0 e)) (allZero-drop 1 b e) (λ h. e)
 zeros-form {y} {opened} {t} {b} n (vanished p u d e) = bare-zeros y opened t b n d e (λ h. absurd (omega arith))
 zeros-form n (living p a) = record { head = a .head; state = a .state; creation = a .creation; behaviour = a .behaviour; rest = λ h. absurd (omega arith) }
 
@@ -179,7 +186,7 @@ module _ (y : Layout) (img : List ℕ) (t : ℕ) where
   pub transactor-form : Octets img → t < y .transactors → TransactorClauses y img t → TransactorFormAt y img t
   transactor-form o below c = ⊎-elim
       used
-      (λ (p : unpack y img .opened ≤ t). unopened p (omega (arith, read-status y img t below, first-transactor y img t, zero-first (transactorPart y img t) (z .rest p))) (z .rest p))
+      (λ (p : unpack y img .opened ≤ t). unopened p (omega (arith, read-status y img t below, first-transactor y img t, allZero-at (transactorPart y img t) 0 (z .rest p))) (z .rest p))
       (sides t (unpack y img .opened))
     where
       z : ZerosForm y (unpack y img .opened) t (transactorPart y img t)

@@ -8,7 +8,7 @@ use lib.ListN.{length, getD, drop}
 use Rattle.octets.specs.Bytes.{put, allZero, zeros}
 use Rattle.octets.specs.Numbers.{be}
 use Rattle.octets.proofs.Put.{drop-put}
-use Rattle.octets.proofs.Zero.{length-zeros, allZero-zeros}
+use Rattle.octets.proofs.Zero.{length-zeros, allZero-zeros, allZero-drop}
 use Rattle.maps.specs.declared.DependenceMap.{DependenceMap}
 use Rattle.maps.proofs.Packed.{pack-emptyMap, formed-packMap}
 use Rattle.ledger.specs.Layout.{Layout, mapBytes, stateAt, creationAt, behaviourAt, dependencesAt, transactorBytes, messageBytes}
@@ -21,7 +21,6 @@ use Rattle.ledger.proofs.Sizes.{length-packTransactor, length-packMessa
 use Rattle.ledger.proofs.Fields.{put-state, put-creation, put-behaviour, at-waiting, at-free}
 use Rattle.ledger.proofs.There.{map-part, same-dependences, flag-stands, transactorPart-pack, messagePart-pack, waiting-pack, unpack-pack}
 use Rattle.ledger.proofs.Fresh.{pack-unused, pack-bare}
-use Rattle.ledger.proofs.Zeros.{zero-rest}
 use Rattle.ledger.proofs.FormTransactor.{TransactorForm, unopened, vanished, living}
 use Rattle.ledger.proofs.FormMessage.{MessageForm, MessagesForm}
 use Rattle.ledger.proofs.FormImage.{ImageForm, image-form}
@@ -40,7 +39,7 @@ module _ (y : Layout) (opened : ℕ) where
   bare-rest st =
       let z : List ℕ = zeros (transactorBytes y) in
       let e : drop 1 (put 0 (be 1 (64 * st)) z) ≡ drop 1 z = drop-put 0 (be 1 (64 * st)) z (omega (arith, length-zeros (transactorBytes y))) in
-      rw (← pack-bare y st, e) (zero-rest z (allZero-zeros (transactorBytes y)))
+      rw (← pack-bare y st, e) (allZero-drop 1 z (allZero-zeros (transactorBytes y)))
 
   transactor-head : (x : Transactor) → x .status < 4 → getD (packTransactor y x) 0 0 ≡ 64 * x .status
   unfolding packTransactor be

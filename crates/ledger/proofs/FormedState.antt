@@ -9,6 +9,7 @@ use Rattle.octets.specs.Bytes.{part, allZero, zeros, Octets}
 use Rattle.octets.specs.Numbers.{ofBe, bound}
 use Rattle.octets.proofs.Put.{length-part, octet, octets-part}
 use Rattle.octets.proofs.Numbers.{ofBe-bound, ofBe-zeros}
+use Rattle.octets.proofs.Zero.{allZero-drop, allZero-part, allZero-past}
 use Rattle.maps.proofs.Packed.{mapOk-unpack, known-unpack, unpack-zeros}
 use Rattle.ledger.specs.Layout.{Layout, mapBytes, valueAt, savedAt, stateAt, creationAt, behaviourAt, dependencesAt, transactorBytes, messageBytes, imageBytes}
 use Rattle.ledger.specs.Status.{unused, annihilated}
@@ -17,7 +18,6 @@ use Rattle.ledger.specs.Pack.{unpackDependences, unpackTransactor, unpac
 use Rattle.ledger.specs.Form.{mapFormed, wellFormed}
 use Rattle.ledger.specs.Well.{DependencesOk, TransactorOk, MessageOk, Known, Alive, TransactorFormed, not-opened, gone, alive, WellFormed}
 use Rattle.ledger.proofs.Loads.{length-transactorPart, length-messagePart, octets-transactorPart, octets-messagePart, unpack-many, unpack-waiting, waiting-few, read-transactor, read-message, read-opened, read-next}
-use Rattle.ledger.proofs.Zeros.{zero-rest, zero-part, rest-part}
 use Rattle.ledger.proofs.FormTransactor.{ZerosForm, TransactorForm, unopened, vanished, living, AliveForm, zeros-form}
 use Rattle.ledger.proofs.FormImage.{ImageForm, form-image}
 
@@ -36,7 +36,7 @@ module _ (y : Layout) (opened : ℕ) (b : List ℕ) where
     bare-is : (st : ℕ) → unpackTransactor y b .status ≡ st → allZero (drop 1 b) ≡ true → unpackTransactor y b ≡ bare y st
     unfolding unpackTransactor
     bare-is st u e =
-        let z : (at m : ℕ) → at + m ≤ length b → 1 ≤ at → part at m b ≡ zeros m = λ at m h p. rest-part at m b h p e in
+        let z : (at m : ℕ) → at + m ≤ length b → 1 ≤ at → part at m b ≡ zeros m = λ at m h p. allZero-past at m b h 1 p e in
         rw (
           u,
           z valueAt 4 (omega arith) (omega arith),
@@ -57,11 +57,11 @@ module _ (y : Layout) (opened : ℕ) (b : List ℕ) where
       behaviour = map-known (behaviourAt y) (a .behaviour);
       own = a .own;
       saved = a .saved;
-      behaves = λ r. rw (zero-part (behaviourAt y) (mapBytes y) b (omega arith) (a .behaves r)) (unpack-zeros (y .width) (y .places) (y .transactors));
+      behaves = λ r. rw (allZero-part (behaviourAt y) (mapBytes y) b (omega arith) (a .behaves r)) (unpack-zeros (y .width) (y .places) (y .transactors));
     }
 
     transactor-formed : (t : ℕ) → TransactorForm y opened t b (unpackTransactor y b) → TransactorFormed y opened t (unpackTransactor y b)
-    transactor-formed t (unopened p u e) = subst (TransactorFormed y opened t) (sym (bare-is unused u (zero-rest b e))) (not-opened p)
+    transactor-formed t (unopened p u e) = subst (TransactorFormed y opened t) (sym (bare-is unused u (allZero-drop 1 b e))) (not-opened p)
     transactor-formed t (vanished p u d e) = subst (TransactorFormed y opened t) (sym (bare-is annihilated u e)) (gone p)
     transactor-formed t (living p a) = alive p (alive-formed t a)
 

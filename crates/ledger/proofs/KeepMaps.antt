@@ -10,7 +10,7 @@ use Rattle.octets.proofs.Chunks.{sides}
 use Rattle.marks.specs.declared.History.{History}
 use Rattle.marks.specs.History.{initialHistory, stabilized, rolledBack, checkpointed, Roomy}
 use Rattle.marks.specs.Packed.{Packable}
-use Rattle.marks.proofs.Histories.{Newer, roomy-initial, roomy-stabilized, roomy-rolledBack, roomy-checkpointed}
+use Rattle.marks.proofs.Histories.{newer-count, roomy-initial, roomy-stabilized, roomy-rolledBack, roomy-checkpointed}
 use Rattle.marks.proofs.Packed.{packable-initial, packable-stabilized, packable-rolledBack, packable-checkpointed}
 use Rattle.maps.specs.declared.DependenceMap.{DependenceMap}
 use Rattle.maps.specs.Map.{heldAt, historyAt, withEntry, joinedHeldAt}
@@ -28,26 +28,26 @@ pub record HistoryOk (y : Layout) (h : History) : Type 0 where
   pub roomy : Roomy (y .places) h
   pub packable : Packable (y .width) (y .places) h
 
-pub mark-initial : (y : Layout) → HistoryOk y (initialHistory (y .places))
-mark-initial y = record { roomy = roomy-initial (y .places); packable = packable-initial (y .width) (y .places) }
+pub history-initial : (y : Layout) → HistoryOk y (initialHistory (y .places))
+history-initial y = record { roomy = roomy-initial (y .places); packable = packable-initial (y .width) (y .places) }
 
 module _ {y : Layout} {h : History} (o : HistoryOk y h) where
-  pub mark-stabilized : HistoryOk y (stabilized h)
-  mark-stabilized = record { roomy = roomy-stabilized (o .roomy); packable = packable-stabilized (o .packable) }
+  pub history-stabilized : HistoryOk y (stabilized h)
+  history-stabilized = record { roomy = roomy-stabilized (o .roomy); packable = packable-stabilized (o .packable) }
 
-  pub mark-rolledBack : h .incarnation + 1 < bound (y .width) → HistoryOk y (rolledBack h)
-  mark-rolledBack k = record { roomy = roomy-rolledBack (o .roomy); packable = packable-rolledBack (o .packable) k }
+  pub history-rolledBack : h .incarnation + 1 < bound (y .width) → HistoryOk y (rolledBack h)
+  history-rolledBack k = record { roomy = roomy-rolledBack (o .roomy); packable = packable-rolledBack (o .packable) k }
 
-  pub mark-checkpointed : Fitting y → h .count < y .places → HistoryOk y (checkpointed h)
-  mark-checkpointed z k = record { roomy = roomy-checkpointed (o .roomy) k; packable = packable-checkpointed (o .packable) (omega (arith, z .places)) }
+  pub history-checkpointed : Fitting y → h .count < y .places → HistoryOk y (checkpointed h)
+  history-checkpointed z k = record { roomy = roomy-checkpointed (o .roomy) k; packable = packable-checkpointed (o .packable) (omega (arith, z .places)) }
 
 -- a mark that a map holds
-entry-mark : (y : Layout) {p : Bool} {h : History} → EntryOk (y .width) (y .places) p h → p ≡ true → HistoryOk y h
-entry-mark y (EntryOk.present r p) e = record { roomy = r; packable = p }
-entry-mark y EntryOk.absent e = never (sym e)
+entry-history : (y : Layout) {p : Bool} {h : History} → EntryOk (y .width) (y .places) p h → p ≡ true → HistoryOk y h
+entry-history y (EntryOk.present r p) e = record { roomy = r; packable = p }
+entry-history y EntryOk.absent e = never (sym e)
 
-pub held-mark : (y : Layout) {m : DependenceMap} (t : ℕ) → DependencesOk y m → t < y .transactors → heldAt m t ≡ true → HistoryOk y (historyAt m t)
-held-mark y t o h e = entry-mark y (o .each t h) e
+pub held-history : (y : Layout) {m : DependenceMap} (t : ℕ) → DependencesOk y m → t < y .transactors → heldAt m t ≡ true → HistoryOk y (historyAt m t)
+held-history y t o h e = entry-history y (o .each t h) e
 
 -- ---- what fits
 
@@ -114,17 +114,8 @@ module _ (y : Layout) (t : ℕ) (below : t < y .transactors) where
   pub join-count : (a b : DependenceMap) → heldAt b t ≡ true → historyAt (join y a b) t .count ≡ 0 → historyAt b t .count ≡ 0
   join-count a b e z = go (join-view (y .transactors) a b t below) e z
     where
-      newest : {x w m : History} → Newer x w m → m .count ≡ 0 → w .count ≡ 0
-      newest (Newer.right-longer l) c = c
-      newest (Newer.left-longer l) c = omega arith
-      newest (Newer.right-number e l) c = c
-      newest (Newer.left-number e l) c = omega arith
-      newest (Newer.left-stable e n p) c = omega arith
-      newest (Newer.right-stable e n p q) c = c
-      newest (Newer.left-same e n p q) c = omega arith
-
       go : {p q r : Bool} {x w m : History} → Joined p x q w r m → q ≡ true → m .count ≡ 0 → w .count ≡ 0
-      go (Joined.both p q n) k c = newest n c
+      go (Joined.both p q n) k c = omega (arith, newer-count n)
       go (Joined.left p q) k c = never (sym k ∙ q)
       go (Joined.right p q) k c = c
       go (Joined.neither p q) k c = c
@@ -132,12 +123,12 @@ module _ (y : Layout) (t : ℕ) (below : t < y .transactors) where
 -- ---- what a parcel or a child is given
 
 module _ (y : Layout) (opened t : ℕ) {x : Transactor} (o : TransactorOk y x) (below : t < y .transactors) (own : heldAt (x .state) t ≡ true) where
-  pub own-mark : HistoryOk y (ownHistory t x)
-  own-mark = held-mark y t (o .state) below own
+  pub own-history : HistoryOk y (ownHistory t x)
+  own-history = held-history y t (o .state) below own
 
   pub ok-carried : DependencesOk y (carried y t x)
   unfolding carried
-  ok-carried = ok-join y (ok-join y (o .creation) (o .behaviour)) (ok-only y t below own-mark)
+  ok-carried = ok-join y (ok-join y (o .creation) (o .behaviour)) (ok-only y t below own-history)
 
   pub known-carried : t < opened → Known opened (x .creation) → Known opened (x .behaviour) → Known opened (carried y t x)
   unfolding carried

@@ -18,7 +18,7 @@ use Rattle.ledger.specs.Step.{done, held, dropped, read, write, freeze, 
 use Rattle.ledger.specs.Rules.{Effect, noDependences, only, join, unchanged, rollback, readBy, writeBy, freezeBy, madeReady, finishBy, fallBy, failBy, localBy, messageSuperseded, receiverSuperseded, receiveBy, checkpointBy, opening, taken}
 use Rattle.ledger.specs.Well.{DependencesOk, TransactorOk, MessageOk, Known, Live, Alive, TransactorFormed}
 use Rattle.octets.proofs.Tests.{pick-view, never}
-use Rattle.ledger.proofs.KeepMaps.{HistoryOk, mark-initial, mark-stabilized, mark-rolledBack, mark-checkpointed, ok-none, ok-only, ok-join, ok-entry, known-none, known-only, known-join, known-entry, own-only, only-is, own-entry, entry-is, own-join, join-count, own-mark}
+use Rattle.ledger.proofs.KeepMaps.{HistoryOk, history-initial, history-stabilized, history-rolledBack, history-checkpointed, ok-none, ok-only, ok-join, ok-entry, known-none, known-only, known-join, known-entry, own-only, only-is, own-entry, entry-is, own-join, join-count, own-history}
 use Rattle.ledger.proofs.KeepState.{ok-bare}
 
 -- a take that fits its bytes and is well-formed
@@ -65,13 +65,13 @@ module _ (y : Layout) (o t : ℕ) (below : t < y .transactors) (k : t < o) where
   }
 
   pub opening-ok : (v : ℕ) (c : DependenceMap) → v < bound 4 → DependencesOk y c → Known o c → TransactorWell y o t (opening y t v c)
-  opening-ok v c p i j = alone-ok v 0 (initialHistory (y .places)) c p (bound-pos 4) (λ e. refl) (mark-initial y) i j
+  opening-ok v c p i j = alone-ok v 0 (initialHistory (y .places)) c p (bound-pos 4) (λ e. refl) (history-initial y) i j
 
 -- ---- a live take
 
 module _ {y : Layout} {o t : ℕ} {x : Transactor} (below : t < y .transactors) (k : t < o) (p : TransactorOk y x) (a : Alive y o t x) where
-  mark : HistoryOk y (ownHistory t x)
-  mark = own-mark y o t p below (a .own)
+  history : HistoryOk y (ownHistory t x)
+  history = own-history y o t p below (a .own)
 
   unchanged-ok : (r : ℕ) → r < 256 → EffectOk y o t (unchanged r x)
   unchanged-ok r h = record { outcome = h; value = bound-pos 4; transactor = record { ok = p; formed = TransactorFormed.alive k a } }
@@ -116,13 +116,13 @@ module _ {y : Layout} {o t : ℕ} {x : Transactor} (below : t < y .transactors) 
         outcome = omega arith;
         value = bound-pos 4;
         transactor = alone-ok y o t below k (x .saved) (x .saved) (rolledBack (ownHistory t x)) (noDependences y) (p .saved) (p .saved) (λ z. absurd (n z))
-            (mark-rolledBack mark (room (omega arith))) (ok-none y) (known-none y o);
+            (history-rolledBack history (room (omega arith))) (ok-none y) (known-none y o);
       })
 
   pub checkpoint-ok : Fitting y → ownHistory t x .count < y .places → TransactorWell y o t (checkpointBy y t x)
   unfolding checkpointBy
   checkpoint-ok z h = alone-ok y o t below k (x .value) (x .value) (checkpointed (ownHistory t x)) (noDependences y) (p .value) (p .value) (λ e. absurd (omega arith))
-      (mark-checkpointed mark z h) (ok-none y) (known-none y o)
+      (history-checkpointed history z h) (ok-none y) (known-none y o)
 
   -- ---- kinds 5 to 10
 
@@ -161,7 +161,7 @@ module _ {y : Layout} {o t : ℕ} {x : Transactor} (below : t < y .transactors) 
         outcome = omega arith;
         value = bound-pos 4;
         transactor = record {
-          ok = record { status = p .status; value = p .value; saved = p .saved; state = ok-entry y (p .state) t below (mark-stabilized mark); creation = p .creation; behaviour = p .behaviour };
+          ok = record { status = p .status; value = p .value; saved = p .saved; state = ok-entry y (p .state) t below (history-stabilized history); creation = p .creation; behaviour = p .behaviour };
           formed = TransactorFormed.alive k (record {
             status = a .status;
             state = known-entry y o (x .state) t h k (a .state);
@@ -219,4 +219,4 @@ module _ {y : Layout} {o t : ℕ} {x : Transactor} (below : t < y .transactors) 
   pub grown-ok : x .status ≡ busy → (n : ℕ) → n < y .transactors → n < o → TransactorWell y o t (withBehaviour x (join y (only y n (initialHistory (y .places))) (x .behaviour)))
   grown-ok b n c h =
       let d : DependenceMap = only y n (initialHistory (y .places)) in
-      rw b (behaving-ok (join y d (x .behaviour)) (ok-join y (ok-only y n c (mark-initial y)) (p .behaviour)) (known-join y o d (x .behaviour) (known-only y o n (initialHistory (y .places)) h) (a .behaviour)))
+      rw b (behaving-ok (join y d (x .behaviour)) (ok-join y (ok-only y n c (history-initial y)) (p .behaviour)) (known-join y o d (x .behaviour) (known-only y o n (initialHistory (y .places)) h) (a .behaviour)))

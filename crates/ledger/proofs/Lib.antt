@@ -1,5 +1,4 @@
 pub mod Any
-pub mod Zeros
 pub mod FormTransactor
 pub mod FormMessage
 pub mod FormImage

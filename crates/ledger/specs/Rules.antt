@@ -151,6 +151,7 @@ transactorReady y s v t =
     and mapReady y s v (transactorAt s t .state)
     and mapReady y s v (transactorAt s t .creation)
 
+-- a volume is ready: every take that it names is
 unfoldable pub groupReady : Layout → State → ℕ → Bool
 groupReady y s v = every (y .transactors) (λ t. not (named v t) or transactorReady y s v t)
 
@@ -161,6 +162,7 @@ checkpointBy y t x = renewed y t (checkpointed (ownHistory t x)) (x .value) (x .
 unfoldable pub checkpointAt : Layout → State → ℕ → ℕ → Transactor
 checkpointAt y s v t = pick (named v t) (checkpointBy y t (transactorAt s t)) (transactorAt s t)
 
+-- signing a volume: every take that it names is signed, the others stay as they are
 unfoldable pub checkpointGroup : Layout → State → ℕ → State
 checkpointGroup y s v = record { opened = s .opened; next = s .next; transactors = tabulate (y .transactors) (checkpointAt y s v); messages = s .messages }
 

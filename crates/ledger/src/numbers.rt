@@ -97,10 +97,10 @@ pub const ALL_WAITING: u8 = 26;
 pub const ALL_NUMBERED: u8 = 27;
 
 // a signed take would fall from the largest life number
-pub const LAST_FALLS: u8 = 28;
+pub const LAST_INCARNATION: u8 = 28;
 
 // volume empty
 pub const EMPTY_GROUP: u8 = 29;
 
 // a named take has all its signings
-pub const ALL_SIGNED: u8 = 30;
+pub const ALL_CHECKPOINTED: u8 = 30;

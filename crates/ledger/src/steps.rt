@@ -239,8 +239,8 @@ fn receive(image: &mut [u8], p: Step) -> Reply
     let content = messages::content(image, k);
     let a = receipt::accept(image, t, k);
     let outcome = a.outcome;
-    if outcome == numbers::LAST_FALLS {
-        return answered(numbers::LAST_FALLS);
+    if outcome == numbers::LAST_INCARNATION {
+        return answered(numbers::LAST_INCARNATION);
     }
     messages::remove(image, k, n);
     let value = if outcome == numbers::DONE { content } else { 0 };
@@ -365,8 +365,8 @@ fn sign(image: &mut [u8], p: Step) -> Reply
     if group::blocked(image, group, numbers::GONE) {
         return answered(numbers::GONE);
     }
-    if group::blocked(image, group, numbers::ALL_SIGNED) {
-        return answered(numbers::ALL_SIGNED);
+    if group::blocked(image, group, numbers::ALL_CHECKPOINTED) {
+        return answered(numbers::ALL_CHECKPOINTED);
     }
     if !group::ready(image, group) {
         return answered(numbers::NOT_READY);

@@ -82,7 +82,10 @@ pub fn adopt(part: &mut [u8], c: usize)
     requires { ⌜ GoodPart (now part) × (c < base .transactors) ⌝ }
     ensures { λ _. ⌜ now (part .exit) ≡ packTransactor base (adopts base c (unpackTransactor base (now (part .entry)))) ⌝ }
 {
-    maps::in_place::join_entry_into(part, BEHAVIOUR, c, History::INITIAL);
+    let one = DependenceMap::one(c, History::INITIAL);
+    let behaviour = DependenceMap::load(part, BEHAVIOUR);
+    let joined = one.join(behaviour);
+    joined.store(part, BEHAVIOUR);
 }
 
 // Creation, behaviour and own history joined: what a message carries and a child is created from.
@@ -105,7 +108,7 @@ pub fn roll_back(part: &mut [u8], t: usize) -> Acted
         return outcome_of(numbers::VANISHED);
     }
     if h.incarnation == LAST {
-        return outcome_of(numbers::LAST_FALLS);
+        return outcome_of(numbers::LAST_INCARNATION);
     }
     let saved = octets::load32(part, SAVED);
     renew(part, t, h.rollback(), saved, saved);

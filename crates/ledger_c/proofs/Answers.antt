@@ -24,7 +24,7 @@ use Rattle.octets.proofs.Tests.{never}
 use Rattle.ledger.proofs.Places.{Place, place}
 use Rattle.ledger.proofs.Queue.{numbered-so, numbered-not}
 use Rattle.ledger_c.specs.declared.Part.{Part}
-use Rattle.ledger_c.specs.Interface.{noParcel, numberOf, answerOf, shownPart}
+use Rattle.ledger_c.specs.Interface.{noMessage, numberOf, offeredBy, shownPart}
 
 module _ (img : List ℕ) where
   -- a call that is turned back with neither 16 nor 19 goes on to the refusal n
@@ -45,21 +45,21 @@ module _ (img : List ℕ) where
 
   module _ (t : ℕ) (o : Octets img) where
     -- a parcel's number is below that of the next, which fits two bytes
-    parcel : (n : ℕ) → Offers base img t (some n) → n < noParcel
+    offered-below : (n : ℕ) → Offers base img t (some n) → n < noMessage
     unfolding offerRefusal bound
-    parcel n (waiting r w) =
+    offered-below n (waiting r w) =
         let i = entered _ r in
         let s = formed-state base img (i .whole) o (i .formed) in
         omega (arith, s .numbers (w .place) (w .waits), w .number, s .packable .next)
 
     -- so the number that stands for an answer stands for no other
-    stands : (a : Option ℕ) → Offers base img t a → Offers base img t (answerOf (numberOf a))
-    unfolding answerOf
+    stands : (a : Option ℕ) → Offers base img t a → Offers base img t (offeredBy (numberOf a))
+    unfolding offeredBy
     stands none f = f
-    stands (some n) f = let h : n ≡ noParcel → ⊥ = λ d. omega (arith, parcel n f) in rw (ne-eqb n noParcel h) f
+    stands (some n) f = let h : n ≡ noMessage → ⊥ = λ d. omega (arith, offered-below n f) in rw (ne-eqb n noMessage h) f
 
-    pub answered : {a b : Offered} → a ≡ b → Offers base img t (offeredNumber a) → Offers base img t (answerOf (numberOf (offeredNumber b)))
-    answered {a} e f = subst (λ (b : Offered). Offers base img t (answerOf (numberOf (offeredNumber b)))) e (stands (offeredNumber a) f)
+    pub answered : {a b : Offered} → a ≡ b → Offers base img t (offeredNumber a) → Offers base img t (offeredBy (numberOf (offeredNumber b)))
+    answered {a} e f = subst (λ (b : Offered). Offers base img t (offeredBy (numberOf (offeredNumber b)))) e (stands (offeredNumber a) f)
 
   -- ---- show, accepted
 

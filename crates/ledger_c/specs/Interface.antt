@@ -11,17 +11,17 @@ use Rattle.ledger.specs.Calls.{showRefusal}
 use Rattle.ledger_c.specs.declared.Part.{Part}
 
 -- no parcel has this number: they run 0 to 65,534
-abbrev pub noParcel : ℕ
-noParcel = 65535
+abbrev pub noMessage : ℕ
+noMessage = 65535
 
--- The number that stands for an answer of offer: a parcel's own, or noParcel for none.
+-- The number that stands for an answer of offer: a parcel's own, or noMessage for none.
 abbrev pub numberOf : Option ℕ → ℕ
 numberOf (some n) = n
-numberOf none = noParcel
+numberOf none = noMessage
 
 -- The answer that a number stands for.
-unfoldable pub answerOf : ℕ → Option ℕ
-answerOf n = pick (eqb n noParcel) none (some n)
+unfoldable pub offeredBy : ℕ → Option ℕ
+offeredBy n = pick (eqb n noMessage) none (some n)
 
 -- The bytes of the image that hold a waiting parcel's map: where they start, and how many. Refused: an empty part.
 unfoldable pub shownPart : Layout → List ℕ → ℕ → Part

@@ -7,7 +7,7 @@ ghost use Rattle.ledger.specs.Layout.{base, standard};
 ghost use Rattle.ledger.specs.State.{placeOf};
 ghost use Rattle.ledger.specs.Pack.{unpack};
 ghost use Rattle.ledger.specs.Calls.{beginAnswer, beginImage, runAnswer, runImage, runReplies, offerRefusal, Offers, showRefusal};
-ghost use Rattle.ledger_c.specs.Interface.{answerOf, shownPart};
+ghost use Rattle.ledger_c.specs.Interface.{offeredBy, shownPart};
 
 // The number that stands for no message.
 pub const NONE: u16 = 65535;
@@ -54,7 +54,7 @@ pub extern "C" fn ledger_run(
 // refusal, 16, 19, 21 or 22, or 0; refused, NONE.
 #[no_mangle]
 pub extern "C" fn ledger_offer(image: &[u8], transactor: usize, refusal: &mut u8) -> u16
-    ensures { λ r. ⌜ (now (refusal .exit) ≡ offerRefusal base (now (image .entry)) transactor) × Offers base (now (image .entry)) transactor (answerOf r) ⌝ }
+    ensures { λ r. ⌜ (now (refusal .exit) ≡ offerRefusal base (now (image .entry)) transactor) × Offers base (now (image .entry)) transactor (offeredBy r) ⌝ }
 {
     let Offered::Message(n) = ledger::offer(image, transactor, refusal) else {
         return NONE;

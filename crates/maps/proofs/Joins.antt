@@ -1,23 +1,21 @@
 -- Joins in place: of a map with one history, of a packed map into another.
 use Prim.Native.Nat.{ℕ, _+_, _*_, _≤_, _<_}
 use mathlib.Core.Bool.{Bool, true, false, false≢true}
-use mathlib.Core.Path.{_≡_, refl, sym, ap, _∙_, subst}
+use mathlib.Core.Path.{_≡_, refl, sym, ap, _∙_}
 use mathlib.Core.List.{List}
-use mathlib.Core.Logic.{⊎-elim}
-use native.Mathlib.Nat.{add-zero}
 use native.Mathlib.Omega.{arith}
 use native.Mathlib.Decide.{ℕ-discrete}
-use lib.ListN.{length, List·getD-eq-default}
-use Rattle.octets.specs.Bytes.{pick, put, part, zeros}
-use Rattle.octets.proofs.Put.{length-put, part-put-before, part-put-after, put-part, put-whole, put-inside}
-use Rattle.octets.proofs.Chunks.{sides, step, put-chunk}
+use lib.ListN.{length}
+use Rattle.octets.specs.Bytes.{pick, put, part}
+use Rattle.octets.proofs.Put.{length-put, part-put-before, part-put-after, put-part}
+use Rattle.octets.proofs.Chunks.{step}
 use Rattle.marks.specs.declared.History.{History}
 use Rattle.marks.specs.Packed.{historySize, packHistory, unpackHistory, presentIn}
 use Rattle.maps.specs.declared.DependenceMap.{DependenceMap}
 use Rattle.maps.specs.Map.{heldAt, historyAt, withEntry, singleton, choosesRight, joinOf}
 use Rattle.maps.specs.Packed.{mapSize, packEntry, packEntryAt, packMap, entryBytes, mapIn, joinedAt, MapOk, Exact, Apart, before, behind}
-use Rattle.maps.proofs.Map.{Sized, same-map, sized-withEntry, held-withEntry, history-withEntry, held-withEntry-other, history-withEntry-other, held-singleton, history-singleton, held-singleton-other, history-singleton-other, chooses-other, choosesRightAt, sized-join, held-chosen, history-chosen, held-join-off, history-join-off}
-use Rattle.maps.proofs.Packed.{length-packEntryAt, length-packMap, entry-packMap, mapOk-sized, mapOk-absent, sized-unpack}
+use Rattle.maps.proofs.Map.{same-map, sized-withEntry, held-withEntry, history-withEntry, held-withEntry-other, history-withEntry-other, held-singleton, history-singleton, held-singleton-other, history-singleton-other, choosesRightAt, sized-join, held-chosen, history-chosen, held-join-off, history-join-off}
+use Rattle.maps.proofs.Packed.{length-packMap, entry-packMap, mapOk-sized, mapOk-absent}
 use Rattle.maps.proofs.Placed.{put-map-more, entry-here, held-in, history-in}
 
 -- the left one is chosen only if it is held
@@ -82,29 +80,9 @@ packed-held : (w l : ℕ) (m : DependenceMap) (i : ℕ) → heldAt m i ≡ true 
 unfolding packEntryAt packEntry
 packed-held w l m i e = rw e
 
--- past the end
-packed-past : (w l : ℕ) {n : ℕ} {m : DependenceMap} → Sized n m → (i : ℕ) → n ≤ i → packEntryAt w l m i ≡ zeros (historySize w l)
-unfolding packEntryAt packEntry
-packed-past w l {n} {m} s i h = let e : heldAt m i ≡ false = List·getD-eq-default (m .held) false {n = i} (omega (arith, s .helds)) in rw e
-
--- where the left one has the history of i alone, the other entries are the right one's
-packed-other : (w l : ℕ) {n : ℕ} {m : DependenceMap} → Sized n m → (i : ℕ) (h : History) (j : ℕ) → (j ≡ i → ⊥)
-    → packEntryAt w l (joinOf n (singleton l n i h) m) j ≡ packEntryAt w l m j
-packed-other w l {n} {m} s i h j z = ⊎-elim
-    (λ (p : j < n). sym (packed-chosen w l n a m j p true (chooses-other (heldAt a j) (historyAt a j) (heldAt m j) (historyAt m j) (held-singleton-other l n i h j z))))
-    (λ (p : n ≤ j). packed-past w l (sized-join n a m) j p ∙ sym (packed-past w l s j p))
-    (sides j n)
-  where
-    a : DependenceMap
-    a = singleton l n i h
-
 -- ---- into the map that stands from at on
 
 module _ (w l n : ℕ) (s : List ℕ) (at : ℕ) (fits : at + mapSize w l n ≤ length s) (exact : Exact w l n s at) where
-  map-there : s ≡ put at (packMap w l n (mapIn w l n s at)) s
-  unfolding Exact
-  map-there = put-part at (mapSize w l n) s fits ∙ ap (λ (b : List ℕ). put at b s) (sym exact)
-
   module _ (i : ℕ) (below : i < n) where
     entry-there : packEntryAt w l (mapIn w l n s at) i ≡ part (at + historySize w l * i) (historySize w l) s
     unfolding Exact
@@ -139,33 +117,6 @@ module _ (w l n : ℕ) (s : List ℕ) (at : ℕ) (fits : at + mapSize w l n ≤ 
             sym (joined-set w l s' k (heldAt m i) (historyAt m i) (heldAt b i) (historyAt b i) e f z)
             ∙ ap (λ (x : List ℕ). put k x s')
             (packed-held w l m i (chosen-held (heldAt m i) (historyAt m i) (heldAt b i) (historyAt b i) z) ∙ packed-chosen w l n m b i below false z)
-
-    -- one history: the other entries stay
-    pub into-entry : (h : History) (s' : List ℕ) → s' ≡ joinedAt w l s (at + historySize w l * i) true h
-        → s' ≡ put at (packMap w l n (joinOf n (singleton l n i h) (mapIn w l n s at))) s
-    unfolding packMap
-    into-entry h s' z =
-        let b = mapIn w l n s at in
-        let a = singleton l n i h in
-        let size = historySize w l in
-        let new = packEntryAt w l (joinOf n a b) in
-        let old = packEntryAt w l b in
-        let here : joinedAt w l s (at + size * i) true h ≡ put (at + size * i) (new i) s =
-        subst (λ (p : Bool). joinedAt w l s (at + size * i) p h ≡ put (at + size * i) (new i) s) (held-singleton l n i h below)
-        (subst (λ (x : History). joinedAt w l s (at + size * i) (heldAt a i) x ≡ put (at + size * i) (new i) s) (history-singleton l n i h below)
-        (into-here a s refl refl)) in
-        let long : length (new i) ≡ size = length-packEntryAt w l (joinOf n a b) i in
-        let whole : length (packMap w l n b) ≡ size * n = length-packMap w l n b in
-        let room : size * i + size ≤ size * n = step size i n below in
-        z
-        ∙ here
-        ∙ ap (put (at + size * i) (new i)) map-there
-        ∙ put-inside at (size * i) (new i) (packMap w l n b) s (omega arith) (omega arith)
-        ∙ ap (λ (x : List ℕ). put at x s)
-        (ap (λ (x : ℕ). put x (new i) (packMap w l n b)) (sym (add-zero (size * i)))
-        ∙ put-chunk size old new (length-packEntryAt w l b) n i 0 (new i) below (omega arith)
-        (sym (put-whole (new i) (old i) (long ∙ sym (length-packEntryAt w l b i))))
-        (packed-other w l (sized-unpack w l n (part at (mapSize w l n) s)) i h))
 
 -- what stands apart from the bytes put
 part-apart : {k from at : ℕ} (b l : List ℕ) → Apart k from at → at + length b ≤ length l → length b ≤ k → (j m : ℕ) → j + m ≤ k

@@ -3,11 +3,11 @@ use crate::Comparison;
 use crate::ENTRIES;
 use marks::History;
 ghost use mathlib.Core.Path.{_≡_};
-ghost use Prim.Native.Nat.{_+_, _≤_, _<_};
+ghost use Prim.Native.Nat.{_+_, _≤_};
 ghost use lib.ListN.{length};
 ghost use Rattle.octets.specs.Bytes.{put, part};
 ghost use Rattle.marks.specs.Packed.{width, places, historySize, unpackHistory, presentIn};
-ghost use Rattle.maps.specs.Map.{singleton, joinOf, supersededEntry, firstSuperseded, answerOf};
+ghost use Rattle.maps.specs.Map.{joinOf, supersededEntry, firstSuperseded, answerOf};
 ghost use Rattle.maps.specs.Packed.{entries, mapSize, packMap, mapIn, chosenAt, joinedAt, Exact, Apart};
 
 // A map compared with a join: the first transactor whose history in the map is superseded, and the first whose is in the join.
@@ -83,16 +83,6 @@ fn join_at(image: &mut [u8], at: usize, p: bool, h: History)
         return;
     }
     h.store(image, at);
-}
-
-// Joins h, as the left one, into the entry of transactor i of the map at at.
-pub fn join_entry_into(image: &mut [u8], at: usize, i: usize, h: History)
-    requires { ⌜ (at + mapSize width places entries ≤ length (now image)) × (i < entries) × (h .count ≤ places)
-        × Exact width places entries (now image) at ⌝ }
-    ensures { λ _. ⌜ now (image .exit) ≡ put at (packMap width places entries
-        (joinOf entries (singleton places entries i h) (mapIn width places entries (now (image .entry)) at))) (now (image .entry)) ⌝ }
-{
-    join_at(image, at + marks::SIZE * i, true, h);
 }
 
 // Joins the map at from, as the left one, into that at at, entry by entry.

@@ -7,7 +7,7 @@ ghost use Prim.Native.Nat.{_+_, _≤_, _<_};
 ghost use lib.ListN.{length};
 ghost use Rattle.octets.specs.Bytes.{put, part};
 ghost use Rattle.marks.specs.Packed.{width, places, historySize};
-ghost use Rattle.maps.specs.Map.{heldAt, historyAt, emptyMap, withEntry, singleton, isEmpty, choosesRight, joinOf, supersededEntry, firstSuperseded, answerOf};
+ghost use Rattle.maps.specs.Map.{emptyMap, withEntry, singleton, isEmpty, choosesRight, joinOf, supersededEntry};
 ghost use Rattle.maps.specs.Packed.{entries, mapSize, packEntry, packMap, unpackMap, mapIn, formedEntry, formedMap, Bounded, MapOk};
 
 // One entry for each transactor, and the bytes of a packed map.
@@ -21,7 +21,7 @@ pub struct DependenceMap {
     pub histories: [History; 16],
 }
 
-// The comparison's answer: the first transactor whose history is superseded, or none.
+// A comparison's answer: the first transactor whose history is superseded, or none.
 pub enum Comparison {
     Superseded(usize),
     Current,
@@ -39,22 +39,6 @@ impl DependenceMap {
         ensures { λ r. ⌜ r ≡ emptyMap places entries ⌝ }
     {
         DependenceMap::EMPTY
-    }
-
-    // Whether there is a history of transactor i.
-    pub fn holds(self, i: usize) -> bool
-        requires { ⌜ i < entries ⌝ }
-        ensures { λ r. ⌜ r ≡ heldAt self i ⌝ }
-    {
-        self.held[i]
-    }
-
-    // The history of transactor i; the initial one where there is none.
-    pub fn entry(self, i: usize) -> History
-        requires { ⌜ i < entries ⌝ }
-        ensures { λ r. ⌜ r ≡ historyAt self i ⌝ }
-    {
-        self.histories[i]
     }
 
     // The map with h for transactor i.
@@ -121,25 +105,6 @@ impl DependenceMap {
             self.histories[i] = h;
         }
         self
-    }
-
-    // The first transactor of which self's history is superseded by other's.
-    pub fn compare(self, other: DependenceMap) -> Comparison
-        requires { ⌜ Bounded places self × Bounded places other ⌝ }
-        ensures { λ r. ⌜ answerOf r ≡ firstSuperseded entries self other ⌝ }
-    {
-        let mut i: usize = 0;
-        while i < ENTRIES {
-            let p = self.held[i];
-            let q = other.held[i];
-            let x = self.histories[i];
-            let y = other.histories[i];
-            if superseded_entry(p, x, q, y) {
-                return Comparison::Superseded(i);
-            }
-            i += 1;
-        }
-        Comparison::Current
     }
 
     // Writes the packed form from at on.

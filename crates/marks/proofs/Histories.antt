@@ -16,7 +16,7 @@ use Rattle.marks.specs.declared.History.{History}
 use Rattle.marks.specs.Incarnation.{Incarnation, initialIncarnation, nextIncarnation, checkpointIncarnation}
 use Rattle.marks.specs.History.{incarnationOf, initialHistory, stabilized, rolledBack, checkpointed, newerOf, isOlder, Roomy, HistoryView, viewOf, historyOf, newerView}
 use Rattle.marks.proofs.Trail.{Precedes}
-use Rattle.marks.proofs.Order.{precedes-refl, by-size, by-number, later-size, same-incarnation}
+use Rattle.marks.proofs.Order.{precedes-refl, precedes-trans, precedes-antisym, by-size, by-number, later-size, same-incarnation}
 
 -- ---- the life of a mark
 
@@ -156,6 +156,16 @@ newer-keeps P p q v = ⊎-elim (λ e. subst P (sym e) p) (λ e. subst P (sym e) 
 pub roomy-newer : {l : ℕ} {a b m : History} → Roomy l a → Roomy l b → Newer a b m → Roomy l m
 roomy-newer {l} = newer-keeps (Roomy l)
 
+-- the newer one has no fewer signings than the right one
+pub newer-count : {a b m : History} → Newer a b m → b .count ≤ m .count
+newer-count (right-longer l) = omega arith
+newer-count (left-longer l) = omega arith
+newer-count (right-number e l) = omega arith
+newer-count (left-number e l) = omega arith
+newer-count (left-stable e n p) = omega arith
+newer-count (right-stable e n p q) = omega arith
+newer-count (left-same e n p q) = omega arith
+
 -- counts compare as the lists of the lives do
 module _ {l : ℕ} {a b : History} (r : Roomy l a) (s : Roomy l b) where
   shorter : a .count < b .count → length (incarnationOf a .checkpoints) < length (incarnationOf b .checkpoints)
@@ -199,6 +209,27 @@ view-newer {l} {a} {b} r s = go (newer-view a b)
     go (right-stable e n p q) = right (right-stable (even r s e) n p q)
     go (left-same e n p q) = left (left-same (even r s e) n p q)
 
+-- ---- two marks of one take, the later one last
+
+-- An earlier life; or the same one, and frozen only if b is. Then a may stand in a map where b is the present mark of the take.
+infix 4 _⊑_
+pub record _⊑_ (a b : HistoryView) : Type 0 where
+  pub incarnation : Precedes (a .incarnation) (b .incarnation)
+  pub stable : a .incarnation ≡ b .incarnation → a .stable ≡ true → b .stable ≡ true
+
+pub ⊑-refl : (a : HistoryView) → a ⊑ a
+⊑-refl a = record { incarnation = precedes-refl _; stable = λ e f. f }
+
+pub ⊑-trans : {a b c : HistoryView} → a ⊑ b → b ⊑ c → a ⊑ c
+⊑-trans {a} {b} {c} h k = record { incarnation = precedes-trans (h .incarnation) (k .incarnation); stable = carry }
+  where
+    carry : a .incarnation ≡ c .incarnation → a .stable ≡ true → c .stable ≡ true
+    carry e f =
+        let p : a .incarnation ≡ b .incarnation = precedes-antisym (h .incarnation) (rw e (k .incarnation)) in
+        k .stable (sym p ∙ e) (h .stable p f)
+
+-- ---- the newer of two views
+
 module _ (a b : HistoryView) where
   pub newerView-which : (newerView a b ≡ a) ⊎ (newerView a b ≡ b)
   unfolding newerView
@@ -228,11 +259,14 @@ module _ (a b : HistoryView) where
       go (right-stable e n p q) = right (by-number h k e (omega arith))
       go (left-same e n p q) = left (by-number k h (sym e) (omega arith))
 
-  -- the right one is kept where the left one precedes it and says no more
-  module _ (h : Precedes (a .incarnation) (b .incarnation)) (f : a .incarnation ≡ b .incarnation → a .stable ≡ true → b .stable ≡ true) where
+  -- the right one is kept where the left one is no later
+  module _ (o : a ⊑ b) where
+    before : Precedes (a .incarnation) (b .incarnation)
+    before = o .incarnation
+
     alike : length (a .incarnation .checkpoints) ≡ length (b .incarnation .checkpoints) → a .incarnation .number ≡ b .incarnation .number → a .stable ≡ b .stable
         → viewOf (historyOf a) ≡ b
-    alike e n p = let q = same-incarnation h e n in view-history a ∙ (λ i. record { stable = p i; incarnation = q i })
+    alike e n p = let q = same-incarnation before e n in view-history a ∙ (λ i. record { stable = p i; incarnation = q i })
 
     pub newerView-right : newerView a b ≡ b
     unfolding newerView
@@ -240,9 +274,9 @@ module _ (a b : HistoryView) where
       where
         go : {m : History} → Newer (historyOf a) (historyOf b) m → viewOf m ≡ b
         go (right-longer l) = view-history b
-        go (left-longer l) = absurd (later-size h (inl l))
+        go (left-longer l) = absurd (later-size before (inl l))
         go (right-number e l) = view-history b
-        go (left-number e l) = absurd (later-size h (inr (sym e, l)))
-        go (left-stable e n p) = alike e n (p ∙ sym (f (same-incarnation h e n) p))
+        go (left-number e l) = absurd (later-size before (inr (sym e, l)))
+        go (left-stable e n p) = alike e n (p ∙ sym (o .stable (same-incarnation before e n) p))
         go (right-stable e n p q) = view-history b
         go (left-same e n p q) = alike e n (p ∙ sym q)

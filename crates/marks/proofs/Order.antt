@@ -2,7 +2,7 @@
 use Prim.Native.Nat.{ℕ, _≤_, _<_}
 use mathlib.Core.Path.{_≡_, refl, ap, sym}
 use mathlib.Core.List.{List, [], _∷_, _++_}
-use mathlib.Core.Logic.{_⊎_, inl, inr}
+use mathlib.Core.Logic.{_⊎_, inl, inr, ⊎-elim}
 use native.Mathlib.Omega.{arith}
 use lib.ListN.{length}
 use Rattle.marks.specs.Incarnation.{Incarnation, initialIncarnation, nextIncarnation, checkpointIncarnation, Superseded, lower, Checkpointed, begins}
@@ -117,6 +117,21 @@ precedes-withdrawn {a} {b} h f g = go (precedes-split h)
 
 pub comparable : {a b c : Incarnation} → Precedes a c → Precedes b c → Precedes a b ⊎ Precedes b a
 comparable h k = alike h k
+
+-- p and j are the newest lives of two sets, a is in p's and b in j's. If a is superseded by b and not by p, then p is superseded by
+-- j: a is superseded by j and under p, so p under j would put a under j, and j before p would make a superseded by p.
+pub newest-superseded : {a b p j c : Incarnation} → Superseded a b → Precedes b j → Precedes a p → (Superseded a p → ⊥) → Precedes p c → Precedes j c → Superseded p j
+newest-superseded {a} {b} {p} {j} s bj ap nap pc jc = go (comparable pc jc)
+  where
+    aj : Superseded a j
+    aj = superseded-up s bj
+
+    under : Under a p
+    under = ⊎-elim (λ u. u) (λ t. absurd (nap t)) (precedes-split ap)
+
+    go : Precedes p j ⊎ Precedes j p → Superseded p j
+    go (inl h) = ⊎-elim (λ u. absurd (superseded-not-under aj (under-trans under u))) (λ t. t) (precedes-split h)
+    go (inr h) = absurd (nap (superseded-up aj h))
 
 -- ---- document 01's order: longer list, then greater n
 

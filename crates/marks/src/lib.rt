@@ -198,7 +198,7 @@ impl History {
         store_numbers(image, at + 1 + WIDTH, list);
     }
 
-    // What the packed form from at on holds. Of an absent history the initial one.
+    // What the packed form from at on holds; of zeros, the initial history.
     pub fn load(s: &[u8], at: usize) -> History
         requires { ⌜ at + historySize width places ≤ length (now s) ⌝ }
         ensures { λ r. ⌜ r ≡ unpackHistory width places (part at (historySize width places) (now (s .entry))) ⌝ }

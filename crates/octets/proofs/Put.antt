@@ -92,14 +92,6 @@ put-append at bs cs l h =
     let h' : at + length bs ≤ length l = omega arith in
     rw (put-def (at + length bs) cs (put at bs l), put-def at (bs ++ cs) l, front-put at bs l h', drop-put-add at bs l h', length-append) (simp (append-assoc, add-assoc))
 
--- a put inside what was put
-pub put-inside : (at k : ℕ) (c b l : List ℕ) → k + length c ≤ length b → at + length b ≤ length l → put (at + k) c (put at b l) ≡ put at (put k c b) l
-put-inside at k c b l f h =
-    let e : length (take at l) ≡ at = length-take-le at l (omega arith) in
-    let g : at + k + length c ≤ length (take at l ++ b) = rw length-append (omega arith) in
-    let m : put (at + k) c (take at l ++ b) ≡ take at l ++ put k c b = subst (λ (x : ℕ). put (x + k) c (take at l ++ b) ≡ take at l ++ put k c b) e (put-right k c (take at l) b) in
-    rw (put-def at b l, put-left (at + k) c (take at l ++ b) (drop (at + length b) l) g, m, put-def at (put k c b) l, length-put k c b f)
-
 -- what stands there is put
 pub put-part : (at n : ℕ) (l : List ℕ) → at + n ≤ length l → l ≡ put at (part at n l) l
 put-part at n l h = sym (rw (put-def, length-part at n l h, part-def, ← take-add at n l, take-append-drop))

@@ -8,13 +8,17 @@ use native.Mathlib.Numerals.{add-one}
 use native.Mathlib.Omega.{arith}
 use lib.Bits.{bitOr, or-add-and, and-le-l, and-le-r}
 use lib.Dec.{eqb}
-use lib.ListN.{length, getD}
+use lib.ListN.{length, getD, take, drop, length-drop}
 use mathlib.Core.Logic.{⊎-elim}
 use Rattle.octets.proofs.Chunks.{cases}
-use lib.Seq.{take-at, drop-at}
+use lib.Seq.{take-at, drop-at, drop-drop}
 use borrow.Author.Tests.{eq-eqb, ne-eqb, eqb-true, eqb-false}
 use Rattle.octets.specs.Bytes.{pick, _and_, part, zeros, allZero, every, chunks, tabulate, Octets}
-use Rattle.octets.proofs.Put.{part-def, part-add, part-suc}
+use Rattle.octets.proofs.Put.{part-def, part-add, part-suc, length-part}
+
+pub both : (t u : Bool) → t and u ≡ true → (t ≡ true) × (u ≡ true)
+both true u e = (refl, e)
+both false u e = let b : _≡_ {A = Bool} false true = e in let z : _≡_ {A = ℕ} 0 1 = cc in absurd (omega arith)
 
 pub length-zeros : (n : ℕ) → length (zeros n) ≡ n
 unfolding zeros
@@ -135,6 +139,32 @@ zeros-is (x ∷ xs) e = go (eqb x 0) refl (zeros-is xs) e
     go true z ih f = let a : x ≡ 0 = eqb-true x 0 z in let b : xs ≡ zeros (length xs) = ih f in cc
     go false z ih f = let b : _≡_ {A = Bool} false true = f in let z : _≡_ {A = ℕ} 0 1 = cc in absurd (omega arith)
 
+pub allZero-at : (l : List ℕ) (i : ℕ) → allZero l ≡ true → getD l i 0 ≡ 0
+allZero-at l i e = ap (λ (z : List ℕ). getD z i 0) (zeros-is l e) ∙ getD-zeros (length l) i
+
+pub allZero-drop : (k : ℕ) (l : List ℕ) → allZero l ≡ true → allZero (drop k l) ≡ true
+unfolding allZero
+allZero-drop zero l e = e
+allZero-drop (suc k) [] e = refl
+allZero-drop (suc k) (x ∷ xs) e = allZero-drop k xs (both (eqb x 0) (allZero xs) e .1)
+
+-- a part of zeros
+module _ (at n : ℕ) (l : List ℕ) (fits : at + n ≤ length l) where
+  pub allZero-part : allZero (part at n l) ≡ true → part at n l ≡ zeros n
+  allZero-part e = zeros-is (part at n l) e ∙ ap zeros (length-part at n l fits)
+
+  -- past the first k bytes
+  pub allZero-past : (k : ℕ) → k ≤ at → allZero (drop k l) ≡ true → part at n l ≡ zeros n
+  allZero-past k p e =
+      let a : k + (at - k) ≡ at = omega arith in
+      let m : at - k + n ≤ length (drop k l) = rw length-drop (omega arith) in
+      part-def at n l
+      ∙ ap (λ (i : ℕ). take n (drop i l)) (sym a)
+      ∙ ap (take n) (sym (drop-drop (at - k) k l))
+      ∙ sym (part-def (at - k) n (drop k l))
+      ∙ ap (part (at - k) n) (zeros-is (drop k l) e)
+      ∙ part-zeros (at - k) n (length (drop k l)) m
+
 -- ---- every
 pub every-none : (f : ℕ → Bool) → every 0 f ≡ true
 unfolding every
@@ -162,10 +192,6 @@ every-off f (suc n) i h e = ⊎-elim (λ p. rw (every-off f n i p e)) (λ p. las
     last : f n ≡ false → (t : Bool) → pick t (f n) false ≡ false
     last q true = q
     last q false = refl
-
-pub both : (t u : Bool) → t and u ≡ true → (t ≡ true) × (u ≡ true)
-both true u e = (refl, e)
-both false u e = let b : _≡_ {A = Bool} false true = e in let z : _≡_ {A = ℕ} 0 1 = cc in absurd (omega arith)
 
 pub every-at : (f : ℕ → Bool) (n i : ℕ) → every n f ≡ true → i < n → f i ≡ true
 unfolding every

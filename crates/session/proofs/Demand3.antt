@@ -54,7 +54,8 @@ module _ {y : Layout} {m : Limits} (z : Fitting y) (l : Allowed y m) where
 -- * "Sign, if the two sets are equal": a signing that is not refused replies 0 and signs its volume exactly if the unsigned
 --   lives that the named takes rest on, own included, are the present lives of the named takes that are frozen; else it replies
 --   5, and nothing changes (signing).
--- * Live takes and their own marks are the book's, after every step and every call (matches).
+-- * Live takes and their own marks are the book's, each own mark held in its take's state map, after every step and every call
+--   (matches).
 -- * No text signed since the begin rests on a withdrawn life, where present, signed and withdrawn "go by the book's marks" (sound).
 pub demand3 : (y : Layout) (m : Limits) → Fitting y → Allowed y m → {img : List ℕ} (τ : Trace y m img)
     → (b : Provenance) × ProvenanceOf m (callsOf τ) b × Right y m img τ b

@@ -12,6 +12,7 @@ use Rattle.octets.proofs.Chunks.{sides}
 use Rattle.marks.specs.Incarnation.{Incarnation, nextIncarnation}
 use Rattle.marks.specs.History.{HistoryView, initialView}
 use Rattle.marks.proofs.Order.{precedes-refl, precedes-next, precedes-eq, superseded-next, superseded-ne}
+use Rattle.marks.proofs.Histories.{_⊑_, ⊑-refl}
 use Rattle.maps.specs.Table.{updated}
 use Rattle.maps.proofs.Tables.{updated-same, updated-view}
 use Rattle.ledger.specs.Step.{read, write, freeze, finish, fall}
@@ -19,7 +20,7 @@ use Rattle.session.specs.Provenance.{unused, ready, annihilated, Live, i
 use Rattle.session.specs.Steps.{anew, isNil, rolledBackHolder, reads, writes, freezes, finishes, rollsBackOrFinishes, rollsBackOrStays, acted}
 use Rattle.session.proofs.Model.{Node, Ledger, own, withNode, bareNode, anewNode, readNode, writeNode, freezeNode, finishNode, rollbackNode}
 use Rattle.session.proofs.Tables.{pick-both, updated-both}
-use Rattle.session.proofs.Sets.{_⊑_, ⊑-refl, set-join, set-later, none-rel, only-rel, only-same, in-one, Cell, newest, cell-has, cell-later, own-kept, coherent-part}
+use Rattle.session.proofs.Sets.{set-join, set-later, none-rel, only-rel, only-same, in-one, Cell, newest, cell-has, cell-later, own-kept, coherent-part}
 use Rattle.session.proofs.Relation.{live-used, gone-used, goneView, presentOf, present, present-live, present-gone, Whole, in-state, in-creation, in-behaviour, HolderRel, Rel, own-history, holder-later, holder-kept, messages-kept, noted-kept, blank-rel}
 
 -- ---- the present mark moves on

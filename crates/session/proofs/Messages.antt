@@ -8,12 +8,13 @@ use lib.Dec.{eqb}
 use Rattle.octets.specs.Bytes.{pick}
 use Rattle.marks.specs.Incarnation.{Incarnation}
 use Rattle.marks.specs.History.{HistoryView}
+use Rattle.marks.proofs.Histories.{⊑-refl}
 use Rattle.maps.specs.View.{MapView, joinView, emptyView, singletonView, SupersededView}
 use Rattle.session.specs.Provenance.{busy, Live, working, Incarnations, In, one, Holder, WaitingMessage, Provenance, withHolder, withWaitingMessage, remove, withoutWaitingMessage, find, isMissing, anySuperseded}
 use Rattle.session.specs.Steps.{carried, rolledBackHolder, isDropped, isRolledBack, received, receives}
 use Rattle.session.proofs.Model.{Node, Mail, Ledger, own, withNode, withMail, removeMail, withoutMail, findMail, missingMail, rollbackNode, knownMap, sentMap, takenNode}
 use Rattle.session.proofs.Tables.{pick-both, same-test}
-use Rattle.session.proofs.Sets.{⊑-refl, SetRel, set-join, none-rel, only-rel, in-one, cell-has, Coherent, Members, coherent-part, StaleSet, stale-set, stale-same, stale-test}
+use Rattle.session.proofs.Sets.{SetRel, set-join, none-rel, only-rel, in-one, cell-has, Coherent, Members, coherent-part, SupersededSet, superseded-set, supersededSet-same, supersededSet-test}
 use Rattle.session.proofs.Relation.{present, Whole, in-state, in-creation, in-behaviour, HolderRel, MessageRel, All2, none2, cons2, Rel, own-history}
 use Rattle.session.proofs.Locals.{keep-rel, held-rel, step-rollback, present-is}
 
@@ -115,15 +116,15 @@ module _ {now : ℕ → HistoryView} {t : ℕ} {x : Node} {h : Holder} (r : Hold
   pub dropped-same : (d : Bool) → (d ≡ true) ↔ SupersededView (m .dependences) (knownMap x) → d ≡ isDropped h q
   unfolding isDropped
   dropped-same d i =
-      let k = stale-same now (m .dependences) (knownMap x) (q .incarnations) ground (p .incarnations) ground-rel (p .coherent) in
-      let j = stale-test (q .incarnations) ground in
+      let k = supersededSet-same now (m .dependences) (knownMap x) (q .incarnations) ground (p .incarnations) ground-rel (p .coherent) in
+      let j = supersededSet-test (q .incarnations) ground in
       same-test d (anySuperseded (q .incarnations) ground) (λ e. j .1 (k .1 (i .0 e))) (λ e. i .1 (k .0 (j .0 e)))
 
   pub rolledBack-same : (e : Bool) → (e ≡ true) ↔ SupersededView (knownMap x) (m .dependences) → e ≡ isRolledBack h q
   unfolding isRolledBack
   rolledBack-same e i =
-      let k = stale-same now (knownMap x) (m .dependences) ground (q .incarnations) ground-rel (p .incarnations) ground-coherent in
-      let j = stale-test ground (q .incarnations) in
+      let k = supersededSet-same now (knownMap x) (m .dependences) ground (q .incarnations) ground-rel (p .incarnations) ground-coherent in
+      let j = supersededSet-test ground (q .incarnations) in
       same-test e (anySuperseded ground (q .incarnations)) (λ e. j .1 (k .1 (i .0 e))) (λ e. i .1 (k .0 (j .0 e)))
 
   abbrev taken : Holder
@@ -148,16 +149,16 @@ module _ {now : ℕ → HistoryView} {t : ℕ} {x : Node} {h : Holder} (r : Hold
       part u a (in-creation z) = inl (Memᴰ·append-right (h .state) z)
       part u a (in-behaviour z) = inr z
 
-      none : (X Y : Incarnations) → anySuperseded X Y ≡ false → StaleSet X Y → ⊥
-      none X Y f s = false≢true (sym f ∙ stale-test X Y .1 s)
+      none : (X Y : Incarnations) → anySuperseded X Y ≡ false → SupersededSet X Y → ⊥
+      none X Y f s = false≢true (sym f ∙ supersededSet-test X Y .1 s)
 
       coherent : Coherent (Whole taken)
       coherent u a c y z s = go (part u a y) (part u c z)
         where
           go : In u a ground ⊎ In u a (q .incarnations) → In u c ground ⊎ In u c (q .incarnations) → ⊥
           go (inl i) (inl j) = ground-coherent u a c i j s
-          go (inl i) (inr j) = none ground (q .incarnations) e (stale-set u a c i j s)
-          go (inr i) (inl j) = none (q .incarnations) ground d (stale-set u a c i j s)
+          go (inl i) (inr j) = none ground (q .incarnations) e (superseded-set u a c i j s)
+          go (inr i) (inl j) = none (q .incarnations) ground d (superseded-set u a c i j s)
           go (inr i) (inr j) = p .coherent u a c i j s
 
 -- d and e stand for the ledger's two tests where the take of node x receives mail m

@@ -8,6 +8,7 @@ use Rattle.marks.specs.Incarnation.{Incarnation, initialIncarnation}
 use Rattle.marks.specs.History.{HistoryView, initialView}
 use Rattle.marks.proofs.Trail.{Precedes}
 use Rattle.marks.proofs.Order.{precedes-initial, superseded-ne}
+use Rattle.marks.proofs.Histories.{_⊑_, ⊑-refl, ⊑-trans}
 use Rattle.maps.specs.Table.{updated}
 use Rattle.maps.specs.View.{singletonView}
 use Rattle.maps.proofs.Tables.{updated-same, updated-view}
@@ -15,7 +16,7 @@ use Rattle.session.specs.Provenance.{unused, ready, Live, idle, one, Hol
 use Rattle.session.specs.Steps.{anew, carried, opensRoot, opensChild}
 use Rattle.session.proofs.Model.{Node, Ledger, withNode, openNode, anewNode, sentMap, childNode, openerNode}
 use Rattle.session.proofs.Tables.{updated-both}
-use Rattle.session.proofs.Sets.{_⊑_, ⊑-refl, ⊑-trans, set-join, set-known, none-rel, only-rel, only-same, in-one, Coherent, Members}
+use Rattle.session.proofs.Sets.{set-join, set-known, none-rel, only-rel, only-same, in-one, Coherent, Members}
 use Rattle.session.proofs.Relation.{live-used, presentOf, present, present-live, present-unused, Whole, in-state, in-creation, in-behaviour, HolderRel, Rel, holder-later, holder-kept, messages-kept, noted-kept, whole-known}
 use Rattle.session.proofs.Locals.{present-is, grow, keep-rel, anew-rel}
 use Rattle.session.proofs.Messages.{sent-rel, sent-coherent}

@@ -9,11 +9,12 @@ use native.Mathlib.Omega.{arith}
 use lib.ListN.{length}
 use Rattle.marks.specs.Incarnation.{Incarnation, initialIncarnation, Checkpointed}
 use Rattle.marks.specs.History.{HistoryView, initialView}
+use Rattle.marks.proofs.Trail.{Precedes}
 use Rattle.marks.proofs.Order.{checkpointed-up, checkpointed-irrefl, initial-precedes}
+use Rattle.marks.proofs.Histories.{_⊑_}
 use Rattle.session.specs.Provenance.{Status, unused, ready, busy, annihilated, Live, idle, working, In, Holder, WaitingMessage, Provenance, blank, emptyProvenance}
 use Rattle.session.proofs.Model.{Node, Mail, Ledger, own, bareNode}
-use Rattle.session.proofs.Sets.{_⊑_, SetRel, set-later, set-known, none-rel, cell-none, Coherent, Members}
-use Rattle.marks.proofs.Trail.{Precedes}
+use Rattle.session.proofs.Sets.{SetRel, set-later, set-known, none-rel, cell-none, Coherent, Members}
 
 -- ---- statuses
 

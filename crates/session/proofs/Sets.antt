@@ -2,7 +2,7 @@
 -- receipt give the same on both.
 use Prim.Native.Nat.{ℕ}
 use mathlib.Core.Bool.{Bool, true, false≢true}
-use mathlib.Core.Path.{_≡_, refl, ap, sym, _∙_}
+use mathlib.Core.Path.{_≡_, refl, ap, sym}
 use mathlib.Core.List.{[], _∷_, _++_, List·Memᴰ, List·Memᴰ·head, List·Memᴰ·tail, List·Memᴰ·append-cases, Memᴰ·append-left, Memᴰ·append-right, List·Memᴰ·not-nil, List·Memᴰ·eq-of-singleton, List·Memᴰ·cases-cons}
 use mathlib.Core.Logic.{⊎-elim, _⊎_, inl, inr, _↔_}
 use mathlib.Core.Option.{Option, none, some}
@@ -12,38 +12,19 @@ use borrow.Author.Tests.{eqb-true, eq-eqb}
 use Rattle.octets.specs.Bytes.{_and_}
 use Rattle.marks.specs.Incarnation.{Incarnation, Superseded, supersededBy}
 use Rattle.marks.specs.History.{HistoryView, newerView}
-use Rattle.marks.proofs.Trail.{Precedes, Under}
-use Rattle.marks.proofs.Order.{precedes-refl, precedes-trans, precedes-antisym, precedes-split, comparable, superseded-up, superseded-not-under, under-trans}
+use Rattle.marks.proofs.Trail.{Precedes}
+use Rattle.marks.proofs.Order.{precedes-refl, precedes-trans, newest-superseded}
 use Rattle.octets.proofs.Zero.{both}
 use Rattle.marks.proofs.Tests.{superseded-test}
-use Rattle.marks.proofs.Histories.{newerView-which, newerView-later, newerView-right}
+use Rattle.marks.proofs.Histories.{_⊑_, ⊑-trans, newerView-which, newerView-later, newerView-right}
 use Rattle.maps.specs.View.{MapView, joinEntry, joinView, emptyView, singletonView, SupersededView, superseded-entry}
 use Rattle.maps.proofs.Tables.{updated-view, updated-same}
 use Rattle.session.specs.Provenance.{Entry, Incarnations, In, one, anyEntry, supersededEntry, anySuperseded}
 use Rattle.session.proofs.Tables.{or-to, or-of, and-of}
 
--- ---- known: mark m may stand in a map where c is the present mark of its take
-
--- An earlier life; or the present one, and frozen only if it is frozen.
-infix 4 _⊑_
-pub record _⊑_ (m c : HistoryView) : Type 0 where
-  pub incarnation : Precedes (m .incarnation) (c .incarnation)
-  pub stable : m .incarnation ≡ c .incarnation → m .stable ≡ true → c .stable ≡ true
-
-pub ⊑-refl : (m : HistoryView) → m ⊑ m
-⊑-refl m = record { incarnation = precedes-refl _; stable = λ e f. f }
-
-pub ⊑-trans : {a b c : HistoryView} → a ⊑ b → b ⊑ c → a ⊑ c
-⊑-trans {a} {b} {c} h k = record { incarnation = precedes-trans (h .incarnation) (k .incarnation); stable = carry }
-  where
-    carry : a .incarnation ≡ c .incarnation → a .stable ≡ true → c .stable ≡ true
-    carry e f =
-        let p : a .incarnation ≡ b .incarnation = precedes-antisym (h .incarnation) (rw e (k .incarnation)) in
-        k .stable (sym p ∙ e) (h .stable p f)
-
 -- ---- A and B at one take: P the lives of the set, c the take's present mark
 
--- A: its life is in the set, and every life of the set precedes it. B: it is known.
+-- A: its life is in the set, and every life of the set precedes it. B: it is known, a past mark or the present one.
 pub record Newest (P : Incarnation → Type 0) (c m : HistoryView) : Type 0 where
   pub has : P (m .incarnation)
   pub top : (a : Incarnation) → P a → Precedes a (m .incarnation)
@@ -103,7 +84,7 @@ cell-join (newest h) (newest k) = newest (newest-join h k)
 pub own-kept : {P : Incarnation → Type 0} {m : HistoryView} {o e : Option HistoryView} → Cell P m o → e ≡ some m → joinEntry o e ≡ some m
 unfolding joinEntry
 own-kept (empty k) e = e
-own-kept {m = m} (newest {m = n} k) e = rw e (ap some (newerView-right n m (k .known .incarnation) (k .known .stable)))
+own-kept {m = m} (newest {m = n} k) e = rw e (ap some (newerView-right n m (k .known)))
 
 -- ---- A and B of a map and a set, at the present marks `now`
 
@@ -152,37 +133,22 @@ coherent-part P Q f h u a b x y = h u a b (f u a x) (f u b y)
 -- ---- the tests at a receipt
 
 -- a life of X is stale by one of the same take in Y
-pub data StaleSet (X Y : Incarnations) : Type 0 where
-  stale-set : (u : ℕ) (a b : Incarnation) → In u a X → In u b Y → Superseded a b → StaleSet X Y
-
--- a is stale by b; p and j are the newest of their sets, a in p's, b in j's; in p's set nothing is stale by p: then p is stale by j.
--- For a is stale by j, and a is under p; p under j would put a under j, and j before p would make a stale by p.
-newest-stale : {a b p j c : Incarnation} → Superseded a b → Precedes b j → Precedes a p → (Superseded a p → ⊥) → Precedes p c → Precedes j c → Superseded p j
-newest-stale {a} {b} {p} {j} s bj ap nap pc jc = go (comparable pc jc)
-  where
-    aj : Superseded a j
-    aj = superseded-up s bj
-
-    under : Under a p
-    under = ⊎-elim (λ u. u) (λ t. absurd (nap t)) (precedes-split ap)
-
-    go : Precedes p j ⊎ Precedes j p → Superseded p j
-    go (inl h) = ⊎-elim (λ u. absurd (superseded-not-under aj (under-trans under u))) (λ t. t) (precedes-split h)
-    go (inr h) = absurd (nap (superseded-up aj h))
+pub data SupersededSet (X Y : Incarnations) : Type 0 where
+  superseded-set : (u : ℕ) (a b : Incarnation) → In u a X → In u b Y → Superseded a b → SupersededSet X Y
 
 -- the test on sets and the test on their newest marks
-pub stale-same : (now : ℕ → HistoryView) (M N : MapView) (X Y : Incarnations) → SetRel now M X → SetRel now N Y → Coherent (Members X) → StaleSet X Y ↔ SupersededView M N
-stale-same now M N X Y h k coherent = (to, from)
+pub supersededSet-same : (now : ℕ → HistoryView) (M N : MapView) (X Y : Incarnations) → SetRel now M X → SetRel now N Y → Coherent (Members X) → SupersededSet X Y ↔ SupersededView M N
+supersededSet-same now M N X Y h k coherent = (to, from)
   where
-    to : StaleSet X Y → SupersededView M N
-    to (stale-set u a b x y s) =
+    to : SupersededSet X Y → SupersededView M N
+    to (superseded-set u a b x y s) =
         let p = cell-some a x (h u) in
         let j = cell-some b y (k u) in
         superseded-entry u (p .0) (j .0) (p .1) (j .1)
-        (newest-stale s (j .2 .top b y) (p .2 .top a x) (coherent u a (p .0 .incarnation) x (p .2 .has)) (p .2 .known .incarnation) (j .2 .known .incarnation))
+        (newest-superseded s (j .2 .top b y) (p .2 .top a x) (coherent u a (p .0 .incarnation) x (p .2 .has)) (p .2 .known .incarnation) (j .2 .known .incarnation))
 
-    from : SupersededView M N → StaleSet X Y
-    from (superseded-entry u a b p q s) = stale-set u (a .incarnation) (b .incarnation) (cell-has p (h u) .has) (cell-has q (k u) .has) s
+    from : SupersededView M N → SupersededSet X Y
+    from (superseded-entry u a b p q s) = superseded-set u (a .incarnation) (b .incarnation) (cell-has p (h u) .has) (cell-has q (k u) .has) s
 
 -- ---- the book's test says whether there is such a life
 
@@ -203,29 +169,29 @@ entry-test x z = (to, of)
     same : Bool
     same = eqb (x .transactor) (z .transactor)
 
-    stale : Bool
-    stale = supersededBy (x .incarnation) (z .incarnation)
+    superseded : Bool
+    superseded = supersededBy (x .incarnation) (z .incarnation)
 
-    to : same and stale ≡ true → (x .transactor ≡ z .transactor) × Superseded (x .incarnation) (z .incarnation)
-    to e = let h = both same stale e in
+    to : same and superseded ≡ true → (x .transactor ≡ z .transactor) × Superseded (x .incarnation) (z .incarnation)
+    to e = let h = both same superseded e in
         (eqb-true (x .transactor) (z .transactor) (h .0), superseded-test (x .incarnation) (z .incarnation) .0 (h .1))
 
-    of : (x .transactor ≡ z .transactor) × Superseded (x .incarnation) (z .incarnation) → same and stale ≡ true
-    of h = and-of same stale (eq-eqb (x .transactor) (z .transactor) (h .0)) (superseded-test (x .incarnation) (z .incarnation) .1 (h .1))
+    of : (x .transactor ≡ z .transactor) × Superseded (x .incarnation) (z .incarnation) → same and superseded ≡ true
+    of h = and-of same superseded (eq-eqb (x .transactor) (z .transactor) (h .0)) (superseded-test (x .incarnation) (z .incarnation) .1 (h .1))
 
-pub stale-test : (X Y : Incarnations) → (anySuperseded X Y ≡ true) ↔ StaleSet X Y
+pub supersededSet-test : (X Y : Incarnations) → (anySuperseded X Y ≡ true) ↔ SupersededSet X Y
 unfolding anySuperseded
-stale-test X Y = (to, of)
+supersededSet-test X Y = (to, of)
   where
-    to : anyEntry (λ x. anyEntry (supersededEntry x) Y) X ≡ true → StaleSet X Y
+    to : anyEntry (λ x. anyEntry (supersededEntry x) Y) X ≡ true → SupersededSet X Y
     to e =
         let x = any-to (λ x. anyEntry (supersededEntry x) Y) X e in
         let z = any-to (supersededEntry (x .0)) Y (x .2) in
         let h = entry-test (x .0) (z .0) .0 (z .2) in
-        stale-set (x .0 .transactor) (x .0 .incarnation) (z .0 .incarnation) (x .1) (rw (h .0) (z .1)) (h .1)
+        superseded-set (x .0 .transactor) (x .0 .incarnation) (z .0 .incarnation) (x .1) (rw (h .0) (z .1)) (h .1)
 
-    of : StaleSet X Y → anyEntry (λ x. anyEntry (supersededEntry x) Y) X ≡ true
-    of (stale-set u a b x y s) =
+    of : SupersededSet X Y → anyEntry (λ x. anyEntry (supersededEntry x) Y) X ≡ true
+    of (superseded-set u a b x y s) =
         let p : Entry = record { transactor = u; incarnation = a } in
         let q : Entry = record { transactor = u; incarnation = b } in
         any-of (λ x. anyEntry (supersededEntry x) Y) X p x (any-of (supersededEntry p) Y q y (entry-test p q .1 (refl, s)))

@@ -1,16 +1,13 @@
 -- Signing: the ledger's test holds exactly if the book's two sets are equal; and no signed text rests on a withdrawn life.
-use Prim.Native.Nat.{ℕ, _+_}
+use Prim.Native.Nat.{ℕ}
 use mathlib.Core.Bool.{Bool, true, false≢true}
-use mathlib.Core.Path.{_≡_, refl, ap, sym, _∙_}
-use mathlib.Core.List.{_∷_}
+use mathlib.Core.Path.{_≡_, ap, sym, _∙_}
 use mathlib.Core.Logic.{_⊎_, inl, inr, ⊎-elim}
 use mathlib.Core.Option.{some}
-use native.Mathlib.Omega.{arith}
-use lib.ListN.{length, length-append}
-use Rattle.marks.specs.Incarnation.{Incarnation, Checkpointed, begins}
+use Rattle.marks.specs.Incarnation.{Incarnation, Checkpointed}
 use Rattle.marks.specs.History.{HistoryView}
 use Rattle.marks.proofs.Trail.{Under}
-use Rattle.marks.proofs.Order.{precedes-split, under-split, under-checkpointed, checkpointed-under, before-checkpointed}
+use Rattle.marks.proofs.Order.{precedes-split, under-split, under-checkpointed, checkpointed-under, before-checkpointed, checkpointed-irrefl}
 use Rattle.marks.proofs.Tests.{decCheckpointed}
 use Rattle.maps.specs.View.{MapView}
 use Rattle.ledger.specs.Refusals.{named}
@@ -34,12 +31,6 @@ pub record Ready (l : Ledger) (v : ℕ → Bool) : Type 0 where
   pub creation : (t : ℕ) → v t ≡ true → (u : ℕ) (m : HistoryView) → l .nodes t .creation u ≡ some m → EntryReady l v u m
 
 -- ---- signed lives
-
--- a life is signed only where the list is longer than its own
-no-longer : {a c : Incarnation} → c .checkpoints ≡ a .checkpoints → Checkpointed a c → ⊥
-no-longer {a} {c} e (begins r k) =
-    let n : length (a .checkpoints) ≡ length (a .checkpoints) + length (a .number ∷ r) = ap length (sym e ∙ k) ∙ length-append (a .checkpoints) (a .number ∷ r) in
-    omega arith
 
 -- signed, by the total present marks of the relation
 checkpointedNow-of : (b : Provenance) {u : ℕ} {a : Incarnation} → Checkpointed a (present (b .holders) u .incarnation) → CheckpointedNow b u a
@@ -115,7 +106,7 @@ module _ (b : Provenance) (g : ℕ) where
 
   -- the own life of a named take is unsigned
   own-uncheckpointed : (t : ℕ) → named g t ≡ true → In t (b .holders t .history .incarnation) (b .holders t .state) → UncheckpointedGround b g t (b .holders t .history .incarnation)
-  own-uncheckpointed t n i = record { by = t; named = n; rests = from-start (in-state i); uncheckpointed = λ s. no-longer refl (s .is) }
+  own-uncheckpointed t n i = record { by = t; named = n; rests = from-start (in-state i); uncheckpointed = λ s. checkpointed-irrefl (s .is) }
 
   -- the sets are equal where each named take rests on its own life and on settled ones alone
   pub settled-equal : ((t : ℕ) → named g t ≡ true → (u : ℕ) (a : Incarnation) → RestsOn b t u a → Settled b g u a)

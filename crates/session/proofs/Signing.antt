@@ -8,13 +8,13 @@ use native.Mathlib.Omega.{arith}
 use Rattle.marks.specs.Incarnation.{Incarnation, checkpointIncarnation, Checkpointed}
 use Rattle.marks.specs.History.{HistoryView}
 use Rattle.marks.proofs.Order.{precedes-checkpoint, checkpointed-up, checkpointed-checkpoint, checkpointed-ne}
+use Rattle.marks.proofs.Histories.{_⊑_, ⊑-refl}
 use Rattle.ledger.specs.Refusals.{named}
 use Rattle.session.specs.Provenance.{unused, ready, Live, idle, Holder, Provenance}
 use Rattle.session.specs.Grounds.{CheckpointedNow, StablePresent}
 use Rattle.session.specs.Steps.{anew, checkpointedAt, NotedBy, before, now-checkpointed, signs}
 use Rattle.session.proofs.Model.{Ledger, own, anewNode, checkpointedNodes, signLedger}
 use Rattle.session.proofs.Tables.{pick-view, pick-both}
-use Rattle.session.proofs.Sets.{_⊑_, ⊑-refl}
 use Rattle.session.proofs.Relation.{live-used, presentOf, present, present-live, HolderRel, Rel, own-history, holder-kept, messages-kept, noted-kept}
 use Rattle.session.proofs.Locals.{anew-rel}
 use Rattle.session.proofs.Sign.{Ready, ready-live, settled, checkpointedNow-to}

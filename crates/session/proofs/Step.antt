@@ -7,6 +7,7 @@ use native.Mathlib.Omega.{arith}
 use lib.Dec.{eqb}
 use borrow.Author.Tests.{eq-eqb}
 use Rattle.marks.specs.History.{HistoryView, viewOf}
+use Rattle.maps.proofs.View.{view-some}
 use Rattle.ledger.specs.Layout.{Layout, Limits, Allowed}
 use Rattle.ledger.specs.Layout as layout
 use Rattle.ledger.specs.State.{Transactor, Message, State, transactorAt, messageAt, ownHistory, placeOf}
@@ -88,6 +89,7 @@ matches-rel {y} {s} {b} well r t =
     let own : viewOf (ownHistory t (transactorAt s t)) ≡ b .holders t .history = sym (own-view well t) ∙ own-history (r .holders t) in
     record {
       status = seen-status well t ∙ ap statusNumber (r .holders t .status);
+      held = λ k. view-some (transactorAt s t .state) t (b .holders t .history) (r .holders t .own k) .0;
       incarnation = λ k. ap (λ (m : HistoryView). m .incarnation) own;
       stable = λ k. ap (λ (m : HistoryView). m .stable) own;
     }

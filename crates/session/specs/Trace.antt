@@ -1,10 +1,12 @@
 -- Document 01, demand 3: sessions, and what is claimed of each call and each step.
 use Prim.Native.Nat.{ℕ, suc, _-_, _*_, _≤_, _<_}
+use mathlib.Core.Bool.{true}
 use mathlib.Core.Path.{_≡_}
 use mathlib.Core.List.{List, [], _∷_}
 use mathlib.Core.Option.{Option}
 use Rattle.octets.specs.Bytes.{part, Octets}
 use Rattle.marks.specs.History.{incarnationOf}
+use Rattle.maps.specs.Map.{heldAt}
 use Rattle.ledger.specs.Layout.{Layout, Limits}
 use Rattle.ledger.specs.State.{State, Transactor, transactorAt, ownHistory}
 use Rattle.ledger.specs.declared.Step.{Step}
@@ -58,9 +60,11 @@ callsOf (called τ c a p) = c ∷ callsOf τ
 -- Demand 3: "refusals are exactly those of the book of document 01; a signing signs exactly when the book's two sets of lives are
 -- equal, else it replies 5; live takes and own marks are the book's; so no text signed since the begin rests on a withdrawn life".
 
--- "Live takes and own marks are the book's": every take has the book's status in the state, and a live one the book's mark.
+-- "Live takes and own marks are the book's": every take has the book's status in the state; of a live one its own mark is there,
+-- and is the book's.
 pub record MatchesAt (x : Transactor) (t : ℕ) (h : Holder) : Type 0 where
   pub status : x .status ≡ statusNumber (h .status)
+  pub held : Live (h .status) → heldAt (x .state) t ≡ true
   pub incarnation : Live (h .status) → incarnationOf (ownHistory t x) ≡ h .history .incarnation
   pub stable : Live (h .status) → ownHistory t x .stable ≡ h .history .stable
 

@@ -154,17 +154,24 @@ fn pair(n: u8, m: u8) -> DependenceMap
 
 fn joins() {
     let both = alone(3).join(alone(4));
-    print::number(b"joined, life of take 5", both.entry(5).incarnation as u64);
-    print::truth(b"joined, a mark of take 5", both.holds(5));
-    print::truth(b"joined, a mark of take 6", both.holds(6));
+    let h = both.histories[5];
+    print::number(b"joined, life of take 5", h.incarnation as u64);
+    print::truth(b"joined, a mark of take 5", both.held[5]);
+    print::truth(b"joined, a mark of take 6", both.held[6]);
     print::truth(b"an empty map is empty", DependenceMap::empty().is_empty());
     print::truth(b"a joined map is empty", both.is_empty());
 }
 
+// a against b joined with no map.
 fn compared(label: &[u8], a: DependenceMap, b: DependenceMap)
     requires { ⌜ Bounded places a × Bounded places b ⌝ }
 {
-    match a.compare(b) {
+    let mut packed = [0u8; 816];
+    a.store(&mut packed, 0);
+    b.store(&mut packed, maps::SIZE);
+    let answers = maps::in_place::compare(&packed, 0, maps::SIZE, maps::SIZE * 2);
+    let first = answers.map;
+    match first {
         Comparison::Superseded(i) => print::number(label, i as u64),
         Comparison::Current => print::truth(label, false),
     }

@@ -4,7 +4,7 @@ use native.Mathlib.Omega.{arith}
 use borrow.Author.Needs.{needs}
 use Rattle.ledger.specs.Layout.{base, standard}
 use Rattle.ledger.specs.Pack.{unpackTransactor}
-use Rattle.ledger.proofs.Acts.{own-bounded, acted, rollback-unsigned, rollback-last, rollback-next}
+use Rattle.ledger.proofs.Acts.{own-bounded, acted, rollback-uncheckpointed, rollback-last, rollback-next}
 use Rattle.ledger.proofs.transactor.roll_back.Statement.{statement}
 use Rattle.ledger.proofs.transactor.roll_back.Tie as tie
 
@@ -24,7 +24,7 @@ returns : tie.Need-returns
 returns c =
     let d = c .before .before .before in
     let e = d .before .before in
-    acted (rollback-unsigned base standard _ _ (e .before .before .own .ensures) (e .if1 .taken)) (c .outcome-of .ensures) (d .strip .ensures)
+    acted (rollback-uncheckpointed base standard _ _ (e .before .before .own .ensures) (e .if1 .taken)) (c .outcome-of .ensures) (d .strip .ensures)
 
 outcome-of-requires-2 : tie.Need-outcome-of-requires-2
 outcome-of-requires-2 c κs = search needs

@@ -6,7 +6,7 @@ use Rattle.maps.specs.Packed.{Apart}
 use Rattle.ledger.specs.Layout.{base, stateAt, behaviourAt}
 use Rattle.ledger.specs.Pack.{unpackTransactor}
 use Rattle.ledger.proofs.Fields.{put-value, put-state}
-use Rattle.ledger.proofs.Acts.{stored, map-exact, map-behind, acted, write-frozen, write-loose}
+use Rattle.ledger.proofs.Acts.{stored, map-exact, map-behind, acted, write-stable, write-loose}
 use Rattle.ledger.proofs.transactor.write.Statement.{statement}
 use Rattle.ledger.proofs.transactor.write.Tie as tie
 
@@ -23,7 +23,7 @@ returns : tie.Need-returns
 returns c =
     let d = c .before in
     let e = d .before in
-    acted (write-frozen base _ _ (e .own .ensures) _ (d .if1 .taken)) (c .outcome-of .ensures) (sym (e .before .before .before .pre .0 .back))
+    acted (write-stable base _ _ (e .own .ensures) _ (d .if1 .taken)) (c .outcome-of .ensures) (sym (e .before .before .before .pre .0 .back))
 
 store32-requires : tie.Need-store32-requires
 store32-requires c κs = search needs
