@@ -1,4 +1,5 @@
-/* The take ledger. Words and numbers are document 01's; packed forms are its "Packed forms", most significant bit first.
+/* The take ledger. Words and numbers are those of documents 01 and 02; packed forms are document 01's "Packed forms", most
+ * significant bit first.
  *
  * The library is built by `rt staticlib ledger_c` as target/staticlib/libledger_c.a, for x86-64 Linux. It keeps nothing between
  * calls, allocates nothing and needs only memcpy, memmove and memset: a session is the image and nothing else.
@@ -6,7 +7,7 @@
  * A buffer is a pointer and its length in bytes. The caller owes, for each call: pointers that are not null (also for a
  * length of 0), as many bytes behind each as its length says, readable, and writable where the pointer is not to const; and
  * that what is written (image or replies, refusal) overlaps no other buffer of the call. Every other input is allowed, and
- * refused where document 01 refuses it. */
+ * refused where the documents refuse it. */
 #ifndef LEDGER_H
 #define LEDGER_H
 
@@ -58,7 +59,7 @@ enum ledger_outcome {
     LEDGER_WRONG_PART = 17,   /* part not inside the list, not a multiple of 8, over 8,192 bytes */
     LEDGER_WRONG_ROOM = 18,   /* replies not as long as the part */
     LEDGER_ILL_FORMED = 19,   /* image ill-formed */
-    /* steps; 21, 22 also offer, 24 also show */
+    /* steps; 21, 22 also offer and smallest group, 24 also show */
     LEDGER_MALFORMED = 20,    /* kind 13 to 15, or an unused field or the zero bits not zero */
     LEDGER_UNOPENED = 21,     /* acting take, addressee or named take not opened */
     LEDGER_GONE = 22,         /* acting, receiving or named take vanished */
@@ -91,6 +92,10 @@ uint8_t ledger_run(uint8_t *image, size_t image_length,
 /* The number of a waiting parcel addressed to the take, or LEDGER_NONE exactly if there is none; *refusal is 0.
  * Refused with 16, 19, 21 or 22, which is put in *refusal: LEDGER_NONE. */
 uint16_t ledger_offer(const uint8_t *image, size_t image_length, size_t take, uint8_t *refusal);
+
+/* The smallest volume with the take that could be signed now, as its bits, or 0 exactly if there is none; *refusal is 0.
+ * Refused with 16, 19, 21 or 22, which is put in *refusal: 0. */
+uint16_t ledger_smallest_group(const uint8_t *image, size_t image_length, size_t take, uint8_t *refusal);
 
 /* Where the 272 bytes of the image are that hold the map of the waiting parcel with this number; *refusal is 0.
  * Refused with 16, 19 or 24, which is put in *refusal: offset and length are 0. */

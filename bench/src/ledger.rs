@@ -608,7 +608,7 @@ impl Session<'_> {
     }
 }
 
-// ---- the four calls
+// ---- the calls
 
 pub fn begin(image: &mut [u8]) -> u8 {
     if image.len() != IMAGE {
@@ -644,7 +644,8 @@ pub fn run(image: &mut [u8], list: &[u8], start: usize, end: usize, replies: &mu
     0
 }
 
-pub fn offer(image: &[u8], take: usize) -> Result<Option<u16>, u8> {
+/// The image of a query about one take.
+fn asked(image: &[u8], take: usize) -> Result<&Image, u8> {
     if image.len() != IMAGE {
         return Err(16);
     }
@@ -658,8 +659,42 @@ pub fn offer(image: &[u8], take: usize) -> Result<Option<u16>, u8> {
     if image.takes[take].status == VANISHED {
         return Err(22);
     }
+    Ok(image)
+}
+
+pub fn offer(image: &[u8], take: usize) -> Result<Option<u16>, u8> {
+    let image = asked(image, take)?;
     let head = WAITING | take as u8;
     Ok(image.parcels.iter().find(|p| p.head == head).map(|p| u16::from_be_bytes(p.number)))
+}
+
+/// The smallest volume with the take that could be signed now: each take that is added is looked at once.
+pub fn smallest(image: &[u8], take: usize) -> Result<Option<u16>, u8> {
+    let takes = &asked(image, take)?.takes;
+    let mut volume = 1u16 << take;
+    let mut added = volume;
+    while added != 0 {
+        let t = added.trailing_zeros() as usize;
+        added &= added - 1;
+        let own = &takes[t].state[t];
+        if own.head & FROZEN == 0 || own.count() == 15 {
+            return Ok(None);
+        }
+        for (u, other) in takes.iter().enumerate() {
+            let present = &other.state[u];
+            for m in [&takes[t].state[u], &takes[t].creation[u]] {
+                if m.head == 0 || m.signed(present) {
+                    continue;
+                }
+                if !m.same_life(present) {
+                    return Ok(None);
+                }
+                added |= !volume & 1 << u;
+                volume |= 1 << u;
+            }
+        }
+    }
+    Ok(Some(volume))
 }
 
 pub fn show(image: &[u8], number: u16) -> Result<&[u8], u8> {

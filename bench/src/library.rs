@@ -23,6 +23,7 @@ extern "C" {
         replies_length: usize,
     ) -> u8;
     fn ledger_offer(image: *const u8, image_length: usize, take: usize, refusal: *mut u8) -> u16;
+    fn ledger_smallest_group(image: *const u8, image_length: usize, take: usize, refusal: *mut u8) -> u16;
     fn ledger_show(image: *const u8, image_length: usize, number: u16, refusal: *mut u8) -> Part;
 }
 
@@ -44,6 +45,16 @@ pub fn offer(image: &[u8], take: usize) -> Result<Option<u16>, u8> {
         return Err(refusal);
     }
     Ok((number != NONE).then_some(number))
+}
+
+pub fn smallest(image: &[u8], take: usize) -> Result<Option<u16>, u8> {
+    let mut refusal = 255;
+    let volume = unsafe { ledger_smallest_group(image.as_ptr(), image.len(), take, &mut refusal) };
+    if refusal != 0 {
+        assert_eq!(volume, 0, "a refused query gives a volume");
+        return Err(refusal);
+    }
+    Ok((volume != 0).then_some(volume))
 }
 
 pub fn show(image: &[u8], number: u16) -> Result<&[u8], u8> {

@@ -17,13 +17,26 @@ struct Calls {
     begin: fn(&mut [u8]) -> u8,
     run: fn(&mut [u8], &[u8], usize, usize, &mut [u8]) -> u8,
     offer: fn(&[u8], usize) -> Result<Option<u16>, u8>,
+    smallest: fn(&[u8], usize) -> Result<Option<u16>, u8>,
     show: for<'a> fn(&'a [u8], u16) -> Result<&'a [u8], u8>,
 }
 
-const LIBRARY: Calls =
-    Calls { name: "library", begin: library::begin, run: library::run, offer: library::offer, show: library::show };
-const RUST: Calls =
-    Calls { name: "rust", begin: ledger::begin, run: ledger::run, offer: ledger::offer, show: ledger::show };
+const LIBRARY: Calls = Calls {
+    name: "library",
+    begin: library::begin,
+    run: library::run,
+    offer: library::offer,
+    smallest: library::smallest,
+    show: library::show,
+};
+const RUST: Calls = Calls {
+    name: "rust",
+    begin: ledger::begin,
+    run: ledger::run,
+    offer: ledger::offer,
+    smallest: ledger::smallest,
+    show: ledger::show,
+};
 
 enum Call {
     Begin,
@@ -32,6 +45,7 @@ enum Call {
     /// An empty part: the form test alone.
     Form,
     Offer(usize),
+    Smallest(usize),
     Show(u16),
 }
 
@@ -65,6 +79,7 @@ impl Work {
                 Call::Begin => (by.begin)(image) as u64,
                 Call::Form => (by.run)(image, &[], 0, 0, &mut []) as u64,
                 Call::Offer(t) => (by.offer)(image, *t).unwrap().map_or(7, |n| n as u64),
+                Call::Smallest(t) => (by.smallest)(image, *t).unwrap().map_or(7, |v| v as u64),
                 Call::Show(n) => (by.show)(image, *n).unwrap()[0] as u64,
                 Call::Run(list, n) => {
                     let (mut at, mut sum) = (0, 0);
@@ -249,6 +264,26 @@ fn frozen() -> Vec<u8> {
     image
 }
 
+/// Sixteen frozen takes, of which each but the first rests on itself and the one before.
+fn chain() -> Vec<u8> {
+    let mut image = vec![0; IMAGE];
+    apply(&mut image, &[packed(0, 0, 0, 0, 1); 16]);
+    for t in 1..16 {
+        // A letter, on which the take before sends a parcel; the take writes on that.
+        let m = 2 * (t - 1);
+        apply(
+            &mut image,
+            &[packed(1, t - 1, 0, 0, 1), packed(2, 0, 0, m, 0), packed(4, t - 1, t, 0, 1), packed(8, t - 1, 0, 0, 0)],
+        );
+        apply(&mut image, &[packed(2, 0, 0, m + 1, 0), packed(6, t, 0, 0, 1), packed(8, t, 0, 0, 0)]);
+    }
+    for t in 0..16 {
+        apply(&mut image, &[packed(1, t, 0, 0, 1), packed(2, 0, 0, 30 + t, 0), packed(7, t, 0, 0, 0)]);
+    }
+    assert_eq!(ledger::smallest(&image, 15), Ok(Some(0xffff)));
+    image
+}
+
 const ALL: u64 = 12 << 60 | 0xffff << 32;
 
 fn rows() -> Vec<Row> {
@@ -285,6 +320,8 @@ fn rows() -> Vec<Row> {
         row("show, full image", "call", many(&full, Call::Show(newest(&full, 32)))),
         row("offer, session", "call", many(&session, Call::Offer(owner(&session, waiting)))),
         row("offer, full image", "call", many(&full, Call::Offer(owner(&full, 32)))),
+        row("smallest volume, 16 takes on each other", "call", many(&signing, Call::Smallest(15))),
+        row("smallest volume, 16 takes in a chain", "call", many(&chain(), Call::Smallest(15))),
         row("begin", "call", many(&session, Call::Begin)),
     ]
 }

@@ -17,14 +17,16 @@ struct Test {
     /// The image as the Rust ledger leaves it, and as the library does: the same before and after each call.
     ours: Vec<u8>,
     theirs: Vec<u8>,
-    calls: [[u64; 32]; 4],  // begin, run, offer, show by answer
+    calls: [[u64; 32]; 5],  // begin, run, offer, show, smallest by answer
     steps: [[u64; 32]; 16], // by kind and outcome or refusal
     offered: u64,
+    named: [u64; 17], // smallest volumes by size, 0 for none
+    searched: u64,
     damaged: u64,
     still_formed: u64,
 }
 
-const CALLS: [&str; 4] = ["begin", "run", "offer", "show"];
+const CALLS: [&str; 5] = ["begin", "run", "offer", "show", "smallest"];
 
 impl Test {
     fn fail(&self, what: &str) -> ! {
@@ -120,6 +122,37 @@ impl Test {
         self.expect(self.theirs == before, "a show changed the image");
     }
 
+    fn smallest(&mut self, take: usize) {
+        let before = self.ours.clone();
+        let (a, b) = (library::smallest(&self.theirs, take), ledger::smallest(&self.ours, take));
+        self.expect(a == b, &format!("smallest volume of {take}: {a:?}, and {b:?} in the Rust ledger"));
+        self.calls[4][a.err().unwrap_or(0) as usize] += 1;
+        self.expect(self.theirs == before, "a query changed the image");
+        let Ok(volume) = a else { return };
+        self.named[volume.map_or(0, u16::count_ones) as usize] += 1;
+        if self.r.one_in(20) {
+            self.search(take, volume);
+        }
+    }
+
+    /// By the signing itself, of every volume with the take.
+    fn search(&mut self, take: usize, volume: Option<u16>) {
+        self.searched += 1;
+        let opened = self.ours[0] as u32;
+        let mut smallest: Option<u16> = None;
+        let mut image = self.ours.clone();
+        for v in (0..1u32 << opened).map(|v| v as u16).filter(|v| v >> take & 1 == 1) {
+            if smallest.is_some_and(|s| s.count_ones() <= v.count_ones()) {
+                continue;
+            }
+            if ledger::step_unchecked(&mut image, 12 << 60 | (v as u64) << 32) >> 56 == 0 {
+                smallest = Some(v);
+                image.clone_from(&self.ours);
+            }
+        }
+        self.expect(smallest == volume, &format!("smallest volume of {take}: {volume:?}, by search {smallest:?}"));
+    }
+
     /// A good list of n steps somewhere in a longer one: the list and where the part starts.
     fn list(&mut self, n: usize) -> (Vec<u8>, usize) {
         let mix = generate::MIXES[self.r.below(generate::MIXES.len())];
@@ -145,6 +178,8 @@ impl Test {
         };
         let (list, start) = self.list(n);
         self.run(&list, start, start + STEP * n, STEP * n);
+        let take = self.take();
+        self.smallest(take);
     }
 
     /// Runs with a bad part, a wrong reply length, or both.
@@ -214,6 +249,7 @@ impl Test {
         self.run(&list, start, end, 16);
         let (take, number) = (self.take(), self.r.next() as u16);
         self.offer(take);
+        self.smallest(take);
         self.show(number);
         self.set(kept);
     }
@@ -228,6 +264,7 @@ impl Test {
         self.set(image);
         let (take, number) = (self.take(), self.number());
         self.offer(take);
+        self.smallest(take);
         self.show(number);
         if self.r.one_in(4) {
             self.bad_run();
@@ -259,6 +296,7 @@ impl Test {
                 10 | 11 => {
                     let take = self.take();
                     self.offer(take);
+                    self.smallest(take);
                 }
                 12 | 13 => {
                     let number = self.number();
@@ -277,8 +315,13 @@ impl Test {
         self.steps.iter().flatten().sum()
     }
 
-    /// Every answer that document 01 has must have been seen.
+    /// Every answer that the documents have must have been seen.
     fn covered(&self) {
+        self.expect(self.offered > 0, "no offer gave a parcel");
+        for (what, n) in [("none", self.named[0]), ("one take", self.named[1]), ("more", self.named[2..].iter().sum())]
+        {
+            self.expect(n > 0, &format!("no smallest volume was of {what}"));
+        }
         let outcome = |n: usize| self.steps.iter().map(|kind| kind[n]).sum::<u64>();
         for n in (0..=5).chain(20..=30) {
             self.expect(outcome(n) > 0, &format!("no step had outcome or refusal {n}"));
@@ -286,7 +329,8 @@ impl Test {
         for n in [0, 2, 3, 4, 20, 22, 23, 24, 28] {
             self.expect(self.steps[2][n] > 0, &format!("no receive had outcome or refusal {n}"));
         }
-        let answers: [&[usize]; 4] = [&[0, 16], &[0, 16, 17, 18, 19], &[0, 16, 19, 21, 22], &[0, 16, 19, 24]];
+        let query: &[usize] = &[0, 16, 19, 21, 22];
+        let answers: [&[usize]; 5] = [&[0, 16], &[0, 16, 17, 18, 19], query, &[0, 16, 19, 24], query];
         for (call, wanted) in answers.iter().enumerate() {
             for n in *wanted {
                 self.expect(self.calls[call][*n] > 0, &format!("no {} answered {n}", CALLS[call]));
@@ -303,6 +347,7 @@ impl Test {
         for (name, counts) in CALLS.iter().zip(&self.calls) {
             row(name, counts);
         }
+        println!("smallest volumes by size {:?}, searched for {}", self.named, self.searched);
         println!(
             "offers that gave a parcel {}; damaged images {}, still well-formed {}",
             self.offered, self.damaged, self.still_formed
@@ -326,9 +371,11 @@ fn main() {
         r: Random(0),
         ours: Vec::new(),
         theirs: Vec::new(),
-        calls: [[0; 32]; 4],
+        calls: [[0; 32]; 5],
         steps: [[0; 32]; 16],
         offered: 0,
+        named: [0; 17],
+        searched: 0,
         damaged: 0,
         still_formed: 0,
     };

@@ -34,3 +34,8 @@ any-at f (suc n) i e h = ⊎-elim
     (λ p. any-at f n i (or-off (any n f) (f n) e .0) p)
     (λ p. subst (λ (x : ℕ). f x ≡ false) (sym p) (or-off (any n f) (f n) e .1))
     (cases n i h)
+
+pub any-off : (f : ℕ → Bool) (n : ℕ) → ((i : ℕ) → i < n → f i ≡ false) → any n f ≡ false
+unfolding any
+any-off f zero h = refl
+any-off f (suc n) h = rw (any-off f n (λ i p. h i (omega arith)), h n (omega arith))

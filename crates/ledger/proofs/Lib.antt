@@ -16,6 +16,8 @@ pub mod Back
 pub mod Fresh
 pub mod Beginning
 pub mod Readiness
+pub mod Bits
+pub mod Closing
 pub mod Signing
 pub mod KeepMaps
 pub mod KeepState
@@ -29,12 +31,15 @@ pub mod Guards
 pub mod Refused
 pub mod Effects
 pub mod Applied
+pub mod Signable
 pub mod Images
 pub mod Takes
 pub mod Accepting
 pub mod Receiving
 pub mod Running
 pub mod Stored
+pub mod Query
 pub mod Offering
 pub mod Showing
 pub mod Acts
+pub mod Grouping

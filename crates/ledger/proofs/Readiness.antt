@@ -1,7 +1,7 @@
 -- What blocks the signing of a group, and when the group is ready, as the code tests the image.
 use Prim.Native.Nat.{ℕ, zero, suc, _+_, _*_, _/_, _≤_, _<_}
 use mathlib.Core.Bool.{Bool, true, false, not}
-use mathlib.Core.Path.{_≡_, refl, sym, ap, _∙_}
+use mathlib.Core.Path.{_≡_, refl, sym, _∙_}
 use mathlib.Core.List.{List}
 use native.Mathlib.Omega.{arith}
 use borrow.Author.Tests.{eq-eqb, ne-eqb}
@@ -23,7 +23,7 @@ use Rattle.ledger.specs.State.{State, live, transactorAt, ownHistory}
 use Rattle.ledger.specs.Refusals.{any, named, anyNamed, groupBits}
 use Rattle.ledger.specs.Rules.{entryReady, mapReady, transactorReady, groupReady}
 use Rattle.ledger.specs.Pack.{unpackDependences, unpack}
-use Rattle.ledger.specs.Parts.{Good, blocksAt, storedReady, pairReady}
+use Rattle.ledger.specs.Parts.{Good, blocksAt, storedReady, pairReady, lacking, missing}
 use Rattle.ledger.proofs.Loads.{held-at, history-at, read-opened, read-status, read-state, read-creation}
 use Rattle.ledger.proofs.Any.{any-on}
 
@@ -164,7 +164,7 @@ module _ (y : Layout) (img : List ℕ) (g t : ℕ) where
         every-same (pairReady y img g t) (λ u. markReady s g (transactorAt s t .state) u and markReady s g (transactorAt s t .creation) u) (y .transactors) pair-is
         ∙ every-and (markReady s g (transactorAt s t .state)) (markReady s g (transactorAt s t .creation)) (y .transactors)
 
-    transactor-is : transactorReady y s g t ≡ ownHistory t (transactorAt s t) .stable and every (y .transactors) (pairReady y img g t)
+    pub transactor-is : transactorReady y s g t ≡ ownHistory t (transactorAt s t) .stable and every (y .transactors) (pairReady y img g t)
     unfolding transactorReady
     transactor-is = rw marks-are
 
@@ -184,3 +184,14 @@ module _ (y : Layout) (img : List ℕ) (g t : ℕ) where
         pub ready-unmet : (u : ℕ) → u < y .transactors → (r : Bool) → r ≡ pairReady y img g t u → r ≡ false → false ≡ groupReady y s g
         unfolding groupReady namedReady
         ready-unmet u h r e o = sym (every-off (namedReady y s g) (y .transactors) t below (named-is ∙ rw (still, every-off (pairReady y img g t) (y .transactors) u h (sym e ∙ o))))
+
+-- ---- a take that the group lacks
+
+module _ (y : Layout) (img : List ℕ) (g u : ℕ) (n : Bool) (name : n ≡ named g u) where
+  pub missing-named : not n ≡ false → missing y img g u ≡ false
+  unfolding missing
+  missing-named o = rw (← name, o)
+
+  pub missing-unnamed : not n ≡ true → (r v : Bool) → r ≡ lacking y img g u → r ≡ v → missing y img g u ≡ v
+  unfolding missing
+  missing-unnamed o r v q p = rw (← name, o) (sym q ∙ p)

@@ -9,4 +9,5 @@ pub mod Form
 pub mod Tests
 pub mod Well
 pub mod Calls
+pub mod Groups
 pub mod Parts

@@ -16,9 +16,10 @@ use Rattle.ledger.specs.Layout.{Layout, Limits, lastNumber, base, standa
 use Rattle.ledger.specs.Status.{busy, annihilated}
 use Rattle.ledger.specs.State.{Transactor, State, ownHistory, transactorAt, messageAt, withTransactor, withBehaviour}
 use Rattle.ledger.specs.Step.{Step, Reply, done, held, dropped, fall, fail}
-use Rattle.ledger.specs.Refusals.{named, malformed}
-use Rattle.ledger.specs.Rules.{Effect, isSome, join, only, known, unchanged, madeReady, rollback, localBy, entryReady, opening, stepOf}
+use Rattle.ledger.specs.Refusals.{named, anyNamed, malformed}
+use Rattle.ledger.specs.Rules.{Effect, isSome, join, only, known, unchanged, madeReady, rollback, localBy, entryReady, groupReady, opening, stepOf}
 use Rattle.ledger.specs.Pack.{packTransactor, unpackTransactor, pack, unpack}
+use Rattle.ledger.specs.Groups.{Within}
 use Rattle.ledger.specs.Well.{TransactorOk, StepOk, WellFormed}
 
 -- the image of a well-formed state
@@ -141,3 +142,19 @@ unfoldable pub pairReady : Layout → List ℕ → ℕ → ℕ → ℕ → Bool
 pairReady y img g t u =
     storedReady y img g (transactorAddress y t + stateAt + historyBytes y * u) u
     and storedReady y img g (transactorAddress y t + creationAt y + historyBytes y * u) u
+
+-- ---- the smallest volume
+
+-- an entry u in the maps of a named take is not ready
+unfoldable pub lacking : Layout → List ℕ → ℕ → ℕ → Bool
+lacking y img g u = anyNamed g (λ t. not (pairReady y img g t u))
+
+-- take u is not named, and lacking
+unfoldable pub missing : Layout → List ℕ → ℕ → ℕ → Bool
+missing y img g u = not (named g u) and lacking y img g u
+
+-- a volume with take t, within every ready one, in which no take is missing
+pub record Closure (y : Layout) (img : List ℕ) (t g : ℕ) : Type 0 where
+  pub contains : named g t ≡ true
+  pub least : (w : ℕ) → named w t ≡ true → groupReady y (unpack y img) w ≡ true → Within g w
+  pub closed : (u : ℕ) → u < y .transactors → missing y img g u ≡ false

@@ -29,6 +29,7 @@ ghost use Rattle.ledger.specs.State.{fresh};
 ghost use Rattle.ledger.specs.Pack.{pack};
 ghost use Rattle.ledger.specs.Parts.{Good};
 ghost use Rattle.ledger.specs.Calls.{beginAnswer, beginImage, runAnswer, runImage, runReplies, ranImage, ranReplies, offerRefusal, offeredNumber, Offers, showRefusal, shown};
+ghost use Rattle.ledger.specs.Groups.{groupNumber, Smallest};
 
 // A step of a list, as document 01 packs it.
 pub struct Step {
@@ -61,6 +62,12 @@ pub struct Reply {
 pub enum Offered {
     Message(u16),
     Nothing,
+}
+
+// Which transactors to put in a group: their bits, or none.
+pub enum Grouped {
+    Group(u16),
+    NoGroup,
 }
 
 // ---- begin
@@ -168,36 +175,60 @@ pub fn run(image: &mut [u8], list: &[u8], start: usize, end: usize, replies: &mu
     0
 }
 
-// ---- offer
+// ---- offer, smallest group
+
+// The refusals of a query about one transactor, 16, 19, 21 and 22, or 0.
+fn query_refusal(image: &[u8], transactor: usize) -> u8
+    ensures { λ r. ⌜ r ≡ offerRefusal base (now (image .entry)) transactor ⌝ }
+{
+    if image.len() != IMAGE {
+        return numbers::WRONG_LENGTH;
+    }
+    if !form::formed(image) {
+        return numbers::ILL_FORMED;
+    }
+    if (image[0] as usize) <= transactor {
+        return numbers::UNOPENED;
+    }
+    if image[HEAD + TRANSACTOR * transactor] / 64 == numbers::ANNIHILATED {
+        return numbers::GONE;
+    }
+    0
+}
 
 // A waiting message addressed to the transactor, or nothing exactly if there is none. The lent number takes the refusal, 16, 19,
 // 21 or 22, or 0; refused, nothing.
 pub fn offer(image: &[u8], transactor: usize, refusal: &mut u8) -> Offered
     ensures { λ r. ⌜ (now (refusal .exit) ≡ offerRefusal base (now (image .entry)) transactor) × Offers base (now (image .entry)) transactor (offeredNumber r) ⌝ }
 {
-    if image.len() != IMAGE {
-        *refusal = numbers::WRONG_LENGTH;
+    let number = query_refusal(image, transactor);
+    *refusal = number;
+    if number != 0 {
         return Offered::Nothing;
     }
-    if !form::formed(image) {
-        *refusal = numbers::ILL_FORMED;
-        return Offered::Nothing;
-    }
-    if (image[0] as usize) <= transactor {
-        *refusal = numbers::UNOPENED;
-        return Offered::Nothing;
-    }
-    if image[HEAD + TRANSACTOR * transactor] / 64 == numbers::ANNIHILATED {
-        *refusal = numbers::GONE;
-        return Offered::Nothing;
-    }
-    *refusal = 0;
     let n = messages::waiting(image);
     let k = messages::place_to(image, n, transactor);
     if n <= k {
         return Offered::Nothing;
     }
     Offered::Message(octets::load16(image, FIRST_MESSAGE + MESSAGE * k + NUMBER))
+}
+
+// The smallest group with the transactor that could be checkpointed now, or none exactly if there is none. The lent number takes
+// the refusal, 16, 19, 21 or 22, or 0; refused, none.
+pub fn smallest_group(image: &[u8], transactor: usize, refusal: &mut u8) -> Grouped
+    ensures { λ r. ⌜ (now (refusal .exit) ≡ offerRefusal base (now (image .entry)) transactor) × Smallest base standard (now (image .entry)) transactor (groupNumber r) ⌝ }
+{
+    let number = query_refusal(image, transactor);
+    *refusal = number;
+    if number != 0 {
+        return Grouped::NoGroup;
+    }
+    let group = group::closure(image, transactor);
+    if group::can_checkpoint(image, group) {
+        return Grouped::Group(group);
+    }
+    Grouped::NoGroup
 }
 
 // ---- show

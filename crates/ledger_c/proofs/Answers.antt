@@ -1,4 +1,4 @@
--- What an accepted offer or show says of the image, and the numbers that stand for their answers.
+-- What an accepted offer or show says of the image, and the numbers that stand for answers.
 use Prim.Native.Nat.{ℕ, _+_, _≤_, _<_}
 use mathlib.Core.Bool.{Bool, true, false, not}
 use mathlib.Core.Path.{_≡_, refl, sym, subst, _∙_}
@@ -12,11 +12,14 @@ use lib.Dec.{eqb, leb}
 use Rattle.octets.specs.Bytes.{pick, part, Octets}
 use Rattle.octets.specs.Numbers.{ofBe, bound}
 use Rattle.ledger.specs.declared.Offered.{Offered}
-use Rattle.ledger.specs.Layout.{Layout, base, imageBytes, messageAddress, dependencesAt, mapBytes}
+use Rattle.ledger.specs.declared.Grouped.{Grouped}
+use Rattle.ledger.specs.Layout.{Layout, base, standard, imageBytes, messageAddress, dependencesAt, mapBytes}
 use Rattle.ledger.specs.State.{placeOf, numbered}
 use Rattle.ledger.specs.Pack.{waitingIn, unpack}
 use Rattle.ledger.specs.Form.{wellFormed}
 use Rattle.ledger.specs.Calls.{wrongLength, offerRefusal, offeredNumber, Offers, waiting, showRefusal, shown}
+use Rattle.ledger.specs.Groups.{groupNumber, Smallest, smallest}
+use Rattle.ledger.proofs.Bits.{named-zero}
 use Rattle.ledger.proofs.FormedState.{formed-state}
 use Rattle.ledger.proofs.Loads.{unpack-waiting}
 use Rattle.octets.proofs.Chunks.{sides}
@@ -24,7 +27,7 @@ use Rattle.octets.proofs.Tests.{never}
 use Rattle.ledger.proofs.Places.{Place, place}
 use Rattle.ledger.proofs.Queue.{numbered-so, numbered-not}
 use Rattle.ledger_c.specs.declared.Part.{Part}
-use Rattle.ledger_c.specs.Interface.{noMessage, numberOf, offeredBy, shownPart}
+use Rattle.ledger_c.specs.Interface.{noMessage, numberOf, offeredBy, volumeOf, groupOf, shownPart}
 
 module _ (img : List ℕ) where
   -- a call that is turned back with neither 16 nor 19 goes on to the refusal n
@@ -60,6 +63,20 @@ module _ (img : List ℕ) where
 
     pub answered : {a b : Offered} → a ≡ b → Offers base img t (offeredNumber a) → Offers base img t (offeredBy (numberOf (offeredNumber b)))
     answered {a} e f = subst (λ (b : Offered). Offers base img t (offeredBy (numberOf (offeredNumber b)))) e (stands (offeredNumber a) f)
+
+  -- ---- smallest group
+
+  module _ (t : ℕ) where
+    -- a volume with take t is not 0
+    grouped : (a : Option ℕ) → Smallest base standard img t a → Smallest base standard img t (groupOf (volumeOf a))
+    unfolding groupOf
+    grouped none f = f
+    grouped (some v) (smallest r c l) =
+        let h : v ≡ 0 → ⊥ = λ d. never (sym (c .contains) ∙ rw d (named-zero t)) in
+        rw (ne-eqb v 0 h) (smallest r c l)
+
+    pub named : {a b : Grouped} → a ≡ b → Smallest base standard img t (groupNumber a) → Smallest base standard img t (groupOf (volumeOf (groupNumber b)))
+    named {a} e f = subst (λ (b : Grouped). Smallest base standard img t (groupOf (volumeOf (groupNumber b)))) e (grouped (groupNumber a) f)
 
   -- ---- show, accepted
 

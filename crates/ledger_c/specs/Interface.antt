@@ -1,4 +1,4 @@
--- How the answers of offer and show are put in numbers.
+-- How the answers of offer, smallest group and show are put in numbers.
 use Prim.Native.Nat.{ℕ, _+_}
 use mathlib.Core.List.{List}
 use mathlib.Core.Option.{Option, none, some}
@@ -22,6 +22,15 @@ numberOf none = noMessage
 -- The answer that a number stands for.
 unfoldable pub offeredBy : ℕ → Option ℕ
 offeredBy n = pick (eqb n noMessage) none (some n)
+
+-- The number that stands for an answer of smallest group: the volume, or 0, which names no take, for none.
+abbrev pub volumeOf : Option ℕ → ℕ
+volumeOf (some v) = v
+volumeOf none = 0
+
+-- The answer that a number stands for.
+unfoldable pub groupOf : ℕ → Option ℕ
+groupOf v = pick (eqb v 0) none (some v)
 
 -- The bytes of the image that hold a waiting parcel's map: where they start, and how many. Refused: an empty part.
 unfoldable pub shownPart : Layout → List ℕ → ℕ → Part

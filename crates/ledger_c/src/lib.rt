@@ -1,5 +1,6 @@
 // The ledger's calls for programs in other languages, as include/ledger.h declares them: a slice is a pointer and a length, a
 // lent number a pointer. None has a precondition, and each promises what the call of crate ledger promises.
+use ledger::Grouped;
 use ledger::Offered;
 ghost use mathlib.Core.Path.{_≡_};
 ghost use Prim.Native.Nat.{_<_};
@@ -7,7 +8,8 @@ ghost use Rattle.ledger.specs.Layout.{base, standard};
 ghost use Rattle.ledger.specs.State.{placeOf};
 ghost use Rattle.ledger.specs.Pack.{unpack};
 ghost use Rattle.ledger.specs.Calls.{beginAnswer, beginImage, runAnswer, runImage, runReplies, offerRefusal, Offers, showRefusal};
-ghost use Rattle.ledger_c.specs.Interface.{offeredBy, shownPart};
+ghost use Rattle.ledger.specs.Groups.{Smallest};
+ghost use Rattle.ledger_c.specs.Interface.{offeredBy, groupOf, shownPart};
 
 // The number that stands for no message.
 pub const NONE: u16 = 65535;
@@ -60,6 +62,18 @@ pub extern "C" fn ledger_offer(image: &[u8], transactor: usize, refusal: &mut u8
         return NONE;
     };
     n
+}
+
+// The smallest group with the transactor that could be checkpointed now, or 0 exactly if there is none. The lent number takes
+// the refusal, 16, 19, 21 or 22, or 0; refused, 0.
+#[no_mangle]
+pub extern "C" fn ledger_smallest_group(image: &[u8], transactor: usize, refusal: &mut u8) -> u16
+    ensures { λ r. ⌜ (now (refusal .exit) ≡ offerRefusal base (now (image .entry)) transactor) × Smallest base standard (now (image .entry)) transactor (groupOf r) ⌝ }
+{
+    let Grouped::Group(group) = ledger::smallest_group(image, transactor, refusal) else {
+        return 0;
+    };
+    group
 }
 
 // The place of the message with this number, which waits.

@@ -23,8 +23,8 @@ use Rattle.ledger.proofs.Fresh.{pack-fresh}
 use Rattle.ledger.proofs.KeepState.{well-fresh}
 use Rattle.ledger.proofs.KeepStep.{keeps-after}
 use Rattle.session.specs.Provenance.{Provenance, emptyProvenance, statusNumber, isMissing}
-use Rattle.session.specs.Fed.{Call, run, offer, show, callRefusal, ProvenanceCall, provenance-refuses, provenance-begins, provenance-runs, provenance-offers, provenance-shows}
-use Rattle.session.specs.Trace.{Answer, ran, refusalIn, Performed, beginning, running, offering, showing, Matches, CallStepsRight, run-right, begin-right, offer-right, show-right, CallRight}
+use Rattle.session.specs.Fed.{Call, run, show, queryRefusal, callRefusal, ProvenanceCall, provenance-refuses, provenance-begins, provenance-runs, provenance-offers, provenance-names, provenance-shows}
+use Rattle.session.specs.Trace.{Answer, ran, refusalIn, Performed, beginning, running, offering, naming, showing, Matches, CallStepsRight, run-right, begin-right, offer-right, smallest-right, show-right, CallRight}
 use Rattle.session.proofs.Model.{view}
 use Rattle.session.proofs.Relation.{Rel, fresh-rel}
 use Rattle.session.proofs.Sign.{rel-sound}
@@ -67,9 +67,9 @@ module _ {y : Layout} {img : List ℕ} {b : Provenance} (h : Holds y img b) wher
   unfolding runAnswer
   run-same list o start end replies = rw (right-length, right-form)
 
-  offer-same : (t : ℕ) → offerRefusal y img t ≡ callRefusal b (offer t)
+  query-same : (t : ℕ) → offerRefusal y img t ≡ queryRefusal b t
   unfolding offerRefusal view
-  offer-same t =
+  query-same t =
       let n : unpack y img .opened ≡ b .opened = h .rel .opened in
       let k : transactorAt (unpack y img) t .status ≡ statusNumber (b .holders t .status) = holds-matches t .status in
       rw (right-length, right-form, k, n)
@@ -87,6 +87,14 @@ pub record Called (y : Layout) (m : Limits) (img : List ℕ) (b : Provenance) (c
   pub provenance : Provenance
   pub right : CallRight y m img b c a after provenance
   pub holds : Holds y after provenance
+
+-- a call that changes nothing in the book, refused or not
+kept : {m : Limits} {b : Provenance} {c : Call} → (callRefusal b c ≡ 0 → ProvenanceCall m b c b) → ProvenanceCall m b c b
+kept {m} {b} {c} f = go (ℕ-discrete (callRefusal b c) 0)
+  where
+    go : Dec (callRefusal b c ≡ 0) → ProvenanceCall m b c b
+    go (yes e) = f e
+    go (no n) = provenance-refuses n
 
 -- what is claimed of a call apart from refusal and steps
 module _ {y : Layout} {m : Limits} {img after : List ℕ} {b d : Provenance} {c : Call} {a : Answer} where
@@ -133,13 +141,6 @@ module _ {y : Layout} {m : Limits} (z : layout.Fitting y) (l : Allowed y m) {img
   unfolding beginAnswer beginImage
   call-right beginning = rw (right-length h) (called-as provenance-begins refl begin-right (holds-fresh y))
   call-right (running {list} {o} {start} {end} {replies}) = run-called list o start end replies
-  call-right (offering {t} f) = called-as (go (ℕ-discrete (callRefusal b (offer t)) 0)) (offer-same h t) offer-right h
-    where
-      go : Dec (callRefusal b (offer t) ≡ 0) → ProvenanceCall m b (offer t) b
-      go (yes e) = provenance-offers e
-      go (no n) = provenance-refuses n
-  call-right (showing {n}) = called-as (go (ℕ-discrete (callRefusal b (show n)) 0)) (show-same h n) show-right h
-    where
-      go : Dec (callRefusal b (show n) ≡ 0) → ProvenanceCall m b (show n) b
-      go (yes e) = provenance-shows e
-      go (no k) = provenance-refuses k
+  call-right (offering {t} f) = called-as (kept provenance-offers) (query-same h t) offer-right h
+  call-right (naming {t} f) = called-as (kept provenance-names) (query-same h t) smallest-right h
+  call-right (showing {n}) = called-as (kept provenance-shows) (show-same h n) show-right h

@@ -27,7 +27,7 @@ use Rattle.ledger.proofs.KeepStep.{keeps-after, replies-fit, sound-base, allowe
 use Rattle.session.specs.Count.{made, received, lost, once, countSteps, countCall, count, waiting}
 use Rattle.session.specs.Provenance.{Provenance}
 use Rattle.session.specs.Fed.{Call, run}
-use Rattle.session.specs.Trace.{Answer, ran, Performed, beginning, running, offering, showing, Trace, called}
+use Rattle.session.specs.Trace.{Answer, ran, Performed, beginning, running, offering, naming, showing, Trace, called}
 use Rattle.session.specs.Trace as trace
 use Rattle.session.proofs.Model.{viewMail, view}
 use Rattle.session.proofs.Relation.{all2-length}
@@ -209,6 +209,7 @@ module _ {y : Layout} {m : Limits} (z : Fitting y) (l : Allowed y m) {img : List
   call-counted beginning = rw (right-length h, holds-waiting (holds-fresh y))
   call-counted (running {list} {o} {start} {end} {replies}) = run-counted list o start end replies
   call-counted (offering f) = before
+  call-counted (naming f) = before
   call-counted showing = before
 
 -- In a session grown from a fresh one, counting only from its last accepted begin, parcels made, counted from the steps, are

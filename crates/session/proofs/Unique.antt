@@ -7,7 +7,7 @@ use Rattle.ledger.specs.Step.{stepAt}
 use Rattle.session.specs.Provenance.{Provenance}
 use Rattle.session.specs.Steps.{ProvenanceStep}
 use Rattle.session.specs.Fed as book
-use Rattle.session.specs.Fed.{Call, ProvenanceSteps, ProvenanceCall, provenance-refuses, provenance-begins, provenance-runs, provenance-offers, provenance-shows, ProvenanceOf, new-provenance, fed}
+use Rattle.session.specs.Fed.{Call, ProvenanceSteps, ProvenanceCall, provenance-refuses, provenance-begins, provenance-runs, provenance-offers, provenance-names, provenance-shows, ProvenanceOf, new-provenance, fed}
 use Rattle.session.specs.Trace.{Trace, callsOf, Right, opened-right, called-right}
 use Rattle.session.proofs.Kept.{provenance-determined}
 
@@ -21,6 +21,7 @@ call-determined (provenance-refuses n) (provenance-refuses k) = refl
 call-determined (provenance-refuses n) provenance-begins = absurd (n refl)
 call-determined (provenance-refuses n) (provenance-runs z p) = absurd (n z)
 call-determined (provenance-refuses n) (provenance-offers z) = refl
+call-determined (provenance-refuses n) (provenance-names z) = refl
 call-determined (provenance-refuses n) (provenance-shows z) = refl
 call-determined provenance-begins (provenance-refuses n) = absurd (n refl)
 call-determined provenance-begins provenance-begins = refl
@@ -28,6 +29,8 @@ call-determined (provenance-runs z p) (provenance-refuses n) = absurd (n z)
 call-determined (provenance-runs z p) (provenance-runs y q) = steps-determined p q
 call-determined (provenance-offers z) (provenance-refuses n) = refl
 call-determined (provenance-offers z) (provenance-offers y) = refl
+call-determined (provenance-names z) (provenance-refuses n) = refl
+call-determined (provenance-names z) (provenance-names y) = refl
 call-determined (provenance-shows z) (provenance-refuses n) = refl
 call-determined (provenance-shows z) (provenance-shows y) = refl
 

@@ -11,8 +11,8 @@ use Rattle.ledger.specs.Step.{stepBytes, stepAt, receive, lose, done, dropped, 
 use Rattle.ledger.specs.Refusals.{sends}
 use Rattle.ledger.specs.Pack.{unpack}
 use Rattle.ledger.specs.Calls.{stepsIn}
-use Rattle.session.specs.Fed.{Call, begin, run, offer, show}
-use Rattle.session.specs.Trace.{Answer, begun, ran, offered, showed, refusalIn, Trace, opened, called}
+use Rattle.session.specs.Fed.{Call, begin, run, offer, smallest, show}
+use Rattle.session.specs.Trace.{Answer, begun, ran, offered, grouped, showed, refusalIn, Trace, opened, called}
 
 -- ---- what is counted, by a step's kind and the first byte of its reply
 
@@ -43,6 +43,7 @@ abbrev pub repliesIn : Answer → List ℕ
 repliesIn (begun r) = []
 repliesIn (ran r replies) = replies
 repliesIn (offered r message) = []
+repliesIn (grouped r volume) = []
 repliesIn (showed r bytes) = []
 
 -- a call, n counted before it: an accepted begin counts from 0, an accepted run adds its steps
@@ -51,6 +52,7 @@ countCall f begin a n = pick (eqb (refusalIn a) 0) 0 n
 countCall f (run list o start end lent) a n =
     pick (eqb (refusalIn a) 0) (n + countSteps f (part start (end - start) list) (repliesIn a) (stepsIn (part start (end - start) list))) n
 countCall f (offer t) a n = n
+countCall f (smallest t) a n = n
 countCall f (show k) a n = n
 
 -- the whole session

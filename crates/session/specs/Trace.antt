@@ -14,28 +14,31 @@ use Rattle.ledger.specs.Step.{stepBytes, stepAt, packReply, sign, done, notRead
 use Rattle.ledger.specs.Rules.{answer, stepOf, checkpointGroup}
 use Rattle.ledger.specs.Pack.{unpack}
 use Rattle.ledger.specs.Calls.{beginAnswer, beginImage, runAnswer, runImage, runReplies, stateAfter, stepsIn, offerRefusal, Offers, showRefusal, shown}
+use Rattle.ledger.specs.Groups.{Smallest}
 use Rattle.session.specs.Provenance.{statusNumber, Live, Holder, Provenance, emptyProvenance}
 use Rattle.session.specs.Grounds.{Equal, Sound}
 use Rattle.session.specs.Steps.{provenanceRefusal, ProvenanceStep}
-use Rattle.session.specs.Fed.{Call, begin, run, offer, show, callRefusal, ProvenanceCall}
+use Rattle.session.specs.Fed.{Call, begin, run, offer, smallest, show, callRefusal, ProvenanceCall}
 
 -- ---- calls performed
 
--- what a call gives back: its answer or refusal, and the replies, the parcel's number or the part of the image
+-- what a call gives back: its answer or refusal, and the replies, the parcel's number, the volume or the part of the image
 pub data Answer : Type 0 where
   begun : ℕ → Answer
   ran : ℕ → List ℕ → Answer
   offered : ℕ → Option ℕ → Answer
+  grouped : ℕ → Option ℕ → Answer
   showed : ℕ → List ℕ → Answer
 
 abbrev pub refusalIn : Answer → ℕ
 refusalIn (begun r) = r
 refusalIn (ran r replies) = r
 refusalIn (offered r message) = r
+refusalIn (grouped r volume) = r
 refusalIn (showed r bytes) = r
 
--- A call performed on an image: what it gives back and leaves, by the definitions that the contracts of begin, run, offer and
--- show cite.
+-- A call performed on an image: what it gives back and leaves, by the definitions that the contracts of begin, run, offer,
+-- smallest_group and show cite.
 pub data Performed (y : Layout) (m : Limits) (img : List ℕ) : Call → Answer → List ℕ → Type 0 where
   beginning : Performed y m img begin (begun (beginAnswer y img)) (beginImage y img)
   running : {list : List ℕ} {o : Octets list} {start end : ℕ} {replies : List ℕ}
@@ -43,6 +46,7 @@ pub data Performed (y : Layout) (m : Limits) (img : List ℕ) : Call → Answer 
       (ran (runAnswer y img list start end replies) (runReplies y m img list start end replies))
       (runImage y m img list start end replies)
   offering : {t : ℕ} {message : Option ℕ} → Offers y img t message → Performed y m img (offer t) (offered (offerRefusal y img t) message) img
+  naming : {t : ℕ} {volume : Option ℕ} → Smallest y m img t volume → Performed y m img (smallest t) (grouped (offerRefusal y img t) volume) img
   showing : {n : ℕ} → Performed y m img (show n) (showed (showRefusal y img n) (shown y img n)) img
 
 -- A session grown from a fresh one: an accepted begin, then any list of calls, each on the image that the last one left.
@@ -104,6 +108,7 @@ pub data CallStepsRight (y : Layout) (m : Limits) (img : List ℕ) (b : Provenan
       → CallStepsRight y m img b c (run list o start end lent) (ran r replies)
   begin-right : {a : Answer} → CallStepsRight y m img b c begin a
   offer-right : {t : ℕ} {a : Answer} → CallStepsRight y m img b c (offer t) a
+  smallest-right : {t : ℕ} {a : Answer} → CallStepsRight y m img b c (smallest t) a
   show-right : {n : ℕ} {a : Answer} → CallStepsRight y m img b c (show n) a
 
 -- One call, from the image and the book b to the image after and the book d.

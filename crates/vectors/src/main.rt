@@ -1,5 +1,6 @@
-// Checks document 01's edges against the libraries: one line a case, with the numbers or the bytes that document 01 gives.
+// Checks the documents' edges against the libraries: one line a case, with the numbers or the bytes that documents 01 and 02 give.
 mod calls;
+mod groups;
 mod histories;
 mod print;
 mod refusals;
@@ -13,4 +14,5 @@ fn main() {
     refusals::all();
     calls::all();
     ties::all();
+    groups::all();
 }

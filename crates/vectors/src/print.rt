@@ -74,7 +74,7 @@ pub fn answer(label: &[u8], answer: u8, same: bool) {
     sameness(same);
 }
 
-// A label, the refusal that offer gave, and the number of the message, or none.
+// A label, the refusal that offer or smallest group gave, and the number of the message or the group, or none.
 pub fn offer(label: &[u8], refusal: u8, message: u16) {
     io::write_all(STDOUT_FILENO, label);
     io::write_all(STDOUT_FILENO, b":");

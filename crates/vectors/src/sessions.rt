@@ -5,6 +5,7 @@ use crate::steps::busy;
 use crate::steps::byte;
 use crate::steps::case;
 use crate::steps::checkpointed;
+use crate::steps::checkpoints;
 use crate::steps::done;
 use crate::steps::fail;
 use crate::steps::fall;
@@ -91,15 +92,6 @@ fn incarnations() {
     run(image, fail(1));
     sent(image, 1, 5, 0, 9);
     case(b"receipt that shows a fall, at life 255", image, receive(6));
-}
-
-// Transactor 0 is checkpointed n times, on messages 0 up to n.
-fn checkpoints(image: &mut [u8], n: u16) {
-    let mut i: u16 = 0;
-    while i < n {
-        checkpointed(image, 0, i, 1);
-        i += 1;
-    }
 }
 
 // The count of transactor 0's checkpoints is in the low half of byte 13.

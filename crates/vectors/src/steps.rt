@@ -125,6 +125,15 @@ pub fn checkpointed(image: &mut [u8], t: u8, m: u16, group: u16) {
     run(image, sign(group));
 }
 
+// Transactor 0 is checkpointed n times, on messages 0 up to n.
+pub fn checkpoints(image: &mut [u8], n: u16) {
+    let mut i: u16 = 0;
+    while i < n {
+        checkpointed(image, 0, i, 1);
+        i += 1;
+    }
+}
+
 // Transactor t receives message m, writes, and is done.
 pub fn written(image: &mut [u8], t: u8, m: u16) {
     run(image, receive(m));

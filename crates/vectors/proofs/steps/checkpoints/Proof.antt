@@ -3,8 +3,8 @@ use Prim.Native.Nat.{_-_, _≤_}
 use mathlib.Core.Path.{_≡_}
 use lib.ListN.{length}
 use borrow.Author.Needs.{needs}
-use Rattle.vectors.proofs.sessions.checkpoints.Statement.{statement}
-use Rattle.vectors.proofs.sessions.checkpoints.Tie as tie
+use Rattle.vectors.proofs.steps.checkpoints.Statement.{statement}
+use Rattle.vectors.proofs.steps.checkpoints.Tie as tie
 
 abbrev Inv-loop : tie.InvT-loop
 Inv-loop image₀ n i₀ image i = (i ≤ n) × (length image ≡ length image₀)

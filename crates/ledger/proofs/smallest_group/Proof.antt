@@ -1,0 +1,53 @@
+-- Each return by its law. A query that is not refused has a well-formed image, and its transactor is opened.
+use Prim.Native.Nat.{_<_}
+use mathlib.Core.Path.{refl, sym, _∙_}
+use borrow.Author.Needs.{needs}
+use Rattle.octets.specs.Numbers.{bound}
+use Rattle.octets.proofs.Put.{octets-of}
+use Rattle.ledger.specs.Layout.{base, standard}
+use Rattle.ledger.specs.Parts.{Good}
+use Rattle.ledger.proofs.Running.{good-formed}
+use Rattle.ledger.proofs.Query.{query-accepted}
+use Rattle.ledger.proofs.Grouping.{grouped-refused, grouped-none, grouped-some}
+use Rattle.ledger.proofs.smallest_group.Statement.{statement}
+use Rattle.ledger.proofs.smallest_group.Tie as tie
+
+query-refusal-requires : tie.Need-query-refusal-requires
+query-refusal-requires c κs = search needs
+
+returns : tie.Need-returns
+returns c = grouped-refused base standard _ _ _ (c .before .query-refusal .ensures) (c .if1 .taken)
+
+-- not refused
+accepted : (c : tie.Else1) → Good (c .before .before .before .args .image .now) × (c .before .before .before .args .transactor < base .transactors)
+accepted c =
+    let a = query-accepted base _ _ (sym (c .before .query-refusal .ensures) ∙ c .if1 .left) in
+    (good-formed _ (a .long) (octets-of _ (c .before .before .shared-slice-known .given)) (a .formed), a .below)
+
+closure-requires : tie.Need-closure-requires
+closure-requires c κs = accepted c
+
+can-checkpoint-requires : tie.Need-can-checkpoint-requires
+can-checkpoint-requires c κs = accepted (c .before) .0
+
+returns-2 : tie.Need-returns-2
+unfolding bound
+returns-2 c =
+    let p = c .before .before in
+    grouped-some base standard _ _ _ (p .before .before .query-refusal .ensures) (p .before .if1 .left) refl _ (p .closure .ensures) _ (c .before .can-checkpoint .ensures) (search needs) (c .if2 .taken)
+
+returns-3 : tie.Need-returns-3
+returns-3 c =
+    let p = c .before .before in
+    grouped-none base standard _ _ _ (p .before .before .query-refusal .ensures) (p .before .if1 .left) refl _ (p .closure .ensures) _ (c .before .can-checkpoint .ensures) (c .if2 .left)
+
+pub smallest-group-spec : {M : Type 1} → statement M
+smallest-group-spec =
+    tie.close
+    (tie.spec
+    query-refusal-requires
+    returns
+    closure-requires
+    can-checkpoint-requires
+    returns-2
+    returns-3)

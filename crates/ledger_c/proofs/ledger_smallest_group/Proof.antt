@@ -1,0 +1,27 @@
+use borrow.Author.Needs.{needs}
+use Rattle.ledger_c.proofs.Answers.{named}
+use Rattle.ledger_c.proofs.ledger_smallest_group.Statement.{statement}
+use Rattle.ledger_c.proofs.ledger_smallest_group.Tie as tie
+
+smallest-group-requires : tie.Need-smallest-group-requires
+smallest-group-requires c κs = search needs
+
+enum-known-group : tie.Need-enum-known-group
+enum-known-group c = search needs
+
+enum-told : tie.Need-enum-told
+enum-told c = search needs
+
+returns : tie.Need-returns
+returns c =
+    let f = c .before .before .smallest-group .ensures in
+    (f .0, named _ _ (c .enum-told .given .1) (f .1))
+
+returns-2 : tie.Need-returns-2
+returns-2 c =
+    let f = c .before .before .before .smallest-group .ensures in
+    (f .0, named _ _ (c .before .group .given .1) (f .1))
+
+pub ledger-smallest-group-spec : {M : Type 1} → statement M
+ledger-smallest-group-spec =
+    tie.close (tie.spec smallest-group-requires enum-known-group enum-told returns returns-2)
