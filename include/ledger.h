@@ -89,7 +89,7 @@ uint8_t ledger_run(uint8_t *image, size_t image_length,
                    const uint8_t *list, size_t list_length, size_t start, size_t end,
                    uint8_t *replies, size_t replies_length);
 
-/* The number of a waiting parcel addressed to the take, or LEDGER_NONE exactly if there is none; *refusal is 0.
+/* The lowest number of a waiting parcel addressed to the take, or LEDGER_NONE exactly if there is none; *refusal is 0.
  * Refused with 16, 19, 21 or 22, which is put in *refusal: LEDGER_NONE. */
 uint16_t ledger_offer(const uint8_t *image, size_t image_length, size_t take, uint8_t *refusal);
 

@@ -100,15 +100,8 @@ impl Test {
         let before = self.ours.clone();
         let (a, b) = (library::offer(&self.theirs, take), ledger::offer(&self.ours, take));
         self.calls[2][a.err().unwrap_or(0) as usize] += 1;
-        let agree = match (a, b) {
-            (Ok(Some(n)), Ok(Some(_))) => {
-                self.offered += 1;
-                (0..generate::waiting(&self.ours))
-                    .any(|k| generate::number(&self.ours, k) == n && generate::addressee(&self.ours, k) == take)
-            }
-            _ => a == b,
-        };
-        self.expect(agree, &format!("offer to {take}: {a:?}, and {b:?} in the Rust ledger"));
+        self.offered += matches!(a, Ok(Some(_))) as u64;
+        self.expect(a == b, &format!("offer to {take}: {a:?}, and {b:?} in the Rust ledger"));
         self.expect(self.theirs == before, "an offer changed the image");
     }
 

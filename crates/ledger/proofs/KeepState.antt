@@ -60,7 +60,7 @@ formed-more y n (TransactorFormed.alive h a) = TransactorFormed.alive (omega ari
 
 -- ---- parcels
 
-abbrev at : List Message → ℕ → Message
+abbrev pub at : List Message → ℕ → Message
 at ms k = getD ms k noMessage
 
 -- one more at the end
@@ -74,7 +74,7 @@ module _ (ms : List Message) (x : Message) where
   more-last : (k : ℕ) → k ≡ length ms → at (ms ++ (x ∷ [])) k ≡ x
   more-last k e = getD-at ms x [] noMessage k (sym e)
 
-  more-all : (P : Message → Type 0) → ((k : ℕ) → k < length ms → P (at ms k)) → P x → (k : ℕ) → k < length (ms ++ (x ∷ [])) → P (at (ms ++ (x ∷ [])) k)
+  pub more-all : (P : Message → Type 0) → ((k : ℕ) → k < length ms → P (at ms k)) → P x → (k : ℕ) → k < length (ms ++ (x ∷ [])) → P (at (ms ++ (x ∷ [])) k)
   more-all P f p k h = ⊎-elim
       (λ (q : k < length ms). subst P (sym (more-before k q)) (f k q))
       (λ (q : length ms ≤ k). subst P (sym (more-last k (omega (arith, longer)))) p)
@@ -90,19 +90,19 @@ module _ (ms : List Message) (x : Message) where
 
 -- without place k
 module _ (ms : List Message) (k : ℕ) (below : k < length ms) where
-  abbrev rest : List Message
+  abbrev pub rest : List Message
   rest = take k ms ++ drop (k + 1) ms
 
   heads : length (take k ms) ≡ k
   heads = length-take-le k ms (omega arith)
 
-  shorter : length rest + 1 ≡ length ms
+  pub shorter : length rest + 1 ≡ length ms
   shorter = rw (length-append, heads, length-drop) (omega arith)
 
-  rest-before : (i : ℕ) → i < k → at rest i ≡ at ms i
+  pub rest-before : (i : ℕ) → i < k → at rest i ≡ at ms i
   rest-before i h = List·getD-append (take k ms) (drop (k + 1) ms) noMessage i (omega (arith, heads)) ∙ getD-take k ms i noMessage h
 
-  rest-after : (i : ℕ) → k ≤ i → at rest i ≡ at ms (i + 1)
+  pub rest-after : (i : ℕ) → k ≤ i → at rest i ≡ at ms (i + 1)
   rest-after i h =
       let e : length (take k ms) + (i - k) ≡ i = omega (arith, heads) in
       let f : k + 1 + (i - k) ≡ i + 1 = omega arith in

@@ -38,6 +38,7 @@ pub mod Accepting
 pub mod Receiving
 pub mod Running
 pub mod Stored
+pub mod InOrder
 pub mod Query
 pub mod Offering
 pub mod Showing

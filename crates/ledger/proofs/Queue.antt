@@ -1,23 +1,36 @@
--- The messages that wait: loops that look for one, one more, one less.
-use Prim.Native.Nat.{ℕ, _+_, _-_, _*_, _≤_, _<_}
+-- The messages that wait: their numbers rise; loops that look for one, one more, one less.
+use Prim.Native.Nat.{ℕ, zero, suc, _+_, _-_, _*_, _≤_, _<_}
 use mathlib.Core.Bool.{Bool, true, false}
 use mathlib.Core.Path.{_≡_, sym, ap, _∙_}
 use mathlib.Core.List.{List, _++_}
+use mathlib.Core.Logic.{⊎-elim}
+use native.Mathlib.Numerals.{add-one}
 use native.Mathlib.Omega.{arith}
 use borrow.Author.Tests.{lt-ltb, le-ltb, eq-eqb, ne-eqb}
 use lib.ListN.{length, getD, set}
 use Rattle.octets.specs.Bytes.{put, part, zeros}
 use Rattle.octets.specs.Numbers.{be, ofBe}
 use Rattle.octets.proofs.Numbers.{put-be-one}
-use Rattle.octets.proofs.Chunks.{step}
+use Rattle.octets.proofs.Chunks.{cases, step}
 use Rattle.maps.specs.declared.DependenceMap.{DependenceMap}
 use Rattle.ledger.specs.Layout.{Layout, dependencesAt, messageBytes, messageAddress, imageBytes}
 use Rattle.ledger.specs.State.{State, placeFrom, placeOf, numbered, messageAt, withMessage, withoutMessage}
 use Rattle.ledger.specs.Pack.{packDependences, packMessage, vacantAt, waitingIn, pack, unpack}
 use Rattle.ledger.specs.Parts.{addressedTo}
+use Rattle.ledger.specs.Well.{WellFormed}
 use Rattle.ledger.proofs.Places.{placeFrom-here, placeFrom-more, placeFrom-end}
 use Rattle.ledger.proofs.Loads.{unpack-waiting, read-vacant, read-number, read-next}
 use Rattle.ledger.proofs.Fields.{sent, put-packMessage, pack-withMessage, pack-removed}
+
+-- in a well-formed state a later place has a higher number
+pub numbers-rise : {y : Layout} {s : State} → WellFormed y s → (i j : ℕ) → i < j → j < length (s .messages) → messageAt s i .number < messageAt s j .number
+numbers-rise w i zero h b = absurd (omega arith)
+numbers-rise {y} {s} w i (suc j) h b =
+    let next : messageAt s j .number < messageAt s (suc j) .number = rw (← add-one j) (w .order j (omega arith)) in
+    ⊎-elim
+    (λ (p : i < j). omega (arith, numbers-rise w i j p (omega arith)))
+    (λ (p : i ≡ j). rw p next)
+    (cases j i h)
 
 -- a loop looks for the place p among n, and is at place i
 module _ (f : ℕ → Bool) (n i p : ℕ) (rest : p ≡ placeFrom f i (n - i)) where

@@ -1,5 +1,5 @@
 -- Document 01, "Where each call is turned back": what each call answers and leaves, for every input.
-use Prim.Native.Nat.{ℕ, zero, suc, _+_, _-_, _/_, _%_, _<_}
+use Prim.Native.Nat.{ℕ, zero, suc, _+_, _-_, _/_, _%_, _≤_, _<_}
 use mathlib.Core.Bool.{Bool, not}
 use mathlib.Core.Path.{_≡_}
 use mathlib.Core.List.{List, []}
@@ -97,11 +97,16 @@ pub record WaitsFor (s : State) (t n : ℕ) : Type 0 where
   pub addressee : messageAt s place .addressee ≡ t
   pub number : messageAt s place .number ≡ n
 
--- Some waiting parcel addressed to take t, or none exactly if there is none. Refused: none.
+-- and no other that waits for take t has a lower number
+pub record LowestFor (s : State) (t n : ℕ) : Type 0 where
+  pub waits : WaitsFor s t n
+  pub lowest : (k : ℕ) → WaitsFor s t k → n ≤ k
+
+-- The waiting parcel addressed to take t with the lowest number (document 02, W2), or none exactly if there is none. Refused: none.
 pub data Offers (y : Layout) (img : List ℕ) (t : ℕ) : Option ℕ → Type 0 where
   refused : (offerRefusal y img t ≡ 0 → ⊥) → Offers y img t none
   nothing : offerRefusal y img t ≡ 0 → ((n : ℕ) → WaitsFor (unpack y img) t n → ⊥) → Offers y img t none
-  waiting : {n : ℕ} → offerRefusal y img t ≡ 0 → WaitsFor (unpack y img) t n → Offers y img t (some n)
+  waiting : {n : ℕ} → offerRefusal y img t ≡ 0 → LowestFor (unpack y img) t n → Offers y img t (some n)
 
 -- ---- show a parcel's map
 

@@ -9,5 +9,6 @@ pub mod Form
 pub mod Tests
 pub mod Well
 pub mod Calls
+pub mod InOrder
 pub mod Groups
 pub mod Parts

@@ -196,8 +196,8 @@ fn query_refusal(image: &[u8], transactor: usize) -> u8
     0
 }
 
-// A waiting message addressed to the transactor, or nothing exactly if there is none. The lent number takes the refusal, 16, 19,
-// 21 or 22, or 0; refused, nothing.
+// The waiting message addressed to the transactor with the lowest number: the first, since numbers rise from place to place. Or
+// nothing, exactly if there is none. The lent number takes the refusal, 16, 19, 21 or 22, or 0; refused, nothing.
 pub fn offer(image: &[u8], transactor: usize, refusal: &mut u8) -> Offered
     ensures { λ r. ⌜ (now (refusal .exit) ≡ offerRefusal base (now (image .entry)) transactor) × Offers base (now (image .entry)) transactor (offeredNumber r) ⌝ }
 {

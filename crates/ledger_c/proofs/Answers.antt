@@ -53,7 +53,8 @@ module _ (img : List ℕ) where
     offered-below n (waiting r w) =
         let i = entered _ r in
         let s = formed-state base img (i .whole) o (i .formed) in
-        omega (arith, s .numbers (w .place) (w .waits), w .number, s .packable .next)
+        let p = w .waits in
+        omega (arith, s .numbers (p .place) (p .waits), p .number, s .packable .next)
 
     -- so the number that stands for an answer stands for no other
     stands : (a : Option ℕ) → Offers base img t a → Offers base img t (offeredBy (numberOf a))

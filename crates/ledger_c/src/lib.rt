@@ -52,8 +52,8 @@ pub extern "C" fn ledger_run(
     ledger::run(image, list, start, end, replies)
 }
 
-// The number of a waiting message addressed to the transactor, or NONE exactly if there is none. The lent number takes the
-// refusal, 16, 19, 21 or 22, or 0; refused, NONE.
+// The lowest number of a waiting message addressed to the transactor, or NONE exactly if there is none. The lent number takes
+// the refusal, 16, 19, 21 or 22, or 0; refused, NONE.
 #[no_mangle]
 pub extern "C" fn ledger_offer(image: &[u8], transactor: usize, refusal: &mut u8) -> u16
     ensures { λ r. ⌜ (now (refusal .exit) ≡ offerRefusal base (now (image .entry)) transactor) × Offers base (now (image .entry)) transactor (offeredBy r) ⌝ }

@@ -5,6 +5,7 @@ use crate::steps::fail;
 use crate::steps::letter;
 use crate::steps::lose;
 use crate::steps::put;
+use crate::steps::receive;
 use crate::steps::repeat;
 use crate::steps::root;
 use crate::steps::run;
@@ -247,6 +248,20 @@ fn offers() {
     offered(b"offer on 22131 bytes", &short, 0);
 }
 
+// Parcels 0 and 2 wait for take 1, parcel 1 for take 0.
+fn offers_in_order() {
+    let mut space = [0u8; 22132];
+    let image: &mut [u8] = &mut space;
+    repeat(image, 2, root(1));
+    run(image, letter(1, 5));
+    run(image, letter(0, 5));
+    run(image, letter(1, 5));
+    offered(b"offer with a lower number for another take", image, 0);
+    offered(b"offer to a take with two parcels", image, 1);
+    run(image, receive(0));
+    offered(b"offer after that is received", image, 1);
+}
+
 // ---- show
 
 // Prints the refusal, how many bytes are shown, and where the history of transactor 1 begins among them.
@@ -283,5 +298,6 @@ pub fn all() {
     forms_of_histories();
     forms_of_messages();
     offers();
+    offers_in_order();
     shows();
 }

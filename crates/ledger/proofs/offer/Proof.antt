@@ -1,10 +1,14 @@
--- Each return by its law. A query that is not refused has an image of the right length.
+-- Each return by its law. A query that is not refused has a well-formed image of the right length.
 use mathlib.Core.Path.{_≡_, sym, _∙_}
 use native.Mathlib.Omega.{arith}
 use borrow.Author.Needs.{needs}
 use lib.ListN.{length}
+use Rattle.octets.proofs.Put.{octets-of}
 use Rattle.ledger.specs.Layout.{base, imageBytes}
-use Rattle.ledger.proofs.Query.{query-accepted}
+use Rattle.ledger.specs.Pack.{unpack}
+use Rattle.ledger.specs.Well.{WellFormed}
+use Rattle.ledger.proofs.FormedState.{formed-state}
+use Rattle.ledger.proofs.Query.{Accepted, query-accepted}
 use Rattle.ledger.proofs.Offering.{offered-refused, offered-none, offered-some}
 use Rattle.ledger.proofs.offer.Statement.{statement}
 use Rattle.ledger.proofs.offer.Tie as tie
@@ -15,9 +19,15 @@ query-refusal-requires c κs = search needs
 returns : tie.Need-returns
 returns c = offered-refused base _ _ _ (c .before .query-refusal .ensures) (c .if1 .taken)
 
--- past the first test the image is as long as it must be
+-- not refused
+accepted : (c : tie.Else1) → Accepted base (c .before .before .before .args .image .now) (c .before .before .before .args .transactor)
+accepted c = query-accepted base _ _ (sym (c .before .query-refusal .ensures) ∙ c .if1 .left)
+
 long : (c : tie.Else1) → length (c .before .before .before .args .image .now) ≡ imageBytes base
-long c = query-accepted base _ _ (sym (c .before .query-refusal .ensures) ∙ c .if1 .left) .long
+long c = accepted c .long
+
+well : (c : tie.Else1) → WellFormed base (unpack base (c .before .before .before .args .image .now))
+well c = formed-state base _ (long c) (octets-of _ (c .before .before .shared-slice-known .given)) (accepted c .formed)
 
 waiting-requires : tie.Need-waiting-requires
 waiting-requires c κs = long c
@@ -41,7 +51,7 @@ load16-requires : tie.Need-load16-requires
 load16-requires c κs = omega (arith, long (c .before .before .before))
 
 returns-3 : tie.Need-returns-3
-returns-3 c = offered-some base _ _ _ (c .before .before .before .before .before .query-refusal .ensures) (c .before .before .before .before .if1 .left) _ _ (c .before .before .before .waiting .ensures .0) (c .before .before .place-to .ensures .0) _ (omega arith) (c .load16 .ensures)
+returns-3 c = offered-some base _ _ _ (c .before .before .before .before .before .query-refusal .ensures) (c .before .before .before .before .if1 .left) _ _ (c .before .before .before .waiting .ensures .0) (c .before .before .place-to .ensures .0) _ (well (c .before .before .before .before)) (omega arith) (c .load16 .ensures)
 
 pub offer-spec : {M : Type 1} → statement M
 offer-spec =
