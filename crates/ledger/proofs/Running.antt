@@ -1,35 +1,31 @@
--- Running a list: a step read, a reply written, one step after the other, and the answer.
-use Prim.Native.Nat.{ℕ, _+_, _-_, _*_, _/_, _%_, _≤_, _<_}
-use mathlib.Core.Bool.{true, false}
+-- Running a list: a step read, a reply written, one step after the other.
+use Prim.Native.Nat.{ℕ, _+_, _*_, _/_, _%_, _≤_, _<_}
 use mathlib.Core.Path.{_≡_, sym, ap, _∙_}
 use mathlib.Core.List.{List, _++_}
 use native.Mathlib.Nat.{add-zero}
 use native.Mathlib.Numerals.{add-one}
 use native.Mathlib.Omega.{arith}
-use borrow.Author.Tests.{lt-ltb, le-ltb, eq-eqb, ne-eqb}
-use lib.Dec.{eqb}
 use lib.ListN.{length, getD, set, length-append, length-set}
 use Rattle.octets.specs.Bytes.{put, part, chunks, Octets}
 use Rattle.octets.specs.Numbers.{be, ofBe}
-use Rattle.octets.proofs.Put.{part-part, getD-part, put-behind, put-whole, octets-part, length-part}
+use Rattle.octets.proofs.Put.{part-part, getD-part, put-behind, put-whole, octets-part}
 use Rattle.octets.proofs.Numbers.{length-be, put-be-one}
 use Rattle.octets.proofs.Chunks.{length-chunks, put-more}
-use Rattle.ledger.specs.Layout.{Layout, Limits, base, standard, imageBytes}
-use Rattle.ledger.specs.State.{State}
-use Rattle.ledger.specs.Step.{Step, Reply, stepBytes, unpackStep, stepAt, packReply}
-use Rattle.ledger.specs.Rules.{stepOf}
-use Rattle.ledger.specs.Pack.{pack, unpack}
-use Rattle.ledger.specs.Form.{wellFormed}
-use Rattle.ledger.specs.Well.{StepOk, WellFormed}
-use Rattle.ledger.specs.Calls.{stateAfter, replyAt, stepsIn, longest, wrongPart, runAnswer, ranImage, ranReplies, runImage, runReplies}
-use Rattle.ledger.specs.Parts.{Good, Stepped}
-use Rattle.ledger.proofs.Sizes.{length-pack}
-use Rattle.ledger.proofs.There.{unpack-pack}
-use Rattle.ledger.proofs.Back.{pack-unpack-formed}
-use Rattle.ledger.proofs.FormedState.{formed-state}
-use Rattle.ledger.proofs.KeepRun.{stepOk-unpack}
-use Rattle.ledger.proofs.KeepStep.{keeps-after, sound-base, allowed-standard}
-use Rattle.ledger.proofs.Beginning.{wrong-length, right-length}
+use Rattle.rules.specs.Layout.{base, standard}
+use Rattle.rules.specs.State.{State}
+use Rattle.rules.specs.declared.Step.{Step}
+use Rattle.rules.specs.declared.Reply.{Reply}
+use Rattle.rules.specs.Step.{stepBytes, unpackStep, stepAt, packReply}
+use Rattle.rules.specs.Rules.{stepOf}
+use Rattle.rules.specs.Pack.{pack, unpack}
+use Rattle.rules.specs.Internal.Well.{StepOk, WellFormed}
+use Rattle.rules.specs.Calls.{stateAfter, replyAt, stepsIn, ranImage, ranReplies}
+use Rattle.rules.specs.Internal.Good.{Good}
+use Rattle.steps.specs.Internal.Stepped.{Stepped}
+use Rattle.rules.proofs.Pack.RoundTrip.{unpack-pack}
+use Rattle.rules.proofs.Keep.Run.{stepOk-unpack}
+use Rattle.rules.proofs.Keep.Step.{keeps-after, fitting-base, allowed-standard}
+use Rattle.rules.proofs.Good.{good-pack}
 
 -- the fields of the step from place at on
 pub step-fields : (l : List ℕ) (at k v : ℕ) → k ≡ ofBe 2 (part (at + 2) 2 l) → v ≡ ofBe 4 (part (at + 4) 4 l)
@@ -64,16 +60,6 @@ reply-fields r at l l1 l2 h x y e1 e2 =
 length-packReply : (r : Reply) → length (packReply r) ≡ stepBytes
 unfolding packReply
 length-packReply r = simp (length-append, length-be)
-
--- ---- images of well-formed states
-
-pub good-pack : (s : State) → WellFormed base s → Good (pack base s)
-good-pack s w =
-    let e : unpack base (pack base s) ≡ s = unpack-pack base s (w .packable) in
-    record { long = length-pack base s; back = ap (pack base) e; well = rw e w }
-
-pub good-formed : (img : List ℕ) → length img ≡ imageBytes base → Octets img → wellFormed base img ≡ true → Good img
-good-formed img long o e = record { long = long; back = pack-unpack-formed base img long o e; well = formed-state base img long o e }
 
 -- ---- one step after the other
 
@@ -114,7 +100,7 @@ module _ (img b : List ℕ) (good : Good img) where
   -- l is the image after i steps
   module _ (o : Octets b) (i : ℕ) (l : List ℕ) (e : l ≡ pack base (stateAfter base standard (unpack base img) b i)) where
     well : WellFormed base (after i)
-    well = keeps-after sound-base allowed-standard (good .well) b o i
+    well = keeps-after fitting-base allowed-standard (good .well) b o i
 
     pub run-good : Good l
     run-good = rw e (good-pack (after i) well)
@@ -135,75 +121,3 @@ module _ (img b : List ℕ) (good : Good img) where
           let t : packReply r ≡ replied i = ap packReply (s .reply ∙ rw (says, q)) in
           let z : stepBytes * i ≡ 0 + stepBytes * i = omega arith in
           put-more 0 stepBytes replied wide i rs rs' rs'' f (g ∙ ap (λ (k : ℕ). put k (packReply r) rs') z ∙ ap (λ (x : List ℕ). put (0 + stepBytes * i) x rs') t) (omega arith)
-
--- ---- the part that is run: 17
-
-module _ (list : List ℕ) (start end : ℕ) where
-  pub part-reversed : end < start → wrongPart list start end ≡ true
-  unfolding wrongPart
-  part-reversed h = rw (lt-ltb end start h)
-
-  module _ (forth : start ≤ end) where
-    pub part-past : length list < end → wrongPart list start end ≡ true
-    unfolding wrongPart
-    part-past h = rw (le-ltb end start forth, lt-ltb (length list) end h)
-
-    module _ (within : end ≤ length list) where
-      pub part-broken : ((end - start) % stepBytes ≡ 0 → ⊥) → wrongPart list start end ≡ true
-      unfolding wrongPart
-      part-broken n = rw (le-ltb end start forth, le-ltb (length list) end within, ne-eqb ((end - start) % stepBytes) 0 n)
-
-      module _ (whole : (end - start) % stepBytes ≡ 0) where
-        pub part-long : longest < end - start → wrongPart list start end ≡ true
-        unfolding wrongPart
-        part-long h = rw (le-ltb end start forth, le-ltb (length list) end within, eq-eqb ((end - start) % stepBytes) 0 whole, lt-ltb longest (end - start) h)
-
-        pub part-fine : end - start ≤ longest → wrongPart list start end ≡ false
-        unfolding wrongPart
-        part-fine h = rw (le-ltb end start forth, le-ltb (length list) end within, eq-eqb ((end - start) % stepBytes) 0 whole, le-ltb longest (end - start) h)
-
-        -- whole steps, as many as there are replies
-        pub part-steps : (replies : List ℕ) → length replies ≡ end - start
-            → (length replies ≡ length (part start (end - start) list)) × (stepBytes * (length (part start (end - start) list) / stepBytes) ≡ length (part start (end - start) list))
-        part-steps replies same =
-            let n : length (part start (end - start) list) ≡ end - start = length-part start (end - start) list (omega arith) in
-            (same ∙ sym n, rw n (omega arith))
-
--- ---- the answer, the image and the replies
-
-module _ (y : Layout) (m : Limits) (img list : List ℕ) (start end : ℕ) (replies : List ℕ) where
-  -- r, the image l and the replies rs are right
-  abbrev pub Ran : ℕ → List ℕ → List ℕ → Type 0
-  Ran r l rs = (r ≡ runAnswer y img list start end replies) × (l ≡ runImage y m img list start end replies) × (rs ≡ runReplies y m img list start end replies)
-
-  refused : (r : ℕ) → r ≡ runAnswer y img list start end replies → (r ≡ 0 → ⊥) → Ran r img replies
-  unfolding runImage runReplies
-  refused r e n =
-      let z : eqb (runAnswer y img list start end replies) 0 ≡ false = ne-eqb (runAnswer y img list start end replies) 0 (λ (f : runAnswer y img list start end replies ≡ 0). n (e ∙ f)) in
-      (e, rw z, rw z)
-
-  pub ran-16 : (length img ≡ imageBytes y → ⊥) → Ran 16 img replies
-  unfolding runAnswer
-  ran-16 n = refused 16 (rw (wrong-length y img n)) (λ e. omega arith)
-
-  module _ (long : length img ≡ imageBytes y) where
-    pub ran-17 : wrongPart list start end ≡ true → Ran 17 img replies
-    unfolding runAnswer
-    ran-17 e = refused 17 (rw (right-length y img long, e)) (λ e. omega arith)
-
-    module _ (fine : wrongPart list start end ≡ false) where
-      pub ran-18 : (length replies ≡ end - start → ⊥) → Ran 18 img replies
-      unfolding runAnswer
-      ran-18 n = refused 18 (rw (right-length y img long, fine, ne-eqb (length replies) (end - start) n)) (λ e. omega arith)
-
-      module _ (same : length replies ≡ end - start) where
-        pub ran-19 : wellFormed y img ≡ false → Ran 19 img replies
-        unfolding runAnswer
-        ran-19 e = refused 19 (rw (right-length y img long, fine, eq-eqb (length replies) (end - start) same, e)) (λ e. omega arith)
-
-        pub ran-0 : (l rs : List ℕ) → wellFormed y img ≡ true → l ≡ ranImage y m img (part start (end - start) list) → rs ≡ ranReplies y m img (part start (end - start) list) → Ran 0 l rs
-        unfolding runImage runReplies runAnswer
-        ran-0 l rs e f g =
-            let a : runAnswer y img list start end replies ≡ 0 = rw (right-length y img long, fine, eq-eqb (length replies) (end - start) same, e) in
-            let z : eqb (runAnswer y img list start end replies) 0 ≡ true = eq-eqb (runAnswer y img list start end replies) 0 a in
-            (sym a, f ∙ rw z, g ∙ rw z)

@@ -7,13 +7,13 @@ use native.Mathlib.Omega.{arith}
 use borrow.Author.Tests.{le-leb, lt-leb}
 use lib.ListN.{length, take, drop}
 use Rattle.octets.proofs.Put.{part-def}
-use Rattle.ledger.specs.Layout.{Layout, mapBytes, dependencesAt, messageAddress, imageBytes}
-use Rattle.ledger.specs.State.{placeOf}
-use Rattle.ledger.specs.Pack.{waitingIn, unpack}
-use Rattle.ledger.specs.Form.{wellFormed}
-use Rattle.ledger.specs.Calls.{showRefusal, shown}
-use Rattle.ledger.proofs.Loads.{unpack-waiting}
-use Rattle.ledger.proofs.Beginning.{wrong-length, right-length}
+use Rattle.rules.specs.Layout.{Layout, mapBytes, dependencesAt, messageAddress, imageBytes}
+use Rattle.rules.specs.State.{placeOf}
+use Rattle.rules.specs.Pack.{waitingIn, unpack}
+use Rattle.rules.specs.Form.{wellFormed}
+use Rattle.rules.specs.Calls.{showRefusal, shown}
+use Rattle.rules.proofs.Pack.Loads.{unpack-waiting}
+use Rattle.rules.proofs.Calls.Begin.{wrong-length, right-length}
 
 module _ (y : Layout) (img : List ℕ) (v : ℕ) where
   pub shown-16 : (length img ≡ imageBytes y → ⊥) → ([] ≡ shown y img v) × (16 ≡ showRefusal y img v)

@@ -1,74 +1,36 @@
 // The take ledger: a session lives in a lent image of 22,132 bytes, which each call takes as the last one left it.
-mod form;
-mod group;
-mod layout;
-mod messages;
-mod numbers;
-mod receipt;
-mod steps;
-mod transactor;
+mod closure;
 
-use layout::DEPENDENCES;
-use layout::FIRST_MESSAGE;
-use layout::HEAD;
-use layout::IMAGE;
-use layout::LONGEST;
-use layout::MESSAGE;
-use layout::MESSAGES;
-use layout::NUMBER;
-use layout::STEP;
-use layout::TRANSACTOR;
-use layout::TRANSACTORS;
+use image::form;
+use image::layout::DEPENDENCES;
+use image::layout::FIRST_MESSAGE;
+use image::layout::HEAD;
+use image::layout::IMAGE;
+use image::layout::LONGEST;
+use image::layout::MESSAGE;
+use image::layout::MESSAGES;
+use image::layout::NUMBER;
+use image::layout::OPENED;
+use image::layout::STEP;
+use image::layout::TRANSACTOR;
+use image::layout::TRANSACTORS;
+use image::messages;
+use rules::Grouped;
+use rules::Offered;
+use rules::Reply;
+use rules::Step;
+use rules::numbers;
 ghost use mathlib.Core.Path.{_≡_};
 ghost use Prim.Native.Nat.{_+_, _*_, _/_, _≤_};
 ghost use lib.ListN.{length};
 ghost use Rattle.octets.specs.Bytes.{put, part};
-ghost use Rattle.ledger.specs.Layout.{base, standard, imageBytes};
-ghost use Rattle.ledger.specs.Step.{unpackStep, packReply, stepBytes};
-ghost use Rattle.ledger.specs.State.{fresh};
-ghost use Rattle.ledger.specs.Pack.{pack};
-ghost use Rattle.ledger.specs.Parts.{Good};
-ghost use Rattle.ledger.specs.Calls.{beginAnswer, beginImage, runAnswer, runImage, runReplies, ranImage, ranReplies, offerRefusal, offeredNumber, Offers, showRefusal, shown};
-ghost use Rattle.ledger.specs.Groups.{groupNumber, Smallest};
-
-// A step of a list, as document 01 packs it.
-pub struct Step {
-    pub kind: u8,
-    // Document 01: the take; of a letter, its addressee.
-    pub transactor: u8,
-    // The other take: the addressee of a send.
-    pub other: u8,
-    // Four bits that are zero.
-    pub zero: u8,
-    // The parcel; of a sign, the volume.
-    pub message: u16,
-    // The text.
-    pub value: u32,
-}
-
-// A reply to a step.
-pub struct Reply {
-    // The outcome or the refusal.
-    pub outcome: u8,
-    // The take acted on or opened.
-    pub transactor: u8,
-    // The parcel made, received or lost.
-    pub message: u16,
-    // The text read or received.
-    pub value: u32,
-}
-
-// What offer gives: the number of a waiting message, or nothing.
-pub enum Offered {
-    Message(u16),
-    Nothing,
-}
-
-// Which transactors to put in a group: their bits, or none.
-pub enum Grouped {
-    Group(u16),
-    NoGroup,
-}
+ghost use Rattle.rules.specs.Layout.{base, standard, imageBytes};
+ghost use Rattle.rules.specs.Step.{unpackStep, packReply, stepBytes};
+ghost use Rattle.rules.specs.State.{fresh};
+ghost use Rattle.rules.specs.Pack.{pack};
+ghost use Rattle.rules.specs.Internal.Good.{Good};
+ghost use Rattle.rules.specs.Calls.{beginAnswer, beginImage, runAnswer, runImage, runReplies, ranImage, ranReplies, offerRefusal, offeredNumber, Offers, showRefusal, shown};
+ghost use Rattle.rules.specs.Groups.{groupNumber, Smallest};
 
 // ---- begin
 
@@ -187,7 +149,7 @@ fn query_refusal(image: &[u8], transactor: usize) -> u8
     if !form::formed(image) {
         return numbers::ILL_FORMED;
     }
-    if (image[0] as usize) <= transactor {
+    if (image[OPENED] as usize) <= transactor {
         return numbers::UNOPENED;
     }
     if image[HEAD + TRANSACTOR * transactor] / 64 == numbers::ANNIHILATED {
@@ -224,8 +186,8 @@ pub fn smallest_group(image: &[u8], transactor: usize, refusal: &mut u8) -> Grou
     if number != 0 {
         return Grouped::NoGroup;
     }
-    let group = group::closure(image, transactor);
-    if group::can_checkpoint(image, group) {
+    let group = closure::closure(image, transactor);
+    if closure::can_checkpoint(image, group) {
         return Grouped::Group(group);
     }
     Grouped::NoGroup

@@ -11,21 +11,21 @@ use lib.ListN.{length}
 use lib.Dec.{eqb, leb}
 use Rattle.octets.specs.Bytes.{pick, part, Octets}
 use Rattle.octets.specs.Numbers.{ofBe, bound}
-use Rattle.ledger.specs.declared.Offered.{Offered}
-use Rattle.ledger.specs.declared.Grouped.{Grouped}
-use Rattle.ledger.specs.Layout.{Layout, base, standard, imageBytes, messageAddress, dependencesAt, mapBytes}
-use Rattle.ledger.specs.State.{placeOf, numbered}
-use Rattle.ledger.specs.Pack.{waitingIn, unpack}
-use Rattle.ledger.specs.Form.{wellFormed}
-use Rattle.ledger.specs.Calls.{wrongLength, offerRefusal, offeredNumber, Offers, waiting, showRefusal, shown}
-use Rattle.ledger.specs.Groups.{groupNumber, Smallest, smallest}
-use Rattle.ledger.proofs.Bits.{named-zero}
-use Rattle.ledger.proofs.FormedState.{formed-state}
-use Rattle.ledger.proofs.Loads.{unpack-waiting}
+use Rattle.rules.specs.declared.Offered.{Offered}
+use Rattle.rules.specs.declared.Grouped.{Grouped}
+use Rattle.rules.specs.Layout.{Layout, base, standard, imageBytes, messageAddress, dependencesAt, mapBytes}
+use Rattle.rules.specs.State.{placeOf, numbered}
+use Rattle.rules.specs.Pack.{waitingIn, unpack}
+use Rattle.rules.specs.Form.{wellFormed}
+use Rattle.rules.specs.Calls.{wrongLength, offerRefusal, offeredNumber, Offers, waiting, showRefusal, shown}
+use Rattle.rules.specs.Groups.{groupNumber, Smallest, smallest}
+use Rattle.rules.proofs.Bits.{named-zero}
+use Rattle.rules.proofs.Form.State.{formed-state}
+use Rattle.rules.proofs.Pack.Loads.{unpack-waiting}
 use Rattle.octets.proofs.Chunks.{sides}
 use Rattle.octets.proofs.Tests.{never}
-use Rattle.ledger.proofs.Places.{Place, place}
-use Rattle.ledger.proofs.Queue.{numbered-so, numbered-not}
+use Rattle.rules.proofs.Places.{Place, place}
+use Rattle.rules.proofs.Pack.Messages.{numbered-so, numbered-not}
 use Rattle.ledger_c.specs.declared.Part.{Part}
 use Rattle.ledger_c.specs.Interface.{noMessage, numberOf, offeredBy, volumeOf, groupOf, shownPart}
 

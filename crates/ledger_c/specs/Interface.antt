@@ -4,10 +4,10 @@ use mathlib.Core.List.{List}
 use mathlib.Core.Option.{Option, none, some}
 use lib.Dec.{eqb}
 use Rattle.octets.specs.Bytes.{pick}
-use Rattle.ledger.specs.Layout.{Layout, messageAddress, dependencesAt, mapBytes}
-use Rattle.ledger.specs.State.{placeOf}
-use Rattle.ledger.specs.Pack.{unpack}
-use Rattle.ledger.specs.Calls.{showRefusal}
+use Rattle.rules.specs.Layout.{Layout, messageAddress, dependencesAt, mapBytes}
+use Rattle.rules.specs.State.{placeOf}
+use Rattle.rules.specs.Pack.{unpack}
+use Rattle.rules.specs.Calls.{showRefusal}
 use Rattle.ledger_c.specs.declared.Part.{Part}
 
 -- no parcel has this number: they run 0 to 65,534

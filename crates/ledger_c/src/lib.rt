@@ -1,25 +1,23 @@
 // The ledger's calls for programs in other languages, as include/ledger.h declares them: a slice is a pointer and a length, a
 // lent number a pointer. None has a precondition, and each promises what the call of crate ledger promises.
-use ledger::Grouped;
-use ledger::Offered;
+use image::layout::DEPENDENCES;
+use image::layout::FIRST_MESSAGE;
+use image::layout::MESSAGE;
+use image::layout::MESSAGES;
+use image::layout::NUMBER;
+use rules::Grouped;
+use rules::Offered;
 ghost use mathlib.Core.Path.{_≡_};
 ghost use Prim.Native.Nat.{_<_};
-ghost use Rattle.ledger.specs.Layout.{base, standard};
-ghost use Rattle.ledger.specs.State.{placeOf};
-ghost use Rattle.ledger.specs.Pack.{unpack};
-ghost use Rattle.ledger.specs.Calls.{beginAnswer, beginImage, runAnswer, runImage, runReplies, offerRefusal, Offers, showRefusal};
-ghost use Rattle.ledger.specs.Groups.{Smallest};
+ghost use Rattle.rules.specs.Layout.{base, standard};
+ghost use Rattle.rules.specs.State.{placeOf};
+ghost use Rattle.rules.specs.Pack.{unpack};
+ghost use Rattle.rules.specs.Calls.{beginAnswer, beginImage, runAnswer, runImage, runReplies, offerRefusal, Offers, showRefusal};
+ghost use Rattle.rules.specs.Groups.{Smallest};
 ghost use Rattle.ledger_c.specs.Interface.{offeredBy, groupOf, shownPart};
 
 // The number that stands for no message.
 pub const NONE: u16 = 65535;
-
-// Where the messages start, how long one is, and where its map stands in it.
-const FIRST_MESSAGE: usize = 4 + (9 + maps::SIZE * 3) * maps::ENTRIES;
-
-const MESSAGE: usize = 7 + maps::SIZE;
-
-const MESSAGES: usize = 32;
 
 // A part of the image.
 #[repr(C)]
@@ -83,7 +81,7 @@ fn place(image: &[u8], number: u16) -> usize
 {
     let mut k: usize = 0;
     while k < MESSAGES {
-        if octets::load16(image, FIRST_MESSAGE + MESSAGE * k + 1) == number {
+        if octets::load16(image, FIRST_MESSAGE + MESSAGE * k + NUMBER) == number {
             return k;
         }
         k += 1;
@@ -105,7 +103,7 @@ pub extern "C" fn ledger_show(image: &[u8], number: u16, refusal: &mut u8) -> Pa
         };
     }
     let k = place(image, number);
-    let offset = FIRST_MESSAGE + MESSAGE * k + 7;
+    let offset = FIRST_MESSAGE + MESSAGE * k + DEPENDENCES;
     Part {
         offset,
         length: maps::SIZE,

@@ -1,8 +1,8 @@
 pub mod Trail
 pub mod Order
 pub mod Tests
-pub mod Compare
+mod Compare
 pub mod Histories
 pub mod Packed
-pub mod Placed
+mod Placed
 pub mod Starred

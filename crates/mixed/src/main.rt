@@ -5,6 +5,7 @@
 // The file stdin has 20,000 steps, chosen by the state of the session so that every outcome, and every refusal of a step, comes up
 // many times. The file stdout was not made by this program: an independent model of document 01 gave the same lines for the same
 // steps.
+use image::layout::IMAGE;
 use libc::STDIN_FILENO;
 use libc::STDOUT_FILENO;
 ghost use Prim.Native.Nat.{_≤_, _<_};
@@ -90,7 +91,7 @@ fn play_all(image: &mut [u8], list: &[u8], replies: &mut [u8]) {
 fn main() {
     let mut list = [0u8; INPUT];
     io::read_full(STDIN_FILENO, &mut list);
-    let mut image = [0u8; 22132];
+    let mut image = [0u8; IMAGE];
     let mut replies = [0u8; PART];
     play_all(&mut image, &list, &mut replies);
 }

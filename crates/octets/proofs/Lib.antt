@@ -1,5 +1,5 @@
 pub mod Chunks
-pub mod Move
+mod Move
 pub mod Numbers
 pub mod Put
 pub mod Tests

@@ -1,5 +1,7 @@
 // Reads packed steps from standard input, runs them on a fresh session, and prints a line for each: step from 1, outcome or
 // refusal, transactor, message, value. A rest under 8 bytes is ignored.
+use image::layout::IMAGE;
+use image::layout::LONGEST;
 use libc::STDIN_FILENO;
 use libc::STDOUT_FILENO;
 ghost use Prim.Native.Nat.{_+_, _*_, _^_, _≤_, _<_};
@@ -8,7 +10,7 @@ ghost use lib.ListN.{length};
 ghost use Rattle.io.specs.Counts.{Counts};
 
 // The longest part of a run, in bytes and in steps.
-const PART: usize = 8192;
+const PART: usize = LONGEST;
 
 const STEPS: u64 = 1024;
 
@@ -104,7 +106,7 @@ fn turn(image: &mut [u8], done: u64) -> bool
 
 // A loop must end, so the parts are counted.
 fn main() {
-    let mut space = [0u8; 22132];
+    let mut space = [0u8; IMAGE];
     let image: &mut [u8] = &mut space;
     ledger::begin(image);
     let mut parts: u64 = 0;

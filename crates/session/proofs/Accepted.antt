@@ -9,12 +9,12 @@ use lib.Dec.{eqb}
 use borrow.Author.Tests.{eqb-true, eq-eqb}
 use Rattle.octets.specs.Numbers.{bound}
 use Rattle.octets.proofs.Chunks.{sides}
-use Rattle.ledger.specs.Layout.{Limits}
-use Rattle.ledger.specs.declared.Step.{Step}
-use Rattle.ledger.specs.Step.{letter, receive, sign}
-use Rattle.ledger.specs.State as state
-use Rattle.ledger.specs.Refusals.{groupBits, named, acts}
-use Rattle.ledger.proofs.KeepAccepted.{Accepted, accepted, transactor-opened, transactor-there, receiver-ready, named-opened, named-there}
+use Rattle.rules.specs.Layout.{Limits}
+use Rattle.rules.specs.declared.Step.{Step}
+use Rattle.rules.specs.Step.{letter, receive, sign}
+use Rattle.rules.specs.State as state
+use Rattle.rules.specs.Refusals.{groupBits, named, acts}
+use Rattle.rules.proofs.Keep.Accepted.{Accepted, accepted, transactor-opened, transactor-there, receiver-ready, named-opened, named-there}
 use Rattle.session.specs.Provenance.{Status, unused, ready, busy, annihilated, statusNumber, Live, idle, working, Provenance, find}
 use Rattle.session.specs.Steps.{provenanceSeen, provenanceRefusal}
 use Rattle.session.proofs.Model.{Ledger}

@@ -9,19 +9,19 @@ use lib.ListN.{length}
 use borrow.Author.Tests.{eq-eqb, ne-eqb}
 use Rattle.octets.specs.Bytes.{pick, part, chunks, zeros, Octets}
 use Rattle.octets.proofs.Put.{octets-part}
-use Rattle.ledger.specs.Layout.{Layout, Limits, Allowed, imageBytes}
-use Rattle.ledger.specs.Layout as layout
-use Rattle.ledger.specs.State.{State, transactorAt, placeOf}
-use Rattle.ledger.specs.Pack.{pack, unpack}
-use Rattle.ledger.specs.Form.{wellFormed}
-use Rattle.ledger.specs.Well.{WellFormed}
-use Rattle.ledger.specs.Calls.{wrongLength, beginAnswer, beginImage, stateAfter, stepsIn, runAnswer, replyAt, ranImage, ranReplies, runImage, runReplies, offerRefusal, showRefusal}
-use Rattle.ledger.proofs.Sizes.{length-pack}
-use Rattle.ledger.proofs.There.{unpack-pack}
-use Rattle.ledger.proofs.FormedPack.{formed-pack}
-use Rattle.ledger.proofs.Fresh.{pack-fresh}
-use Rattle.ledger.proofs.KeepState.{well-fresh}
-use Rattle.ledger.proofs.KeepStep.{keeps-after}
+use Rattle.rules.specs.Layout.{Layout, Limits, Allowed, imageBytes}
+use Rattle.rules.specs.Layout as layout
+use Rattle.rules.specs.State.{State, transactorAt, placeOf}
+use Rattle.rules.specs.Pack.{pack, unpack}
+use Rattle.rules.specs.Form.{wellFormed}
+use Rattle.rules.specs.Internal.Well.{WellFormed}
+use Rattle.rules.specs.Calls.{wrongLength, beginAnswer, beginImage, stateAfter, stepsIn, runAnswer, replyAt, ranImage, ranReplies, runImage, runReplies, offerRefusal, showRefusal}
+use Rattle.rules.proofs.Pack.Sizes.{length-pack}
+use Rattle.rules.proofs.Pack.RoundTrip.{unpack-pack}
+use Rattle.rules.proofs.Form.Packed.{formed-pack}
+use Rattle.rules.proofs.Pack.Fresh.{pack-fresh}
+use Rattle.rules.proofs.Keep.State.{well-fresh}
+use Rattle.rules.proofs.Keep.Step.{keeps-after}
 use Rattle.session.specs.Provenance.{Provenance, emptyProvenance, statusNumber, isMissing}
 use Rattle.session.specs.Fed.{Call, run, show, queryRefusal, callRefusal, ProvenanceCall, provenance-refuses, provenance-begins, provenance-runs, provenance-offers, provenance-names, provenance-shows}
 use Rattle.session.specs.Trace.{Answer, ran, refusalIn, Performed, beginning, running, offering, naming, showing, Matches, CallStepsRight, run-right, begin-right, offer-right, smallest-right, show-right, CallRight}

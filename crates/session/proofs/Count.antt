@@ -12,18 +12,18 @@ use borrow.Author.Tests.{eqb-true, eqb-false, ne-eqb, leb-false}
 use Rattle.octets.specs.Bytes.{pick, _and_, _or_, part, chunks, Octets}
 use Rattle.octets.proofs.Put.{getD-part, octets-part}
 use Rattle.octets.proofs.Numbers.{be-one}
-use Rattle.ledger.specs.Layout.{Layout, Limits, base, standard, Allowed, Fitting}
-use Rattle.ledger.specs.State.{Transactor, Message, State, ownHistory, transactorAt, messageAt, placeOf, withTransactor, withOpened, withMessage, withoutMessage}
-use Rattle.ledger.specs.declared.Step.{Step}
-use Rattle.ledger.specs.declared.Reply.{Reply}
-use Rattle.ledger.specs.Step.{stepBytes, stepAt, packReply, done, dropped, fallenBack, vanished, root, letter, receive, new, send, lose, sign}
-use Rattle.ledger.specs.Refusals.{sends, malformed, notWaiting, emptyGroup, unopened, isGone, wrongStatus, allOpened, allWaiting, allNumbered, allCheckpointed, lastRollsBack, Seen, refusalOf}
-use Rattle.ledger.specs.Rules.{Effect, Result, rollback, messageSuperseded, receiverSuperseded, receiveBy, groupReady, checkpointGroup, seen, refusal, opened, applyRoot, applyLetter, applyReceive, applyNew, applySend, applyLocal, applyLose, applySign, apply, stepOf}
-use Rattle.ledger.specs.Well.{WellFormed}
-use Rattle.ledger.specs.Pack.{pack, unpack}
-use Rattle.ledger.specs.Calls.{beginAnswer, beginImage, stateAfter, replyAt, stepsIn, runAnswer, ranImage, ranReplies, runImage, runReplies}
-use Rattle.ledger.proofs.There.{unpack-pack}
-use Rattle.ledger.proofs.KeepStep.{keeps-after, replies-fit, sound-base, allowed-standard}
+use Rattle.rules.specs.Layout.{Layout, Limits, base, standard, Allowed, Fitting}
+use Rattle.rules.specs.State.{Transactor, Message, State, ownHistory, transactorAt, messageAt, placeOf, withTransactor, withOpened, withMessage, withoutMessage}
+use Rattle.rules.specs.declared.Step.{Step}
+use Rattle.rules.specs.declared.Reply.{Reply}
+use Rattle.rules.specs.Step.{stepBytes, stepAt, packReply, done, dropped, fallenBack, vanished, root, letter, receive, new, send, lose, sign}
+use Rattle.rules.specs.Refusals.{sends, malformed, notWaiting, emptyGroup, unopened, isGone, wrongStatus, allOpened, allWaiting, allNumbered, allCheckpointed, lastRollsBack, Seen, refusalOf}
+use Rattle.rules.specs.Rules.{Effect, Result, rollback, messageSuperseded, receiverSuperseded, receiveBy, groupReady, checkpointGroup, seen, refusal, opened, applyRoot, applyLetter, applyReceive, applyNew, applySend, applyLocal, applyLose, applySign, apply, stepOf}
+use Rattle.rules.specs.Internal.Well.{WellFormed}
+use Rattle.rules.specs.Pack.{pack, unpack}
+use Rattle.rules.specs.Calls.{beginAnswer, beginImage, stateAfter, replyAt, stepsIn, runAnswer, ranImage, ranReplies, runImage, runReplies}
+use Rattle.rules.proofs.Pack.RoundTrip.{unpack-pack}
+use Rattle.rules.proofs.Keep.Step.{keeps-after, replies-fit, fitting-base, allowed-standard}
 use Rattle.session.specs.Count.{made, received, lost, once, countSteps, countCall, count, waiting}
 use Rattle.session.specs.Provenance.{Provenance}
 use Rattle.session.specs.Fed.{Call, run}
@@ -35,7 +35,7 @@ use Rattle.session.proofs.Run.{reply-part}
 use Rattle.session.proofs.Calls.{Holds, holds-fresh, right-length}
 use Rattle.session.proofs.Demand3.{begun-fresh, grown}
 use Rattle.session.proofs.Tables.{pick-view}
-use Rattle.ledger.proofs.KeepAccepted.{Accepted, accepted, message-waits}
+use Rattle.rules.proofs.Keep.Accepted.{Accepted, accepted, message-waits}
 
 -- ---- a step that is not refused
 
@@ -221,4 +221,4 @@ messages-counted y m z l (trace.opened img e) = rw (holds-waiting (begun-fresh y
 messages-counted y m z l (called τ c a p) = call-counted z l (grown z l τ .holds) (count made τ) (count received τ) (count lost τ) (messages-counted y m z l τ) p
 
 pub messages-counted-base : {img : List ℕ} (τ : Trace base standard img) → count made τ ≡ count received τ + count lost τ + waiting base img
-messages-counted-base τ = messages-counted base standard sound-base allowed-standard τ
+messages-counted-base τ = messages-counted base standard fitting-base allowed-standard τ

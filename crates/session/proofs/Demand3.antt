@@ -5,10 +5,10 @@ use mathlib.Core.Path.{_≡_}
 use mathlib.Core.List.{List}
 use native.Mathlib.Omega.{arith}
 use Rattle.octets.specs.Bytes.{pick, zeros}
-use Rattle.ledger.specs.Layout.{Layout, Limits, base, standard, Fitting, Allowed, imageBytes}
-use Rattle.ledger.specs.Pack.{unpack}
-use Rattle.ledger.specs.Calls.{wrongLength, beginAnswer, beginImage}
-use Rattle.ledger.proofs.KeepStep.{sound-base, allowed-standard}
+use Rattle.rules.specs.Layout.{Layout, Limits, base, standard, Fitting, Allowed, imageBytes}
+use Rattle.rules.specs.Pack.{unpack}
+use Rattle.rules.specs.Calls.{wrongLength, beginAnswer, beginImage}
+use Rattle.rules.proofs.Keep.Step.{fitting-base, allowed-standard}
 use Rattle.session.specs.Provenance.{Provenance, emptyProvenance}
 use Rattle.session.specs.Fed.{ProvenanceOf}
 use Rattle.session.specs.Trace.{Trace, opened, called, callsOf, Right, opened-right, called-right}
@@ -64,4 +64,4 @@ demand3 y m z l τ = let k = grown z l τ in (k .provenance, right-provenance (k
 
 -- The same at document 01's own layout and limits: no hypothesis but the trace.
 pub demand3-base : {img : List ℕ} (τ : Trace base standard img) → (b : Provenance) × ProvenanceOf standard (callsOf τ) b × Right base standard img τ b
-demand3-base τ = demand3 base standard sound-base allowed-standard τ
+demand3-base τ = demand3 base standard fitting-base allowed-standard τ

@@ -12,11 +12,11 @@ use Rattle.octets.specs.Bytes.{pick}
 use Rattle.octets.specs.Numbers.{bound}
 use Rattle.marks.specs.History.{initialView}
 use Rattle.maps.specs.View.{emptyView}
-use Rattle.ledger.specs.Layout.{Limits}
-use Rattle.ledger.specs.declared.Step.{Step}
-use Rattle.ledger.specs.Step.{root, letter, receive, new, send, fail, lose, sign}
-use Rattle.ledger.specs.Refusals.{named, acts}
-use Rattle.ledger.proofs.KeepAccepted.{kind-known}
+use Rattle.rules.specs.Layout.{Limits}
+use Rattle.rules.specs.declared.Step.{Step}
+use Rattle.rules.specs.Step.{root, letter, receive, new, send, fail, lose, sign}
+use Rattle.rules.specs.Refusals.{named, acts}
+use Rattle.rules.proofs.Keep.Accepted.{kind-known}
 use Rattle.session.specs.Provenance.{Live, Provenance, withHolder, withWaitingMessage, withoutWaitingMessage}
 use Rattle.session.specs.Grounds.{Equal}
 use Rattle.session.specs.Steps.{carried, acted, opensRoot, opensChild, receives, applied, signs, provenanceRefusal, ProvenanceStep, refuses, applies, signing, not-ready}

@@ -15,7 +15,7 @@ use Rattle.marks.proofs.Order.{precedes-refl, precedes-next, precedes-eq, super
 use Rattle.marks.proofs.Histories.{_⊑_, ⊑-refl}
 use Rattle.maps.specs.Table.{updated}
 use Rattle.maps.proofs.Tables.{updated-same, updated-view}
-use Rattle.ledger.specs.Step.{read, write, freeze, finish, fall}
+use Rattle.rules.specs.Step.{read, write, freeze, finish, fall}
 use Rattle.session.specs.Provenance.{unused, ready, annihilated, Live, idle, In, Holder, Provenance, blank, withHolder}
 use Rattle.session.specs.Steps.{anew, isNil, rolledBackHolder, reads, writes, freezes, finishes, rollsBackOrFinishes, rollsBackOrStays, acted}
 use Rattle.session.proofs.Model.{Node, Ledger, own, withNode, bareNode, anewNode, readNode, writeNode, freezeNode, finishNode, rollbackNode}

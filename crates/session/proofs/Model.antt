@@ -10,7 +10,7 @@ use Rattle.marks.specs.Incarnation.{nextIncarnation, checkpointIncarnation}
 use Rattle.marks.specs.History.{HistoryView, initialView}
 use Rattle.maps.specs.Table.{updated}
 use Rattle.maps.specs.View.{MapView, mapView, emptyView, singletonView, joinView}
-use Rattle.ledger.specs.State.{Transactor, Message, State, transactorAt}
+use Rattle.rules.specs.State.{Transactor, Message, State, transactorAt}
 use Rattle.session.specs.Provenance.{Status, unused, ready, busy, annihilated}
 use Rattle.session.specs.Steps.{isNil}
 

@@ -11,10 +11,10 @@ use borrow.Author.Tests.{eqb-true, eqb-false, not-true}
 use Rattle.octets.specs.Bytes.{_and_}
 use Rattle.octets.proofs.Zero.{both}
 use Rattle.marks.specs.Incarnation.{Incarnation}
-use Rattle.ledger.specs.Layout.{standard}
-use Rattle.ledger.specs.declared.Step.{Step}
-use Rattle.ledger.specs.Step.{root, letter, receive, new, send, write, lose, sign}
-use Rattle.ledger.specs.Refusals.{named}
+use Rattle.rules.specs.Layout.{standard}
+use Rattle.rules.specs.declared.Step.{Step}
+use Rattle.rules.specs.Step.{root, letter, receive, new, send, write, lose, sign}
+use Rattle.rules.specs.Refusals.{named}
 use Rattle.session.specs.Provenance.{Entry, Incarnations, In, one, Live, Holder, Provenance, emptyProvenance}
 use Rattle.session.specs.Grounds.{Brought, from-start, from-noted, from-list, Ground, in-state, in-creation, RestsOn, CheckpointedNow, StablePresent, Equal}
 use Rattle.session.specs.Steps.{opensRoot, opensChild, receives, applied, provenanceRefusal, ProvenanceStep, applies}

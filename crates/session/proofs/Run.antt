@@ -6,15 +6,15 @@ use lib.ListN.{length, length-append}
 use Rattle.octets.specs.Bytes.{part, chunks, Octets}
 use Rattle.octets.proofs.Chunks.{part-chunks}
 use Rattle.octets.proofs.Numbers.{length-be}
-use Rattle.ledger.specs.Layout.{Layout, Limits, Allowed, Fitting}
-use Rattle.ledger.specs.State.{State}
-use Rattle.ledger.specs.declared.Reply.{Reply}
-use Rattle.ledger.specs.Step.{stepBytes, stepAt, packReply}
-use Rattle.ledger.specs.Rules.{stepOf}
-use Rattle.ledger.specs.Calls.{stateAfter, replyAt}
-use Rattle.ledger.specs.Well.{WellFormed}
-use Rattle.ledger.proofs.KeepRun.{stepOk-at}
-use Rattle.ledger.proofs.KeepStep.{keeps-after}
+use Rattle.rules.specs.Layout.{Layout, Limits, Allowed, Fitting}
+use Rattle.rules.specs.State.{State}
+use Rattle.rules.specs.declared.Reply.{Reply}
+use Rattle.rules.specs.Step.{stepBytes, stepAt, packReply}
+use Rattle.rules.specs.Rules.{stepOf}
+use Rattle.rules.specs.Calls.{stateAfter, replyAt}
+use Rattle.rules.specs.Internal.Well.{WellFormed}
+use Rattle.rules.proofs.Keep.Run.{stepOk-at}
+use Rattle.rules.proofs.Keep.Step.{keeps-after}
 use Rattle.session.specs.Provenance.{Provenance}
 use Rattle.session.specs.Fed as book
 use Rattle.session.specs.Trace as trace

@@ -5,9 +5,9 @@ use mathlib.Core.Path.{_≡_, ap, _∙_}
 use lib.ListN.{length}
 use Rattle.octets.specs.Bytes.{_and_}
 use Rattle.marks.specs.History.{HistoryView}
-use Rattle.ledger.specs.Layout.{Limits}
-use Rattle.ledger.specs.declared.Step.{Step}
-use Rattle.ledger.specs.Refusals.{Seen, refusalOf}
+use Rattle.rules.specs.Layout.{Limits}
+use Rattle.rules.specs.declared.Step.{Step}
+use Rattle.rules.specs.Refusals.{Seen, refusalOf}
 use Rattle.session.specs.Provenance.{statusNumber, Provenance, find}
 use Rattle.session.specs.Steps.{isDropped, isRolledBack, provenanceSeen, provenanceRefusal}
 use Rattle.session.proofs.Model.{Ledger, own, findMail, missingMail}

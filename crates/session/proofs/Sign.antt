@@ -10,7 +10,7 @@ use Rattle.marks.proofs.Trail.{Under}
 use Rattle.marks.proofs.Order.{precedes-split, under-split, under-checkpointed, checkpointed-under, before-checkpointed, checkpointed-irrefl}
 use Rattle.marks.proofs.Tests.{decCheckpointed}
 use Rattle.maps.specs.View.{MapView}
-use Rattle.ledger.specs.Refusals.{named}
+use Rattle.rules.specs.Refusals.{named}
 use Rattle.session.specs.Provenance.{annihilated, Live, Incarnations, In, Provenance}
 use Rattle.session.specs.Grounds.{Brought, from-start, from-noted, from-list, Ground, in-state, in-creation, RestsOn, ValueRestsOn, CheckpointedNow, SupersededOrAnnihilated, gone, neither, UncheckpointedGround, StablePresent, Equal, Sound}
 use Rattle.session.proofs.Model.{Ledger, own}

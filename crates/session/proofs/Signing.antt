@@ -9,7 +9,7 @@ use Rattle.marks.specs.Incarnation.{Incarnation, checkpointIncarnation, Checkpo
 use Rattle.marks.specs.History.{HistoryView}
 use Rattle.marks.proofs.Order.{precedes-checkpoint, checkpointed-up, checkpointed-checkpoint, checkpointed-ne}
 use Rattle.marks.proofs.Histories.{_⊑_, ⊑-refl}
-use Rattle.ledger.specs.Refusals.{named}
+use Rattle.rules.specs.Refusals.{named}
 use Rattle.session.specs.Provenance.{unused, ready, Live, idle, Holder, Provenance}
 use Rattle.session.specs.Grounds.{CheckpointedNow, StablePresent}
 use Rattle.session.specs.Steps.{anew, checkpointedAt, NotedBy, before, now-checkpointed, signs}

@@ -8,14 +8,14 @@ use lib.Dec.{eqb}
 use borrow.Author.Tests.{eq-eqb}
 use Rattle.marks.specs.History.{HistoryView, viewOf}
 use Rattle.maps.proofs.View.{view-some}
-use Rattle.ledger.specs.Layout.{Layout, Limits, Allowed}
-use Rattle.ledger.specs.Layout as layout
-use Rattle.ledger.specs.State.{Transactor, Message, State, transactorAt, messageAt, ownHistory, placeOf}
-use Rattle.ledger.specs.declared.Step.{Step}
-use Rattle.ledger.specs.Step.{notReady, root, letter, receive, new, send, read, write, freeze, finish, fall, lose, sign}
-use Rattle.ledger.specs.Rules.{Effect, Result, messageSuperseded, receiverSuperseded, rollback, readBy, writeBy, freezeBy, finishBy, fallBy, failBy, localBy, receiveBy, groupReady, seen, refusal, answer, applyRoot, applyLetter, applyReceive, applyNew, applySend, applyLocal, applyLose, applySign, apply, stepOf}
-use Rattle.ledger.specs.Well.{StepOk, WellFormed}
-use Rattle.ledger.proofs.KeepStep.{refused-same, applied-same, keeps}
+use Rattle.rules.specs.Layout.{Layout, Limits, Allowed}
+use Rattle.rules.specs.Layout as layout
+use Rattle.rules.specs.State.{Transactor, Message, State, transactorAt, messageAt, ownHistory, placeOf}
+use Rattle.rules.specs.declared.Step.{Step}
+use Rattle.rules.specs.Step.{notReady, root, letter, receive, new, send, read, write, freeze, finish, fall, lose, sign}
+use Rattle.rules.specs.Rules.{Effect, Result, messageSuperseded, receiverSuperseded, rollback, readBy, writeBy, freezeBy, finishBy, fallBy, failBy, localBy, receiveBy, groupReady, seen, refusal, answer, applyRoot, applyLetter, applyReceive, applyNew, applySend, applyLocal, applyLose, applySign, apply, stepOf}
+use Rattle.rules.specs.Internal.Well.{StepOk, WellFormed}
+use Rattle.rules.proofs.Keep.Step.{refused-same, applied-same, keeps}
 use Rattle.session.specs.Provenance.{Provenance, statusNumber}
 use Rattle.session.specs.Grounds.{Equal}
 use Rattle.session.specs.Steps.{provenanceRefusal}
@@ -24,7 +24,7 @@ use Rattle.session.proofs.Model.{view}
 use Rattle.session.proofs.Tables.{pick-view}
 use Rattle.session.proofs.Relation.{Rel, own-history}
 use Rattle.session.proofs.Sign.{rel-sound}
-use Rattle.ledger.proofs.KeepAccepted.{accepted}
+use Rattle.rules.proofs.Keep.Accepted.{accepted}
 use Rattle.session.proofs.Kept.{sign-exact}
 use Rattle.session.proofs.ViewState.{own-view}
 use Rattle.session.proofs.ViewRules.{droppedAt, rolledBackAt}

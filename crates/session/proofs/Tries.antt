@@ -9,10 +9,10 @@ use lib.ListN.{length}
 use Rattle.marks.specs.Incarnation.{Incarnation, initialIncarnation, Checkpointed, begins, sameList, beginsWith, strictPrefix, supersededBy}
 use Rattle.marks.proofs.Order.{checkpointed-irrefl}
 use Rattle.maps.specs.Table.{updated}
-use Rattle.ledger.specs.Layout.{standard}
-use Rattle.ledger.specs.declared.Step.{Step}
-use Rattle.ledger.specs.Step.{read, freeze, finish, fail}
-use Rattle.ledger.specs.Refusals.{any, named, anyNamed, malformed, notWaiting, emptyGroup, unopened, isGone, wrongStatus, allOpened, allWaiting, allNumbered, allCheckpointed, atLast, lastRollsBack, refusalOf}
+use Rattle.rules.specs.Layout.{standard}
+use Rattle.rules.specs.declared.Step.{Step}
+use Rattle.rules.specs.Step.{read, freeze, finish, fail}
+use Rattle.rules.specs.Refusals.{any, named, anyNamed, malformed, notWaiting, emptyGroup, unopened, isGone, wrongStatus, allOpened, allWaiting, allNumbered, allCheckpointed, atLast, lastRollsBack, refusalOf}
 use Rattle.session.specs.Provenance.{Incarnations, In, one, Status, ready, busy, annihilated, working, Holder, Provenance, emptyProvenance, remove, find, isMissing, anyEntry, supersededEntry, anySuperseded}
 use Rattle.session.specs.Grounds.{from-start, Ground, in-state, in-creation, RestsOn, CheckpointedNow, Equal}
 use Rattle.session.specs.Steps.{rolledBackHolder, reads, writes, freezes, finishes, rollsBackOrFinishes, rollsBackOrStays, acted, isDropped, isRolledBack, received, signs, checkpointedAt, NotedBy, before, now-checkpointed, opensRoot, opensChild, receives, applied, provenanceSeen, provenanceRefusal, signing, not-ready}

@@ -2,8 +2,8 @@
 use Prim.Native.Nat.{ℕ}
 use mathlib.Core.Path.{_≡_, refl, subst}
 use mathlib.Core.List.{List}
-use Rattle.ledger.specs.Layout.{Layout, Limits}
-use Rattle.ledger.specs.Step.{stepAt}
+use Rattle.rules.specs.Layout.{Layout, Limits}
+use Rattle.rules.specs.Step.{stepAt}
 use Rattle.session.specs.Provenance.{Provenance}
 use Rattle.session.specs.Steps.{ProvenanceStep}
 use Rattle.session.specs.Fed as book

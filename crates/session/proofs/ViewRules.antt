@@ -22,15 +22,15 @@ use Rattle.maps.specs.Map.{heldAt, historyAt}
 use Rattle.maps.specs.Table.{updated}
 use Rattle.maps.specs.View.{joinEntry, emptyView, singletonView, mapView, SupersededView}
 use Rattle.maps.proofs.View.{Answers, one, no-one, view-superseded, view-held, view-some, Within, roomy-entry, within-none, within-ok, within-singleton, within-join, view-empty, view-withEntry, view-singleton, view-join}
-use Rattle.ledger.specs.Layout.{Layout}
-use Rattle.ledger.specs.State.{Transactor, Message, State, transactorAt, messageAt, ownHistory, live, withTransactor, withoutMessage, numbered, placeOf}
-use Rattle.ledger.specs.State as state
-use Rattle.ledger.specs.declared.Step.{Step}
-use Rattle.ledger.specs.Step.{read, write, freeze, finish, fall}
-use Rattle.ledger.specs.Refusals.{named}
-use Rattle.ledger.specs.Rules.{Effect, isSome, carried, rollback, readBy, writeBy, freezeBy, finishBy, fallBy, failBy, localBy, known, messageSuperseded, receiverSuperseded, receiveBy, entryReady, mapReady, transactorReady, groupReady, opening, applyRoot, applyLetter, applyReceive, applyNew, applySend, applyLocal, applyLose, applySign}
-use Rattle.ledger.specs.Rules as rules
-use Rattle.ledger.specs.Well.{TransactorOk, WellFormed}
+use Rattle.rules.specs.Layout.{Layout}
+use Rattle.rules.specs.State.{Transactor, Message, State, transactorAt, messageAt, ownHistory, live, withTransactor, withoutMessage, numbered, placeOf}
+use Rattle.rules.specs.State as state
+use Rattle.rules.specs.declared.Step.{Step}
+use Rattle.rules.specs.Step.{read, write, freeze, finish, fall}
+use Rattle.rules.specs.Refusals.{named}
+use Rattle.rules.specs.Rules.{Effect, isSome, carried, rollback, readBy, writeBy, freezeBy, finishBy, fallBy, failBy, localBy, known, messageSuperseded, receiverSuperseded, receiveBy, entryReady, mapReady, transactorReady, groupReady, opening, applyRoot, applyLetter, applyReceive, applyNew, applySend, applyLocal, applyLose, applySign}
+use Rattle.rules.specs.Rules as rules
+use Rattle.rules.specs.Internal.Well.{TransactorOk, WellFormed}
 use Rattle.session.specs.Provenance.{Live, idle, working}
 use Rattle.session.specs.Steps.{isNil}
 use Rattle.session.proofs.Model.{Node, Ledger, own, withNode, openNode, withMail, withoutMail, findMail, anewNode, readNode, freezeNode, finishNode, rollbackNode, knownMap, sentMap, childNode, openerNode, signLedger, statusOf, viewNode, view}

@@ -5,10 +5,10 @@ use native.Mathlib.Omega.{arith}
 use lib.ListN.{length, length-map}
 use Rattle.marks.specs.History.{incarnationOf, HistoryView}
 use Rattle.marks.proofs.Histories.{roomy-length}
-use Rattle.ledger.specs.Layout.{Layout}
-use Rattle.ledger.specs.State.{State, transactorAt, ownHistory}
-use Rattle.ledger.specs.Rules.{receiptRollsBack, seen}
-use Rattle.ledger.specs.Well.{WellFormed}
+use Rattle.rules.specs.Layout.{Layout}
+use Rattle.rules.specs.State.{State, transactorAt, ownHistory}
+use Rattle.rules.specs.Rules.{receiptRollsBack, seen}
+use Rattle.rules.specs.Internal.Well.{WellFormed}
 use Rattle.session.specs.Provenance.{statusNumber}
 use Rattle.session.proofs.Model.{statusOf, viewMail, view}
 use Rattle.session.proofs.ViewState.{at-transactor, own-view, own-roomy, view-find, view-missing}

@@ -24,13 +24,13 @@ use Rattle.maps.specs.View.{mapView}
 use Rattle.maps.proofs.Map.{outside}
 use Rattle.maps.proofs.Tables.{updated-is}
 use Rattle.maps.proofs.View.{roomy-entry, within-ok, view-past, view-empty, view-singleton}
-use Rattle.ledger.specs.Layout.{Layout}
-use Rattle.ledger.specs.State.{Transactor, Message, State, bare, noMap, noTransactor, noMessage, transactorAt, messageAt, fresh, ownHistory, withTransactor, withOpened, withMessage, withoutMessage, placeFrom, numbered, placeOf}
-use Rattle.ledger.specs.State as state
-use Rattle.ledger.specs.Refusals.{named}
-use Rattle.ledger.specs.Rules.{opened, checkpointBy, checkpointAt, checkpointGroup}
-use Rattle.ledger.specs.Rules as rules
-use Rattle.ledger.specs.Well.{WellFormed}
+use Rattle.rules.specs.Layout.{Layout}
+use Rattle.rules.specs.State.{Transactor, Message, State, bare, noMap, noTransactor, noMessage, transactorAt, messageAt, fresh, ownHistory, withTransactor, withOpened, withMessage, withoutMessage, placeFrom, numbered, placeOf}
+use Rattle.rules.specs.State as state
+use Rattle.rules.specs.Refusals.{named}
+use Rattle.rules.specs.Rules.{opened, checkpointBy, checkpointAt, checkpointGroup}
+use Rattle.rules.specs.Rules as rules
+use Rattle.rules.specs.Internal.Well.{WellFormed}
 use Rattle.session.specs.Provenance.{unused}
 use Rattle.session.proofs.Model.{Node, Mail, own, withNode, openNode, withMail, removeMail, withoutMail, findMail, missingMail, bareNode, anewNode, checkpointedNodes, signLedger, statusOf, viewNode, viewMail, view}
 use Rattle.session.proofs.Relation.{freshLedger}

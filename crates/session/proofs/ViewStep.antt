@@ -12,13 +12,13 @@ use Rattle.octets.specs.Numbers.{bound}
 use Rattle.octets.proofs.Chunks.{sides}
 use Rattle.octets.proofs.Zero.{both, every-all, every-at}
 use Rattle.marks.specs.History.{HistoryView}
-use Rattle.ledger.specs.Layout.{Layout, Limits, Allowed}
-use Rattle.ledger.specs.State.{Transactor, State, transactorAt, ownHistory, placeOf}
-use Rattle.ledger.specs.declared.Step.{Step}
-use Rattle.ledger.specs.Step.{root, letter, receive, new, send, fail, lose, sign}
-use Rattle.ledger.specs.Refusals.{groupBits, named, acts, refusalOf}
-use Rattle.ledger.specs.Rules.{Result, groupReady, seen, refusal, apply, stepOf}
-use Rattle.ledger.specs.Well.{WellFormed}
+use Rattle.rules.specs.Layout.{Layout, Limits, Allowed}
+use Rattle.rules.specs.State.{Transactor, State, transactorAt, ownHistory, placeOf}
+use Rattle.rules.specs.declared.Step.{Step}
+use Rattle.rules.specs.Step.{root, letter, receive, new, send, fail, lose, sign}
+use Rattle.rules.specs.Refusals.{groupBits, named, acts, refusalOf}
+use Rattle.rules.specs.Rules.{Result, groupReady, seen, refusal, apply, stepOf}
+use Rattle.rules.specs.Internal.Well.{WellFormed}
 use Rattle.session.specs.Provenance.{Provenance}
 use Rattle.session.specs.Steps.{provenanceRefusal}
 use Rattle.session.proofs.Model.{Ledger, own, findMail, viewNode, view}
@@ -27,7 +27,7 @@ use Rattle.session.proofs.Relation.{Rel}
 use Rattle.session.proofs.Messages.{ReceiptTests}
 use Rattle.session.proofs.Seen.{seenOf, refusal-same}
 use Rattle.session.proofs.Sign.{Ready}
-use Rattle.ledger.proofs.KeepAccepted.{Accepted, accepted, kind-known, message-waits, one-unopened, transactor-opened, named-opened, named-room}
+use Rattle.rules.proofs.Keep.Accepted.{Accepted, accepted, kind-known, message-waits, one-unopened, transactor-opened, named-opened, named-room}
 use Rattle.session.proofs.Accepted.{named-below}
 use Rattle.session.proofs.Kept.{appliedLedger, stepLedger, StepTests, Kept, step-kept}
 use Rattle.session.proofs.ViewState.{no-transactor, own-view}

@@ -6,11 +6,11 @@ use mathlib.Core.List.{List, []}
 use lib.ListN.{length, getD}
 use lib.Dec.{eqb}
 use Rattle.octets.specs.Bytes.{pick, _and_, _or_, part}
-use Rattle.ledger.specs.Layout.{Layout, Limits}
-use Rattle.ledger.specs.Step.{stepBytes, stepAt, receive, lose, done, dropped, fallenBack, vanished}
-use Rattle.ledger.specs.Refusals.{sends}
-use Rattle.ledger.specs.Pack.{unpack}
-use Rattle.ledger.specs.Calls.{stepsIn}
+use Rattle.rules.specs.Layout.{Layout, Limits}
+use Rattle.rules.specs.Step.{stepBytes, stepAt, receive, lose, done, dropped, fallenBack, vanished}
+use Rattle.rules.specs.Refusals.{sends}
+use Rattle.rules.specs.Pack.{unpack}
+use Rattle.rules.specs.Calls.{stepsIn}
 use Rattle.session.specs.Fed.{Call, begin, run, offer, smallest, show}
 use Rattle.session.specs.Trace.{Answer, begun, ran, offered, grouped, showed, refusalIn, Trace, opened, called}
 

@@ -6,10 +6,10 @@ use mathlib.Core.List.{List, [], _∷_}
 use lib.ListN.{length}
 use lib.Dec.{eqb, leb}
 use Rattle.octets.specs.Bytes.{pick, part, Octets}
-use Rattle.ledger.specs.Layout.{Limits}
-use Rattle.ledger.specs.Step.{stepAt}
+use Rattle.rules.specs.Layout.{Limits}
+use Rattle.rules.specs.Step.{stepAt}
 -- both are about the caller's list alone
-use Rattle.ledger.specs.Calls.{wrongPart, stepsIn}
+use Rattle.rules.specs.Calls.{wrongPart, stepsIn}
 use Rattle.session.specs.Provenance.{annihilated, statusNumber, Provenance, emptyProvenance, isMissing}
 use Rattle.session.specs.Steps.{ProvenanceStep}
 

@@ -5,7 +5,7 @@ use mathlib.Core.Path.{_≡_}
 use mathlib.Core.List.{[], _∷_, _++_}
 use mathlib.Core.Logic.{_↔_}
 use Rattle.marks.specs.Incarnation.{Incarnation, Checkpointed}
-use Rattle.ledger.specs.Refusals.{named}
+use Rattle.rules.specs.Refusals.{named}
 use Rattle.session.specs.Provenance.{Provenance, Holder, Live, In, annihilated}
 
 -- All that a set of lives brings in, again and again: a noted life brings in what was noted for it, and a life with a list

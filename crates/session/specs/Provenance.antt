@@ -8,7 +8,7 @@ use Rattle.octets.specs.Bytes.{pick, _and_, _or_}
 use Rattle.marks.specs.Incarnation.{Incarnation, supersededBy}
 use Rattle.marks.specs.History.{HistoryView, initialView}
 use Rattle.maps.specs.Table.{updated}
-use Rattle.ledger.specs.Status as number
+use Rattle.rules.specs.Status as number
 
 -- A life with its take.
 pub record Entry : Type 0 where

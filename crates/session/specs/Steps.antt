@@ -8,10 +8,10 @@ use lib.Dec.{eqb}
 use Rattle.octets.specs.Bytes.{pick, _and_}
 use Rattle.marks.specs.Incarnation.{Incarnation, nextIncarnation, checkpointIncarnation}
 use Rattle.marks.specs.History.{HistoryView, initialView}
-use Rattle.ledger.specs.Layout.{Limits}
-use Rattle.ledger.specs.declared.Step.{Step}
-use Rattle.ledger.specs.Step.{root, letter, receive, new, send, read, write, freeze, finish, fall, lose, sign}
-use Rattle.ledger.specs.Refusals.{Seen, named, refusalOf}
+use Rattle.rules.specs.Layout.{Limits}
+use Rattle.rules.specs.declared.Step.{Step}
+use Rattle.rules.specs.Step.{root, letter, receive, new, send, read, write, freeze, finish, fall, lose, sign}
+use Rattle.rules.specs.Refusals.{Seen, named, refusalOf}
 use Rattle.session.specs.Provenance.{Incarnations, one, ready, busy, annihilated, statusNumber, Holder, WaitingMessage, Provenance, blank, withHolder, withOpened, withWaitingMessage, withoutWaitingMessage, find, isMissing, anySuperseded}
 use Rattle.session.specs.Grounds.{RestsOn, Equal}
 

@@ -7,14 +7,14 @@ use mathlib.Core.Option.{Option}
 use Rattle.octets.specs.Bytes.{part, Octets}
 use Rattle.marks.specs.History.{incarnationOf}
 use Rattle.maps.specs.Map.{heldAt}
-use Rattle.ledger.specs.Layout.{Layout, Limits}
-use Rattle.ledger.specs.State.{State, Transactor, transactorAt, ownHistory}
-use Rattle.ledger.specs.declared.Step.{Step}
-use Rattle.ledger.specs.Step.{stepBytes, stepAt, packReply, sign, done, notReady}
-use Rattle.ledger.specs.Rules.{answer, stepOf, checkpointGroup}
-use Rattle.ledger.specs.Pack.{unpack}
-use Rattle.ledger.specs.Calls.{beginAnswer, beginImage, runAnswer, runImage, runReplies, stateAfter, stepsIn, offerRefusal, Offers, showRefusal, shown}
-use Rattle.ledger.specs.Groups.{Smallest}
+use Rattle.rules.specs.Layout.{Layout, Limits}
+use Rattle.rules.specs.State.{State, Transactor, transactorAt, ownHistory}
+use Rattle.rules.specs.declared.Step.{Step}
+use Rattle.rules.specs.Step.{stepBytes, stepAt, packReply, sign, done, notReady}
+use Rattle.rules.specs.Rules.{answer, stepOf, checkpointGroup}
+use Rattle.rules.specs.Pack.{unpack}
+use Rattle.rules.specs.Calls.{beginAnswer, beginImage, runAnswer, runImage, runReplies, stateAfter, stepsIn, offerRefusal, Offers, showRefusal, shown}
+use Rattle.rules.specs.Groups.{Smallest}
 use Rattle.session.specs.Provenance.{statusNumber, Live, Holder, Provenance, emptyProvenance}
 use Rattle.session.specs.Grounds.{Equal, Sound}
 use Rattle.session.specs.Steps.{provenanceRefusal, ProvenanceStep}

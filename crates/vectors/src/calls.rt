@@ -10,7 +10,7 @@ use crate::steps::repeat;
 use crate::steps::root;
 use crate::steps::run;
 use crate::steps::sent;
-use ledger::Offered;
+use rules::Offered;
 
 // ---- begin
 

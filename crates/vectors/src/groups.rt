@@ -15,7 +15,7 @@ use crate::steps::send;
 use crate::steps::sent;
 use crate::steps::sign;
 use crate::steps::write;
-use ledger::Grouped;
+use rules::Grouped;
 
 fn smallest(label: &[u8], image: &[u8], t: usize) {
     let mut refusal: u8 = 99;

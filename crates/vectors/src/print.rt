@@ -1,6 +1,6 @@
 // Lines of a label and its numbers.
-use ledger::Reply;
 use libc::STDOUT_FILENO;
+use rules::Reply;
 
 // A label and a number.
 pub fn number(label: &[u8], n: u64) {

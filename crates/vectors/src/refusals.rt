@@ -15,7 +15,7 @@ use crate::steps::run;
 use crate::steps::send;
 use crate::steps::sign;
 use crate::steps::write;
-use ledger::Step;
+use rules::Step;
 
 // Three transactors: 0 ready; 1 busy, with message 2 waiting for it; 2 annihilated, with message 0.
 fn peopled(image: &mut [u8]) {

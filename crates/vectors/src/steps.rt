@@ -1,7 +1,7 @@
 // Steps, one function for each line of document 01's table of kinds, and what comes of running one.
 use crate::print;
-use ledger::Reply;
-use ledger::Step;
+use rules::Reply;
+use rules::Step;
 
 pub fn of(kind: u8, transactor: u8, other: u8, message: u16, value: u32) -> Step {
     Step {

@@ -1,7 +1,7 @@
 -- A fresh session is packed as zeros.
 use borrow.Author.Needs.{needs}
-use Rattle.ledger.specs.Layout.{base}
-use Rattle.ledger.proofs.Beginning.{begin-refused, begin-done}
+use Rattle.rules.specs.Layout.{base}
+use Rattle.rules.proofs.Calls.Begin.{begin-refused, begin-done}
 use Rattle.ledger.proofs.begin.Statement.{statement}
 use Rattle.ledger.proofs.begin.Tie as tie
 

@@ -4,12 +4,12 @@ use native.Mathlib.Omega.{arith}
 use borrow.Author.Needs.{needs}
 use lib.ListN.{length}
 use Rattle.octets.proofs.Put.{octets-of}
-use Rattle.ledger.specs.Layout.{base, imageBytes}
-use Rattle.ledger.specs.Pack.{unpack}
-use Rattle.ledger.specs.Well.{WellFormed}
-use Rattle.ledger.proofs.FormedState.{formed-state}
-use Rattle.ledger.proofs.Query.{Accepted, query-accepted}
-use Rattle.ledger.proofs.Offering.{offered-refused, offered-none, offered-some}
+use Rattle.rules.specs.Layout.{base, imageBytes}
+use Rattle.rules.specs.Pack.{unpack}
+use Rattle.rules.specs.Internal.Well.{WellFormed}
+use Rattle.rules.proofs.Form.State.{formed-state}
+use Rattle.rules.proofs.Calls.Query.{Accepted, query-accepted}
+use Rattle.rules.proofs.Calls.Offer.{offered-refused, offered-none, offered-some}
 use Rattle.ledger.proofs.offer.Statement.{statement}
 use Rattle.ledger.proofs.offer.Tie as tie
 

@@ -4,9 +4,9 @@ use mathlib.Core.Bool.{true}
 use native.Mathlib.Omega.{arith}
 use borrow.Author.Needs.{needs}
 use Rattle.octets.proofs.Tests.{passed, failed}
-use Rattle.ledger.specs.Layout.{base}
-use Rattle.ledger.specs.Form.{wellFormed}
-use Rattle.ledger.proofs.Query.{few-opened, query-16, query-19, query-21, query-22, query-0}
+use Rattle.rules.specs.Layout.{base}
+use Rattle.rules.specs.Form.{wellFormed}
+use Rattle.rules.proofs.Calls.Query.{few-opened, query-16, query-19, query-21, query-22, query-0}
 use Rattle.ledger.proofs.query_refusal.Statement.{statement}
 use Rattle.ledger.proofs.query_refusal.Tie as tie
 

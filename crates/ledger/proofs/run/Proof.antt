@@ -6,9 +6,10 @@ use borrow.Author.Tests.{not-true, not-false}
 use borrow.Author.Needs.{needs}
 use Rattle.octets.specs.Bytes.{part}
 use Rattle.octets.proofs.Put.{octets-of}
-use Rattle.ledger.specs.Layout.{base, standard}
-use Rattle.ledger.specs.Form.{wellFormed}
-use Rattle.ledger.proofs.Running.{good-formed, part-reversed, part-past, part-broken, part-long, part-fine, part-steps, ran-16, ran-17, ran-18, ran-19, ran-0}
+use Rattle.rules.specs.Layout.{base, standard}
+use Rattle.rules.specs.Form.{wellFormed}
+use Rattle.rules.proofs.Good.{good-formed}
+use Rattle.rules.proofs.Calls.Run.{part-reversed, part-past, part-broken, part-long, part-fine, part-steps, ran-16, ran-17, ran-18, ran-19, ran-0}
 use Rattle.ledger.proofs.run.Statement.{statement}
 use Rattle.ledger.proofs.run.Tie as tie
 

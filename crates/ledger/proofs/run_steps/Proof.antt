@@ -7,9 +7,9 @@ use lib.ListN.{length}
 use Rattle.octets.specs.Bytes.{put, chunks, Octets}
 use Rattle.octets.proofs.Put.{octets-of}
 use Rattle.octets.proofs.Chunks.{put-none}
-use Rattle.ledger.specs.Layout.{base, standard}
-use Rattle.ledger.specs.Pack.{pack, unpack}
-use Rattle.ledger.specs.Calls.{stateAfter, replyAt}
+use Rattle.rules.specs.Layout.{base, standard}
+use Rattle.rules.specs.Pack.{pack, unpack}
+use Rattle.rules.specs.Calls.{stateAfter, replyAt}
 use Rattle.ledger.proofs.Running.{run-none, run-all, replies-all, run-good, step-fits, run-more, replies-more}
 use Rattle.ledger.proofs.run_steps.Statement.{statement}
 use Rattle.ledger.proofs.run_steps.Tie as tie

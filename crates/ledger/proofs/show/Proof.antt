@@ -2,7 +2,7 @@ use mathlib.Core.Path.{sym, _∙_}
 use native.Mathlib.Omega.{arith}
 use borrow.Author.Tests.{not-true, not-false}
 use borrow.Author.Needs.{needs}
-use Rattle.ledger.specs.Layout.{base}
+use Rattle.rules.specs.Layout.{base}
 use Rattle.ledger.proofs.Showing.{shown-16, shown-19, shown-24, shown-part}
 use Rattle.ledger.proofs.show.Statement.{statement}
 use Rattle.ledger.proofs.show.Tie as tie

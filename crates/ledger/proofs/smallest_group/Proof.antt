@@ -4,11 +4,11 @@ use mathlib.Core.Path.{refl, sym, _∙_}
 use borrow.Author.Needs.{needs}
 use Rattle.octets.specs.Numbers.{bound}
 use Rattle.octets.proofs.Put.{octets-of}
-use Rattle.ledger.specs.Layout.{base, standard}
-use Rattle.ledger.specs.Parts.{Good}
-use Rattle.ledger.proofs.Running.{good-formed}
-use Rattle.ledger.proofs.Query.{query-accepted}
-use Rattle.ledger.proofs.Grouping.{grouped-refused, grouped-none, grouped-some}
+use Rattle.rules.specs.Layout.{base, standard}
+use Rattle.rules.specs.Internal.Good.{Good}
+use Rattle.rules.proofs.Good.{good-formed}
+use Rattle.rules.proofs.Calls.Query.{query-accepted}
+use Rattle.rules.proofs.Groups.Smallest.{grouped-refused, grouped-none, grouped-some}
 use Rattle.ledger.proofs.smallest_group.Statement.{statement}
 use Rattle.ledger.proofs.smallest_group.Tie as tie
 

@@ -2,10 +2,10 @@
 use Prim.Native.Nat.{_-_, _≤_}
 use native.Mathlib.Omega.{arith}
 use borrow.Author.Needs.{needs}
-use Rattle.ledger.specs.Layout.{base}
-use Rattle.ledger.specs.State.{placeOf}
-use Rattle.ledger.specs.Pack.{unpack}
-use Rattle.ledger.proofs.Loads.{waiting-few}
+use Rattle.rules.specs.Layout.{base}
+use Rattle.rules.specs.State.{placeOf}
+use Rattle.rules.specs.Pack.{unpack}
+use Rattle.rules.proofs.Pack.Loads.{waiting-few}
 use Rattle.ledger_c.proofs.Answers.{shown-length, waits, place-here, place-later}
 use Rattle.ledger_c.proofs.place.Statement.{statement}
 use Rattle.ledger_c.proofs.place.Tie as tie

@@ -1,0 +1,287 @@
+-- The code's test of the form is the form.
+use Prim.Native.Nat.{ℕ, zero, suc, _+_, _-_, _/_, _%_, _≤_, _<_}
+use mathlib.Core.Bool.{Bool, true, not}
+use mathlib.Core.Path.{_≡_, refl, sym, ap, _∙_}
+use mathlib.Core.List.{List}
+use mathlib.Core.Logic.{⊎-elim, _↔_}
+use native.Mathlib.Numerals.{add-one}
+use native.Mathlib.Omega.{arith}
+use mir.Syntax.{w8}
+use mir.Val.{Fits}
+use lib.Dec.{eqb, ltb, leb}
+use borrow.Author.Tests.{eqb-true, eqb-false, eq-eqb, ne-eqb, lt-ltb, ltb-true, le-leb, lt-leb, leb-true, not-true}
+use lib.ListN.{length, getD, drop, length-drop}
+use lib.Seq.{take-all}
+use Rattle.octets.specs.Bytes.{pick, _and_, _or_, part, every, allZero, Octets}
+use Rattle.octets.specs.Numbers.{ofBe}
+use Rattle.octets.proofs.Put.{part-def, octet, octets-of}
+use Rattle.octets.proofs.Chunks.{sides}
+use Rattle.octets.proofs.Zero.{both, allZero-at, allZero-part, every-at, every-all}
+use Rattle.maps.specs.Map.{heldAt}
+use Rattle.maps.specs.Packed.{formedMap}
+use Rattle.rules.specs.Layout.{Layout, mapBytes, stateAt, creationAt, behaviourAt, dependencesAt, transactorBytes, transactorAddress, messageAddress, imageBytes}
+use Rattle.rules.specs.Status.{unused, ready, annihilated}
+use Rattle.rules.specs.State.{Transactor, transactorAt, messageAt, ownHistory}
+use Rattle.rules.specs.Pack.{transactorPart, messagePart, waitingIn, unpack}
+use Rattle.rules.specs.Form.{mapFormed, wellFormed}
+use Rattle.rules.specs.Internal.Well.{Live, idle, working}
+use Rattle.image.specs.Internal.Tests.{formedOwnAt, formedLiveAt, formedTransactorAt, leastAt, formedMessageAt, formedImage}
+use Rattle.octets.proofs.Tests.{implied, implying, same-test}
+use Rattle.rules.proofs.Form.Clauses.{Below}
+use Rattle.rules.proofs.Pack.Loads.{length-transactorPart, part-transactor, first-transactor, part-message, first-message, read-status, read-saved, read-held, read-history, read-addressee, read-number, waiting-few}
+use Rattle.rules.proofs.Form.Transactor.{TransactorForm, TransactorFormAt, unopened, vanished, living, AliveForm, live-low, live-high, statuses, mapFormed-zeros}
+use Rattle.rules.proofs.Form.Message.{MessageFormAt, MessagesForm}
+use Rattle.rules.proofs.Form.Image.{ImageForm, form-image, image-form}
+
+-- ---- one transactor
+
+-- The test on the bytes b of transactor t, which is x: last, for a live one, and whole.
+abbrev testBehaviour : Layout → ℕ → List ℕ → Transactor → Bool
+testBehaviour y opened b x = pick (eqb (x .status) ready) (allZero (part (behaviourAt y) (mapBytes y) b)) (mapFormed y opened (behaviourAt y) b)
+
+abbrev testOwn : ℕ → Transactor → Bool
+testOwn t x = heldAt (x .state) t and (not (eqb (ownHistory t x .count) 0) or eqb (x .saved) 0)
+
+abbrev testLive : Layout → ℕ → ℕ → List ℕ → Transactor → Bool
+testLive y opened t b x =
+    mapFormed y opened stateAt b
+    and mapFormed y opened (creationAt y) b
+    and testOwn t x
+    and testBehaviour y opened b x
+
+abbrev testTransactor : Layout → ℕ → ℕ → List ℕ → Transactor → Bool
+testTransactor y opened t b x =
+    pick (leb opened t) (allZero b)
+    (eqb (getD b 0 0 % 64) 0
+    and not (eqb (x .status) unused)
+    and pick (eqb (x .status) annihilated) (allZero (drop 1 b)) (testLive y opened t b x))
+
+module _ (y : Layout) (img : List ℕ) (t : ℕ) (below : t < y .transactors) where
+  map-there : (opened at : ℕ) → at + mapBytes y ≤ transactorBytes y → mapFormed y opened at (transactorPart y img t) ≡ mapFormed y opened (transactorAddress y t + at) img
+  unfolding mapFormed
+  map-there opened at h = ap (formedMap (y .width) (y .places) (y .transactors) opened) (part-transactor y img t at (mapBytes y) h)
+
+  rest-there : length img ≡ imageBytes y → drop 1 (transactorPart y img t) ≡ part (transactorAddress y t + 1) (transactorBytes y - 1) img
+  rest-there n =
+      let m : length (drop 1 (transactorPart y img t)) ≤ transactorBytes y - 1 = rw length-drop (omega (arith, length-transactorPart y img n t below)) in
+      sym (take-all (transactorBytes y - 1) (drop 1 (transactorPart y img t)) m)
+      ∙ sym (part-def 1 (transactorBytes y - 1) (transactorPart y img t))
+      ∙ part-transactor y img t 1 (transactorBytes y - 1) (omega arith)
+
+  whole-there : transactorPart y img t ≡ part (transactorAddress y t) (transactorBytes y) img
+  unfolding transactorPart
+  whole-there = refl
+
+  transactor-test : length img ≡ imageBytes y → testTransactor y (unpack y img .opened) t (transactorPart y img t) (transactorAt (unpack y img) t) ≡ formedTransactorAt y img t
+  unfolding formedTransactorAt formedLiveAt formedOwnAt
+  transactor-test n =
+      rw (
+        rest-there n,
+        first-transactor y img t,
+        read-status y img t below,
+        read-saved y img t below,
+        read-held y img t below t below,
+        read-history y img t below t below,
+        map-there (unpack y img .opened) stateAt (omega arith),
+        map-there (unpack y img .opened) (creationAt y) (omega arith),
+        map-there (unpack y img .opened) (behaviourAt y) (omega arith),
+        part-transactor y img t (behaviourAt y) (mapBytes y) (omega arith),
+        whole-there,
+      )
+
+module _ (y : Layout) (opened t : ℕ) (b : List ℕ) (x : Transactor) where
+  saved-test : (ownHistory t x .count ≡ 0 → x .saved ≡ 0) → not (eqb (ownHistory t x .count) 0) or eqb (x .saved) 0 ≡ true
+  saved-test f = implying (eqb (ownHistory t x .count) 0) (eqb (x .saved) 0) (λ e. eq-eqb (x .saved) 0 (f (eqb-true (ownHistory t x .count) 0 e)))
+
+  test-saved : not (eqb (ownHistory t x .count) 0) or eqb (x .saved) 0 ≡ true → ownHistory t x .count ≡ 0 → x .saved ≡ 0
+  test-saved e z = eqb-true (x .saved) 0 (implied (eqb (ownHistory t x .count) 0) (eqb (x .saved) 0) e (eq-eqb (ownHistory t x .count) 0 z))
+
+  form-test : TransactorForm y opened t b x → testTransactor y opened t b x ≡ true
+  form-test (unopened p u e) = rw (le-leb opened t p) e
+  form-test (vanished p u d e) = rw (lt-leb opened t p, eq-eqb (getD b 0 0 % 64) 0 d, u) e
+  form-test (living p a) =
+      let low = live-low (a .status) in
+      let high = live-high (a .status) in
+      rw (
+        lt-leb opened t p,
+        eq-eqb (getD b 0 0 % 64) 0 (a .head),
+        ne-eqb (x .status) unused (λ u. omega arith),
+        ne-eqb (x .status) annihilated (λ u. omega arith),
+        a .state,
+        a .creation,
+        a .own,
+        saved-test (a .saved),
+      ) (last (x .status) refl (a .status))
+    where
+      last : (n : ℕ) → x .status ≡ n → Live n → testBehaviour y opened b x ≡ true
+      last n u idle = rw u (a .behaves u)
+      last n u working = rw u (a .behaviour)
+
+  live-form : length b ≡ transactorBytes y → getD b 0 0 % 64 ≡ 0 → Live (x .status) → testLive y opened t b x ≡ true → AliveForm y opened t b x
+  live-form n d l e =
+      let state = both (mapFormed y opened stateAt b) _ e in
+      let creation = both (mapFormed y opened (creationAt y) b) _ (state .1) in
+      let signed = both (testOwn t x) _ (creation .1) in
+      let own = both (heldAt (x .state) t) _ (signed .0) in
+      let last = behaves (x .status) refl l (signed .1) in
+      record {
+        head = d;
+        status = l;
+        state = state .0;
+        creation = creation .0;
+        behaviour = last .0;
+        own = own .0;
+        saved = test-saved (own .1);
+        behaves = last .1;
+      }
+    where
+      behaves : (m : ℕ) → x .status ≡ m → Live m → testBehaviour y opened b x ≡ true
+          → (mapFormed y opened (behaviourAt y) b ≡ true) × (x .status ≡ ready → allZero (part (behaviourAt y) (mapBytes y) b) ≡ true)
+      behaves m u idle g =
+          let z : allZero (part (behaviourAt y) (mapBytes y) b) ≡ true = rw u at g in
+          (mapFormed-zeros y opened (behaviourAt y) b (allZero-part (behaviourAt y) (mapBytes y) b (omega arith) z), λ r. z)
+      behaves m u working g = (rw u at g, λ r. absurd (omega arith))
+
+  test-form : x .status ≡ getD b 0 0 / 64 → getD b 0 0 < 256 → length b ≡ transactorBytes y → testTransactor y opened t b x ≡ true → TransactorForm y opened t b x
+  test-form s h n e = ⊎-elim used rest (sides t opened)
+    where
+      rest : opened ≤ t → TransactorForm y opened t b x
+      rest p =
+          let z : allZero b ≡ true = rw (le-leb opened t p) at e in
+          unopened p (omega (arith, allZero-at b 0 z)) z
+
+      used : t < opened → TransactorForm y opened t b x
+      used p =
+          let head = both (eqb (getD b 0 0 % 64) 0) _ (rw (lt-leb opened t p) at e) in
+          let status = both (not (eqb (x .status) unused)) _ (head .1) in
+          let d : getD b 0 0 % 64 ≡ 0 = eqb-true (getD b 0 0 % 64) 0 (head .0) in
+          ⊎-elim
+          (λ u. absurd (eqb-false (x .status) unused (not-true (eqb (x .status) unused) (status .0)) u))
+          (⊎-elim
+          (λ u. vanished p u d (rw u at (status .1)))
+          (λ l. living p (live-form n d l (rw (ne-eqb (x .status) annihilated (λ u. omega (arith, live-high l))) at (status .1)))))
+          (statuses (x .status) (omega arith))
+
+transactor-tested : (y : Layout) (img : List ℕ) → length img ≡ imageBytes y → Octets img → (t : ℕ) → t < y .transactors
+    → (formedTransactorAt y img t ≡ true) ↔ TransactorFormAt y img t
+transactor-tested y img n o t h =
+    let b = transactorPart y img t in
+    let x = transactorAt (unpack y img) t in
+    let first = first-transactor y img t in
+    let e = transactor-test y img t h n in (
+      λ f. test-form y (unpack y img .opened) t b x (omega (arith, read-status y img t h)) (omega (arith, octet img o (transactorAddress y t))) (length-transactorPart y img n t h) (e ∙ f),
+      λ f. sym e ∙ form-test y (unpack y img .opened) t b x f,
+    )
+
+-- ---- the messages
+
+module _ (y : Layout) (img : List ℕ) where
+  pub least-none : leastAt y img 0 ≡ 0
+  unfolding leastAt
+  least-none = refl
+
+  pub least-more : (k : ℕ) → leastAt y img (k + 1) ≡ ofBe 2 (part (messageAddress y k + 1) 2 img) + 1
+  unfolding leastAt
+  least-more k = rw add-one
+
+  -- over the place k - 1 before
+  pub least-after : (k j : ℕ) → j + 1 ≡ k → leastAt y img k ≡ ofBe 2 (part (messageAddress y j + 1) 2 img) + 1
+  least-after k j e = rw (← e) (least-more j)
+
+  dependences-there : (k : ℕ) → mapFormed y (unpack y img .opened) dependencesAt (messagePart y img k) ≡ mapFormed y (unpack y img .opened) (messageAddress y k + dependencesAt) img
+  unfolding mapFormed
+  dependences-there k = ap (formedMap (y .width) (y .places) (y .transactors) (unpack y img .opened)) (part-message y img k dependencesAt (mapBytes y) (omega arith))
+
+  -- what the test says of a place that is taken
+  record Tested (k : ℕ) : Type 0 where
+    pub form : MessageFormAt y img k
+    pub least : leastAt y img k ≤ messageAt (unpack y img) k .number
+
+  taken-test : (k : ℕ) → k < waitingIn y img → formedMessageAt y img k ≡ true → Tested k
+  unfolding formedMessageAt
+  taken-test k h e =
+      let head = both (eqb (getD img (messageAddress y k) 0 / 16) 8) _ (rw (lt-leb (waitingIn y img) k h) at e) in
+      let addressee = both (ltb (getD img (messageAddress y k) 0 % 16) (unpack y img .opened)) _ (head .1) in
+      let number = both (ltb (ofBe 2 (part (messageAddress y k + 1) 2 img)) (unpack y img .next)) _ (addressee .1) in
+      let least = both (leb (leastAt y img k) (ofBe 2 (part (messageAddress y k + 1) 2 img))) _ (number .1) in
+      record {
+        form = record {
+          head = rw (first-message y img k) (eqb-true (getD img (messageAddress y k) 0 / 16) 8 (head .0));
+          dependences = dependences-there k ∙ least .1;
+          number = rw (read-number y img k h) (ltb-true (ofBe 2 (part (messageAddress y k + 1) 2 img)) (unpack y img .next) (number .0));
+          addressee = rw (read-addressee y img k h) (ltb-true (getD img (messageAddress y k) 0 % 16) (unpack y img .opened) (addressee .0));
+        };
+        least = rw (read-number y img k h) (leb-true (leastAt y img k) (ofBe 2 (part (messageAddress y k + 1) 2 img)) (least .0));
+      }
+
+  taken-tested : (k : ℕ) → k < waitingIn y img → Tested k → formedMessageAt y img k ≡ true
+  unfolding formedMessageAt
+  taken-tested k h f =
+      let a = read-addressee y img k h in
+      let b = read-number y img k h in
+      rw (
+        lt-leb (waitingIn y img) k h,
+        eq-eqb (getD img (messageAddress y k) 0 / 16) 8 (rw (first-message y img k) at (f .form .head)),
+        lt-ltb (getD img (messageAddress y k) 0 % 16) (unpack y img .opened) (rw a at (f .form .addressee)),
+        lt-ltb (ofBe 2 (part (messageAddress y k + 1) 2 img)) (unpack y img .next) (rw b at (f .form .number)),
+        le-leb (leastAt y img k) (ofBe 2 (part (messageAddress y k + 1) 2 img)) (rw b at (f .least)),
+      ) (sym (dependences-there k) ∙ f .form .dependences)
+
+  free-test : (k : ℕ) → waitingIn y img ≤ k → formedMessageAt y img k ≡ allZero (messagePart y img k)
+  unfolding formedMessageAt messagePart
+  free-test k h = rw (le-leb (waitingIn y img) k h)
+
+  messages-test : Below (y .messages) (formedMessageAt y img) → MessagesForm y img
+  messages-test f = record {
+    taken = λ k h. tested k h .form;
+    free = λ k p h. sym (free-test k p) ∙ f k h;
+    order = λ k h.
+        let b : k < waitingIn y img = omega arith in
+        omega (arith, tested (k + 1) h .least, least-more k, read-number y img k b);
+  }
+    where
+      tested : (k : ℕ) → k < waitingIn y img → Tested k
+      tested k h = taken-test k h (f k (omega (arith, waiting-few y img)))
+
+  messages-tested : MessagesForm y img → Below (y .messages) (formedMessageAt y img)
+  messages-tested f k h = ⊎-elim
+      (λ (p : k < waitingIn y img). taken-tested k p (record { form = f .taken k p; least = least k p }))
+      (λ (p : waitingIn y img ≤ k). free-test k p ∙ f .free k p h)
+      (sides k (waitingIn y img))
+    where
+      least : (k : ℕ) → k < waitingIn y img → leastAt y img k ≤ messageAt (unpack y img) k .number
+      least zero p = omega (arith, least-none)
+      least (suc j) p =
+          let a : j < waitingIn y img = omega arith in
+          let b : j + 1 < waitingIn y img = omega arith in
+          rw (← add-one j) (omega (arith, least-more j, read-number y img j a, f .order j b))
+
+-- ---- the image
+
+pub formedImage-is : (y : Layout) (img : List ℕ) → length img ≡ imageBytes y → Octets img → formedImage y img ≡ wellFormed y img
+unfolding formedImage
+formedImage-is y img n o = same-test (formedImage y img) (wellFormed y img) (λ e. image-form y img n (tested e)) (λ e. test (form-image y img o e))
+  where
+    tested : formedImage y img ≡ true → ImageForm y img
+    tested e =
+        let zero = both (eqb (getD img 3 0) 0) _ e in
+        let opened = both (leb (unpack y img .opened) (y .transactors)) _ (zero .1) in
+        let transactors = both (every (y .transactors) (formedTransactorAt y img)) _ (opened .1) in
+        record {
+          zero = eqb-true (getD img 3 0) 0 (zero .0);
+          opened = leb-true (unpack y img .opened) (y .transactors) (opened .0);
+          transactors = λ t h. transactor-tested y img n o t h .0 (every-at (formedTransactorAt y img) (y .transactors) t (transactors .0) h);
+          messages = messages-test y img (λ k. every-at (formedMessageAt y img) (y .messages) k (transactors .1));
+        }
+
+    test : ImageForm y img → formedImage y img ≡ true
+    test f = rw (
+      eq-eqb (getD img 3 0) 0 (f .zero),
+      le-leb (unpack y img .opened) (y .transactors) (f .opened),
+      every-all (formedTransactorAt y img) (y .transactors) (λ t h. transactor-tested y img n o t h .1 (f .transactors t h)),
+      every-all (formedMessageAt y img) (y .messages) (messages-tested y img (f .messages)),
+    )
+
+-- what the code answers of a slice of bytes
+pub image-tested : (y : Layout) (img : List ℕ) (r : Bool) → length img ≡ imageBytes y → ((i : ℕ) → Fits w8 (getD img i 0)) → r ≡ formedImage y img → r ≡ wellFormed y img
+image-tested y img r n f e = e ∙ formedImage-is y img n (octets-of img f)

@@ -1,0 +1,172 @@
+// Whether an image is well-formed: transactor by transactor, message by message.
+use crate::layout::BEHAVIOUR;
+use crate::layout::BLANK;
+use crate::layout::CREATION;
+use crate::layout::DEPENDENCES;
+use crate::layout::FIRST_MESSAGE;
+use crate::layout::HEAD;
+use crate::layout::MESSAGE;
+use crate::layout::MESSAGES;
+use crate::layout::NEXT;
+use crate::layout::NUMBER;
+use crate::layout::OPENED;
+use crate::layout::SAVED;
+use crate::layout::STATE;
+use crate::layout::TRANSACTOR;
+use crate::layout::TRANSACTORS;
+use crate::messages;
+use maps::DependenceMap;
+use marks::History;
+use rules::numbers;
+ghost use mathlib.Core.Path.{_≡_};
+ghost use Prim.Native.Nat.{_/_, _<_};
+ghost use lib.ListN.{length, getD};
+ghost use Rattle.octets.specs.Bytes.{every};
+ghost use Rattle.rules.specs.Layout.{base, transactorAddress, imageBytes};
+ghost use Rattle.rules.specs.Pack.{waitingIn, unpack};
+ghost use Rattle.rules.specs.Form.{wellFormed};
+ghost use Rattle.image.specs.Internal.Tests.{formedOwnAt, formedLiveAt, formedTransactorAt, leastAt, formedMessageAt};
+
+// Its own history, and no saved value before a checkpoint.
+fn own_formed(s: &[u8], t: usize) -> bool
+    requires { ⌜ (length (now s) ≡ imageBytes base) × (t < base .transactors) ⌝ }
+    ensures { λ r. ⌜ r ≡ formedOwnAt base (now (s .entry)) t ⌝ }
+{
+    let at = HEAD + TRANSACTOR * t;
+    let there = at + STATE + marks::SIZE * t;
+    if !History::present(s, there) {
+        return false;
+    }
+    let own = History::load(s, there);
+    if own.count != 0 {
+        return true;
+    }
+    octets::load32(s, at + SAVED) == 0
+}
+
+// A transactor, idle or at work.
+fn live_formed(s: &[u8], t: usize, status: u8, opened: usize) -> bool
+    requires { ⌜ (length (now s) ≡ imageBytes base) × (t < base .transactors) × (status ≡ getD (now s) (transactorAddress base t) 0 / 64) × (opened ≡ unpack base (now s) .opened) ⌝ }
+    ensures { λ r. ⌜ r ≡ formedLiveAt base (now (s .entry)) t ⌝ }
+{
+    let at = HEAD + TRANSACTOR * t;
+    if !DependenceMap::formed(s, at + STATE, opened) {
+        return false;
+    }
+    if !DependenceMap::formed(s, at + CREATION, opened) {
+        return false;
+    }
+    if !own_formed(s, t) {
+        return false;
+    }
+    if status == numbers::READY {
+        return octets::all_zero(s, at + BEHAVIOUR, maps::SIZE);
+    }
+    DependenceMap::formed(s, at + BEHAVIOUR, opened)
+}
+
+fn transactor_formed(s: &[u8], t: usize, opened: usize) -> bool
+    requires { ⌜ (length (now s) ≡ imageBytes base) × (t < base .transactors) × (opened ≡ unpack base (now s) .opened) ⌝ }
+    ensures { λ r. ⌜ r ≡ formedTransactorAt base (now (s .entry)) t ⌝ }
+{
+    let at = HEAD + TRANSACTOR * t;
+    if opened <= t {
+        return octets::all_zero(s, at, TRANSACTOR);
+    }
+    let head = s[at];
+    if head % 64 != 0 {
+        return false;
+    }
+    let status = head / 64;
+    if status == numbers::UNUSED {
+        return false;
+    }
+    if status == numbers::ANNIHILATED {
+        return octets::all_zero(s, at + 1, TRANSACTOR - 1);
+    }
+    live_formed(s, t, status, opened)
+}
+
+// One more than the number in the place before k; 0 for the first.
+fn least(s: &[u8], k: usize) -> usize
+    requires { ⌜ (length (now s) ≡ imageBytes base) × (k < base .messages) ⌝ }
+    ensures { λ r. ⌜ r ≡ leastAt base (now (s .entry)) k ⌝ }
+{
+    if k == 0 {
+        return 0;
+    }
+    let before = k - 1;
+    octets::load16(s, FIRST_MESSAGE + MESSAGE * before + NUMBER) as usize + 1
+}
+
+// Place k, of which the first n wait.
+fn message_formed(s: &[u8], k: usize, n: usize, opened: usize, next: u16) -> bool
+    requires { ⌜ (length (now s) ≡ imageBytes base) × (k < base .messages) × (n ≡ waitingIn base (now s)) × (opened ≡ unpack base (now s) .opened) × (next ≡ unpack base (now s) .next) ⌝ }
+    ensures { λ r. ⌜ r ≡ formedMessageAt base (now (s .entry)) k ⌝ }
+{
+    let at = FIRST_MESSAGE + MESSAGE * k;
+    if n <= k {
+        return octets::all_zero(s, at, MESSAGE);
+    }
+    let head = s[at];
+    if head / 16 != 8 {
+        return false;
+    }
+    let to = (head % 16) as usize;
+    if opened <= to {
+        return false;
+    }
+    let number = octets::load16(s, at + NUMBER);
+    if next <= number {
+        return false;
+    }
+    if (number as usize) < least(s, k) {
+        return false;
+    }
+    DependenceMap::formed(s, at + DEPENDENCES, opened)
+}
+
+fn transactors_formed(s: &[u8], opened: usize) -> bool
+    requires { ⌜ (length (now s) ≡ imageBytes base) × (opened ≡ unpack base (now s) .opened) ⌝ }
+    ensures { λ r. ⌜ r ≡ every (base .transactors) (formedTransactorAt base (now (s .entry))) ⌝ }
+{
+    let mut t: usize = 0;
+    while t < TRANSACTORS {
+        if !transactor_formed(s, t, opened) {
+            return false;
+        }
+        t += 1;
+    }
+    true
+}
+
+fn messages_formed(s: &[u8], n: usize, opened: usize, next: u16) -> bool
+    requires { ⌜ (length (now s) ≡ imageBytes base) × (n ≡ waitingIn base (now s)) × (opened ≡ unpack base (now s) .opened) × (next ≡ unpack base (now s) .next) ⌝ }
+    ensures { λ r. ⌜ r ≡ every (base .messages) (formedMessageAt base (now (s .entry))) ⌝ }
+{
+    let mut k: usize = 0;
+    while k < MESSAGES {
+        if !message_formed(s, k, n, opened, next) {
+            return false;
+        }
+        k += 1;
+    }
+    true
+}
+
+pub fn formed(s: &[u8]) -> bool
+    requires { ⌜ length (now s) ≡ imageBytes base ⌝ }
+    ensures { λ r. ⌜ r ≡ wellFormed base (now (s .entry)) ⌝ }
+{
+    if s[BLANK] != 0 {
+        return false;
+    }
+    let opened = s[OPENED] as usize;
+    if TRANSACTORS < opened {
+        return false;
+    }
+    if !transactors_formed(s, opened) {
+        return false;
+    }
+    messages_formed(s, messages::waiting(s), opened, octets::load16(s, NEXT))
+}

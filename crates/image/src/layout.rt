@@ -1,0 +1,47 @@
+// Sizes and offsets in an image, computed from those of histories and maps.
+
+pub const TRANSACTORS: usize = maps::ENTRIES;
+
+// Places of messages.
+pub const MESSAGES: usize = 32;
+
+// A transactor: status 2 bits, zero 6, value 4 bytes, saved value 4, three maps.
+pub const VALUE: usize = 1;
+
+pub const SAVED: usize = 5;
+
+pub const STATE: usize = 9;
+
+pub const CREATION: usize = STATE + maps::SIZE;
+
+pub const BEHAVIOUR: usize = CREATION + maps::SIZE;
+
+pub const TRANSACTOR: usize = BEHAVIOUR + maps::SIZE;
+
+// A message: waiting 1 bit, zero 3, addressee 4, number 2 bytes, value 4, map.
+pub const NUMBER: usize = 1;
+
+pub const CONTENT: usize = 3;
+
+pub const DEPENDENCES: usize = 7;
+
+pub const MESSAGE: usize = DEPENDENCES + maps::SIZE;
+
+// The head: transactors opened 1 byte, next message number 2, zero 1.
+pub const OPENED: usize = 0;
+
+pub const NEXT: usize = 1;
+
+pub const BLANK: usize = 3;
+
+pub const HEAD: usize = 4;
+
+pub const FIRST_MESSAGE: usize = HEAD + TRANSACTOR * TRANSACTORS;
+
+pub const IMAGE: usize = FIRST_MESSAGE + MESSAGE * MESSAGES;
+
+// A step of a list, and its reply.
+pub const STEP: usize = 8;
+
+// A run's longest part.
+pub const LONGEST: usize = 8192;

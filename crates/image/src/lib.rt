@@ -1,0 +1,5 @@
+// An image: where everything stands in it, its form, its messages.
+pub mod form;
+pub mod layout;
+pub mod limits;
+pub mod messages;

@@ -1,0 +1,107 @@
+// The messages of an image: waiting ones first, in rising number.
+use crate::layout::CONTENT;
+use crate::layout::DEPENDENCES;
+use crate::layout::FIRST_MESSAGE;
+use crate::layout::MESSAGE;
+use crate::layout::MESSAGES;
+use crate::layout::NEXT;
+use crate::layout::NUMBER;
+use maps::DependenceMap;
+ghost use mathlib.Core.Path.{_≡_};
+ghost use Prim.Native.Nat.{_≤_, _<_};
+ghost use lib.ListN.{length};
+ghost use Rattle.maps.specs.Packed.{Bounded};
+ghost use Rattle.rules.specs.Layout.{lastNumber, base, imageBytes};
+ghost use Rattle.rules.specs.State.{placeFrom, placeOf, messageAt, withMessage, withoutMessage};
+ghost use Rattle.rules.specs.Pack.{waitingIn, pack, unpack};
+ghost use Rattle.rules.specs.Internal.Good.{Good};
+ghost use Rattle.rules.specs.State.{addressedTo};
+
+// How many messages wait.
+pub fn waiting(image: &[u8]) -> usize
+    requires { ⌜ length (now image) ≡ imageBytes base ⌝ }
+    ensures { λ r. ⌜ (r ≡ waitingIn base (now (image .entry))) × (r ≤ base .messages) ⌝ }
+{
+    let mut k: usize = 0;
+    while k < MESSAGES {
+        if image[FIRST_MESSAGE + MESSAGE * k] < 128 {
+            return k;
+        }
+        k += 1;
+    }
+    k
+}
+
+// The place of the message with this number, or n, how many wait.
+pub fn place_of(image: &[u8], n: usize, number: u16) -> usize
+    requires { ⌜ (length (now image) ≡ imageBytes base) × (n ≡ waitingIn base (now image)) × (n ≤ base .messages) ⌝ }
+    ensures { λ r. ⌜ (r ≡ placeOf (unpack base (now (image .entry))) number) × (r ≤ n) ⌝ }
+{
+    let mut k: usize = 0;
+    while k < n {
+        if octets::load16(image, FIRST_MESSAGE + MESSAGE * k + NUMBER) == number {
+            return k;
+        }
+        k += 1;
+    }
+    k
+}
+
+// The first place of a message to transactor t, or n, how many wait.
+pub fn place_to(image: &[u8], n: usize, t: usize) -> usize
+    requires { ⌜ (length (now image) ≡ imageBytes base) × (n ≡ waitingIn base (now image)) × (n ≤ base .messages) ⌝ }
+    ensures { λ r. ⌜ (r ≡ placeFrom (addressedTo (unpack base (now (image .entry))) t) 0 n) × (r ≤ n) ⌝ }
+{
+    let mut k: usize = 0;
+    while k < n {
+        if addressee(image, k) == t {
+            return k;
+        }
+        k += 1;
+    }
+    k
+}
+
+// The addressee of the message in place k.
+pub fn addressee(image: &[u8], k: usize) -> usize
+    requires { ⌜ (length (now image) ≡ imageBytes base) × (k < waitingIn base (now image)) ⌝ }
+    ensures { λ r. ⌜ (r ≡ messageAt (unpack base (now (image .entry))) k .addressee) × (r < 16) ⌝ }
+{
+    let head = image[FIRST_MESSAGE + MESSAGE * k] as usize;
+    head % 16
+}
+
+// The value of the message in place k.
+pub fn content(image: &[u8], k: usize) -> u32
+    requires { ⌜ (length (now image) ≡ imageBytes base) × (k < waitingIn base (now image)) ⌝ }
+    ensures { λ r. ⌜ r ≡ messageAt (unpack base (now (image .entry))) k .value ⌝ }
+{
+    octets::load32(image, FIRST_MESSAGE + MESSAGE * k + CONTENT)
+}
+
+// One more message, with the next number, in place n, the first that is free.
+pub fn append(image: &mut [u8], n: usize, to: u8, value: u32, m: DependenceMap)
+    requires { ⌜ Good (now image) × (n ≡ waitingIn base (now image)) × (n < base .messages) × (to < 16) × (unpack base (now image) .next < lastNumber) × Bounded (base .places) m ⌝ }
+    ensures { λ _. ⌜ now (image .exit) ≡ pack base (withMessage (unpack base (now (image .entry))) to value m) ⌝ }
+{
+    let number = octets::load16(image, NEXT);
+    let at = FIRST_MESSAGE + MESSAGE * n;
+    image[at] = 128 + to;
+    octets::store16(image, at + NUMBER, number);
+    octets::store32(image, at + CONTENT, value);
+    m.store(image, at + DEPENDENCES);
+    octets::store16(image, NEXT, number + 1);
+}
+
+// The message in place k of n is gone; the later ones move down.
+pub fn remove(image: &mut [u8], k: usize, n: usize)
+    requires { ⌜ (length (now image) ≡ imageBytes base) × (pack base (unpack base (now image)) ≡ now image) × (n ≡ waitingIn base (now image)) × (n ≤ base .messages) × (k < n) ⌝ }
+    ensures { λ _. ⌜ now (image .exit) ≡ pack base (withoutMessage (unpack base (now (image .entry))) k) ⌝ }
+{
+    octets::remove(
+        image,
+        FIRST_MESSAGE + MESSAGE * k,
+        MESSAGE,
+        MESSAGE * (n - (k + 1)),
+    );
+}

@@ -1,0 +1,89 @@
+-- The bits of a volume: the volume that has them, and one more take named.
+use Prim.Native.Nat.{ℕ, zero, suc, _+_, _*_, _/_, _%_, _^_, _<_}
+use mathlib.Core.Bool.{Bool, true, false}
+use mathlib.Core.Path.{_≡_, refl, sym, ap, _∙_}
+use native.Mathlib.Nat.{zero-add, one-mul, pow-zero, pow-succ', zero-div, div-one, mod-eq-of-lt, div-div-eq-div-mul}
+use native.Mathlib.Omega.{arith}
+use lib.Dec.{eqb, eqb·suc-suc}
+use lib.Pow.{pow-pos}
+use borrow.Author.Tests.{eq-eqb, ne-eqb, eqb-true, eqb-false}
+use Rattle.octets.specs.Bytes.{_or_}
+use Rattle.octets.proofs.Tests.{or-none}
+use Rattle.rules.specs.Refusals.{named}
+
+-- ---- the first bit, and the others
+
+named-first : (g : ℕ) → named g 0 ≡ eqb (g % 2) 1
+unfolding named
+named-first g = rw (pow-zero, div-one)
+
+named-half : (g t : ℕ) → named g (suc t) ≡ named (g / 2) t
+unfolding named
+named-half g t = rw (pow-succ' 2 t, ← div-div-eq-div-mul g 2 (2 ^ t))
+
+even : (g : ℕ) → named g 0 ≡ false → g % 2 ≡ 0
+even g e = let n = eqb-false (g % 2) 1 (sym (named-first g) ∙ e) in omega arith
+
+-- ---- the same bits, the same volume
+
+pub named-same : (n v w : ℕ) → v < 2 ^ n → w < 2 ^ n → ((u : ℕ) → u < n → named v u ≡ named w u) → v ≡ w
+named-same zero v w a b e = omega arith
+named-same (suc n) v w a b e =
+    let p : 2 ^ suc n ≡ 2 * 2 ^ n = pow-succ' 2 n in
+    let half : v / 2 ≡ w / 2 = named-same n (v / 2) (w / 2) (omega arith) (omega arith) (λ u h. sym (named-half v u) ∙ e (suc u) (omega arith) ∙ named-half w u) in
+    let rest : v % 2 ≡ w % 2 = parity (named w 0) (e 0 (omega arith)) refl in
+    omega arith
+  where
+    parity : (b : Bool) → named v 0 ≡ b → named w 0 ≡ b → v % 2 ≡ w % 2
+    parity true i j = eqb-true (v % 2) 1 (sym (named-first v) ∙ i) ∙ sym (eqb-true (w % 2) 1 (sym (named-first w) ∙ j))
+    parity false i j = even v i ∙ sym (even w j)
+
+-- ---- take u added
+
+pub named-add : (g u v : ℕ) → named g u ≡ false → named (g + 2 ^ u) v ≡ named g v or eqb u v
+named-add g zero zero e =
+    let z : g % 2 ≡ 0 = even g e in
+    named-first (g + 1) ∙ rw (e, eq-eqb ((g + 1) % 2) 1 (omega arith))
+named-add g zero (suc v) e =
+    let z : g % 2 ≡ 0 = even g e in
+    let h : (g + 1) / 2 ≡ g / 2 = omega arith in
+    rw (named-half (g + 1) v, h, ← named-half g v, ne-eqb 0 (suc v) (omega arith), or-none)
+named-add g (suc u) zero e =
+    let q : 2 ^ suc u ≡ 2 * 2 ^ u = pow-succ' 2 u in
+    let h : (g + 2 ^ suc u) % 2 ≡ g % 2 = omega arith in
+    rw (named-first (g + 2 ^ suc u), h, named-first g, ne-eqb (suc u) 0 (omega arith), or-none)
+named-add g (suc u) (suc v) e =
+    let q : 2 ^ suc u ≡ 2 * 2 ^ u = pow-succ' 2 u in
+    let h : (g + 2 ^ suc u) / 2 ≡ g / 2 + 2 ^ u = omega arith in
+    rw (named-half (g + 2 ^ suc u) v, h, named-half g v, eqb·suc-suc u v) (named-add (g / 2) u v (sym (named-half g u) ∙ e))
+
+-- it stays within n bits
+pub add-fits : (g u n : ℕ) → g < 2 ^ n → u < n → named g u ≡ false → g + 2 ^ u < 2 ^ n
+add-fits g u zero h b e = absurd (omega arith)
+add-fits g zero (suc n) h b e =
+    let p : 2 ^ suc n ≡ 2 * 2 ^ n = pow-succ' 2 n in
+    let z : g % 2 ≡ 0 = even g e in
+    omega arith
+add-fits g (suc u) (suc n) h b e =
+    let p : 2 ^ suc n ≡ 2 * 2 ^ n = pow-succ' 2 n in
+    let q : 2 ^ suc u ≡ 2 * 2 ^ u = pow-succ' 2 u in
+    let r : g / 2 + 2 ^ u < 2 ^ n = add-fits (g / 2) u n (omega arith) (omega arith) (sym (named-half g u) ∙ e) in
+    omega arith
+
+-- ---- one take
+
+pub named-zero : (t : ℕ) → named 0 t ≡ false
+unfolding named
+named-zero t = rw zero-div
+
+pub named-one : (t v : ℕ) → named (2 ^ t) v ≡ eqb t v
+named-one t v =
+    let e : named (0 + 2 ^ t) v ≡ named 0 v or eqb t v = named-add 0 t v (named-zero t) in
+    rw (zero-add (2 ^ t), named-zero v) at e
+
+pub one-fits : (t n : ℕ) → t < n → 2 ^ t < 2 ^ n
+one-fits t n h = omega (arith, add-fits 0 t n (pow-pos n) h (named-zero t))
+
+-- as it is shifted in a word of n bits
+pub shifted : (t n : ℕ) → t < n → 1 * 2 ^ t % 2 ^ n ≡ 2 ^ t
+shifted t n h = ap (λ (x : ℕ). x % 2 ^ n) (one-mul (2 ^ t)) ∙ mod-eq-of-lt (one-fits t n h)

@@ -1,0 +1,4 @@
+-- Steps kind by kind: what refuses them, and what they do.
+pub mod Applied
+pub mod Guards
+pub mod Refused

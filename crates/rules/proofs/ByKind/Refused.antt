@@ -1,0 +1,102 @@
+-- What refuses a step, kind by kind and in the order of the code.
+use Prim.Native.Nat.{ℕ, _≤_}
+use mathlib.Core.Bool.{Bool, true, false, not}
+use mathlib.Core.Path.{_≡_, refl}
+use native.Mathlib.Omega.{arith}
+use lib.Dec.{eqb, ltb, leb}
+use lib.ListN.{length}
+use borrow.Author.Tests.{le-leb, ltb-false, ne-eqb}
+use Rattle.octets.specs.Bytes.{pick, _and_, _or_}
+use Rattle.rules.specs.Layout.{Layout, Limits}
+use Rattle.rules.specs.Status.{ready, busy, annihilated}
+use Rattle.rules.specs.State.{Transactor, State, ownHistory, transactorAt, messageAt, placeOf}
+use Rattle.rules.specs.Step.{Step, root, letter, receive, new, send, read, fall, fail, lose, sign}
+use Rattle.rules.specs.Refusals.{anyNamed, malformed, notWaiting, emptyGroup, unopened, isGone, wrongStatus, allOpened, allWaiting, allNumbered, allCheckpointed, atLast, lastRollsBack, refusalOf}
+use Rattle.rules.specs.Rules.{receiptRollsBack, seen, refusal}
+use Rattle.rules.specs.Internal.Guards.{isLastIncarnation, busyRefusal, crowdedRefusal, blocksAt}
+use Rattle.octets.proofs.Tests.{or-none, or-off}
+use Rattle.rules.proofs.ByKind.Guards.{first, working-first}
+
+pub refusal-malformed : (y : Layout) (m : Limits) (s : State) (p : Step) → malformed p ≡ true → refusal y m s p ≡ 20
+unfolding refusal refusalOf
+refusal-malformed y m s p e = rw e
+
+pub kind-formed : (p : Step) → malformed p ≡ false → p .kind ≤ sign
+unfolding malformed
+kind-formed p e = ltb-false sign (p .kind) (or-off (ltb sign (p .kind)) _ e .0)
+
+-- one number for two conditions
+either : (a b : Bool) (n r : ℕ) → pick (a or b) n r ≡ pick b n (pick a n r)
+either true true n r = refl
+either true false n r = refl
+either false b n r = refl
+
+-- kind k of 5 to 10, the take t being opened
+abbrev pub localRefusal : Limits → ℕ → ℕ → Transactor → ℕ
+localRefusal m k t x =
+    pick (eqb (x .status) annihilated) 22
+    (pick (leb k fall and not (eqb (x .status) busy)) 23
+    (pick ((eqb k fall or eqb k fail) and not (ownHistory t x .stable) and isLastIncarnation m t x) 28 0))
+
+-- the tests of the other kinds
+pub record Otherwise (k : ℕ) : Type 0 where
+  pub from : leb new k ≡ true
+  pub upto : leb k fail ≡ true
+  pub root : eqb k root ≡ false
+  pub letter : eqb k letter ≡ false
+  pub receive : eqb k receive ≡ false
+  pub new : eqb k new ≡ false
+  pub send : eqb k send ≡ false
+  pub lose : eqb k lose ≡ false
+  pub sign : eqb k sign ≡ false
+
+pub otherwise : (k : ℕ) → read ≤ k → k ≤ fail → Otherwise k
+otherwise k low high = record {
+  from = le-leb new k (omega arith);
+  upto = le-leb k fail (omega arith);
+  root = ne-eqb k root (omega arith);
+  letter = ne-eqb k letter (omega arith);
+  receive = ne-eqb k receive (omega arith);
+  new = ne-eqb k new (omega arith);
+  send = ne-eqb k send (omega arith);
+  lose = ne-eqb k lose (omega arith);
+  sign = ne-eqb k sign (omega arith);
+}
+
+-- the addressee of the parcel with number n
+abbrev pub receiver : State → ℕ → ℕ
+receiver s n = messageAt s (placeOf s n) .addressee
+
+pub record Refuses (y : Layout) (m : Limits) (s : State) (p : Step) : Type 0 where
+  pub root : p .kind ≡ root → refusal y m s p ≡ pick (leb (m .transactors) (s .opened)) 25 0
+  pub letter : p .kind ≡ letter → refusal y m s p ≡ pick (leb (s .opened) (p .transactor)) 21 (crowdedRefusal m s)
+  pub receive : p .kind ≡ receive → refusal y m s p
+      ≡ pick (leb (length (s .messages)) (placeOf s (p .message))) 24
+      (pick (eqb (transactorAt s (receiver s (p .message)) .status) annihilated) 22
+      (pick (not (eqb (transactorAt s (receiver s (p .message)) .status) ready)) 23
+      (pick (receiptRollsBack y s (p .message) and isLastIncarnation m (receiver s (p .message)) (transactorAt s (receiver s (p .message)))) 28 0)))
+  pub new : p .kind ≡ new → refusal y m s p ≡ first (busyRefusal s (p .transactor)) (pick (leb (m .transactors) (s .opened)) 25 0)
+  pub send : p .kind ≡ send → refusal y m s p ≡ pick (leb (s .opened) (p .other)) 21 (first (busyRefusal s (p .transactor)) (crowdedRefusal m s))
+  pub local : read ≤ p .kind → p .kind ≤ fail → refusal y m s p
+      ≡ pick (leb (s .opened) (p .transactor)) 21 (localRefusal m (p .kind) (p .transactor) (transactorAt s (p .transactor)))
+  pub lose : p .kind ≡ lose → refusal y m s p ≡ pick (leb (length (s .messages)) (placeOf s (p .message))) 24 0
+  pub sign : p .kind ≡ sign → refusal y m s p
+      ≡ pick (eqb (p .message) 0) 29
+      (pick (anyNamed (p .message) (blocksAt m s 21)) 21
+      (pick (anyNamed (p .message) (blocksAt m s 22)) 22
+      (pick (anyNamed (p .message) (blocksAt m s 30)) 30 0)))
+
+pub refuses : (y : Layout) (m : Limits) (s : State) (p : Step) → malformed p ≡ false → Refuses y m s p
+unfolding refusal refusalOf notWaiting emptyGroup unopened isGone wrongStatus allOpened allWaiting allNumbered allCheckpointed atLast lastRollsBack seen isLastIncarnation crowdedRefusal blocksAt
+refuses y m s p formed = record {
+  root = λ e. rw (formed, e);
+  letter = λ e. simp (formed, e, or-none);
+  receive = λ e. simp (formed, e, or-none);
+  new = λ e. simp (formed, e, or-none, working-first);
+  send = λ e. simp (formed, e, or-none, working-first, either);
+  local = λ low high.
+      let k = otherwise (p .kind) low high in
+      simp (formed, k .root, k .letter, k .receive, k .new, k .send, k .lose, k .sign, k .from, k .upto, or-none);
+  lose = λ e. rw (formed, e);
+  sign = λ e. rw (formed, e);
+}

@@ -1,0 +1,6 @@
+-- The calls: their answers, and what follows for lists of them.
+pub mod Begin
+pub mod Offer
+pub mod Query
+pub mod Run
+pub mod Stored

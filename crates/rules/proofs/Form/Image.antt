@@ -1,0 +1,52 @@
+-- What the form says of an image, transactor by transactor and message by message.
+use Prim.Native.Nat.{ℕ, _≤_, _<_}
+use mathlib.Core.Bool.{true}
+use mathlib.Core.Path.{_≡_}
+use mathlib.Core.List.{List}
+use lib.ListN.{length, getD}
+use Rattle.octets.specs.Bytes.{Octets}
+use Rattle.rules.specs.Layout.{Layout, imageBytes}
+use Rattle.rules.specs.Pack.{unpack}
+use Rattle.rules.specs.Form.{wellFormed}
+use Rattle.rules.proofs.Form.Clauses.{clauses-of, clauses-all}
+use Rattle.rules.proofs.Pack.Loads.{length-transactorPart}
+use Rattle.rules.proofs.Form.Transactor.{TransactorFormAt, TransactorClauses, transactor-form, transactor-clauses}
+use Rattle.rules.proofs.Form.Message.{MessagesForm, messages-form, messages-clauses}
+
+pub record ImageForm (y : Layout) (img : List ℕ) : Type 0 where
+  pub zero : getD img 3 0 ≡ 0
+  pub opened : unpack y img .opened ≤ y .transactors
+  pub transactors : (t : ℕ) → t < y .transactors → TransactorFormAt y img t
+  pub messages : MessagesForm y img
+
+module _ (y : Layout) (img : List ℕ) where
+  pub form-image : Octets img → wellFormed y img ≡ true → ImageForm y img
+  form-image o e =
+      let c = clauses-of y img e in
+      record {
+        zero = c .zero;
+        opened = c .opened;
+        transactors = λ t h. transactor-form y img t o h
+            (record { zeros = c .transactors t h; status = c .status t h; own = c .own t h; saved = c .saved t h; idle = c .idle t h; vanished = c .vanished t h });
+        messages = messages-form y img (record { zeros = c .messages; gap = c .gap; order = c .order; number = c .number; addressee = c .addressee });
+      }
+
+  pub image-form : length img ≡ imageBytes y → ImageForm y img → wellFormed y img ≡ true
+  image-form n f =
+      let a : (t : ℕ) → t < y .transactors → TransactorClauses y img t = λ t h. transactor-clauses y img t (length-transactorPart y img n t h) (f .transactors t h) in
+      let m = messages-clauses y img n (f .messages) in
+      clauses-all y img (record {
+        zero = f .zero;
+        transactors = λ t h. a t h .zeros;
+        messages = m .zeros;
+        opened = f .opened;
+        status = λ t h. a t h .status;
+        own = λ t h. a t h .own;
+        saved = λ t h. a t h .saved;
+        idle = λ t h. a t h .idle;
+        vanished = λ t h. a t h .vanished;
+        gap = m .gap;
+        order = m .order;
+        number = m .number;
+        addressee = m .addressee;
+      })

@@ -1,0 +1,181 @@
+-- The smallest volume that could be signed: the closure, or none. What blocks a volume blocks each one around it, so if the
+-- closure cannot be signed, none can.
+use Prim.Native.Nat.{ℕ, _<_}
+use mathlib.Core.Bool.{Bool, true, false, not}
+use mathlib.Core.Path.{_≡_, refl, sym, ap, _∙_}
+use mathlib.Core.List.{List}
+use mathlib.Core.Option.{Option, none, some}
+use mathlib.Core.Logic.{_↔_}
+use native.Mathlib.Omega.{arith}
+use borrow.Author.Tests.{not-true, eq-eqb, ne-eqb, eqb-true, eqb-false, leb-false, lt-leb}
+use lib.Dec.{eqb, leb}
+use Rattle.octets.specs.Bytes.{_and_, _or_, Octets}
+use Rattle.octets.specs.Numbers.{bound}
+use Rattle.octets.proofs.Tests.{never, and-off, implied, same-test}
+use Rattle.octets.proofs.Zero.{both, every-at}
+use Rattle.marks.specs.declared.History.{History}
+use Rattle.maps.proofs.Map.{history-empty}
+use Rattle.rules.specs.Layout.{Layout, Limits, base, standard}
+use Rattle.rules.specs.Status.{unused, annihilated}
+use Rattle.rules.specs.State.{Transactor, State, bare, transactorAt, ownHistory}
+use Rattle.rules.specs.Step.{done}
+use Rattle.rules.specs.Refusals.{named, anyNamed, groupBits}
+use Rattle.rules.specs.Rules.{transactorReady, groupReady, stepOf}
+use Rattle.rules.specs.Pack.{unpack}
+use Rattle.rules.specs.Calls.{offerRefusal}
+use Rattle.rules.specs.Internal.Well.{Live, idle, working, TransactorFormed, not-opened, gone, alive, WellFormed}
+use Rattle.rules.specs.Groups.{signing, Checkpointable, Meets, Within, Smallest, refused, nothing, smallest}
+use Rattle.rules.specs.Internal.Guards.{blocksAt}
+use Rattle.rules.specs.Internal.Closure.{Closure}
+use Rattle.rules.proofs.Any.{any-at, any-off}
+use Rattle.rules.proofs.Form.State.{formed-state}
+use Rattle.rules.proofs.Bits.{named-same, named-zero}
+use Rattle.rules.proofs.Groups.Signable.{signing-done}
+use Rattle.rules.proofs.Groups.Closure.{closed-ready}
+use Rattle.rules.proofs.Calls.Query.{query-accepted}
+
+-- none of the takes of w, none of those of v
+anyNamed-within : (v w : ℕ) (f : ℕ → Bool) → Within v w → anyNamed w f ≡ false → anyNamed v f ≡ false
+unfolding anyNamed Within
+anyNamed-within v w f inside e = any-off (λ t. named v t and f t) groupBits (λ t h. go t h (named v t) refl)
+  where
+    go : (t : ℕ) → t < groupBits → (n : Bool) → named v t ≡ n → n and f t ≡ false
+    go t h true n = and-off (named w t) (f t) (any-at (λ t. named w t and f t) groupBits t e h) (inside t n)
+    go t h false n = refl
+
+module _ (y : Layout) (m : Limits) (s : State) where
+  -- a named take blocks, by its number
+  abbrev blocked : ℕ → ℕ → Bool
+  blocked v n = anyNamed v (blocksAt m s n)
+
+  -- what a signing needs, of a volume that names one
+  record Signable (v : ℕ) : Type 0 where
+    opened : blocked v 21 ≡ false
+    there : blocked v 22 ≡ false
+    room : blocked v 30 ≡ false
+    ready : groupReady y s v ≡ true
+
+  signable : (v : ℕ) → stepOf y m s (signing v) .reply .outcome ≡ done → Signable v
+  signable v e =
+      let a = both (not (eqb v 0)) _ (sym (signing-done y m s v) ∙ eq-eqb (stepOf y m s (signing v) .reply .outcome) done e) in
+      let b = both (not (blocked v 21)) _ (a .1) in
+      let c = both (not (blocked v 22)) _ (b .1) in
+      let d = both (not (blocked v 30)) _ (c .1) in
+      record { opened = not-true _ (b .0); there = not-true _ (c .0); room = not-true _ (d .0); ready = d .1 }
+
+  signs : (v : ℕ) → (v ≡ 0 → ⊥) → Signable v → stepOf y m s (signing v) .reply .outcome ≡ done
+  signs v n a = eqb-true (stepOf y m s (signing v) .reply .outcome) done (signing-done y m s v ∙ rw (ne-eqb v 0 n, a .opened, a .there, a .room, a .ready))
+
+-- in a well-formed state: the sets of takes with t, none of them with all its signings, that meet the signing rule
+module _ {y : Layout} (m : Limits) {s : State} (well : WellFormed y s) (size : y .transactors ≡ groupBits) where
+  -- the own history of a take that is not live is not stable
+  bare-loose : (t n : ℕ) → t < y .transactors → ownHistory t (bare y n) .stable ≡ false
+  bare-loose t n h = ap (λ (x : History). x .stable) (history-empty (y .places) (y .transactors) t h)
+
+  module _ (v : ℕ) (ready : groupReady y s v ≡ true) (t : ℕ) (below : t < groupBits) (name : named v t ≡ true) where
+    stable : ownHistory t (transactorAt s t) .stable ≡ true
+    unfolding groupReady transactorReady
+    stable = both (ownHistory t (transactorAt s t) .stable) _
+        (implied (named v t) (transactorReady y s v t) (every-at (λ t. not (named v t) or transactorReady y s v t) (y .transactors) t ready (omega arith)) name) .0
+
+    stands : (blocksAt m s 21 t ≡ false) × (blocksAt m s 22 t ≡ false)
+    unfolding blocksAt
+    stands = go (well .transactors t (omega arith)) stable
+      where
+        there : {n : ℕ} → Live n → eqb n annihilated ≡ false
+        there idle = refl
+        there working = refl
+
+        go : {x : Transactor} → TransactorFormed y (s .opened) t x → ownHistory t x .stable ≡ true → (leb (s .opened) t ≡ false) × (eqb (x .status) annihilated ≡ false)
+        go (not-opened h) e = never (sym e ∙ bare-loose t unused (omega arith))
+        go (gone h) e = never (sym e ∙ bare-loose t annihilated (omega arith))
+        go (alive h a) e = (lt-leb (s .opened) t h, there (a .status))
+
+  pub checkpointable-rule : (t v : ℕ) → Checkpointable y m s t v ↔ Meets y m s t v
+  unfolding anyNamed blocksAt
+  checkpointable-rule t v = (
+    λ c. let a = signable y m s v (c .signs) in record {
+      volume = c .volume;
+      contains = c .contains;
+      room = λ u h n. leb-false (m .checkpoints) (ownHistory u (transactorAt s u) .count)
+          (and-off (named v u) _ (any-at (λ u. named v u and blocksAt m s 30 u) groupBits u (a .room) (omega arith)) n);
+      ready = a .ready;
+    },
+    λ r. record {
+      volume = r .volume;
+      contains = r .contains;
+      signs = signs y m s v (λ z. never (sym (r .contains) ∙ rw z (named-zero t))) (record {
+        opened = unblocked 21 (λ u h n. stands v (r .ready) u h n .0);
+        there = unblocked 22 (λ u h n. stands v (r .ready) u h n .1);
+        room = unblocked 30 (λ u h n. lt-leb (m .checkpoints) (ownHistory u (transactorAt s u) .count) (r .room u (omega arith) n));
+        ready = r .ready;
+      });
+    },
+  )
+    where
+      met : (n f : Bool) → (n ≡ true → f ≡ false) → n and f ≡ false
+      met true f e = e refl
+      met false f e = refl
+
+      unblocked : (k : ℕ) → ((u : ℕ) → u < groupBits → named v u ≡ true → blocksAt m s k u ≡ false) → blocked y m s v k ≡ false
+      unblocked k f = any-off (λ u. named v u and blocksAt m s k u) groupBits (λ u h. met (named v u) (blocksAt m s k u) (f u h))
+
+module _ (y : Layout) (m : Limits) (img : List ℕ) (t r : ℕ) (is : r ≡ offerRefusal y img t) where
+  abbrev s : State
+  s = unpack y img
+
+  pub grouped-refused : (r ≡ 0 → ⊥) → (r ≡ offerRefusal y img t) × Smallest y m img t none
+  grouped-refused n = (is, refused (λ (f : offerRefusal y img t ≡ 0). n (is ∙ f)))
+
+  module _ (zero : r ≡ 0) (size : y .transactors ≡ groupBits) (g : ℕ) (closure : Closure y img t g)
+      (b : Bool) (tested : b ≡ eqb (stepOf y m s (signing g) .reply .outcome) done) where
+    -- it can be signed if one with the take can
+    closure-signs : (w : ℕ) → Checkpointable y m s t w → stepOf y m s (signing g) .reply .outcome ≡ done
+    closure-signs w c =
+        let a = signable y m s w (c .signs) in
+        let inside = closure .least w (c .contains) (a .ready) in
+        signs y m s g (λ z. never (sym (closure .contains) ∙ rw z (named-zero t))) (record {
+          opened = anyNamed-within g w (blocksAt m s 21) inside (a .opened);
+          there = anyNamed-within g w (blocksAt m s 22) inside (a .there);
+          room = anyNamed-within g w (blocksAt m s 30) inside (a .room);
+          ready = closed-ready y img (omega arith) g w inside (a .ready) (closure .closed);
+        })
+
+    pub grouped-none : b ≡ false → (r ≡ offerRefusal y img t) × Smallest y m img t none
+    grouped-none e = (is, nothing (sym is ∙ zero) (λ w c. eqb-false (stepOf y m s (signing g) .reply .outcome) done (sym tested ∙ e) (closure-signs w c)))
+
+    pub grouped-some : g < bound 2 → b ≡ true → (r ≡ offerRefusal y img t) × Smallest y m img t (some g)
+    grouped-some fits e = (
+      is,
+      smallest (sym is ∙ zero)
+          (record { volume = fits; contains = closure .contains; signs = eqb-true (stepOf y m s (signing g) .reply .outcome) done (sym tested ∙ e) })
+          (λ w c. closure .least w (c .contains) (signable y m s w (c .signs) .ready)),
+    )
+
+module _ (y : Layout) (m : Limits) (img : List ℕ) (t : ℕ) (o : Octets img) (size : y .transactors ≡ groupBits) (z : offerRefusal y img t ≡ 0) where
+  rule : (v : ℕ) → Checkpointable y m (unpack y img) t v ↔ Meets y m (unpack y img) t v
+  rule = let a = query-accepted y img t z in checkpointable-rule m (formed-state y img (a .long) o (a .formed)) size t
+
+  -- "It says none exactly if no set of takes holding this one, none of them with 15 signings, meets the signing rule."
+  pub none-exactly : {a : Option ℕ} → Smallest y m img t a → (a ≡ none) ↔ ((v : ℕ) → Meets y m (unpack y img) t v → ⊥)
+  none-exactly (refused n) = absurd (n z)
+  none-exactly (nothing _ n) = (λ e v r. n v (rule v .1 r), λ f. refl)
+  none-exactly (smallest {v} _ c l) = (λ e. let d : _≡_ {A = ℕ} 0 1 = cc in absurd (omega arith), λ f. absurd (f v (rule v .0 c)))
+
+pub none-exactly-base : (img : List ℕ) (t : ℕ) {a : Option ℕ} → Octets img → offerRefusal base img t ≡ 0
+    → Smallest base standard img t a → (a ≡ none) ↔ ((v : ℕ) → Meets base standard (unpack base img) t v → ⊥)
+none-exactly-base img t o z = none-exactly base standard img t o refl z
+
+-- at most one volume is the smallest
+pub smallest-unique : {y : Layout} {m : Limits} {img : List ℕ} {t : ℕ} {a b : Option ℕ} → Smallest y m img t a → Smallest y m img t b → a ≡ b
+unfolding bound Within
+smallest-unique (smallest {v} z c l) (smallest {v = w} _ d k) =
+    ap some (named-same groupBits v w (c .volume) (d .volume) (λ u h. same-test (named v u) (named w u) (l w d u) (k v c u)))
+smallest-unique (smallest {v} z c l) (nothing _ n) = absurd (n v c)
+smallest-unique (smallest z c l) (refused n) = absurd (n z)
+smallest-unique (nothing z n) (smallest {v = w} _ d k) = absurd (n w d)
+smallest-unique (nothing z n) (nothing _ _) = refl
+smallest-unique (nothing z n) (refused _) = refl
+smallest-unique (refused n) (smallest z d k) = absurd (n z)
+smallest-unique (refused n) (nothing _ _) = refl
+smallest-unique (refused n) (refused _) = refl

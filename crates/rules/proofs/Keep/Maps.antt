@@ -1,0 +1,135 @@
+-- Maps and marks of a layout: what fits its bytes, and which takes are known.
+use Prim.Native.Nat.{ℕ, _+_, _≤_, _<_}
+use mathlib.Core.Bool.{Bool, true, false}
+use mathlib.Core.Path.{_≡_, sym, _∙_}
+use mathlib.Core.Logic.{inr, ⊎-elim}
+use native.Mathlib.Omega.{arith}
+use lib.ListN.{length, List·getD-eq-default}
+use Rattle.octets.specs.Numbers.{bound}
+use Rattle.octets.proofs.Chunks.{sides}
+use Rattle.marks.specs.declared.History.{History}
+use Rattle.marks.specs.History.{initialHistory, stabilized, rolledBack, checkpointed, Roomy}
+use Rattle.marks.specs.Packed.{Packable}
+use Rattle.marks.proofs.Histories.{newer-count, roomy-initial, roomy-stabilized, roomy-rolledBack, roomy-checkpointed}
+use Rattle.marks.proofs.Packed.{packable-initial, packable-stabilized, packable-rolledBack, packable-checkpointed}
+use Rattle.maps.specs.declared.DependenceMap.{DependenceMap}
+use Rattle.maps.specs.Map.{heldAt, historyAt, withEntry, joinedHeldAt}
+use Rattle.maps.specs.Packed.{EntryOk}
+use Rattle.maps.proofs.Map.{Joined, held-empty, held-singleton, held-singleton-other, history-singleton, held-withEntry, history-withEntry, held-withEntry-other, sized-join, held-join, held-join-test, join-view}
+use Rattle.maps.proofs.Packed.{mapOk-sized, mapOk-empty, mapOk-withEntry, mapOk-singleton, mapOk-join}
+use Rattle.rules.specs.Layout.{Layout, Fitting}
+use Rattle.rules.specs.State.{Transactor, ownHistory}
+use Rattle.rules.specs.Rules.{noDependences, only, join, carried}
+use Rattle.rules.specs.Internal.Well.{DependencesOk, TransactorOk, Known}
+use Rattle.octets.proofs.Tests.{never}
+
+-- a mark that the layout can hold
+pub record HistoryOk (y : Layout) (h : History) : Type 0 where
+  pub roomy : Roomy (y .places) h
+  pub packable : Packable (y .width) (y .places) h
+
+pub history-initial : (y : Layout) → HistoryOk y (initialHistory (y .places))
+history-initial y = record { roomy = roomy-initial (y .places); packable = packable-initial (y .width) (y .places) }
+
+module _ {y : Layout} {h : History} (o : HistoryOk y h) where
+  pub history-stabilized : HistoryOk y (stabilized h)
+  history-stabilized = record { roomy = roomy-stabilized (o .roomy); packable = packable-stabilized (o .packable) }
+
+  pub history-rolledBack : h .incarnation + 1 < bound (y .width) → HistoryOk y (rolledBack h)
+  history-rolledBack k = record { roomy = roomy-rolledBack (o .roomy); packable = packable-rolledBack (o .packable) k }
+
+  pub history-checkpointed : Fitting y → h .count < y .places → HistoryOk y (checkpointed h)
+  history-checkpointed z k = record { roomy = roomy-checkpointed (o .roomy) k; packable = packable-checkpointed (o .packable) (omega (arith, z .places)) }
+
+-- a mark that a map holds
+entry-history : (y : Layout) {p : Bool} {h : History} → EntryOk (y .width) (y .places) p h → p ≡ true → HistoryOk y h
+entry-history y (EntryOk.present r p) e = record { roomy = r; packable = p }
+entry-history y EntryOk.absent e = never (sym e)
+
+pub held-history : (y : Layout) {m : DependenceMap} (t : ℕ) → DependencesOk y m → t < y .transactors → heldAt m t ≡ true → HistoryOk y (historyAt m t)
+held-history y t o h e = entry-history y (o .each t h) e
+
+-- ---- what fits
+
+module _ (y : Layout) where
+  pub ok-none : DependencesOk y (noDependences y)
+  ok-none = mapOk-empty (y .width) (y .places) (y .transactors)
+
+  pub ok-only : (t : ℕ) {h : History} → t < y .transactors → HistoryOk y h → DependencesOk y (only y t h)
+  ok-only t below o = mapOk-singleton (y .width) (y .places) (y .transactors) t below (EntryOk.present (o .roomy) (o .packable))
+
+  pub ok-join : {a b : DependenceMap} → DependencesOk y a → DependencesOk y b → DependencesOk y (join y a b)
+  ok-join p q = mapOk-join p q
+
+  pub ok-entry : {m : DependenceMap} → DependencesOk y m → (t : ℕ) {h : History} → t < y .transactors → HistoryOk y h → DependencesOk y (withEntry m t h)
+  ok-entry p t below o = mapOk-withEntry p t below (EntryOk.present (o .roomy) (o .packable))
+
+-- ---- whose marks there are
+
+module _ (y : Layout) (opened : ℕ) where
+  pub known-none : Known opened (noDependences y)
+  unfolding Known
+  known-none i h = held-empty (y .places) (y .transactors) i
+
+  pub known-only : (t : ℕ) (h : History) → t < opened → Known opened (only y t h)
+  unfolding Known
+  known-only t h k i p = held-singleton-other (y .places) (y .transactors) t h i (λ e. omega arith)
+
+  pub known-join : (a b : DependenceMap) → Known opened a → Known opened b → Known opened (join y a b)
+  unfolding Known joinedHeldAt
+  known-join a b p q i h = ⊎-elim
+      (λ (k : i < y .transactors). held-join (y .transactors) a b i k ∙ rw (p i h, q i h))
+      (λ (k : y .transactors ≤ i).
+      let e : length (join y a b .held) ≤ i = omega (arith, sized-join (y .transactors) a b .helds) in
+      List·getD-eq-default (join y a b .held) false {n = i} e)
+      (sides i (y .transactors))
+
+  pub known-entry : (m : DependenceMap) (t : ℕ) (h : History) → t < opened → Known opened m → Known opened (withEntry m t h)
+  unfolding Known
+  known-entry m t h k p i q = held-withEntry-other m t h i (λ e. omega arith) ∙ p i q
+
+  pub known-more : (m : DependenceMap) → Known opened m → Known (opened + 1) m
+  unfolding Known
+  known-more m p i h = p i (omega arith)
+
+-- ---- the own mark
+
+module _ (y : Layout) (t : ℕ) (below : t < y .transactors) where
+  pub own-only : (h : History) → heldAt (only y t h) t ≡ true
+  own-only h = held-singleton (y .places) (y .transactors) t h below
+
+  pub only-is : (h : History) → historyAt (only y t h) t ≡ h
+  only-is h = history-singleton (y .places) (y .transactors) t h below
+
+  pub own-entry : {m : DependenceMap} → DependencesOk y m → (h : History) → heldAt (withEntry m t h) t ≡ true
+  own-entry o h = held-withEntry (mapOk-sized o) t h below
+
+  pub entry-is : {m : DependenceMap} → DependencesOk y m → (h : History) → historyAt (withEntry m t h) t ≡ h
+  entry-is o h = history-withEntry (mapOk-sized o) t h below
+
+  pub own-join : (a b : DependenceMap) → heldAt b t ≡ true → heldAt (join y a b) t ≡ true
+  own-join a b e = held-join-test (y .transactors) a b t below .1 (inr e)
+
+  -- a mark never signed was never signed before the join
+  pub join-count : (a b : DependenceMap) → heldAt b t ≡ true → historyAt (join y a b) t .count ≡ 0 → historyAt b t .count ≡ 0
+  join-count a b e z = go (join-view (y .transactors) a b t below) e z
+    where
+      go : {p q r : Bool} {x w m : History} → Joined p x q w r m → q ≡ true → m .count ≡ 0 → w .count ≡ 0
+      go (Joined.both p q n) k c = omega (arith, newer-count n)
+      go (Joined.left p q) k c = never (sym k ∙ q)
+      go (Joined.right p q) k c = c
+      go (Joined.neither p q) k c = c
+
+-- ---- what a parcel or a child is given
+
+module _ (y : Layout) (opened t : ℕ) {x : Transactor} (o : TransactorOk y x) (below : t < y .transactors) (own : heldAt (x .state) t ≡ true) where
+  pub own-history : HistoryOk y (ownHistory t x)
+  own-history = held-history y t (o .state) below own
+
+  pub ok-carried : DependencesOk y (carried y t x)
+  unfolding carried
+  ok-carried = ok-join y (ok-join y (o .creation) (o .behaviour)) (ok-only y t below own-history)
+
+  pub known-carried : t < opened → Known opened (x .creation) → Known opened (x .behaviour) → Known opened (carried y t x)
+  unfolding carried
+  known-carried k c b = known-join y opened _ _ (known-join y opened _ _ c b) (known-only y opened t _ k)

@@ -1,0 +1,11 @@
+pub mod Any
+pub mod Bits
+pub mod ByKind
+pub mod Calls
+pub mod Form
+pub mod Good
+pub mod Groups
+pub mod InOrder
+pub mod Keep
+pub mod Pack
+pub mod Places

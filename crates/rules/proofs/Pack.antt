@@ -1,0 +1,7 @@
+-- The packed image: sizes, loads, stores, the round trip.
+pub mod Fresh
+pub mod Loads
+pub mod Messages
+pub mod RoundTrip
+pub mod Sizes
+pub mod Stores

@@ -1,0 +1,106 @@
+-- The messages that wait: their numbers rise; loops that look for one, one more, one less.
+use Prim.Native.Nat.{ℕ, zero, suc, _+_, _-_, _*_, _≤_, _<_}
+use mathlib.Core.Bool.{Bool, true, false}
+use mathlib.Core.Path.{_≡_, sym, ap, _∙_}
+use mathlib.Core.List.{List, _++_}
+use mathlib.Core.Logic.{⊎-elim}
+use native.Mathlib.Numerals.{add-one}
+use native.Mathlib.Omega.{arith}
+use borrow.Author.Tests.{lt-ltb, le-ltb, eq-eqb, ne-eqb}
+use lib.ListN.{length, getD, set}
+use Rattle.octets.specs.Bytes.{put, part, zeros}
+use Rattle.octets.specs.Numbers.{be, ofBe}
+use Rattle.octets.proofs.Numbers.{put-be-one}
+use Rattle.octets.proofs.Chunks.{cases, step}
+use Rattle.maps.specs.declared.DependenceMap.{DependenceMap}
+use Rattle.rules.specs.Layout.{Layout, dependencesAt, messageBytes, messageAddress, imageBytes}
+use Rattle.rules.specs.State.{State, placeFrom, placeOf, numbered, messageAt, withMessage, withoutMessage, addressedTo}
+use Rattle.rules.specs.Pack.{packDependences, packMessage, vacantAt, waitingIn, pack, unpack}
+use Rattle.rules.specs.Internal.Well.{WellFormed}
+use Rattle.rules.proofs.Places.{placeFrom-here, placeFrom-more, placeFrom-end}
+use Rattle.rules.proofs.Pack.Loads.{unpack-waiting, read-vacant, read-number, read-next}
+use Rattle.rules.proofs.Pack.Stores.{sent, put-packMessage, pack-withMessage, pack-removed}
+
+-- in a well-formed state a later place has a higher number
+pub numbers-rise : {y : Layout} {s : State} → WellFormed y s → (i j : ℕ) → i < j → j < length (s .messages) → messageAt s i .number < messageAt s j .number
+numbers-rise w i zero h b = absurd (omega arith)
+numbers-rise {y} {s} w i (suc j) h b =
+    let next : messageAt s j .number < messageAt s (suc j) .number = rw (← add-one j) (w .order j (omega arith)) in
+    ⊎-elim
+    (λ (p : i < j). omega (arith, numbers-rise w i j p (omega arith)))
+    (λ (p : i ≡ j). rw p next)
+    (cases j i h)
+
+-- a loop looks for the place p among n, and is at place i
+module _ (f : ℕ → Bool) (n i p : ℕ) (rest : p ≡ placeFrom f i (n - i)) where
+  pub place-found : i < n → f i ≡ true → i ≡ p
+  place-found h e = sym (rest ∙ placeFrom-here f n i h e)
+
+  pub place-passed : i < n → f i ≡ false → p ≡ placeFrom f (i + 1) (n - (i + 1))
+  place-passed h e = rest ∙ placeFrom-more f n i h e
+
+  pub place-none : n ≤ i → i ≡ p
+  place-none h = sym (rest ∙ placeFrom-end f n i h)
+
+module _ (y : Layout) (img : List ℕ) where
+  -- ---- what the head byte of a place says
+
+  pub vacant-low : (k : ℕ) → getD img (messageAddress y k) 0 < 128 → vacantAt y img k ≡ true
+  vacant-low k h = read-vacant y img k ∙ lt-ltb (getD img (messageAddress y k) 0) 128 h
+
+  pub vacant-high : (k : ℕ) → 128 ≤ getD img (messageAddress y k) 0 → vacantAt y img k ≡ false
+  vacant-high k h = read-vacant y img k ∙ le-ltb (getD img (messageAddress y k) 0) 128 h
+
+  -- ---- the number in a place, r
+
+  pub placeOf-rest : (n p : ℕ) → n ≡ waitingIn y img → placeOf (unpack y img) p ≡ placeFrom (numbered (unpack y img) p) 0 (n - 0)
+  unfolding placeOf
+  placeOf-rest n p e = ap (placeFrom (numbered (unpack y img) p) 0) (omega (arith, unpack-waiting y img))
+
+  module _ (k r p : ℕ) (below : k < waitingIn y img) (e : r ≡ ofBe 2 (part (messageAddress y k + 1) 2 img)) where
+    pub numbered-so : r ≡ p → numbered (unpack y img) p k ≡ true
+    unfolding numbered
+    numbered-so q = eq-eqb (messageAt (unpack y img) k .number) p (read-number y img k below ∙ sym e ∙ q)
+
+    pub numbered-not : (r ≡ p → ⊥) → numbered (unpack y img) p k ≡ false
+    unfolding numbered
+    numbered-not q = ne-eqb (messageAt (unpack y img) k .number) p (λ (d : messageAt (unpack y img) k .number ≡ p). q (e ∙ sym (read-number y img k below) ∙ d))
+
+  -- ---- the addressee in a place, r
+
+  module _ (k r t : ℕ) (e : r ≡ messageAt (unpack y img) k .addressee) where
+    pub addressed-so : r ≡ t → addressedTo (unpack y img) t k ≡ true
+    unfolding addressedTo
+    addressed-so q = eq-eqb (messageAt (unpack y img) k .addressee) t (sym e ∙ q)
+
+    pub addressed-not : (r ≡ t → ⊥) → addressedTo (unpack y img) t k ≡ false
+    unfolding addressedTo
+    addressed-not q = ne-eqb (messageAt (unpack y img) k .addressee) t (λ (d : messageAt (unpack y img) k .addressee ≡ t). q (e ∙ d))
+
+  -- ---- stores, in an image that is the packing of what it says
+
+  module _ (whole : length img ≡ imageBytes y) (back : pack y (unpack y img) ≡ img) (n : ℕ) (waits : n ≡ waitingIn y img) where
+    -- the fields of one more message, and the next number
+    pub append-image : (to v p : ℕ) (m : DependenceMap) (l1 l2 l3 l4 : List ℕ) → n < y .messages → to < 16 → p ≡ ofBe 2 (part 1 2 img)
+        → l1 ≡ put (messageAddress y n + 1) (be 2 p) (set img (messageAddress y n) (128 + to))
+        → l2 ≡ put (messageAddress y n + 3) (be 4 v) l1
+        → l3 ≡ put (messageAddress y n + dependencesAt) (packDependences y m) l2
+        → l4 ≡ put 1 (be 2 (p + 1)) l3
+        → l4 ≡ pack y (withMessage (unpack y img) to v m)
+    append-image to v p m l1 l2 l3 l4 room small e e1 e2 e3 e4 =
+        let s : State = unpack y img in
+        let a : ℕ = messageAddress y n in
+        let fits : a + messageBytes y ≤ length img = omega (arith, step (messageBytes y) n (y .messages) room) in
+        let many : length (s .messages) ≡ n = omega (arith, unpack-waiting y img) in
+        let head : set img a (128 + to) ≡ put a (be 1 (128 + to)) img = sym (put-be-one a (128 + to) img (omega arith) (omega arith)) in
+        let number : p ≡ s .next = e ∙ sym (read-next y img) in
+        let fields : l3 ≡ put a (packMessage y (sent s to v m)) img = rw (e3, e2, e1, head, number) (put-packMessage y (sent s to v m) a img fits) in
+        rw (e4, fields, number) (rw (back, many) at (pack-withMessage y s to v m (omega arith)))
+
+    -- the later ones moved down over the one in place k
+    pub remove-image : (k : ℕ) (l : List ℕ) → n ≤ y .messages → k < n
+        → l ≡ put (messageAddress y k) (part (messageAddress y k + messageBytes y) (messageBytes y * (n - (k + 1))) img ++ zeros (messageBytes y)) img
+        → l ≡ pack y (withoutMessage (unpack y img) k)
+    remove-image k l few below e =
+        let many : length (unpack y img .messages) ≡ n = omega (arith, unpack-waiting y img) in
+        e ∙ (rw (back, many) at (pack-removed y (unpack y img) k (omega arith) (omega arith)))

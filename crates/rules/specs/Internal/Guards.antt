@@ -1,0 +1,40 @@
+-- Refusals that several kinds of step share, one after the other as the code finds them.
+use Prim.Native.Nat.{ℕ, _<_}
+use mathlib.Core.Bool.{Bool, true, not}
+use mathlib.Core.Path.{_≡_}
+use lib.ListN.{length}
+use lib.Dec.{eqb, ltb, leb}
+use Rattle.octets.specs.Bytes.{pick, _and_}
+use Rattle.rules.specs.Layout.{Limits, lastNumber}
+use Rattle.rules.specs.Status.{busy, annihilated}
+use Rattle.rules.specs.State.{Transactor, State, ownHistory, transactorAt}
+use Rattle.rules.specs.Refusals.{named}
+
+-- a signed take at the largest life number
+unfoldable pub isLastIncarnation : Limits → ℕ → Transactor → Bool
+isLastIncarnation m t x = ltb 0 (ownHistory t x .count) and leb (m .incarnation) (ownHistory t x .incarnation)
+
+-- the refusals of an acting take, 21 and 22, and of one that must be at work, 23
+unfoldable pub actingRefusal : State → ℕ → ℕ
+actingRefusal s t = pick (leb (s .opened) t) 21 (pick (eqb (transactorAt s t .status) annihilated) 22 0)
+
+unfoldable pub busyRefusal : State → ℕ → ℕ
+busyRefusal s t =
+    pick (leb (s .opened) t) 21
+    (pick (eqb (transactorAt s t .status) annihilated) 22
+    (pick (not (eqb (transactorAt s t .status) busy)) 23 0))
+
+-- no place free for a message, 26, or no number, 27
+unfoldable pub crowdedRefusal : Limits → State → ℕ
+crowdedRefusal m s = pick (leb (m .messages) (length (s .messages))) 26 (pick (eqb (s .next) lastNumber) 27 0)
+
+-- why a named take blocks a signing: 21, 22 or 30
+unfoldable pub blocksAt : Limits → State → ℕ → ℕ → Bool
+blocksAt m s number t =
+    pick (eqb number 21) (leb (s .opened) t)
+    (pick (eqb number 22) (eqb (transactorAt s t .status) annihilated)
+    (leb (m .checkpoints) (ownHistory t (transactorAt s t) .count)))
+
+-- every named take has room for one more signing
+unfoldable pub Room : Limits → State → ℕ → Type 0
+Room m s g = (t : ℕ) → named g t ≡ true → ownHistory t (transactorAt s t) .count < m .checkpoints

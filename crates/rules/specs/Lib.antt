@@ -1,0 +1,12 @@
+pub mod Calls
+pub mod Form
+pub mod Groups
+pub mod InOrder
+pub mod Internal
+pub mod Layout
+pub mod Pack
+pub mod Refusals
+pub mod Rules
+pub mod State
+pub mod Status
+pub mod Step

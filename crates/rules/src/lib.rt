@@ -1,0 +1,41 @@
+// Steps, replies and answers, and document 01's numbers. The rules themselves are definitions: specs/.
+pub mod numbers;
+
+// A step of a list, as document 01 packs it.
+pub struct Step {
+    pub kind: u8,
+    // Document 01: the take; of a letter, its addressee.
+    pub transactor: u8,
+    // The other take: the addressee of a send.
+    pub other: u8,
+    // Four bits that are zero.
+    pub zero: u8,
+    // The parcel; of a sign, the volume.
+    pub message: u16,
+    // The text.
+    pub value: u32,
+}
+
+// A reply to a step.
+pub struct Reply {
+    // The outcome or the refusal.
+    pub outcome: u8,
+    // The take acted on or opened.
+    pub transactor: u8,
+    // The parcel made, received or lost.
+    pub message: u16,
+    // The text read or received.
+    pub value: u32,
+}
+
+// What offer gives: the number of a waiting message, or nothing.
+pub enum Offered {
+    Message(u16),
+    Nothing,
+}
+
+// Which transactors to put in a group: their bits, or none.
+pub enum Grouped {
+    Group(u16),
+    NoGroup,
+}

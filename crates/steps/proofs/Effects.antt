@@ -1,0 +1,95 @@
+-- What one take's bytes decide, kinds 5 to 10 and receipts: refusals apart from effects.
+use Prim.Native.Nat.{ℕ, _≤_, _<_}
+use mathlib.Core.Bool.{Bool, true, false, not}
+use mathlib.Core.Path.{_≡_, refl, sym}
+use native.Mathlib.Omega.{arith}
+use lib.Dec.{eqb, leb}
+use borrow.Author.Tests.{ne-eqb}
+use Rattle.octets.specs.Bytes.{pick, _and_, _or_}
+use Rattle.marks.specs.History.{rolledBack}
+use Rattle.maps.specs.Map.{firstSuperseded}
+use Rattle.rules.specs.Layout.{Layout, Limits}
+use Rattle.rules.specs.Status.{busy, annihilated}
+use Rattle.rules.specs.State.{Transactor, Message, bare, ownHistory}
+use Rattle.rules.specs.Step.{done, dropped, fallenBack, vanished, read, write, freeze, finish, fall, fail}
+use Rattle.rules.specs.Rules.{Effect, isSome, known, unchanged, renewed, rollback, readBy, writeBy, freezeBy, finishBy, fallBy, failBy, localBy, taken, messageSuperseded, receiverSuperseded, receiveBy}
+use Rattle.rules.specs.Internal.Guards.{isLastIncarnation}
+use Rattle.transactor.specs.Internal.Effects.{rollbackOr28, actBy, takenIn, acceptBy}
+use Rattle.rules.proofs.ByKind.Refused.{localRefusal}
+
+-- what a fall answers
+record Fell (e : Effect) : Type 0 where
+  small : e .outcome < 20
+  some : e .outcome ≡ done → ⊥
+  silent : e .value ≡ 0
+
+fell : (y : Layout) (t : ℕ) (x : Transactor) → Fell (rollback y t x)
+unfolding rollback
+fell y t x = go (eqb (ownHistory t x .count) 0)
+  where
+    go : (c : Bool) → Fell (pick c (record { outcome = vanished; value = 0; transactor = bare y annihilated }) (record { outcome = fallenBack; value = 0; transactor = renewed y t (rolledBack (ownHistory t x)) (x .saved) (x .saved) }))
+    go true = record { small = omega arith; some = λ e. omega arith; silent = refl }
+    go false = record { small = omega arith; some = λ e. omega arith; silent = refl }
+
+pub local-small : (y : Layout) (k t v : ℕ) (x : Transactor) → localBy y k t v x .outcome < 20
+unfolding localBy readBy writeBy freezeBy finishBy fallBy failBy
+local-small y k t v x =
+    small (eqb k read) _ _ (omega arith)
+    (small (eqb k write) _ _ (small (ownHistory t x .stable) _ _ (omega arith) (omega arith))
+    (small (eqb k freeze) _ _ (omega arith)
+    (small (eqb k finish) _ _ (omega arith)
+    (small (eqb k fall) _ _ (small (ownHistory t x .stable) _ _ (omega arith) (fell y t x .small)) (small (ownHistory t x .stable) _ _ (omega arith) (fell y t x .small))))))
+  where
+    small : (c : Bool) (a b : Effect) → a .outcome < 20 → b .outcome < 20 → pick c a b .outcome < 20
+    small true a b p q = p
+    small false a b p q = q
+
+-- e is the refusal r of take x, or else the effect l
+pub data Judged (r : ℕ) (x : Transactor) (l e : Effect) : Type 0 where
+  refused : 20 ≤ e .outcome → r ≡ e .outcome → e .transactor ≡ x → Judged r x l e
+  applied : e .outcome < 20 → r ≡ 0 → e ≡ l → Judged r x l e
+
+module _ {r : ℕ} {x : Transactor} {l e : Effect} where
+  pub judged-refused : Judged r x l e → 20 ≤ e .outcome → (r ≡ e .outcome) × (e .transactor ≡ x)
+  judged-refused (refused n a b) h = (a, b)
+  judged-refused (applied n a b) h = absurd (omega arith)
+
+  pub judged-applied : Judged r x l e → e .outcome < 20 → (r ≡ 0) × (e ≡ l)
+  judged-applied (refused n a b) h = absurd (omega arith)
+  judged-applied (applied n a b) h = (a, b)
+
+-- where n is the only refusal
+pub judged-other : (c : Bool) (n : ℕ) {x : Transactor} {l e : Effect} → Judged (pick c n 0) x l e → (e .outcome ≡ n → ⊥) → e .outcome < 20
+judged-other true n (refused h a b) q = absurd (q (sym a))
+judged-other false n (refused h a b) q = absurd (omega arith)
+judged-other c n (applied h a b) q = h
+
+pub act-judged : (y : Layout) (m : Limits) (k t v : ℕ) (x : Transactor) → Judged (localRefusal m k t x) x (localBy y k t v x) (actBy y m k t v x)
+unfolding actBy
+act-judged y m k t v x =
+    go (eqb (x .status) annihilated) (leb k fall and not (eqb (x .status) busy)) ((eqb k fall or eqb k fail) and not (ownHistory t x .stable) and isLastIncarnation m t x) (localBy y k t v x) (local-small y k t v x)
+  where
+    go : (a b c : Bool) (l : Effect) → l .outcome < 20
+        → Judged (pick a 22 (pick b 23 (pick c 28 0))) x l (pick a (unchanged 22 x) (pick b (unchanged 23 x) (pick c (unchanged 28 x) l)))
+    go true b c l h = refused (omega arith) refl refl
+    go false true c l h = refused (omega arith) refl refl
+    go false false true l h = refused (omega arith) refl refl
+    go false false false l h = applied h refl refl
+
+-- with the parcel's text, if it is taken in
+abbrev pub answering : ℕ → Effect → Effect
+answering v e = record { outcome = e .outcome; value = pick (eqb (e .outcome) done) v 0; transactor = e .transactor }
+
+pub receipt-judged : (y : Layout) (m : Limits) (t : ℕ) (x : Transactor) (p : Message)
+    → Judged (pick ((not (messageSuperseded y x p) and receiverSuperseded y x p) and isLastIncarnation m t x) 28 0) x (receiveBy y t x p) (answering (p .value) (acceptBy y m t x (p .dependences)))
+unfolding acceptBy takenIn rollbackOr28 messageSuperseded receiverSuperseded receiveBy
+receipt-judged y m t x p =
+    go (isSome (firstSuperseded (y .transactors) (p .dependences) (known y x))) (isSome (firstSuperseded (y .transactors) (known y x) (p .dependences))) (isLastIncarnation m t x) (rollback y t x) (fell y t x)
+  where
+    go : (a b c : Bool) (e : Effect) → Fell e
+        → Judged (pick ((not a and b) and c) 28 0) x (pick a (unchanged dropped x) (pick b e (record { outcome = done; value = p .value; transactor = taken x p })))
+        (answering (p .value) (pick a (unchanged dropped x) (pick b (pick c (unchanged 28 x) e) (unchanged done (taken x p)))))
+    go true b c e f = applied (omega arith) refl refl
+    go false true true e f = refused (omega arith) refl refl
+    go false true false e f = applied (f .small) refl (rw (ne-eqb (e .outcome) done (f .some)) (λ i. record { outcome = e .outcome; value = sym (f .silent) i; transactor = e .transactor }))
+    go false false c e f = applied (omega arith) refl refl

@@ -1,0 +1,5 @@
+mod Effects
+mod Images
+mod Locals
+mod Receiving
+mod Stepped

@@ -1,0 +1,139 @@
+-- Past the test for 20 each kind is asked as its function wants it.
+use Prim.Native.Nat.{ℕ}
+use mathlib.Core.Bool.{false}
+use mathlib.Core.Path.{_≡_, sym, _∙_}
+use borrow.Author.Needs.{needs}
+use Rattle.rules.specs.Step.{root, letter, receive, new, send, lose, sign}
+use Rattle.rules.specs.Refusals.{malformed}
+use Rattle.steps.specs.Internal.Stepped.{Asked}
+use Rattle.rules.proofs.Keep.Kinds.{lowest, highest}
+use Rattle.steps.proofs.Images.{stepped-malformed}
+use Rattle.rules.proofs.ByKind.Refused.{kind-formed}
+use Rattle.steps.proofs.step.Statement.{statement}
+use Rattle.steps.proofs.step.Tie as tie
+
+malformed-requires : tie.Need-malformed-requires
+malformed-requires c κs = search needs
+
+answered-requires : tie.Need-answered-requires
+answered-requires c κs = search needs
+
+returns : tie.Need-returns
+returns c = let p = c .before .before .before .before .pre in
+    stepped-malformed _ _ _ (p .0) (sym (c .before .before .malformed .ensures) ∙ c .before .if1 .taken) (c .answered .ensures)
+
+-- past the test for 20
+well : (c : tie.Else1) → malformed (c .before .before .before .args .p) ≡ false
+well c = sym (c .before .malformed .ensures) ∙ c .if1 .left
+
+asked : (c : tie.Else1) (k : ℕ) → c .before .before .before .args .p .kind ≡ k → Asked k (c .before .before .before .args .image .now) (c .before .before .before .args .p)
+asked c k e = let p = c .before .before .before .pre in record { good = p .0; step = p .1; formed = well c; kind = e }
+
+root-requires : tie.Need-root-requires
+root-requires c κs = asked (c .before .before) root (c .before .match .keys1)
+
+letter-requires : tie.Need-letter-requires
+letter-requires c κs = asked (c .before .before) letter (c .before .match .keys2)
+
+receive-requires : tie.Need-receive-requires
+receive-requires c κs = asked (c .before .before) receive (c .before .match .keys3)
+
+new-requires : tie.Need-new-requires
+new-requires c κs = asked (c .before .before) new (c .before .match .keys4)
+
+send-requires : tie.Need-send-requires
+send-requires c κs = asked (c .before .before) send (c .before .match .keys5)
+
+lose-requires : tie.Need-lose-requires
+lose-requires c κs = asked (c .before .before) lose (c .before .match .keys6)
+
+sign-requires : tie.Need-sign-requires
+sign-requires c κs = asked (c .before .before) sign (c .before .match .keys7)
+
+local-requires : tie.Need-local-requires
+local-requires c κs =
+    let e = c .before .before in
+    let p = e .before .before .before .pre in
+    let n = c .before .match .rest in
+    let low = lowest _ (n .0 .0 .0 .0 .0 .0 .1) (n .0 .0 .0 .0 .0 .1) (n .0 .0 .0 .0 .1) (n .0 .0 .0 .1) (n .0 .0 .1) in
+    (p .0, p .1, well e, low, highest _ (kind-formed _ (well e)) (n .0 .1) (n .1))
+
+same-length : tie.Need-same-length
+same-length c = search needs
+
+returns-2 : tie.Need-returns-2
+returns-2 c = search needs
+
+same-length-2 : tie.Need-same-length-2
+same-length-2 c = search needs
+
+returns-3 : tie.Need-returns-3
+returns-3 c = search needs
+
+same-length-3 : tie.Need-same-length-3
+same-length-3 c = search needs
+
+returns-4 : tie.Need-returns-4
+returns-4 c = search needs
+
+same-length-4 : tie.Need-same-length-4
+same-length-4 c = search needs
+
+returns-5 : tie.Need-returns-5
+returns-5 c = search needs
+
+same-length-5 : tie.Need-same-length-5
+same-length-5 c = search needs
+
+returns-6 : tie.Need-returns-6
+returns-6 c = search needs
+
+same-length-6 : tie.Need-same-length-6
+same-length-6 c = search needs
+
+returns-7 : tie.Need-returns-7
+returns-7 c = search needs
+
+same-length-7 : tie.Need-same-length-7
+same-length-7 c = search needs
+
+returns-8 : tie.Need-returns-8
+returns-8 c = search needs
+
+same-length-8 : tie.Need-same-length-8
+same-length-8 c = search needs
+
+returns-9 : tie.Need-returns-9
+returns-9 c = search needs
+
+pub step-spec : {M : Type 1} → statement M
+step-spec =
+    tie.close
+    (tie.spec
+    malformed-requires
+    answered-requires
+    returns
+    root-requires
+    letter-requires
+    receive-requires
+    new-requires
+    send-requires
+    lose-requires
+    sign-requires
+    local-requires
+    same-length
+    returns-2
+    same-length-2
+    returns-3
+    same-length-3
+    returns-4
+    same-length-4
+    returns-5
+    same-length-5
+    returns-6
+    same-length-6
+    returns-7
+    same-length-7
+    returns-8
+    same-length-8
+    returns-9)

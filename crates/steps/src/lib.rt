@@ -1,0 +1,398 @@
+// The steps on an image, kind by kind: each refuses in the table's order, or replies and changes the image.
+use image::layout::HEAD;
+use image::layout::NEXT;
+use image::layout::OPENED;
+use image::layout::TRANSACTOR;
+use image::limits;
+use image::messages;
+use maps::DependenceMap;
+use rules::Reply;
+use rules::Step;
+use rules::numbers;
+use transactor::receipt;
+ghost use mathlib.Core.Path.{_≡_};
+ghost use mathlib.Core.Bool.{true, false, not};
+ghost use Prim.Native.Nat.{_+_, _≤_, _<_};
+ghost use lib.ListN.{length};
+ghost use lib.Dec.{eqb};
+ghost use Rattle.octets.specs.Bytes.{_or_};
+ghost use Rattle.maps.specs.Packed.{Bounded};
+ghost use Rattle.rules.specs.Layout.{base, standard, imageBytes};
+ghost use Rattle.rules.specs.State.{transactorAt};
+ghost use Rattle.rules.specs.Step.{root, letter, receive, new, send, lose, sign};
+ghost use Rattle.rules.specs.Refusals as refusals;
+ghost use Rattle.rules.specs.Rules.{answer};
+ghost use Rattle.rules.specs.Pack.{waitingIn, unpack};
+ghost use Rattle.rules.specs.Internal.Well.{StepOk};
+ghost use Rattle.rules.specs.Internal.Good.{Good};
+ghost use Rattle.steps.specs.Internal.Stepped.{Stepped, Asked};
+ghost use Rattle.rules.specs.Internal.Guards.{actingRefusal, busyRefusal, crowdedRefusal};
+ghost use Rattle.transactor.specs.Internal.Effects.{openBytes};
+
+// A reply that is an outcome or a refusal alone.
+fn answered(number: u8) -> Reply
+    ensures { λ r. ⌜ r ≡ answer number 0 0 0 ⌝ }
+{
+    Reply {
+        outcome: number,
+        transactor: 0,
+        message: 0,
+        value: 0,
+    }
+}
+
+// ---- 20
+
+// A field that is not used and is not zero.
+fn stray(used: bool, field: u32) -> bool
+    ensures { λ r. ⌜ r ≡ not (used or eqb field 0) ⌝ }
+{
+    if used {
+        return false;
+    }
+    field != 0
+}
+
+fn uses_transactor(kind: u8) -> bool
+    ensures { λ r. ⌜ r ≡ refusals.usesTransactor kind ⌝ }
+{
+    if kind == numbers::LETTER {
+        return true;
+    }
+    if kind < numbers::NEW {
+        return false;
+    }
+    kind <= numbers::FAIL
+}
+
+fn uses_message(kind: u8) -> bool
+    ensures { λ r. ⌜ r ≡ refusals.usesMessage kind ⌝ }
+{
+    if kind == numbers::RECEIVE {
+        return true;
+    }
+    if kind == numbers::LOSE {
+        return true;
+    }
+    kind == numbers::SIGN
+}
+
+fn uses_value(kind: u8) -> bool
+    ensures { λ r. ⌜ r ≡ refusals.usesValue kind ⌝ }
+{
+    if kind == numbers::ROOT {
+        return true;
+    }
+    if kind == numbers::LETTER {
+        return true;
+    }
+    if kind == numbers::NEW {
+        return true;
+    }
+    if kind == numbers::SEND {
+        return true;
+    }
+    kind == numbers::WRITE
+}
+
+fn malformed(p: Step) -> bool
+    ensures { λ r. ⌜ r ≡ refusals.malformed p ⌝ }
+{
+    let kind = p.kind;
+    if numbers::SIGN < kind {
+        return true;
+    }
+    if stray(uses_transactor(kind), p.transactor as u32) {
+        return true;
+    }
+    if stray(kind == numbers::SEND, p.other as u32) {
+        return true;
+    }
+    if p.zero != 0 {
+        return true;
+    }
+    if stray(uses_message(kind), p.message as u32) {
+        return true;
+    }
+    stray(uses_value(kind), p.value)
+}
+
+// ---- 21 to 23, 26, 27
+
+fn status(image: &[u8], t: usize) -> u8
+    requires { ⌜ (length (now image) ≡ imageBytes base) × (t < base .transactors) ⌝ }
+    ensures { λ r. ⌜ r ≡ transactorAt (unpack base (now (image .entry))) t .status ⌝ }
+{
+    image[HEAD + TRANSACTOR * t] / 64
+}
+
+fn acting_refusal(image: &[u8], t: usize) -> u8
+    requires { ⌜ (length (now image) ≡ imageBytes base) × (t < base .transactors) ⌝ }
+    ensures { λ r. ⌜ r ≡ actingRefusal (unpack base (now (image .entry))) t ⌝ }
+{
+    if (image[OPENED] as usize) <= t {
+        return numbers::UNOPENED;
+    }
+    if status(image, t) == numbers::ANNIHILATED {
+        return numbers::GONE;
+    }
+    0
+}
+
+fn busy_refusal(image: &[u8], t: usize) -> u8
+    requires { ⌜ (length (now image) ≡ imageBytes base) × (t < base .transactors) ⌝ }
+    ensures { λ r. ⌜ r ≡ busyRefusal (unpack base (now (image .entry))) t ⌝ }
+{
+    let r = acting_refusal(image, t);
+    if r != 0 {
+        return r;
+    }
+    if status(image, t) != numbers::BUSY {
+        return numbers::WRONG_STATUS;
+    }
+    0
+}
+
+fn crowded(image: &[u8], n: usize) -> u8
+    requires { ⌜ (length (now image) ≡ imageBytes base) × (n ≡ waitingIn base (now image)) ⌝ }
+    ensures { λ r. ⌜ r ≡ crowdedRefusal standard (unpack base (now (image .entry))) ⌝ }
+{
+    if limits::MESSAGES <= n {
+        return numbers::ALL_WAITING;
+    }
+    if octets::load16(image, NEXT) == limits::LAST_NUMBER {
+        return numbers::ALL_NUMBERED;
+    }
+    0
+}
+
+// ---- the kinds
+
+// Opens transactor c, the next one.
+fn open(image: &mut [u8], c: u8, value: u32, creation: DependenceMap)
+    requires { ⌜ (length (now image) ≡ imageBytes base) × (c < base .transactors) × Bounded (base .places) creation ⌝ }
+    ensures { λ _. ⌜ now (image .exit) ≡ openBytes base (now (image .entry)) c value creation ⌝ }
+{
+    let t = c as usize;
+    let at = HEAD + TRANSACTOR * t;
+    let end = at + TRANSACTOR;
+    transactor::open(&mut image[at..end], t, value, creation);
+    image[OPENED] = c + 1;
+}
+
+fn root(image: &mut [u8], p: Step) -> Reply
+    requires { ⌜ Asked root (now image) p ⌝ }
+    ensures { λ r. ⌜ Stepped (now (image .entry)) p r (now (image .exit)) ⌝ }
+{
+    let c = image[OPENED];
+    if limits::TRANSACTORS <= c as usize {
+        return answered(numbers::ALL_OPENED);
+    }
+    open(image, c, p.value, DependenceMap::empty());
+    Reply {
+        outcome: numbers::DONE,
+        transactor: c,
+        message: 0,
+        value: 0,
+    }
+}
+
+fn letter(image: &mut [u8], p: Step) -> Reply
+    requires { ⌜ Asked letter (now image) p ⌝ }
+    ensures { λ r. ⌜ Stepped (now (image .entry)) p r (now (image .exit)) ⌝ }
+{
+    let to = p.transactor;
+    if image[OPENED] <= to {
+        return answered(numbers::UNOPENED);
+    }
+    let n = messages::waiting(image);
+    let r = crowded(image, n);
+    if r != 0 {
+        return answered(r);
+    }
+    let number = octets::load16(image, NEXT);
+    messages::append(image, n, to, p.value, DependenceMap::empty());
+    Reply {
+        outcome: numbers::DONE,
+        transactor: to,
+        message: number,
+        value: 0,
+    }
+}
+
+fn receive(image: &mut [u8], p: Step) -> Reply
+    requires { ⌜ Asked receive (now image) p ⌝ }
+    ensures { λ r. ⌜ Stepped (now (image .entry)) p r (now (image .exit)) ⌝ }
+{
+    let n = messages::waiting(image);
+    let k = messages::place_of(image, n, p.message);
+    if n <= k {
+        return answered(numbers::NOT_WAITING);
+    }
+    let t = messages::addressee(image, k);
+    let st = status(image, t);
+    if st == numbers::ANNIHILATED {
+        return answered(numbers::GONE);
+    }
+    if st != numbers::READY {
+        return answered(numbers::WRONG_STATUS);
+    }
+    let content = messages::content(image, k);
+    let a = receipt::accept(image, t, k);
+    let outcome = a.outcome;
+    if outcome == numbers::LAST_INCARNATION {
+        return answered(numbers::LAST_INCARNATION);
+    }
+    messages::remove(image, k, n);
+    let value = if outcome == numbers::DONE { content } else { 0 };
+    Reply {
+        outcome,
+        transactor: t as u8,
+        message: p.message,
+        value,
+    }
+}
+
+fn new(image: &mut [u8], p: Step) -> Reply
+    requires { ⌜ Asked new (now image) p ⌝ }
+    ensures { λ r. ⌜ Stepped (now (image .entry)) p r (now (image .exit)) ⌝ }
+{
+    let t = p.transactor as usize;
+    let r = busy_refusal(image, t);
+    if r != 0 {
+        return answered(r);
+    }
+    let c = image[OPENED];
+    if limits::TRANSACTORS <= c as usize {
+        return answered(numbers::ALL_OPENED);
+    }
+    let at = HEAD + TRANSACTOR * t;
+    let end = at + TRANSACTOR;
+    let creation = transactor::carry(&image[at..end], t);
+    transactor::adopt(&mut image[at..end], c as usize);
+    open(image, c, p.value, creation);
+    Reply {
+        outcome: numbers::DONE,
+        transactor: c,
+        message: 0,
+        value: 0,
+    }
+}
+
+fn send(image: &mut [u8], p: Step) -> Reply
+    requires { ⌜ Asked send (now image) p ⌝ }
+    ensures { λ r. ⌜ Stepped (now (image .entry)) p r (now (image .exit)) ⌝ }
+{
+    let t = p.transactor as usize;
+    let to = p.other;
+    if image[OPENED] <= to {
+        return answered(numbers::UNOPENED);
+    }
+    let w = busy_refusal(image, t);
+    if w != 0 {
+        return answered(w);
+    }
+    let n = messages::waiting(image);
+    let r = crowded(image, n);
+    if r != 0 {
+        return answered(r);
+    }
+    let at = HEAD + TRANSACTOR * t;
+    let end = at + TRANSACTOR;
+    let m = transactor::carry(&image[at..end], t);
+    let number = octets::load16(image, NEXT);
+    messages::append(image, n, to, p.value, m);
+    Reply {
+        outcome: numbers::DONE,
+        transactor: p.transactor,
+        message: number,
+        value: 0,
+    }
+}
+
+// Kinds 5 to 10.
+fn local(image: &mut [u8], p: Step) -> Reply
+    requires { ⌜ Good (now image) × StepOk p × (refusals.malformed p ≡ false) × (5 ≤ p .kind) × (p .kind ≤ 10) ⌝ }
+    ensures { λ r. ⌜ Stepped (now (image .entry)) p r (now (image .exit)) ⌝ }
+{
+    let t = p.transactor as usize;
+    if (image[OPENED] as usize) <= t {
+        return answered(numbers::UNOPENED);
+    }
+    let at = HEAD + TRANSACTOR * t;
+    let end = at + TRANSACTOR;
+    let a = transactor::act(&mut image[at..end], p.kind, t, p.value);
+    let outcome = a.outcome;
+    if numbers::MALFORMED <= outcome {
+        return answered(outcome);
+    }
+    Reply {
+        outcome,
+        transactor: p.transactor,
+        message: 0,
+        value: a.value,
+    }
+}
+
+fn lose(image: &mut [u8], p: Step) -> Reply
+    requires { ⌜ Asked lose (now image) p ⌝ }
+    ensures { λ r. ⌜ Stepped (now (image .entry)) p r (now (image .exit)) ⌝ }
+{
+    let n = messages::waiting(image);
+    let k = messages::place_of(image, n, p.message);
+    if n <= k {
+        return answered(numbers::NOT_WAITING);
+    }
+    messages::remove(image, k, n);
+    Reply {
+        outcome: numbers::DONE,
+        transactor: 0,
+        message: p.message,
+        value: 0,
+    }
+}
+
+fn sign(image: &mut [u8], p: Step) -> Reply
+    requires { ⌜ Asked sign (now image) p ⌝ }
+    ensures { λ r. ⌜ Stepped (now (image .entry)) p r (now (image .exit)) ⌝ }
+{
+    let group = p.message;
+    if group == 0 {
+        return answered(numbers::EMPTY_GROUP);
+    }
+    if group::blocked(image, group, numbers::UNOPENED) {
+        return answered(numbers::UNOPENED);
+    }
+    if group::blocked(image, group, numbers::GONE) {
+        return answered(numbers::GONE);
+    }
+    if group::blocked(image, group, numbers::ALL_CHECKPOINTED) {
+        return answered(numbers::ALL_CHECKPOINTED);
+    }
+    if !group::ready(image, group) {
+        return answered(numbers::NOT_READY);
+    }
+    group::checkpoint(image, group);
+    answered(numbers::DONE)
+}
+
+// One step, of any kind.
+pub fn step(image: &mut [u8], p: Step) -> Reply
+    requires { ⌜ Good (now image) × StepOk p ⌝ }
+    ensures { λ r. ⌜ Stepped (now (image .entry)) p r (now (image .exit)) ⌝ }
+{
+    if malformed(p) {
+        return answered(numbers::MALFORMED);
+    }
+    let kind = p.kind;
+    match kind {
+        numbers::ROOT => root(image, p),
+        numbers::LETTER => letter(image, p),
+        numbers::RECEIVE => receive(image, p),
+        numbers::NEW => new(image, p),
+        numbers::SEND => send(image, p),
+        numbers::LOSE => lose(image, p),
+        numbers::SIGN => sign(image, p),
+        _ => local(image, p),
+    }
+}

@@ -1,0 +1,3 @@
+pub mod Accepting
+mod Bytes
+pub mod Lent

@@ -1,0 +1,146 @@
+-- Each return is a case of the rule.
+use Prim.Native.Nat.{ℕ, _<_}
+use mathlib.Core.Path.{_≡_, refl, sym}
+use native.Mathlib.Omega.{arith}
+use borrow.Author.Needs.{needs}
+use Rattle.rules.specs.Layout.{base, standard}
+use Rattle.rules.specs.Step.{fall}
+use Rattle.rules.specs.Rules.{Effect, finishBy, localBy}
+use Rattle.rules.specs.Pack.{unpackTransactor}
+use Rattle.transactor.specs.Internal.Effects.{actBy}
+use Rattle.transactor.proofs.Bytes.{acts-as, acted, act-gone, act-idle, act-early, act-late}
+use Rattle.transactor.proofs.act.Statement.{statement}
+use Rattle.transactor.proofs.act.Tie as tie
+
+-- kinds 5 to 8, past the refusals
+early : (e : tie.Joined2) {n : ℕ} {f : Effect} → e .before .before .before .before .args .kind ≡ n → n < fall
+    → localBy base n (e .before .before .before .before .args .t) (e .before .before .before .before .args .value) (unpackTransactor base (e .before .before .before .before .args .part .now)) ≡ f
+    → actBy base standard (e .before .before .before .before .args .kind) (e .before .before .before .before .args .t) (e .before .before .before .before .args .value) (unpackTransactor base (e .before .before .before .before .args .part .now)) ≡ f
+unfolding unpackTransactor
+early e = act-early base standard _ _ _ _ (e .before .if1 .left) (λ w. w .1 .left) (λ w. w .left) (e .if2 .came)
+
+slice-read-status : tie.Need-slice-read-status
+slice-read-status c = search needs
+
+outcome-of-requires : tie.Need-outcome-of-requires
+outcome-of-requires c κs = search needs
+
+returns : tie.Need-returns
+unfolding unpackTransactor
+returns c =
+    let d = c .before in
+    acted (act-gone base standard _ _ _ _ (d .if1 .taken)) (c .outcome-of .ensures) (sym (d .before .before .before .pre .0 .back))
+
+outcome-of-requires-2 : tie.Need-outcome-of-requires-2
+outcome-of-requires-2 c κs = search needs
+
+returns-2 : tie.Need-returns-2
+unfolding unpackTransactor
+returns-2 c =
+    let d = c .before in
+    let e = d .before in
+    acted
+    (act-idle base standard _ _ _ _ (e .before .if1 .left) (e .if2 .taken) (d .if3 .taken)) (c .outcome-of2 .ensures)
+    (sym (e .before .before .before .before .pre .0 .back))
+
+read-requires : tie.Need-read-requires
+read-requires c κs = search needs
+
+write-requires : tie.Need-write-requires
+write-requires c κs = search needs
+
+freeze-requires : tie.Need-freeze-requires
+freeze-requires c κs = search needs
+
+become-ready-requires : tie.Need-become-ready-requires
+become-ready-requires c κs = search needs
+
+outcome-of-requires-3 : tie.Need-outcome-of-requires-3
+outcome-of-requires-3 c κs = search needs
+
+roll-back-unless-stable-requires : tie.Need-roll-back-unless-stable-requires
+roll-back-unless-stable-requires c κs = search needs
+
+same-length : tie.Need-same-length
+same-length c = search needs
+
+returns-3 : tie.Need-returns-3
+unfolding unpackTransactor localBy
+returns-3 c =
+    let d = c .before .before .before .before in
+    acts-as
+    (early (d .before) (d .match .keys1) (omega arith) refl)
+    (c .before .before .read .ensures)
+
+same-length-2 : tie.Need-same-length-2
+same-length-2 c = search needs
+
+returns-4 : tie.Need-returns-4
+unfolding unpackTransactor localBy
+returns-4 c =
+    let d = c .before .before .before .before in
+    acts-as
+    (early (d .before) (d .match .keys2) (omega arith) refl)
+    (c .before .before .write .ensures)
+
+same-length-3 : tie.Need-same-length-3
+same-length-3 c = search needs
+
+returns-5 : tie.Need-returns-5
+unfolding unpackTransactor localBy
+returns-5 c =
+    let d = c .before .before .before .before in
+    acts-as
+    (early (d .before) (d .match .keys3) (omega arith) refl)
+    (c .before .before .freeze .ensures)
+
+same-length-4 : tie.Need-same-length-4
+same-length-4 c = search needs
+
+returns-6 : tie.Need-returns-6
+unfolding unpackTransactor localBy finishBy
+returns-6 c =
+    let d = c .before .before .before .before .before in
+    acted
+    (early (d .before) (d .match .keys4) (omega arith) refl)
+    (c .outcome-of3 .ensures) (c .before .before .before .become-ready .ensures)
+
+same-length-5 : tie.Need-same-length-5
+same-length-5 c = search needs
+
+returns-7 : tie.Need-returns-7
+unfolding unpackTransactor
+returns-7 c =
+    let d = c .before .before .before .before in
+    let e = d .before in
+    let s = e .before .before .before .before in
+    let r = d .match .rest in
+    acts-as
+    (act-late base standard _ _ _ _ (e .before .if1 .left) (λ w. w .1 .left) (λ w. w .left) (e .if2 .came) (s .pre .2) (s .pre .3) (r .0 .0 .0 .1) (r .0 .0 .1) (r .0 .1) (r .1))
+    (c .before .before .roll-back-unless-stable .ensures)
+
+pub act-spec : {M : Type 1} → statement M
+act-spec =
+    tie.close
+    (tie.spec
+    slice-read-status
+    outcome-of-requires
+    returns
+    outcome-of-requires-2
+    returns-2
+    read-requires
+    write-requires
+    freeze-requires
+    become-ready-requires
+    outcome-of-requires-3
+    roll-back-unless-stable-requires
+    same-length
+    returns-3
+    same-length-2
+    returns-4
+    same-length-3
+    returns-5
+    same-length-4
+    returns-6
+    same-length-5
+    returns-7)

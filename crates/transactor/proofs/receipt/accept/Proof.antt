@@ -1,0 +1,144 @@
+-- A message that is dropped leaves the image; a fall is one of the take's bytes.
+use native.Mathlib.Omega.{arith}
+use borrow.Author.Needs.{needs}
+use Rattle.rules.specs.Layout.{base, standard}
+use Rattle.transactor.specs.Internal.Effects.{rollbackOr28}
+use Rattle.rules.proofs.Pack.Loads.{waiting-few}
+use Rattle.transactor.proofs.Lent.{good-lent}
+use Rattle.transactor.proofs.Accepting.{accepts-dropped, accepts-rollback, accepts-done, acted-at, kept-at, lent-at}
+use Rattle.transactor.proofs.receipt.accept.Statement.{statement}
+use Rattle.transactor.proofs.receipt.accept.Tie as tie
+
+mul-at : tie.Need-mul-at
+mul-at c = search needs
+
+add-at : tie.Need-add-at
+add-at c = search needs
+
+add-end : tie.Need-add-end
+add-end c = search needs
+
+add-state : tie.Need-add-state
+add-state c = search needs
+
+add-creation : tie.Need-add-creation
+add-creation c = search needs
+
+mul-m : tie.Need-mul-m
+mul-m c = omega (arith, waiting-few base (c .before .args .image .now))
+
+add-m : tie.Need-add-m
+add-m c = omega (arith, waiting-few base (c .before .args .image .now))
+
+add-m-2 : tie.Need-add-m-2
+add-m-2 c = omega (arith, waiting-few base (c .before .args .image .now))
+
+compare-requires : tie.Need-compare-requires
+compare-requires c κs =
+    let s = c .before .before in
+    let few = waiting-few base (s .args .image .now) in
+    (omega (arith, few), omega arith, omega arith)
+
+enum-known-message : tie.Need-enum-known-message
+enum-known-message c = search needs
+
+enum-told : tie.Need-enum-told
+enum-told c = search needs
+
+enum-known-receiver : tie.Need-enum-known-receiver
+enum-known-receiver c = search needs
+
+enum-told-2 : tie.Need-enum-told-2
+enum-told-2 c = search needs
+
+take-in-requires : tie.Need-take-in-requires
+take-in-requires c κs = search needs
+
+outcome-of-requires : tie.Need-outcome-of-requires
+outcome-of-requires c κs = search needs
+
+same-length : tie.Need-same-length
+same-length c = search needs
+
+returns : tie.Need-returns
+returns c =
+    let taken = c .before .before .before in
+    let told = taken .before .before in
+    let asked = told .before .before .before .before in
+    let s = asked .before .before .before in
+    acted-at _ _
+    (accepts-done base _ _ (s .pre .1) _ (s .pre .2) standard _ (asked .compare .ensures .0) (told .before .before .enum-told .given .1) _ (asked .compare .ensures .1) (told .enum-told2 .given .1))
+    (c .outcome-of .ensures) (taken .take-in .ensures)
+
+sub-roll-back : tie.Need-sub-roll-back
+sub-roll-back c = search needs
+
+part-roll-back-start : tie.Need-part-roll-back-start
+part-roll-back-start c = search needs
+
+part-roll-back-end : tie.Need-part-roll-back-end
+part-roll-back-end c = search needs
+
+roll-back-requires : tie.Need-roll-back-requires
+roll-back-requires c κs =
+    let s = c .before .before .before .before .before .before .before .before .before in
+    (good-lent _ (s .pre .0) _ (s .pre .1), s .pre .1)
+
+same-length-2 : tie.Need-same-length-2
+same-length-2 c = search needs
+
+returns-2 : tie.Need-returns-2
+returns-2 c =
+    let fell = c .before .before in
+    let told = fell .before .before .before in
+    let asked = told .before .before .before .before in
+    let s = asked .before .before .before in
+    lent-at _ (s .pre .0) _ (s .pre .1) (rollbackOr28 base standard _)
+    (accepts-rollback base _ _ (s .pre .1) _ (s .pre .2) standard _ (asked .compare .ensures .0) (told .before .before .enum-told .given .1) _ (asked .compare .ensures .1) (told .receiver .given .1))
+    (fell .roll-back .ensures)
+
+outcome-of-requires-2 : tie.Need-outcome-of-requires-2
+outcome-of-requires-2 c κs = search needs
+
+same-length-3 : tie.Need-same-length-3
+same-length-3 c = search needs
+
+returns-3 : tie.Need-returns-3
+returns-3 c =
+    let told = c .before .before in
+    let asked = told .before .before in
+    let s = asked .before .before .before in
+    acted-at _ _
+    (accepts-dropped base _ _ (s .pre .1) _ (s .pre .2) standard _ (asked .compare .ensures .0) (told .message .given .1))
+    (c .outcome-of2 .ensures) (kept-at _ (s .pre .0) _)
+
+pub accept-spec : {M : Type 1} → statement M
+accept-spec =
+    tie.close
+    (tie.spec
+    mul-at
+    add-at
+    add-end
+    add-state
+    add-creation
+    mul-m
+    add-m
+    add-m-2
+    compare-requires
+    enum-known-message
+    enum-told
+    enum-known-receiver
+    enum-told-2
+    take-in-requires
+    outcome-of-requires
+    same-length
+    returns
+    sub-roll-back
+    part-roll-back-start
+    part-roll-back-end
+    roll-back-requires
+    same-length-2
+    returns-2
+    outcome-of-requires-2
+    same-length-3
+    returns-3)

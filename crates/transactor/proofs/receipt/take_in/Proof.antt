@@ -1,0 +1,65 @@
+-- The status byte and the map are those of the take that took the message in; the message stands behind the takes.
+use mathlib.Core.Path.{refl}
+use native.Mathlib.Omega.{arith}
+use borrow.Author.Needs.{needs}
+use lib.ListN.{length-set}
+use Rattle.rules.specs.Layout.{base}
+use Rattle.rules.proofs.Pack.Loads.{waiting-few}
+use Rattle.transactor.proofs.Accepting.{taken-in}
+use Rattle.transactor.proofs.receipt.take_in.Statement.{statement}
+use Rattle.transactor.proofs.receipt.take_in.Tie as tie
+
+mul-at : tie.Need-mul-at
+mul-at c = search needs
+
+add-at : tie.Need-add-at
+add-at c = search needs
+
+add-to : tie.Need-add-to
+add-to c = search needs
+
+mul-from : tie.Need-mul-from
+mul-from c = omega (arith, waiting-few base (c .before .args .image .now))
+
+add-from : tie.Need-add-from
+add-from c = omega (arith, waiting-few base (c .before .args .image .now))
+
+add-from-2 : tie.Need-add-from-2
+add-from-2 c = omega (arith, waiting-few base (c .before .args .image .now))
+
+mul-image : tie.Need-mul-image
+mul-image c = search needs
+
+slice-write-image : tie.Need-slice-write-image
+slice-write-image c = search needs
+
+sub-lower : tie.Need-sub-lower
+sub-lower c = search needs
+
+lower-requires : tie.Need-lower-requires
+lower-requires c κs = simp length-set (omega (arith, waiting-few base (c .before .before .args .image .now)))
+
+same-length : tie.Need-same-length
+same-length c = simp length-set at (c .before .before .lower .kept .0)
+
+returns : tie.Need-returns
+returns c =
+    let s = c .before .before .before .before .before in
+    taken-in base _ _ (s .pre .1) _ (s .pre .2) (s .pre .0 .back) _ _ refl (c .before .before .lower .ensures)
+
+pub take-in-spec : {M : Type 1} → statement M
+take-in-spec =
+    tie.close
+    (tie.spec
+    mul-at
+    add-at
+    add-to
+    mul-from
+    add-from
+    add-from-2
+    mul-image
+    slice-write-image
+    sub-lower
+    lower-requires
+    same-length
+    returns)

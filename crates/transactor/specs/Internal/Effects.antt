@@ -1,0 +1,66 @@
+-- The rules on one take's bytes, with the refusals that these bytes decide.
+use Prim.Native.Nat.{ℕ, _+_}
+use mathlib.Core.Bool.{not}
+use mathlib.Core.Path.{_≡_}
+use mathlib.Core.List.{List}
+use lib.Dec.{eqb, leb}
+use Rattle.octets.specs.Bytes.{pick, _and_, _or_, put}
+use Rattle.octets.specs.Numbers.{be}
+use Rattle.marks.specs.History.{initialHistory}
+use Rattle.maps.specs.declared.DependenceMap.{DependenceMap}
+use Rattle.maps.specs.Map.{firstSuperseded}
+use Rattle.rules.specs.Layout.{Layout, Limits, base, transactorAddress}
+use Rattle.rules.specs.Status.{busy, annihilated}
+use Rattle.rules.specs.State.{Transactor, ownHistory, withTransactor, withBehaviour}
+use Rattle.rules.specs.Step.{done, held, dropped, fall, fail}
+use Rattle.rules.specs.Rules.{Effect, isSome, join, only, known, unchanged, madeReady, rollback, localBy, opening}
+use Rattle.rules.specs.Pack.{packTransactor, pack, unpack}
+use Rattle.rules.specs.Internal.Guards.{isLastIncarnation}
+
+-- what a function on a take's bytes says: the outcome, or the refusal with nothing changed; the text read; the bytes
+pub record Acts (e : Effect) (o v : ℕ) (b : List ℕ) : Type 0 where
+  pub outcome : o ≡ e .outcome
+  pub value : v ≡ e .value
+  pub bytes : b ≡ packTransactor base (e .transactor)
+
+-- what a function on an image says that changes the bytes of take t alone
+pub record ActsAt (img : List ℕ) (t : ℕ) (e : Effect) (o v : ℕ) (after : List ℕ) : Type 0 where
+  pub outcome : o ≡ e .outcome
+  pub value : v ≡ e .value
+  pub image : after ≡ pack base (withTransactor (unpack base img) t (e .transactor))
+
+-- a fall, or 28
+unfoldable pub rollbackOr28 : Layout → Limits → ℕ → Transactor → Effect
+rollbackOr28 y m t x = pick (isLastIncarnation m t x) (unchanged 28 x) (rollback y t x)
+
+-- fall and fail, or 28
+unfoldable pub rollbackUnlessStable : Layout → Limits → ℕ → ℕ → Transactor → Effect
+rollbackUnlessStable y m k t x =
+    pick (ownHistory t x .stable) (unchanged held (pick (eqb k fall) (madeReady y x) x)) (rollbackOr28 y m t x)
+
+-- kinds 5 to 10 with the refusals 22, 23 and 28
+unfoldable pub actBy : Layout → Limits → ℕ → ℕ → ℕ → Transactor → Effect
+actBy y m k t v x =
+    pick (eqb (x .status) annihilated) (unchanged 22 x)
+    (pick (leb k fall and not (eqb (x .status) busy)) (unchanged 23 x)
+    (pick ((eqb k fall or eqb k fail) and not (ownHistory t x .stable) and isLastIncarnation m t x) (unchanged 28 x)
+    (localBy y k t v x)))
+
+-- at work, with the parcel's map
+unfoldable pub takenIn : Transactor → DependenceMap → Transactor
+takenIn x deps = record { status = busy; value = x .value; saved = x .saved; state = x .state; creation = x .creation; behaviour = deps }
+
+-- a receipt's effect on the addressee, without the text, or 28
+unfoldable pub acceptBy : Layout → Limits → ℕ → Transactor → DependenceMap → Effect
+acceptBy y m t x deps =
+    pick (isSome (firstSuperseded (y .transactors) deps (known y x))) (unchanged dropped x)
+    (pick (isSome (firstSuperseded (y .transactors) (known y x) deps)) (rollbackOr28 y m t x)
+    (unchanged done (takenIn x deps)))
+
+-- the bytes of an image with one more take opened, which is the next one, c
+unfoldable pub openBytes : Layout → List ℕ → ℕ → ℕ → DependenceMap → List ℕ
+openBytes y img c v creation = put 0 (be 1 (c + 1)) (put (transactorAddress y c) (packTransactor y (opening y c v creation)) img)
+
+-- the child's opening mark joins the opener's behaviour map
+unfoldable pub adopts : Layout → ℕ → Transactor → Transactor
+adopts y c x = withBehaviour x (join y (only y c (initialHistory (y .places))) (x .behaviour))

@@ -1,0 +1,57 @@
+// A receipt: the message's map is compared with what the addressee rests on, in the image where both stand.
+use crate::Acted;
+use image::layout::BEHAVIOUR;
+use image::layout::CREATION;
+use image::layout::DEPENDENCES;
+use image::layout::FIRST_MESSAGE;
+use image::layout::HEAD;
+use image::layout::MESSAGE;
+use image::layout::STATE;
+use image::layout::TRANSACTOR;
+use maps::Comparison;
+use rules::numbers;
+ghost use mathlib.Core.Path.{_≡_};
+ghost use Prim.Native.Nat.{_<_};
+ghost use Rattle.rules.specs.Layout.{base, standard};
+ghost use Rattle.rules.specs.State.{transactorAt, messageAt, withTransactor};
+ghost use Rattle.rules.specs.Pack.{waitingIn, pack, unpack};
+ghost use Rattle.rules.specs.Internal.Good.{Good};
+ghost use Rattle.transactor.specs.Internal.Effects.{ActsAt, takenIn, acceptBy};
+
+// Busy, with the map of the message in place k for the behaviour map.
+fn take_in(image: &mut [u8], t: usize, k: usize)
+    requires { ⌜ Good (now image) × (t < base .transactors) × (k < waitingIn base (now image)) ⌝ }
+    ensures { λ _. ⌜ now (image .exit) ≡ pack base (withTransactor (unpack base (now (image .entry))) t
+        (takenIn (transactorAt (unpack base (now (image .entry))) t) (messageAt (unpack base (now (image .entry))) k .dependences))) ⌝ }
+{
+    let at = HEAD + TRANSACTOR * t;
+    let to = at + BEHAVIOUR;
+    let from = FIRST_MESSAGE + MESSAGE * k + DEPENDENCES;
+    image[at] = 64 * numbers::BUSY;
+    octets::lower(image, to, from - to, maps::SIZE);
+}
+
+// The message in place k, addressed to transactor t: dropped, or a fall, or taken in.
+pub fn accept(image: &mut [u8], t: usize, k: usize) -> Acted
+    requires { ⌜ Good (now image) × (t < base .transactors) × (k < waitingIn base (now image)) ⌝ }
+    ensures { λ r. ⌜ ActsAt (now (image .entry)) t
+        (acceptBy base standard t (transactorAt (unpack base (now (image .entry))) t) (messageAt (unpack base (now (image .entry))) k .dependences))
+        (r .outcome) (r .value) (now (image .exit)) ⌝ }
+{
+    let at = HEAD + TRANSACTOR * t;
+    let end = at + TRANSACTOR;
+    let state = at + STATE;
+    let creation = at + CREATION;
+    let m = FIRST_MESSAGE + MESSAGE * k + DEPENDENCES;
+    let answers = maps::in_place::compare(image, m, state, creation);
+    let message = answers.map;
+    let receiver = answers.join;
+    let Comparison::Superseded(first) = message else {
+        let Comparison::Superseded(first) = receiver else {
+            take_in(image, t, k);
+            return crate::outcome_of(numbers::DONE);
+        };
+        return crate::roll_back(&mut image[at..end], t);
+    };
+    crate::outcome_of(numbers::DROPPED)
+}
