@@ -1,193 +1,180 @@
-// What crates marks and maps decide.
+// Histories and maps, packed in the image: what the crates marks and maps decide.
 use crate::print;
+use crate::print::BAD;
+use crate::print::PRINTED;
+use crate::print::SILENT;
+use crate::script;
 use maps::Comparison;
 use maps::DependenceMap;
 use marks::History;
-ghost use mathlib.Core.Path.{_≡_};
-ghost use Prim.Native.Nat.{_≤_};
-ghost use Rattle.marks.specs.Packed.{places};
-ghost use Rattle.maps.specs.Packed.{Bounded};
+ghost use Prim.Native.Nat.{_<_};
 
-// The mark (first; n), signed once.
-fn once(first: u8, n: u8, stable: bool) -> History
-    ensures { λ r. ⌜ (r .count ≡ 1) × (r .incarnation ≡ n) ⌝ }
-{
-    History {
-        stable,
-        incarnation: n,
-        count: 1,
-        checkpoints: [first, 0, 0, 0, 0, 0, 0, 0, 0, 0, 0, 0, 0, 0, 0],
-    }
-}
+// The largest incarnation number.
+const LAST: u8 = 255;
 
-// The mark (0, 2; 3).
-fn twice(stable: bool) -> History
-    ensures { λ r. ⌜ r .count ≡ 2 ⌝ }
-{
-    History {
-        stable,
-        incarnation: 3,
-        count: 2,
-        checkpoints: [0, 2, 0, 0, 0, 0, 0, 0, 0, 0, 0, 0, 0, 0, 0],
-    }
-}
-
-// The opening mark, frozen.
-fn frozen() -> History
-    ensures { λ r. ⌜ r .count ≡ 0 ⌝ }
-{
-    History::INITIAL.stabilize()
-}
-
-// Signed fifteen times from the opening mark on.
-fn full() -> History
-    ensures { λ r. ⌜ r .count ≡ 15 ⌝ }
-{
+// A history of a flag, an incarnation number and a list: the numbers from the second on, of which there are 2 to 17.
+fn history(n: &[usize]) -> History {
     let mut h = History::INITIAL;
-    let mut i: usize = 0;
-    while i < 15 {
-        h = h.checkpoint();
-        i += 1;
+    h.stable = script::at(n, 2) != 0;
+    h.incarnation = (script::at(n, 3) % 256) as u8;
+    h.count = ((script::at(n, 0) + 13) % 16) as u8;
+    let mut k: usize = 0;
+    while k < marks::PLACES {
+        h.checkpoints[k] = (script::at(n, k + 4) % 256) as u8;
+        k += 1;
     }
     h
 }
 
-fn packed(label: &[u8], h: History)
-    requires { ⌜ h .count ≤ 15 ⌝ }
+// Stores a history from at on.
+fn store(image: &mut [u8], at: usize, h: History) -> u8
+    requires { ⌜ at < 4294967296 ⌝ }
 {
-    let mut b = [0u8; 17];
-    h.store(&mut b, 0);
-    print::bytes(label, &b);
+    let n = h.count as usize;
+    if image.len() < at + marks::SIZE || marks::PLACES < n {
+        return BAD;
+    }
+    h.store(image, at);
+    SILENT
 }
 
-// Whether 17 bytes that begin so, and are zero after, are well-formed.
-fn formed(label: &[u8], head: u8, number: u8, first: u8) {
-    let b = [
-        head,
-        number,
-        first,
-        0,
-        0,
-        0,
-        0,
-        0,
-        0,
-        0,
-        0,
-        0,
-        0,
-        0,
-        0,
-        0,
-        0,
-    ];
-    print::truth(label, History::formed(&b, 0));
-}
-
-fn steps() {
-    let h = once(0, 254, false);
-    print::number(
-        b"a signed take failing at life 254 has life",
-        h.rollback().incarnation as u64,
-    );
-    print::number(b"signings after fifteen", full().count as u64);
-    print::number(
-        b"life after a signing",
-        once(0, 9, true).checkpoint().incarnation as u64,
-    );
-    print::truth(
-        b"frozen after a signing",
-        once(0, 9, true).checkpoint().stable,
-    );
-    print::truth(b"frozen after a fall", once(0, 9, true).rollback().stable);
-}
-
-fn forms() {
-    packed(b"opening mark", History::INITIAL);
-    packed(b"opening mark, frozen", frozen());
-    packed(b"(0, 2; 3)", twice(false));
-    packed(b"(0, 2; 3), frozen", twice(true));
-    packed(b"signed fifteen times at life 0", full());
-    formed(b"absent, all zero", 0, 0, 0);
-    formed(b"absent, with a life number", 0, 1, 0);
-    formed(b"present, nothing else", 128, 0, 0);
-    formed(b"a zero bit set", 160, 0, 0);
-    formed(b"the other zero bit set", 144, 0, 0);
-    formed(b"one entry, used", 129, 0, 5);
-    formed(b"a place past the count not zero", 128, 0, 5);
-    formed(b"fifteen entries", 143, 7, 5);
-}
-
-fn newer() {
-    let left = once(1, 4, false);
-    let right = once(2, 4, false);
-    print::number(
-        b"of two that tie the left: its entry",
-        left.newer(right).checkpoints[0] as u64,
-    );
-    print::truth(
-        b"frozen is newer than not",
-        left.newer(once(1, 4, true)).stable,
-    );
-    print::number(
-        b"greater n is newer",
-        left.newer(once(1, 5, false)).incarnation as u64,
-    );
-    print::number(
-        b"longer list is newer, n smaller",
-        left.newer(twice(false)).incarnation as u64,
-    );
-}
-
-// The map with (0; n) for take 5 alone, and that with (0; m) for take 15 too.
-fn alone(n: u8) -> DependenceMap
-    ensures { λ r. ⌜ Bounded places r ⌝ }
+// The history from at on; the initial one past the end.
+fn load(image: &[u8], at: usize) -> History
+    requires { ⌜ at < 4294967296 ⌝ }
 {
-    DependenceMap::one(5, once(0, n, false))
+    if image.len() < at + marks::SIZE {
+        return History::INITIAL;
+    }
+    History::load(image, at)
 }
 
-fn pair(n: u8, m: u8) -> DependenceMap
-    ensures { λ r. ⌜ Bounded places r ⌝ }
+// Z, R, K: freeze, fall, signing.
+fn advanced(op: u8, h: History) -> History {
+    let n = h.count as usize;
+    if op == b'Z' {
+        return h.stabilize();
+    }
+    if op == b'R' && h.incarnation < LAST {
+        return h.rollback();
+    }
+    if op == b'K' && n < marks::PLACES {
+        return h.checkpoint();
+    }
+    h
+}
+
+// N: the newer of the histories at a and b, from at on.
+fn newer(image: &mut [u8], a: usize, b: usize, at: usize) -> u8
+    requires { ⌜ (a < 4294967296) × (b < 4294967296) × (at < 4294967296) ⌝ }
 {
-    alone(n).with(15, once(0, m, false))
+    let x = load(image, a);
+    let y = load(image, b);
+    store(image, at, x.newer(y))
 }
 
-fn joins() {
-    let both = alone(3).join(alone(4));
-    let h = both.histories[5];
-    print::number(b"joined, life of take 5", h.incarnation as u64);
-    print::truth(b"joined, a mark of take 5", both.held[5]);
-    print::truth(b"joined, a mark of take 6", both.held[6]);
-    print::truth(b"an empty map is empty", DependenceMap::empty().is_empty());
-    print::truth(b"a joined map is empty", both.is_empty());
-}
-
-// a against b joined with no map.
-fn compared(label: &[u8], a: DependenceMap, b: DependenceMap)
-    requires { ⌜ Bounded places a × Bounded places b ⌝ }
-{
-    let mut packed = [0u8; 816];
-    a.store(&mut packed, 0);
-    b.store(&mut packed, maps::SIZE);
-    let answers = maps::in_place::compare(&packed, 0, maps::SIZE, maps::SIZE * 2);
-    let first = answers.map;
-    match first {
-        Comparison::Superseded(i) => print::number(label, i as u64),
-        Comparison::Current => print::truth(label, false),
+// S, C, I: stale by, signed, of one life.
+fn related(op: u8, x: History, y: History) -> bool {
+    let n = x.count as usize;
+    let m = y.count as usize;
+    if marks::PLACES < n || marks::PLACES < m {
+        return false;
+    }
+    match op {
+        b'S' => x.superseded_by(y),
+        b'C' => x.checkpointed_in(y),
+        _ => x.same_incarnation(y),
     }
 }
 
-fn comparisons() {
-    compared(b"first stale take", pair(3, 1), pair(4, 2));
-    compared(b"stale the other way round", pair(4, 2), pair(3, 1));
-    compared(b"stale where the other has no mark", pair(3, 1), alone(2));
-    compared(b"stale in the last entry alone", pair(3, 1), pair(3, 2));
+fn pair(op: u8, image: &[u8], a: usize, b: usize) -> u8
+    requires { ⌜ (a < 4294967296) × (b < 4294967296) ⌝ }
+{
+    let x = load(image, a);
+    let y = load(image, b);
+    print::truth(related(op, x, y));
+    PRINTED
 }
 
-pub fn all() {
-    steps();
-    forms();
-    newer();
-    joins();
-    comparisons();
+// W, P, Q: whether the bytes from at on are well-formed, a history is present in them, and it is frozen.
+fn told(op: u8, image: &[u8], at: usize) -> bool
+    requires { ⌜ at < 4294967296 ⌝ }
+{
+    if image.len() < at + marks::SIZE {
+        return false;
+    }
+    match op {
+        b'W' => History::formed(image, at),
+        b'P' => History::present(image, at),
+        _ => History::load(image, at).stable,
+    }
+}
+
+fn ask(op: u8, image: &[u8], at: usize) -> u8
+    requires { ⌜ at < 4294967296 ⌝ }
+{
+    print::truth(told(op, image, at));
+    PRINTED
+}
+
+// J: the map at a joined with that at b, from at on.
+fn join(image: &mut [u8], a: usize, b: usize, at: usize) -> u8
+    requires { ⌜ (a < 4294967296) × (b < 4294967296) × (at < 4294967296) ⌝ }
+{
+    let n = image.len();
+    if n < a + maps::SIZE || n < b + maps::SIZE || n < at + maps::SIZE {
+        return BAD;
+    }
+    let left = DependenceMap::load(image, a);
+    let right = DependenceMap::load(image, b);
+    left.join(right).store(image, at);
+    SILENT
+}
+
+// E: whether the map at at is empty.
+fn empty(image: &[u8], at: usize) -> u8
+    requires { ⌜ at < 4294967296 ⌝ }
+{
+    if image.len() < at + maps::SIZE {
+        return BAD;
+    }
+    print::truth(DependenceMap::load(image, at).is_empty());
+    PRINTED
+}
+
+// M: the first take whose mark in the map at at is stale by that in the maps at a and b joined.
+fn compare(image: &[u8], at: usize, a: usize, b: usize) -> u8
+    requires { ⌜ (a < 4294967296) × (b < 4294967296) × (at < 4294967296) ⌝ }
+{
+    let n = image.len();
+    if n < a + maps::SIZE || n < b + maps::SIZE || n < at + maps::SIZE {
+        return BAD;
+    }
+    let found = maps::in_place::compare(image, at, a, b).map;
+    match found {
+        Comparison::Superseded(t) => print::number(t),
+        Comparison::Current => print::truth(false),
+    }
+    PRINTED
+}
+
+fn play_maps(op: u8, image: &mut [u8], a: usize, b: usize, c: usize) -> u8
+    requires { ⌜ (a < 4294967296) × (b < 4294967296) × (c < 4294967296) ⌝ }
+{
+    match op {
+        b'J' => join(image, a, b, c),
+        b'E' => empty(image, a),
+        b'M' => compare(image, a, b, c),
+        b'N' => newer(image, a, b, c),
+        _ => pair(op, image, a, b),
+    }
+}
+
+pub fn play(op: u8, image: &mut [u8], n: &[usize]) -> u8 {
+    let a = script::at(n, 1);
+    match op {
+        b'H' => store(image, a, history(n)),
+        b'Z' | b'R' | b'K' => store(image, a, advanced(op, load(image, a))),
+        b'W' | b'P' | b'Q' => ask(op, image, a),
+        _ => play_maps(op, image, a, script::at(n, 2), script::at(n, 3)),
+    }
 }

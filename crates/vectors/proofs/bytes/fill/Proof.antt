@@ -1,22 +1,22 @@
--- The image keeps its length; the measure is how many turns are left.
-use Prim.Native.Nat.{_-_}
+-- One byte a turn.
+use Prim.Native.Nat.{_-_, _≤_}
 use mathlib.Core.Path.{_≡_}
 use lib.ListN.{length}
 use borrow.Author.Needs.{needs}
-use Rattle.vectors.proofs.steps.repeat.Statement.{statement}
-use Rattle.vectors.proofs.steps.repeat.Tie as tie
+use Rattle.vectors.proofs.bytes.fill.Statement.{statement}
+use Rattle.vectors.proofs.bytes.fill.Tie as tie
 
 abbrev Inv-loop : tie.InvT-loop
-Inv-loop image₀ n p i₀ image i = length image ≡ length image₀
+Inv-loop image₀ b i₀ image i = (i ≤ length image₀) × (length image ≡ length image₀)
 
 abbrev μ-loop : tie.MeasureT-loop
-μ-loop image₀ n p i₀ image i = n - i
+μ-loop image₀ b i₀ image i = length image₀ - i
 
 loop-holds : tie.Need-loop-holds Inv-loop μ-loop
 loop-holds c = search needs
 
-run-requires : tie.Need-run-requires Inv-loop μ-loop
-run-requires c κs = search needs
+set-requires : tie.Need-set-requires Inv-loop μ-loop
+set-requires c κs = search needs
 
 add-i : tie.Need-add-i Inv-loop μ-loop
 add-i c = search needs
@@ -33,14 +33,14 @@ same-length c = search needs
 returns : tie.Need-returns Inv-loop μ-loop
 returns c = search needs
 
-pub repeat-spec : {M : Type 1} → statement M
-repeat-spec =
+pub fill-spec : {M : Type 1} → statement M
+fill-spec =
     tie.close
     (tie.spec
     Inv-loop
     μ-loop
     loop-holds
-    run-requires
+    set-requires
     add-i
     loop-less
     loop-again
