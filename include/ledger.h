@@ -1,5 +1,6 @@
-/* The take ledger. Words and numbers are those of documents 01 and 02; packed forms are document 01's "Packed forms", most
- * significant bit first.
+/* The take ledger. Numbers and packed forms are those of documents 01 and 02, most significant bit first. The words are the field's:
+ * a transactor is the documents' take, a message a parcel, a history a mark, an incarnation a life, a group a volume, stable is frozen,
+ * checkpointed is signed (docs/GLOSSARY.md). Kinds of step and outcomes have the documents' names.
  *
  * The library is built by `rt staticlib ledger_c` as target/staticlib/libledger_c.a, for x86-64 Linux. It keeps nothing between
  * calls, allocates nothing and needs only memcpy, memmove and memset: a session is the image and nothing else.
@@ -23,10 +24,10 @@ enum {
     LEDGER_STEP = 8,       /* bytes of a step, and of a reply */
     LEDGER_LONGEST = 8192, /* bytes of a run's longest part */
     LEDGER_MAP = 272,      /* bytes of a map */
-    LEDGER_MARK = 17,      /* bytes of a mark */
-    LEDGER_TAKES = 16,
-    LEDGER_PARCELS = 32,
-    LEDGER_NONE = 65535    /* stands for no parcel: numbers run 0 to 65,534 */
+    LEDGER_HISTORY = 17,   /* bytes of a history */
+    LEDGER_TRANSACTORS = 16,
+    LEDGER_MESSAGES = 32,
+    LEDGER_NONE = 65535    /* stands for no message: numbers run 0 to 65,534 */
 };
 
 /* The kind of a step, its first four bits. */
@@ -61,16 +62,16 @@ enum ledger_outcome {
     LEDGER_ILL_FORMED = 19,   /* image ill-formed */
     /* steps; 21, 22 also offer and smallest group, 24 also show */
     LEDGER_MALFORMED = 20,    /* kind 13 to 15, or an unused field or the zero bits not zero */
-    LEDGER_UNOPENED = 21,     /* acting take, addressee or named take not opened */
-    LEDGER_GONE = 22,         /* acting, receiving or named take vanished */
-    LEDGER_WRONG_STATUS = 23, /* receive when not idle; kinds 3 to 9 when not at work */
-    LEDGER_NOT_WAITING = 24,  /* parcel not waiting */
-    LEDGER_ALL_OPENED = 25,   /* sixteen takes opened */
-    LEDGER_ALL_WAITING = 26,  /* 32 parcels waiting */
-    LEDGER_ALL_NUMBERED = 27, /* next parcel number is 65,535 */
-    LEDGER_LAST_FALLS = 28,   /* a signed take would fall from life 255 */
-    LEDGER_EMPTY_VOLUME = 29, /* volume empty */
-    LEDGER_ALL_SIGNED = 30    /* a named take has 15 signings */
+    LEDGER_UNOPENED = 21,     /* acting transactor, addressee or named one not opened */
+    LEDGER_GONE = 22,         /* acting, receiving or named transactor annihilated */
+    LEDGER_WRONG_STATUS = 23, /* receive when not ready; kinds 3 to 9 when not busy */
+    LEDGER_NOT_WAITING = 24,  /* message not waiting */
+    LEDGER_ALL_OPENED = 25,   /* sixteen transactors opened */
+    LEDGER_ALL_WAITING = 26,  /* 32 messages waiting */
+    LEDGER_ALL_NUMBERED = 27, /* next message number is 65,535 */
+    LEDGER_LAST_INCARNATION = 28, /* a checkpointed transactor would fall from incarnation 255 */
+    LEDGER_EMPTY_GROUP = 29,  /* group empty */
+    LEDGER_ALL_CHECKPOINTED = 30 /* a named transactor has 15 checkpoints */
 };
 
 /* A part of the image: the length bytes from image + offset on. */
@@ -89,15 +90,15 @@ uint8_t ledger_run(uint8_t *image, size_t image_length,
                    const uint8_t *list, size_t list_length, size_t start, size_t end,
                    uint8_t *replies, size_t replies_length);
 
-/* The lowest number of a waiting parcel addressed to the take, or LEDGER_NONE exactly if there is none; *refusal is 0.
+/* The lowest number of a waiting message addressed to the transactor, or LEDGER_NONE exactly if there is none; *refusal is 0.
  * Refused with 16, 19, 21 or 22, which is put in *refusal: LEDGER_NONE. */
-uint16_t ledger_offer(const uint8_t *image, size_t image_length, size_t take, uint8_t *refusal);
+uint16_t ledger_offer(const uint8_t *image, size_t image_length, size_t transactor, uint8_t *refusal);
 
-/* The smallest volume with the take that could be signed now, as its bits, or 0 exactly if there is none; *refusal is 0.
+/* The smallest group with the transactor that could be checkpointed now, as its bits, or 0 exactly if there is none; *refusal is 0.
  * Refused with 16, 19, 21 or 22, which is put in *refusal: 0. */
-uint16_t ledger_smallest_group(const uint8_t *image, size_t image_length, size_t take, uint8_t *refusal);
+uint16_t ledger_smallest_group(const uint8_t *image, size_t image_length, size_t transactor, uint8_t *refusal);
 
-/* Where the 272 bytes of the image are that hold the map of the waiting parcel with this number; *refusal is 0.
+/* Where the 272 bytes of the image are that hold the map of the waiting message with this number; *refusal is 0.
  * Refused with 16, 19 or 24, which is put in *refusal: offset and length are 0. */
 struct ledger_part ledger_show(const uint8_t *image, size_t image_length, uint16_t number, uint8_t *refusal);
 

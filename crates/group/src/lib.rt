@@ -82,7 +82,7 @@ fn covered(h: History, own: History, member: bool) -> bool
     requires { ⌜ (h .count ≤ base .places) × (own .count ≤ base .places) ⌝ }
     ensures { λ r. ⌜ r ≡ checkpointedIn (incarnationOf h) (incarnationOf own) or (member and sameIncarnation (incarnationOf h) (incarnationOf own)) ⌝ }
 {
-    // In either order the same; docs/BENCHMARKS.md, change 6.
+    // In either order the same; docs/notes/speed.md, change 6.
     if member {
         if h.same_incarnation(own) {
             return true;
@@ -99,7 +99,7 @@ fn entry_ready(image: &[u8], group: u16, at: usize, u: usize) -> bool
     if !History::present(image, at) {
         return true;
     }
-    // Loaded before the test; docs/BENCHMARKS.md, change 6.
+    // Loaded before the test; docs/notes/speed.md, change 6.
     let h = History::load(image, at);
     let o = own(image, u);
     if !is_live(image, u) {

@@ -10,7 +10,7 @@ use maps::DependenceMap;
 ghost use mathlib.Core.Path.{_≡_};
 ghost use Prim.Native.Nat.{_≤_, _<_};
 ghost use lib.ListN.{length};
-ghost use Rattle.maps.specs.Packed.{Bounded};
+ghost use Rattle.maps.specs.Internal.Fitting.{Bounded};
 ghost use Rattle.rules.specs.Layout.{lastNumber, base, imageBytes};
 ghost use Rattle.rules.specs.State.{placeFrom, placeOf, messageAt, withMessage, withoutMessage};
 ghost use Rattle.rules.specs.Pack.{waitingIn, pack, unpack};

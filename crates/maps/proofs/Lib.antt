@@ -1,4 +1,3 @@
-pub mod InPlace
 pub mod Joins
 pub mod Loops
 pub mod Map

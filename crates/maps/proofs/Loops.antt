@@ -7,49 +7,21 @@ use mathlib.Core.Option.{Option, none, some}
 use mathlib.Core.Logic.{⊎-elim}
 use native.Mathlib.Numerals.{add-one}
 use native.Mathlib.Omega.{arith}
-use lib.ListN.{length, take, set, getD, length-map, length-set}
+use lib.ListN.{length, set, getD, length-map, length-set}
 use lib.Seq.{getD-set-same, getD-set-other}
 use Rattle.octets.specs.Bytes.{pick, tabulate}
-use Rattle.octets.proofs.Chunks.{sides, fill-none, fill-more, fill-all}
+use Rattle.octets.proofs.Chunks.{sides, length-tabulate, getD-tabulate}
 use Rattle.octets.proofs.Zero.{every-none, every-more, every-off}
 use Rattle.marks.specs.declared.History.{History}
 use Rattle.marks.specs.History.{incarnationOf}
 use Rattle.marks.specs.Incarnation.{supersededBy}
 use Rattle.maps.specs.declared.DependenceMap.{DependenceMap}
-use Rattle.maps.specs.Map.{heldAt, historyAt, isEmpty, joinedHeldAt, joinedHistoryAt, joinOf, supersededEntry, supersededAt, firstFrom, firstSuperseded}
-use Rattle.maps.proofs.Map.{outside, Sized, same-map, choosesRightAt, held-picked, history-picked, sized-join, held-join, history-join}
+use Rattle.maps.specs.Map.{heldAt, historyAt, isEmpty, choosesRight, joinedHeldAt, joinedHistoryAt, joinOf, supersededEntry, supersededAt, firstFrom, firstSuperseded}
+use Rattle.maps.proofs.Map.{outside, Entry, Sized, same-map, choosesRightAt, held-picked, history-picked, held-join, history-join, held-join-off, history-join-off}
 
 -- an array of structs: what owning it tells stands at a map of its list
 pub length-of-map : (X Y : Type 0) (f : X → Y) (l : List X) (n : ℕ) → length (map f l) ≡ n → length l ≡ n
 length-of-map X Y f l n e = sym (length-map l f) ∙ e
-
--- ---- a map that is filled entry by entry
-
-pub record Filled (n : ℕ) (f : ℕ → Bool) (g : ℕ → History) (i : ℕ) (r : DependenceMap) : Type 0 where
-  pub held : take i (r .held) ≡ tabulate i f
-  pub histories : take i (r .histories) ≡ tabulate i g
-  pub sized : Sized n r
-
-module _ {n : ℕ} (f : ℕ → Bool) (g : ℕ → History) where
-  pub filled-none : {r : DependenceMap} → Sized n r → Filled n f g 0 r
-  filled-none s = record { held = fill-none f; histories = fill-none g; sized = s }
-
-  pub filled-more : {r : DependenceMap} (i : ℕ) (p : Bool) (h : History) → Filled n f g i r → i < n → p ≡ f i → h ≡ g i
-      → Filled n f g (i + 1) (record { held = set (r .held) i p; histories = set (r .histories) i h })
-  filled-more {r} i p h k below e d =
-      let a : length (r .held) ≡ n = k .sized .helds in
-      let b : length (r .histories) ≡ n = k .sized .histories in
-      record {
-        held = fill-more f (r .held) i p (k .held) (omega arith) e;
-        histories = fill-more g (r .histories) i h (k .histories) (omega arith) d;
-        sized = record { helds = length-set (r .held) i p ∙ a; histories = length-set (r .histories) i h ∙ b };
-      }
-
-  pub filled-all : {r : DependenceMap} (i : ℕ) → Filled n f g i r → i ≡ n → r ≡ record { held = tabulate n f; histories = tabulate n g }
-  filled-all {r} i k e =
-      let p : r .held ≡ tabulate n f = fill-all f (r .held) n (rw e at (k .held)) (k .sized .helds) in
-      let q : r .histories ≡ tabulate n g = fill-all g (r .histories) n (rw e at (k .histories)) (k .sized .histories) in
-      λ j. record { held = p j; histories = q j }
 
 -- ---- a list changed entry by entry: the first i are those of f, the others still those of g
 
@@ -77,43 +49,75 @@ module _ {A : Type 0} (d : A) (f g : ℕ → A) where
     after = λ j (p : i + 1 ≤ j). k .after j (omega arith);
   }
 
--- a map that is joined entry by entry
-pub record Joining (n : ℕ) (a b : DependenceMap) (i : ℕ) (r : DependenceMap) : Type 0 where
-  pub held : Begun false (joinedHeldAt a b) (heldAt a) i (r .held)
-  pub histories : Begun outside (joinedHistoryAt a b) (historyAt a) i (r .histories)
+-- a map that is changed entry by entry, from a on
+pub record Changing (n : ℕ) (f : ℕ → Bool) (g : ℕ → History) (a : DependenceMap) (i : ℕ) (r : DependenceMap) : Type 0 where
+  pub held : Begun false f (heldAt a) i (r .held)
+  pub histories : Begun outside g (historyAt a) i (r .histories)
   pub sized : Sized n r
 
-module _ {n : ℕ} (a b : DependenceMap) where
-  pub joining-none : Sized n a → Joining n a b 0 a
-  joining-none s = record {
+module _ {n : ℕ} (f : ℕ → Bool) (g : ℕ → History) (a : DependenceMap) where
+  pub changing-none : Sized n a → Changing n f g a 0 a
+  changing-none s = record {
     held = record { before = λ j h. absurd (omega arith); after = λ j h. refl };
     histories = record { before = λ j h. absurd (omega arith); after = λ j h. refl };
     sized = s;
   }
 
-  module _ {r : DependenceMap} (i : ℕ) (k : Joining n a b i r) (below : i < n) where
-    pub joining-right : choosesRightAt a b i ≡ true
-        → Joining n a b (i + 1) (record { held = set (r .held) i (heldAt b i); histories = set (r .histories) i (historyAt b i) })
-    joining-right e = record {
-      held = begun-set false (joinedHeldAt a b) (heldAt a) (r .held) i (heldAt b i) (k .held) (omega (arith, k .sized .helds)) (held-picked a b i true e);
-      histories = begun-set outside (joinedHistoryAt a b) (historyAt a) (r .histories) i (historyAt b i) (k .histories) (omega (arith, k .sized .histories)) (history-picked a b i true e);
-      sized = record {
-        helds = length-set (r .held) i (heldAt b i) ∙ k .sized .helds;
-        histories = length-set (r .histories) i (historyAt b i) ∙ k .sized .histories;
-      };
+  module _ {r : DependenceMap} (i : ℕ) (k : Changing n f g a i r) where
+    pub changing-set : i < n → (p : Bool) (h : History) → p ≡ f i → h ≡ g i
+        → Changing n f g a (i + 1) (record { held = set (r .held) i p; histories = set (r .histories) i h })
+    changing-set below p h e d = record {
+      held = begun-set false f (heldAt a) (r .held) i p (k .held) (omega (arith, k .sized .helds)) e;
+      histories = begun-set outside g (historyAt a) (r .histories) i h (k .histories) (omega (arith, k .sized .histories)) d;
+      sized = record { helds = length-set (r .held) i p ∙ k .sized .helds; histories = length-set (r .histories) i h ∙ k .sized .histories };
     }
 
-    pub joining-left : choosesRightAt a b i ≡ false → Joining n a b (i + 1) r
-    joining-left e = record {
-      held = begun-keep false (joinedHeldAt a b) (heldAt a) (r .held) i (k .held) (held-picked a b i false e);
-      histories = begun-keep outside (joinedHistoryAt a b) (historyAt a) (r .histories) i (k .histories) (history-picked a b i false e);
+    pub changing-keep : heldAt a i ≡ f i → historyAt a i ≡ g i → Changing n f g a (i + 1) r
+    changing-keep e d = record {
+      held = begun-keep false f (heldAt a) (r .held) i (k .held) e;
+      histories = begun-keep outside g (historyAt a) (r .histories) i (k .histories) d;
       sized = k .sized;
     }
 
-  pub joining-all : {r : DependenceMap} (i : ℕ) → Joining n a b i r → i ≡ n → r ≡ joinOf n a b
-  joining-all {r} i k e = same-map (k .sized) (sized-join n a b)
-      (λ j (h : j < n). k .held .before j (omega arith) ∙ sym (held-join n a b j h))
-      (λ j (h : j < n). k .histories .before j (omega arith) ∙ sym (history-join n a b j h))
+  -- after i entries, the others being already as they are to be
+  pub changing-all : {r : DependenceMap} (i : ℕ) → Changing n f g a i r → ((j : ℕ) → i ≤ j → j < n → (heldAt a j ≡ f j) × (historyAt a j ≡ g j))
+      → r ≡ record { held = tabulate n f; histories = tabulate n g }
+  changing-all {r} i k rest = same-map (k .sized) (record { helds = length-tabulate f n; histories = length-tabulate g n })
+      (λ j (h : j < n). ⊎-elim (λ (p : j < i). k .held .before j p) (λ (p : i ≤ j). k .held .after j p ∙ rest j p h .0) (sides j i) ∙ sym (getD-tabulate f n j false h))
+      (λ j (h : j < n). ⊎-elim (λ (p : j < i). k .histories .before j p) (λ (p : i ≤ j). k .histories .after j p ∙ rest j p h .1) (sides j i) ∙ sym (getD-tabulate g n j outside h))
+
+-- a map that is joined entry by entry
+abbrev pub Joining : ℕ → DependenceMap → DependenceMap → ℕ → DependenceMap → Type 0
+Joining n a b i r = Changing n (joinedHeldAt a b) (joinedHistoryAt a b) a i r
+
+module _ {n : ℕ} (a b : DependenceMap) where
+  pub joining-none : Sized n a → Joining n a b 0 a
+  joining-none s = changing-none (joinedHeldAt a b) (joinedHistoryAt a b) a s
+
+  module _ {r : DependenceMap} (i : ℕ) (k : Joining n a b i r) where
+    -- entry i is still the left one
+    pub joining-entry : Entry a i (heldAt r i) (historyAt r i)
+    joining-entry = record { held = k .held .after i (omega arith); history = k .histories .after i (omega arith) }
+
+    module _ {q : Bool} {y : History} (g : Entry b i q y) where
+      side : (t : Bool) → t ≡ choosesRight (heldAt r i) (historyAt r i) q y → choosesRightAt a b i ≡ t
+      side t e = sym (rw (joining-entry .held, joining-entry .history, g .held, g .history) at e)
+
+      pub joining-right : i < n → true ≡ choosesRight (heldAt r i) (historyAt r i) q y
+          → Joining n a b (i + 1) (record { held = set (r .held) i q; histories = set (r .histories) i y })
+      joining-right below e =
+          changing-set (joinedHeldAt a b) (joinedHistoryAt a b) a i k below q y
+          (g .held ∙ held-picked a b i true (side true e)) (g .history ∙ history-picked a b i true (side true e))
+
+      pub joining-left : false ≡ choosesRight (heldAt r i) (historyAt r i) q y → Joining n a b (i + 1) r
+      joining-left e =
+          changing-keep (joinedHeldAt a b) (joinedHistoryAt a b) a i k (held-picked a b i false (side false e)) (history-picked a b i false (side false e))
+
+  -- after i entries, the right one holding none of the others
+  pub joining-all : {r : DependenceMap} (i : ℕ) → Joining n a b i r → ((j : ℕ) → i ≤ j → j < n → heldAt b j ≡ false) → r ≡ joinOf n a b
+  unfolding joinOf
+  joining-all i k off = changing-all (joinedHeldAt a b) (joinedHistoryAt a b) a i k
+      (λ j p h. (sym (held-join-off n a b j h (off j p h)) ∙ held-join n a b j h, sym (history-join-off n a b j h (off j p h)) ∙ history-join n a b j h))
 
 -- ---- no entry
 
@@ -148,9 +152,10 @@ module _ (p : Bool) (x : History) (q : Bool) (y : History) where
   unfolding supersededEntry
   both-held e f = rw (e, f)
 
-pub superseded-at : (a b : DependenceMap) (i : ℕ) → supersededAt a b i ≡ supersededEntry (heldAt a i) (historyAt a i) (heldAt b i) (historyAt b i)
+pub superseded-here : {a b : DependenceMap} {i : ℕ} {p q : Bool} {x y : History} → Entry a i p x → Entry b i q y → (t : Bool) → t ≡ supersededEntry p x q y
+    → supersededAt a b i ≡ t
 unfolding supersededAt
-superseded-at a b i = refl
+superseded-here f g t e = sym (rw (f .held, f .history, g .held, g .history) at e)
 
 -- ---- the first entry that is superseded: the answer is that for the entries from i on
 

@@ -22,6 +22,11 @@ use Rattle.maps.specs.Map.{heldAt, historyAt, emptyMap, withEntry, singl
 abbrev pub outside : History
 outside = record { stable = false; incarnation = 0; count = 0; checkpoints = [] }
 
+-- p and h are entry i of m
+pub record Entry (m : DependenceMap) (i : ℕ) (p : Bool) (h : History) : Type 0 where
+  pub held : p ≡ heldAt m i
+  pub history : h ≡ historyAt m i
+
 -- m has n entries
 pub record Sized (n : ℕ) (m : DependenceMap) : Type 0 where
   pub helds : length (m .held) ≡ n
@@ -107,52 +112,44 @@ module _ (l n i : ℕ) (h : History) where
   unfolding singleton
   held-singleton-other j apart = held-withEntry-other (emptyMap l n) i h j apart ∙ held-empty l n j
 
-  pub history-singleton-other : (j : ℕ) → j < n → (j ≡ i → ⊥) → historyAt (singleton l n i h) j ≡ initialHistory l
-  unfolding singleton
-  history-singleton-other j below apart = history-withEntry-other (emptyMap l n) i h j apart ∙ history-empty l n j below
-
 -- ---- joining: entry by entry the newer where both have one
 
 module _ (p : Bool) (x : History) (q : Bool) (y : History) where
-  pub joined-both : p ≡ true → q ≡ true → joinedHistory p x q y ≡ newerOf x y
+  pub joined-left : q ≡ false → joinedHistory p x q y ≡ x
   unfolding joinedHistory
-  joined-both e f = rw (e, f)
+  joined-left e = rw e
 
-  pub joined-left : p ≡ true → q ≡ false → joinedHistory p x q y ≡ x
+  pub joined-right : p ≡ false → q ≡ true → joinedHistory p x q y ≡ y
   unfolding joinedHistory
-  joined-left e f = rw (e, f)
-
-  pub joined-right : p ≡ false → joinedHistory p x q y ≡ y
-  unfolding joinedHistory
-  joined-right e = rw e
+  joined-right e f = rw (e, f)
 
   pub chooses-newer : p ≡ true → q ≡ true → choosesRight p x q y ≡ isOlder x y
   unfolding choosesRight
   chooses-newer e f = rw (e, f)
 
-  pub chooses-left : p ≡ true → q ≡ false → choosesRight p x q y ≡ false
+  pub chooses-other : p ≡ false → q ≡ true → choosesRight p x q y ≡ true
   unfolding choosesRight
-  chooses-left e f = rw (e, f)
+  chooses-other e f = rw (e, f)
 
-  pub chooses-other : p ≡ false → choosesRight p x q y ≡ true
+  pub chooses-left : q ≡ false → choosesRight p x q y ≡ false
   unfolding choosesRight
-  chooses-other e = rw e
+  chooses-left e = rw e
 
-joined-pick : (p : Bool) (x : History) (q : Bool) (y : History) → joinedHistory p x q y ≡ pick (choosesRight p x q y) y x
+pub joined-pick : (p : Bool) (x : History) (q : Bool) (y : History) → joinedHistory p x q y ≡ pick (choosesRight p x q y) y x
 unfolding joinedHistory choosesRight
 joined-pick true x true y = newer-older x y
-joined-pick true x false y = refl
-joined-pick false x q y = refl
+joined-pick false x true y = refl
+joined-pick p x false y = refl
 
-joined-pick-held : (p : Bool) (x : History) (q : Bool) (y : History) → p or q ≡ pick (choosesRight p x q y) q p
+pub joined-pick-held : (p : Bool) (x : History) (q : Bool) (y : History) → p or q ≡ pick (choosesRight p x q y) q p
 unfolding choosesRight
 joined-pick-held true x true y = alike (isOlder x y)
   where
     alike : (t : Bool) → true ≡ pick t true true
     alike true = refl
     alike false = refl
-joined-pick-held true x false y = refl
-joined-pick-held false x q y = refl
+joined-pick-held false x true y = refl
+joined-pick-held p x false y = or-none p
 
 -- entry i is the right one's where the test says so, else the left one's
 abbrev pub choosesRightAt : DependenceMap → DependenceMap → ℕ → Bool
@@ -172,7 +169,7 @@ pub data Joined (p : Bool) (x : History) (q : Bool) (y : History) : Bool → His
   both : {m : History} → p ≡ true → q ≡ true → Newer x y m → Joined p x q y true m
   left : p ≡ true → q ≡ false → Joined p x q y true x
   right : p ≡ false → q ≡ true → Joined p x q y true y
-  neither : p ≡ false → q ≡ false → Joined p x q y false y
+  neither : p ≡ false → q ≡ false → Joined p x q y false x
 
 joined-view : (p : Bool) (x : History) (q : Bool) (y : History) → Joined p x q y (p or q) (joinedHistory p x q y)
 unfolding joinedHistory
@@ -199,18 +196,6 @@ module _ (n : ℕ) (a b : DependenceMap) where
     unfolding joinedHeldAt joinedHistoryAt
     join-view = rw (held-join, history-join) (joined-view (heldAt a i) (historyAt a i) (heldAt b i) (historyAt b i))
 
-    pub join-both : heldAt a i ≡ true → heldAt b i ≡ true → historyAt (joinOf n a b) i ≡ newerOf (historyAt a i) (historyAt b i)
-    unfolding joinedHistoryAt
-    join-both e f = history-join ∙ joined-both (heldAt a i) (historyAt a i) (heldAt b i) (historyAt b i) e f
-
-    pub join-left : heldAt a i ≡ true → heldAt b i ≡ false → historyAt (joinOf n a b) i ≡ historyAt a i
-    unfolding joinedHistoryAt
-    join-left e f = history-join ∙ joined-left (heldAt a i) (historyAt a i) (heldAt b i) (historyAt b i) e f
-
-    pub join-right : heldAt a i ≡ false → historyAt (joinOf n a b) i ≡ historyAt b i
-    unfolding joinedHistoryAt
-    join-right e = history-join ∙ joined-right (heldAt a i) (historyAt a i) (heldAt b i) (historyAt b i) e
-
     -- by the test of the code
     module _ (t : Bool) (e : choosesRightAt a b i ≡ t) where
       pub held-chosen : heldAt (joinOf n a b) i ≡ pick t (heldAt b i) (heldAt a i)
@@ -225,12 +210,9 @@ module _ (n : ℕ) (a b : DependenceMap) where
       unfolding joinedHeldAt
       held-join-off = held-join ∙ ap (λ (q : Bool). heldAt a i or q) off ∙ or-none (heldAt a i)
 
-      pub history-join-off : (heldAt a i ≡ false → historyAt a i ≡ historyAt b i) → historyAt (joinOf n a b) i ≡ historyAt a i
-      history-join-off f = go (heldAt a i) refl
-        where
-          go : (p : Bool) → heldAt a i ≡ p → historyAt (joinOf n a b) i ≡ historyAt a i
-          go true e = join-left e off
-          go false e = join-right e ∙ sym (f e)
+      pub history-join-off : historyAt (joinOf n a b) i ≡ historyAt a i
+      unfolding joinedHistoryAt
+      history-join-off = history-join ∙ joined-left (heldAt a i) (historyAt a i) (heldAt b i) (historyAt b i) off
 
 -- an entry is held in the join exactly if one of the two holds it
 pub held-join-test : (n : ℕ) (a b : DependenceMap) (i : ℕ) → i < n → (heldAt (joinOf n a b) i ≡ true) ↔ ((heldAt a i ≡ true) ⊎ (heldAt b i ≡ true))
@@ -264,16 +246,21 @@ join-idem {n} {a} s = same-map (sized-join n a a) s
     history true x = newer-idem x
     history false x = refl
 
--- the empty map adds nothing, on the left; on the right where entries that are not held are initial
+-- the empty map adds nothing, on the right; on the left where entries that are not held are initial
 module _ (l n : ℕ) where
-  pub join-empty-left : {b : DependenceMap} → Sized n b → joinOf n (emptyMap l n) b ≡ b
-  unfolding joinedHeldAt
-  join-empty-left {b} s = same-map (sized-join n (emptyMap l n) b) s
-      (λ i h. held-join n (emptyMap l n) b i h ∙ ap (λ (p : Bool). p or heldAt b i) (held-empty l n i))
-      (λ i h. join-right n (emptyMap l n) b i h (held-empty l n i))
-
-  pub join-empty-right : {a : DependenceMap} → Sized n a → ((i : ℕ) → i < n → heldAt a i ≡ false → historyAt a i ≡ initialHistory l)
-      → joinOf n a (emptyMap l n) ≡ a
-  join-empty-right {a} s f = same-map (sized-join n a (emptyMap l n)) s
+  pub join-empty-right : {a : DependenceMap} → Sized n a → joinOf n a (emptyMap l n) ≡ a
+  join-empty-right {a} s = same-map (sized-join n a (emptyMap l n)) s
       (λ i h. held-join-off n a (emptyMap l n) i h (held-empty l n i))
-      (λ i h. history-join-off n a (emptyMap l n) i h (held-empty l n i) (λ e. f i h e ∙ sym (history-empty l n i h)))
+      (λ i h. history-join-off n a (emptyMap l n) i h (held-empty l n i))
+
+  pub join-empty-left : {b : DependenceMap} → Sized n b → ((i : ℕ) → i < n → heldAt b i ≡ false → historyAt b i ≡ initialHistory l)
+      → joinOf n (emptyMap l n) b ≡ b
+  unfolding joinedHeldAt joinedHistoryAt
+  join-empty-left {b} s f = same-map (sized-join n (emptyMap l n) b) s
+      (λ i h. held-join n (emptyMap l n) b i h ∙ ap (λ (p : Bool). p or heldAt b i) (held-empty l n i))
+      (λ i h. history-join n (emptyMap l n) b i h ∙ history i h (heldAt b i) refl)
+    where
+      history : (i : ℕ) → i < n → (q : Bool) → heldAt b i ≡ q → joinedHistory (heldAt (emptyMap l n) i) (historyAt (emptyMap l n) i) q (historyAt b i) ≡ historyAt b i
+      history i h true e = joined-right (heldAt (emptyMap l n) i) (historyAt (emptyMap l n) i) true (historyAt b i) (held-empty l n i) refl
+      history i h false e =
+          joined-left (heldAt (emptyMap l n) i) (historyAt (emptyMap l n) i) false (historyAt b i) refl ∙ history-empty l n i h ∙ sym (f i h e)

@@ -1,5 +1,5 @@
 -- Laws of packed maps: there and back, well-formed bytes, what can be packed, counts within their lists.
-use Prim.Native.Nat.{ℕ, _*_, _≤_, _<_}
+use Prim.Native.Nat.{ℕ, _+_, _*_, _≤_, _<_}
 use mathlib.Core.Bool.{Bool, true, false, false≢true}
 use mathlib.Core.Path.{_≡_, refl, sym, ap, _∙_, subst}
 use mathlib.Core.List.{List}
@@ -16,13 +16,14 @@ use Rattle.octets.proofs.Zero.{length-zeros, octets-zeros, allZero-zeros, zeros
 use Rattle.octets.proofs.Chunks.{sides, step, length-tabulate, getD-tabulate, length-chunks, part-chunks, chunks-same, chunks-parts, octets-chunks}
 use Rattle.marks.specs.declared.History.{History}
 use Rattle.marks.specs.History.{initialHistory}
-use Rattle.marks.specs.Packed.{historySize, unpackHistory, presentIn, formedHistory}
+use Rattle.marks.specs.Packed.{countBound, historySize, unpackHistory, presentIn, formedHistory}
 use Rattle.marks.proofs.Histories.{newer-which}
 use Rattle.marks.proofs.Packed.{length-packHistory, octets-packHistory, unpack-packHistory, pack-unpackHistory, packable-unpack, unpack-count, unpack-zeros as unpack-zero, roomy-unpack, present-packHistory, formed-packHistory, absent-zeros, absent-is-zero, unpack-absent, formed-zeros}
 use Rattle.maps.specs.declared.DependenceMap.{DependenceMap}
 use Rattle.maps.specs.Map.{heldAt, historyAt, emptyMap, withEntry, singleton, isEmpty, joinOf}
-use Rattle.maps.specs.Packed.{mapSize, packEntry, packEntryAt, packMap, entryBytes, unpackHeldAt, unpackHistoryAt, unpackMap, formedEntry, formedEntryAt, formedMap, EntryOk, present, absent, MapOk, Bounded}
-use Rattle.maps.proofs.Map.{outside, Sized, same-map, sized-empty, held-empty, history-empty, isEmpty-test, isEmpty-empty, sized-withEntry, held-withEntry, history-withEntry, held-withEntry-other, history-withEntry-other, Joined, both, left, right, neither, sized-join, join-view, join-empty-right}
+use Rattle.maps.specs.Packed.{mapSize, packEntry, packEntryAt, packMap, entryBytes, unpackHeldAt, unpackHistoryAt, unpackMap, formedEntry, formedEntryAt, formedMap}
+use Rattle.maps.specs.Internal.Fitting.{EntryOk, present, absent, MapOk, Bounded}
+use Rattle.maps.proofs.Map.{outside, Sized, same-map, sized-empty, held-empty, history-empty, isEmpty-test, isEmpty-empty, sized-withEntry, held-withEntry, history-withEntry, held-withEntry-other, history-withEntry-other, Joined, both, left, right, neither, sized-join, join-view}
 
 -- ---- one entry
 
@@ -232,7 +233,7 @@ joined-ok {w} {l} {x = x} {y = y} a b (both e f v) = ⊎-elim
     (newer-which v)
 joined-ok {w} {l} {x = x} a b (left e f) = subst (λ (t : Bool). EntryOk w l t x) e a
 joined-ok {w} {l} {y = y} a b (right e f) = subst (λ (t : Bool). EntryOk w l t y) f b
-joined-ok {w} {l} {y = y} a b (neither e f) = subst (λ (t : Bool). EntryOk w l t y) f b
+joined-ok {w} {l} {x = x} a b (neither e f) = subst (λ (t : Bool). EntryOk w l t x) e a
 
 pub mapOk-join : {w l n : ℕ} {a b : DependenceMap} → MapOk w l n a → MapOk w l n b → MapOk w l n (joinOf n a b)
 mapOk-join {n = n} {a = a} {b = b} j k = record {
@@ -240,9 +241,6 @@ mapOk-join {n = n} {a = a} {b = b} j k = record {
   histories = sized-join n a b .histories;
   each = λ i h. joined-ok (j .each i h) (k .each i h) (join-view n a b i h);
 }
-
-pub mapOk-join-empty : {w l n : ℕ} {a : DependenceMap} → MapOk w l n a → joinOf n a (emptyMap l n) ≡ a
-mapOk-join-empty {l = l} {n = n} k = join-empty-right l n (mapOk-sized k) (mapOk-absent k)
 
 -- ---- counts within their lists
 
@@ -267,7 +265,7 @@ bounded-within {n} {m} l s f i = ⊎-elim (f i) past (sides i n)
 pub mapOk-bounded : {w l n : ℕ} {m : DependenceMap} → MapOk w l n m → Bounded l m
 mapOk-bounded {l = l} k = bounded-within l (mapOk-sized k) (λ i h. entry-bounded (k .each i h))
 
-pub bounded-unpack : (w l n : ℕ) (b : List ℕ) → 15 ≤ l → Bounded l (unpackMap w l n b)
+pub bounded-unpack : (w l n : ℕ) (b : List ℕ) → countBound ≤ l + 1 → Bounded l (unpackMap w l n b)
 bounded-unpack w l n b h = bounded-within l (sized-unpack w l n b)
     (λ i p. omega (arith, ap (λ (x : History). x .count) (history-unpack w l n b i p), unpack-count w l (entryBytes w l b i)))
 
@@ -301,7 +299,7 @@ bounded-join l n a b p q = bounded-within l (sized-join n a b) (λ i h. go (boun
         (newer-which v)
     go c d (left e f) = c
     go c d (right e f) = d
-    go c d (neither e f) = d
+    go c d (neither e f) = c
 
 -- ---- a map with no entry is all zero
 

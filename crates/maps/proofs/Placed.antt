@@ -1,8 +1,8 @@
 -- Packed maps from a place of a buffer on: what the code that stores, loads and tests them does, over the width w of a life
 -- number, the length l of a list and the number n of entries.
 use Prim.Native.Nat.{ℕ, _+_, _*_, _≤_, _<_}
-use mathlib.Core.Bool.{Bool, true, false}
-use mathlib.Core.Path.{_≡_, sym, ap, _∙_, subst}
+use mathlib.Core.Bool.{Bool, true, false, false≢true}
+use mathlib.Core.Path.{_≡_, refl, sym, ap, _∙_, subst}
 use mathlib.Core.List.{List}
 use native.Mathlib.Nat.{add-zero}
 use native.Mathlib.Omega.{arith}
@@ -13,13 +13,15 @@ use Rattle.octets.proofs.Put.{part-part, put-whole, length-part}
 use Rattle.octets.proofs.Zero.{zeros-is, every-none, every-more, every-off}
 use Rattle.octets.proofs.Chunks.{step, put-none, put-more, put-chunk}
 use Rattle.marks.specs.declared.History.{History}
+use Rattle.marks.specs.History.{initialHistory}
 use Rattle.marks.specs.Packed.{historySize, packHistory, unpackHistory, presentIn, formedHistory}
 use Rattle.marks.proofs.Packed.{length-packHistory}
 use Rattle.maps.specs.declared.DependenceMap.{DependenceMap}
-use Rattle.maps.specs.Map.{heldAt, historyAt, withEntry, isEmpty}
-use Rattle.maps.specs.Packed.{mapSize, packEntry, packEntryAt, packMap, entryBytes, unpackHeldAt, unpackHistoryAt, mapIn, formedEntry, formedEntryAt, formedMap}
-use Rattle.maps.proofs.Map.{Sized, held-withEntry, history-withEntry, held-withEntry-other, history-withEntry-other}
-use Rattle.maps.proofs.Packed.{length-packEntryAt, held-unpack, history-unpack, pack-isEmpty, formed-zeroMap}
+use Rattle.maps.specs.Map.{heldAt, historyAt, emptyMap, withEntry, isEmpty}
+use Rattle.maps.specs.Packed.{mapSize, packEntry, packEntryAt, packMap, entryBytes, unpackHeldAt, unpackHistoryAt, unpackMap, mapIn, formedEntry, formedEntryAt, formedMap}
+use Rattle.maps.specs.Internal.Fitting.{looked}
+use Rattle.maps.proofs.Map.{Sized, held-empty, history-empty, held-withEntry, history-withEntry, held-withEntry-other, history-withEntry-other}
+use Rattle.maps.proofs.Packed.{length-packEntryAt, held-unpack, history-unpack, pack-isEmpty, unpack-zeros, formed-zeroMap}
 
 -- ---- one entry
 
@@ -118,13 +120,58 @@ module _ (w l opened : ℕ) (b : List ℕ) where
   unfolding formedMap
   formed-none = every-none (formedEntryAt w l opened b)
 
-  pub formed-all : (i n : ℕ) → formedMap w l i opened b ≡ true → i ≡ n → formedMap w l n opened b ≡ true
-  formed-all i n e h = rw h at e
+-- ---- of a packed map whose bytes are all zero no entry is looked at
 
--- bytes that are all zero
-pub formed-zero : (w l n at opened : ℕ) (s : List ℕ) → at + mapSize w l n ≤ length s → allZero (part at (mapSize w l n) s) ≡ true
-    → formedMap w l n opened (part at (mapSize w l n) s) ≡ true
-formed-zero w l n at opened s h e =
-    subst (λ (b : List ℕ). formedMap w l n opened b ≡ true)
-    (sym (zeros-is (part at (mapSize w l n) s) e ∙ ap zeros (length-part at (mapSize w l n) s h)))
-    (formed-zeroMap w l n opened)
+module _ (n : ℕ) (b : List ℕ) where
+  pub looked-none : allZero b ≡ true → looked n b ≡ 0
+  unfolding looked
+  looked-none e = rw e
+
+  pub looked-all : allZero b ≡ false → looked n b ≡ n
+  unfolding looked
+  looked-all e = rw e
+
+module _ (w l n : ℕ) (s : List ℕ) (at : ℕ) (fits : at + mapSize w l n ≤ length s) where
+  abbrev b : List ℕ
+  b = part at (mapSize w l n) s
+
+  bytes-zero : allZero b ≡ true → b ≡ zeros (mapSize w l n)
+  bytes-zero z = zeros-is b z ∙ ap zeros (length-part at (mapSize w l n) s fits)
+
+  map-zero : allZero b ≡ true → mapIn w l n s at ≡ emptyMap l n
+  map-zero z = ap (unpackMap w l n) (bytes-zero z) ∙ unpack-zeros w l n
+
+  -- one whose first entry is held has other bytes
+  pub looked-held : 0 < n → presentIn (part at (historySize w l) s) ≡ true → looked n b ≡ n
+  looked-held some h = looked-all n b (go (allZero b) refl)
+    where
+      first : heldAt (mapIn w l n s at) 0 ≡ true
+      first = let z : at + historySize w l * 0 ≡ at = omega arith in held-in w l n at s 0 some ∙ rw z h
+
+      go : (t : Bool) → allZero b ≡ t → t ≡ false
+      go true z = absurd (false≢true (sym (ap (λ (m : DependenceMap). heldAt m 0) (map-zero z) ∙ held-empty l n 0) ∙ first))
+      go false z = refl
+
+  module _ (e : ℕ) (end : e ≡ looked n b) where
+    -- the entries that are not looked at
+    unlooked : (j : ℕ) → e ≤ j → j < n → mapIn w l n s at ≡ emptyMap l n
+    unlooked j h k = go (allZero b) refl
+      where
+        go : (t : Bool) → allZero b ≡ t → mapIn w l n s at ≡ emptyMap l n
+        go true z = map-zero z
+        go false z = let f : e ≡ n = end ∙ looked-all n b z in absurd (omega arith)
+
+    module _ (j : ℕ) (h : e ≤ j) (k : j < n) where
+      pub unlooked-held : heldAt (mapIn w l n s at) j ≡ false
+      unlooked-held = ap (λ (m : DependenceMap). heldAt m j) (unlooked j h k) ∙ held-empty l n j
+
+      pub unlooked-history : historyAt (mapIn w l n s at) j ≡ initialHistory l
+      unlooked-history = ap (λ (m : DependenceMap). historyAt m j) (unlooked j h k) ∙ history-empty l n j k
+
+    -- well-formed if those that are looked at are
+    pub formed-all : (opened i : ℕ) → formedMap w l i opened b ≡ true → i ≡ e → formedMap w l n opened b ≡ true
+    formed-all opened i f h = go (allZero b) refl
+      where
+        go : (t : Bool) → allZero b ≡ t → formedMap w l n opened b ≡ true
+        go true z = subst (λ (x : List ℕ). formedMap w l n opened x ≡ true) (sym (bytes-zero z)) (formed-zeroMap w l n opened)
+        go false z = subst (λ (k : ℕ). formedMap w l k opened b ≡ true) (h ∙ end ∙ looked-all n b z) f

@@ -16,9 +16,9 @@ use Rattle.marks.specs.History.{Roomy, HistoryView, viewOf}
 use Rattle.marks.proofs.Histories.{roomy-initial, roomy-newer, view-newer}
 use Rattle.maps.specs.declared.DependenceMap.{DependenceMap}
 use Rattle.maps.specs.Map.{heldAt, historyAt, emptyMap, withEntry, singleton, joinedHistory, joinedHeldAt, joinedHistoryAt, joinOf, supersededAt, firstSuperseded}
-use Rattle.maps.specs.Packed.{EntryOk, present, absent, MapOk}
 use Rattle.maps.specs.Table.{updated}
-use Rattle.maps.specs.View.{MapView, mapView, singletonView, joinEntry, joinView, SupersededView, superseded-entry}
+use Rattle.maps.specs.Internal.Fitting.{EntryOk, present, absent, MapOk}
+use Rattle.maps.specs.Internal.View.{MapView, mapView, singletonView, joinEntry, joinView, SupersededView, superseded-entry}
 use Rattle.maps.proofs.Map.{Sized, sized-empty, held-empty, sized-singleton, history-singleton, held-singleton-other, Joined, both, left, right, neither, sized-join, held-join, history-join, join-view, held-withEntry, history-withEntry, held-withEntry-other, history-withEntry-other}
 use Rattle.maps.proofs.Packed.{mapOk-sized}
 use Rattle.maps.proofs.Superseded.{supersededAt-test, First, found, nowhere, superseded-view}

@@ -1,4 +1,4 @@
+pub mod Internal
 pub mod Map
 pub mod Packed
 pub mod Table
-pub mod View

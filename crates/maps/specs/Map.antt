@@ -38,11 +38,11 @@ isEmpty n m = every n (λ i. not (heldAt m i))
 -- ---- Joining takes the newer mark where both have one.
 
 unfoldable pub joinedHistory : Bool → History → Bool → History → History
-joinedHistory p x q y = pick p (pick q (newerOf x y) x) y
+joinedHistory p x q y = pick q (pick p (newerOf x y) y) x
 
--- whether that is the right entry; where neither is held too
+-- whether that is the right entry
 unfoldable pub choosesRight : Bool → History → Bool → History → Bool
-choosesRight p x q y = pick p (pick q (isOlder x y) false) true
+choosesRight p x q y = pick q (pick p (isOlder x y) true) false
 
 unfoldable pub joinedHeldAt : DependenceMap → DependenceMap → ℕ → Bool
 joinedHeldAt a b i = heldAt a i or heldAt b i

@@ -1,14 +1,13 @@
 // Dependence maps (document 01: maps): at most one history for each transactor, and the packed form.
-pub mod in_place;
-
 use marks::History;
 ghost use mathlib.Core.Path.{_≡_};
 ghost use Prim.Native.Nat.{_+_, _≤_, _<_};
 ghost use lib.ListN.{length};
 ghost use Rattle.octets.specs.Bytes.{put, part};
 ghost use Rattle.marks.specs.Packed.{width, places, historySize};
-ghost use Rattle.maps.specs.Map.{emptyMap, withEntry, singleton, isEmpty, choosesRight, joinOf, supersededEntry};
-ghost use Rattle.maps.specs.Packed.{entries, mapSize, packEntry, packMap, unpackMap, mapIn, formedEntry, formedMap, Bounded, MapOk};
+ghost use Rattle.maps.specs.Map.{emptyMap, withEntry, singleton, isEmpty, choosesRight, joinOf, supersededEntry, firstSuperseded, answerOf};
+ghost use Rattle.maps.specs.Packed.{entries, mapSize, packEntry, packMap, unpackMap, mapIn, formedEntry, formedMap};
+ghost use Rattle.maps.specs.Internal.Fitting.{Bounded, ExactEntry, Exact, looked, joinedBytes};
 
 // One entry for each transactor, and the bytes of a packed map.
 pub const ENTRIES: usize = 16;
@@ -25,6 +24,13 @@ pub struct DependenceMap {
 pub enum Comparison {
     Superseded(usize),
     Current,
+}
+
+// A map and a packed one, compared both ways: the first transactor whose history in the packed one is superseded, and the first
+// whose own is.
+pub struct Comparisons {
+    pub packed: Comparison,
+    pub own: Comparison,
 }
 
 impl DependenceMap {
@@ -74,28 +80,49 @@ impl DependenceMap {
     }
 
     // Entry by entry the newer of the two; on a tie that of self.
-    pub fn join(self, other: DependenceMap) -> DependenceMap
+    pub fn join(mut self, other: DependenceMap) -> DependenceMap
         ensures { λ r. ⌜ r ≡ joinOf entries self other ⌝ }
     {
-        let mut r = self;
         let mut i: usize = 0;
         while i < ENTRIES {
             let p = self.held[i];
-            let q = other.held[i];
             let x = self.histories[i];
+            let q = other.held[i];
             let y = other.histories[i];
             if chooses_right(p, x, q, y) {
-                r.held[i] = q;
-                r.histories[i] = y;
+                self.held[i] = q;
+                self.histories[i] = y;
             }
             i += 1;
         }
-        r
+        self
+    }
+
+    // Joined with the map packed from at on, whose entries are read one by one.
+    pub fn join_from(mut self, s: &[u8], at: usize) -> DependenceMap
+        requires { ⌜ at + mapSize width places entries ≤ length (now s) ⌝ }
+        ensures { λ r. ⌜ r ≡ joinOf entries self (mapIn width places entries (now (s .entry)) at) ⌝ }
+    {
+        let end = looked_at(s, at);
+        let mut i: usize = 0;
+        while i < end {
+            let right = at + marks::SIZE * i;
+            let p = self.held[i];
+            let x = self.histories[i];
+            let q = History::present(s, right);
+            let y = History::load(s, right);
+            if chooses_right(p, x, q, y) {
+                self.held[i] = q;
+                self.histories[i] = y;
+            }
+            i += 1;
+        }
+        self
     }
 
     // Joined with the map of h for transactor i alone.
     pub fn join_entry(mut self, i: usize, h: History) -> DependenceMap
-        requires { ⌜ (i < entries) × MapOk width places entries self ⌝ }
+        requires { ⌜ i < entries ⌝ }
         ensures { λ r. ⌜ r ≡ joinOf entries self (singleton places entries i h) ⌝ }
     {
         let p = self.held[i];
@@ -105,6 +132,47 @@ impl DependenceMap {
             self.histories[i] = h;
         }
         self
+    }
+
+    // Joined, as the left one, into the map packed from at on, in which only entries that change are stored.
+    pub fn join_into(self, image: &mut [u8], at: usize)
+        requires { ⌜ (at + mapSize width places entries ≤ length (now image)) × Bounded places self × Exact width places entries (now image) at ⌝ }
+        ensures { λ _. ⌜ now (image .exit) ≡ put at (packMap width places entries
+            (joinOf entries self (mapIn width places entries (now (image .entry)) at))) (now (image .entry)) ⌝ }
+    {
+        let mut i: usize = 0;
+        while i < ENTRIES {
+            let p = self.held[i];
+            let h = self.histories[i];
+            join_at(image, at + marks::SIZE * i, p, h);
+            i += 1;
+        }
+    }
+
+    // Compared with the map packed from at on, both ways in one pass, from the last entry to the first.
+    pub fn compare(self, s: &[u8], at: usize) -> Comparisons
+        requires { ⌜ (at + mapSize width places entries ≤ length (now s)) × Bounded places self ⌝ }
+        ensures { λ r. ⌜ (answerOf (r .packed) ≡ firstSuperseded entries (mapIn width places entries (now (s .entry)) at) self)
+            × (answerOf (r .own) ≡ firstSuperseded entries self (mapIn width places entries (now (s .entry)) at)) ⌝ }
+    {
+        let mut packed = Comparison::Current;
+        let mut own = Comparison::Current;
+        let mut i: usize = ENTRIES;
+        while 0 < i {
+            i -= 1;
+            let from = at + marks::SIZE * i;
+            let p = self.held[i];
+            let x = self.histories[i];
+            let q = History::present(s, from);
+            let y = History::load(s, from);
+            if superseded_entry(q, y, p, x) {
+                packed = Comparison::Superseded(i);
+            }
+            if superseded_entry(p, x, q, y) {
+                own = Comparison::Superseded(i);
+            }
+        }
+        Comparisons { packed, own }
     }
 
     // Writes the packed form from at on.
@@ -131,27 +199,11 @@ impl DependenceMap {
         requires { ⌜ at + mapSize width places entries ≤ length (now s) ⌝ }
         ensures { λ r. ⌜ r ≡ unpackMap width places entries (part at (mapSize width places entries) (now (s .entry))) ⌝ }
     {
+        let end = looked_at(s, at);
         let mut r = DependenceMap::EMPTY;
         let mut i: usize = 0;
-        while i < ENTRIES {
+        while i < end {
             let from = at + marks::SIZE * i;
-            r.held[i] = History::present(s, from);
-            r.histories[i] = History::load(s, from);
-            i += 1;
-        }
-        r
-    }
-
-    // The join of the maps packed from left and from right on, loaded entry by entry.
-    pub fn load_join(s: &[u8], left: usize, right: usize) -> DependenceMap
-        requires { ⌜ (left + mapSize width places entries ≤ length (now s)) × (right + mapSize width places entries ≤ length (now s)) ⌝ }
-        ensures { λ r. ⌜ r ≡ joinOf entries (mapIn width places entries (now (s .entry)) left) (mapIn width places entries (now (s .entry)) right) ⌝ }
-    {
-        let mut r = DependenceMap::EMPTY;
-        let mut i: usize = 0;
-        while i < ENTRIES {
-            let step = marks::SIZE * i;
-            let from = in_place::chosen(s, left + step, right + step);
             r.held[i] = History::present(s, from);
             r.histories[i] = History::load(s, from);
             i += 1;
@@ -164,12 +216,9 @@ impl DependenceMap {
         requires { ⌜ at + mapSize width places entries ≤ length (now s) ⌝ }
         ensures { λ r. ⌜ r ≡ formedMap width places entries opened (part at (mapSize width places entries) (now (s .entry))) ⌝ }
     {
-        // A map without entries: one test of all its bytes.
-        if octets::all_zero(s, at, SIZE) {
-            return true;
-        }
+        let end = looked_at(s, at);
         let mut i: usize = 0;
-        while i < ENTRIES {
+        while i < end {
             if !formed_entry(s, at + marks::SIZE * i, i < opened) {
                 return false;
             }
@@ -179,17 +228,33 @@ impl DependenceMap {
     }
 }
 
+// How many entries of the map packed from at on are looked at: none of one without entries, whose bytes take one test. It is not made
+// where the first entry is held.
+fn looked_at(s: &[u8], at: usize) -> usize
+    requires { ⌜ at + mapSize width places entries ≤ length (now s) ⌝ }
+    ensures { λ r. ⌜ (r ≡ looked entries (part at (mapSize width places entries) (now (s .entry)))) × (r ≤ entries) ⌝ }
+{
+    if History::present(s, at) {
+        return ENTRIES;
+    }
+    let none = octets::all_zero(s, at, SIZE);
+    if none {
+        return 0;
+    }
+    ENTRIES
+}
+
 // Whether the join's entry is the right one.
 fn chooses_right(p: bool, x: History, q: bool, y: History) -> bool
     ensures { λ r. ⌜ r ≡ choosesRight p x q y ⌝ }
 {
-    if p {
-        if q {
+    if q {
+        if p {
             return x.older(y);
         }
-        return false;
+        return true;
     }
-    true
+    false
 }
 
 // Whether both are held, and x is superseded by y.
@@ -204,6 +269,22 @@ fn superseded_entry(p: bool, x: History, q: bool, y: History) -> bool
         return false;
     }
     x.superseded_by(y)
+}
+
+// Joins h, if it is held, as the left one into the entry packed at at: it is stored unless a newer one is there.
+fn join_at(image: &mut [u8], at: usize, p: bool, h: History)
+    requires { ⌜ (at + historySize width places ≤ length (now image)) × (h .count ≤ places) × ExactEntry width places (part at (historySize width places) (now image)) ⌝ }
+    ensures { λ _. ⌜ now (image .exit) ≡ put at (joinedBytes width places p h (part at (historySize width places) (now (image .entry)))) (now (image .entry)) ⌝ }
+{
+    if !p {
+        return;
+    }
+    let q = History::present(image, at);
+    let y = History::load(image, at);
+    if chooses_right(p, h, q, y) {
+        return;
+    }
+    h.store(image, at);
 }
 
 fn store_entry(image: &mut [u8], at: usize, p: bool, h: History)

@@ -14,9 +14,9 @@ use Rattle.octets.proofs.Chunks.{sides}
 use Rattle.octets.proofs.Zero.{length-zeros, getD-zeros}
 use Rattle.marks.specs.declared.History.{History}
 use Rattle.marks.specs.Incarnation.{Incarnation, initialIncarnation, nextIncarnation, checkpointIncarnation}
-use Rattle.marks.specs.History.{incarnationOf, initialHistory, stabilized, rolledBack, checkpointed, newerOf, isOlder, Roomy, HistoryView, viewOf, historyOf, newerView}
+use Rattle.marks.specs.History.{incarnationOf, initialHistory, stabilized, rolledBack, checkpointed, newerOf, isOlder, Roomy, HistoryView, viewOf, initialView, stabilizedView, rolledBackView, checkpointedView, historyOf, newerView}
 use Rattle.marks.proofs.Trail.{Precedes}
-use Rattle.marks.proofs.Order.{precedes-refl, precedes-trans, precedes-antisym, by-size, by-number, later-size, same-incarnation}
+use Rattle.marks.proofs.Order.{precedes-refl, precedes-trans, precedes-antisym, precedes-eq, precedes-next, precedes-checkpoint, superseded-next, superseded-ne, checkpointed-checkpoint, checkpointed-ne, by-size, by-number, later-size, same-incarnation}
 
 -- ---- the life of a mark
 
@@ -88,7 +88,7 @@ newer-view a b =
 level : (n m : ℕ) → n ≡ m → ltb n m ≡ false
 level n m e = le-ltb n m (omega arith)
 
-pub newer-is : {a b m : History} → Newer a b m → m ≡ newerOf a b
+newer-is : {a b m : History} → Newer a b m → m ≡ newerOf a b
 unfolding newerOf
 newer-is (right-longer l) = simp (lt-ltb _ _ l)
 newer-is {a} {b} (left-longer l) = simp (le-ltb (a .count) (b .count) (omega arith), lt-ltb _ _ l)
@@ -176,8 +176,13 @@ module _ {l : ℕ} {a b : History} (r : Roomy l a) (s : Roomy l b) where
 
 -- ---- views
 
-pub view-checkpointed : {l : ℕ} {h : History} → Roomy l h → h .count < l
-    → viewOf (checkpointed h) ≡ record { stable = false; incarnation = checkpointIncarnation (viewOf h .incarnation) }
+pub view-stabilized : (h : History) → viewOf (stabilized h) ≡ stabilizedView (viewOf h)
+view-stabilized h = refl
+
+pub view-rolledBack : (h : History) → viewOf (rolledBack h) ≡ rolledBackView (viewOf h)
+view-rolledBack h = refl
+
+pub view-checkpointed : {l : ℕ} {h : History} → Roomy l h → h .count < l → viewOf (checkpointed h) ≡ checkpointedView (viewOf h)
 view-checkpointed r k = ap (λ a. record { stable = false; incarnation = a }) (incarnation-checkpointed r k)
 
 pub view-history : (v : HistoryView) → viewOf (historyOf v) ≡ v
@@ -227,6 +232,27 @@ pub ⊑-trans : {a b c : HistoryView} → a ⊑ b → b ⊑ c → a ⊑ c
     carry e f =
         let p : a .incarnation ≡ b .incarnation = precedes-antisym (h .incarnation) (rw e (k .incarnation)) in
         k .stable (sym p ∙ e) (h .stable p f)
+
+-- ---- the present mark only moves on
+
+pub ⊑-stabilized : (a : HistoryView) → a ⊑ stabilizedView a
+⊑-stabilized a = record { incarnation = precedes-refl _; stable = λ e f. refl }
+
+pub ⊑-rolledBack : (a : HistoryView) → a ⊑ rolledBackView a
+⊑-rolledBack a = record {
+  incarnation = precedes-next (a .incarnation);
+  stable = λ e. absurd (superseded-ne (superseded-next (a .incarnation)) e);
+}
+
+pub ⊑-checkpointed : (a : HistoryView) → a ⊑ checkpointedView a
+⊑-checkpointed a = record {
+  incarnation = precedes-checkpoint (a .incarnation);
+  stable = λ e. absurd (checkpointed-ne (checkpointed-checkpoint (a .incarnation)) e);
+}
+
+-- a take in its opening life may vanish: whatever is known of it stays known
+pub ⊑-annihilated : (a : HistoryView) → a .incarnation ≡ initialIncarnation → a ⊑ stabilizedView initialView
+⊑-annihilated a e = record { incarnation = precedes-eq e; stable = λ f g. refl }
 
 -- ---- the newer of two views
 

@@ -1,12 +1,12 @@
 -- Laws on lives, over lists of any length and numbers of any width.
-use Prim.Native.Nat.{ℕ, _≤_, _<_}
-use mathlib.Core.Path.{_≡_, refl, ap, sym}
+use Prim.Native.Nat.{ℕ, _+_, _≤_, _<_}
+use mathlib.Core.Path.{_≡_, refl, ap, sym, _∙_}
 use mathlib.Core.List.{List, [], _∷_, _++_}
 use mathlib.Core.Logic.{_⊎_, inl, inr, ⊎-elim}
 use native.Mathlib.Omega.{arith}
-use lib.ListN.{length}
+use lib.ListN.{length, length-append}
 use Rattle.marks.specs.Incarnation.{Incarnation, initialIncarnation, nextIncarnation, checkpointIncarnation, Superseded, lower, Checkpointed, begins}
-use Rattle.marks.proofs.Trail.{same, next, weaken, clash, follow, branch, here, places, only-here, eq-or-lt, alike, longer, Under, Precedes, SupersededAlong, superseded-along, CheckpointedAlong, checkpointed-along}
+use Rattle.marks.proofs.Trail.{Along, same, next, more, weaken, clash, follow, branch, here, places, only-here, eq-or-lt, alike, longer, Under, Precedes, SupersededAlong, superseded-along, CheckpointedAlong, checkpointed-along}
 
 -- the relations of specs as trails
 s-to : {a b : Incarnation} → Superseded a b → SupersededAlong a b
@@ -69,6 +69,12 @@ checkpointed-irrefl {a} s = only-here (a .checkpoints) (c-to s)
 pub checkpointed-ne : {a b : Incarnation} → Checkpointed a b → a ≡ b → ⊥
 checkpointed-ne s e = checkpointed-irrefl (rw e at s)
 
+-- a life with the present list is not signed
+pub checkpointed-longer : {a b : Incarnation} → Checkpointed a b → a .checkpoints ≡ b .checkpoints → ⊥
+checkpointed-longer {a} {b} (begins r e) f =
+    let n : length (a .checkpoints) ≡ length (a .checkpoints) + length (a .number ∷ r) = ap length (f ∙ e) ∙ length-append (a .checkpoints) (a .number ∷ r) in
+    omega arith
+
 -- ---- one after the other
 
 pub precedes-trans : {a b c : Incarnation} → Precedes a b → Precedes b c → Precedes a c
@@ -104,8 +110,8 @@ under-split {a} {b} h = go (places h)
     go (inr e) = inr (begins (e .1) (rw (e .3) (e .2)))
 
 -- a past life that is neither present nor signed is superseded
-pub precedes-withdrawn : {a b : Incarnation} → Precedes a b → (a ≡ b → ⊥) → (Checkpointed a b → ⊥) → Superseded a b
-precedes-withdrawn {a} {b} h f g = go (precedes-split h)
+pub precedes-superseded : {a b : Incarnation} → Precedes a b → (a ≡ b → ⊥) → (Checkpointed a b → ⊥) → Superseded a b
+precedes-superseded {a} {b} h f g = go (precedes-split h)
   where
     none : (a ≡ b) ⊎ Checkpointed a b → Superseded a b
     none (inl e) = absurd (f e)
@@ -215,6 +221,33 @@ checkpointed-checkpoint a = before-checkpointed (checkpointIncarnation a) a refl
 
 pub precedes-checkpoint : (a : Incarnation) → Precedes a (checkpointIncarnation a)
 precedes-checkpoint a = checkpointed-precedes (checkpointed-checkpoint a)
+
+-- a list ends in a number, and another along it ends before that number or with it
+checkpointed-snoc : (p q : List ℕ) (n m k : ℕ) → Along (λ n m. ⊥) (λ n m. n ≡ m) p n (q ++ m ∷ []) k → Along (λ n m. ⊥) (λ n m. n ≡ m) p n q m ⊎ ((p ≡ q) × (n ≡ m))
+checkpointed-snoc [] [] n m k (next h) = inr (refl, h)
+checkpointed-snoc [] (y ∷ q) n m k (next h) = inl (next h)
+checkpointed-snoc (x ∷ p) [] n m k (more h) = absurd (none p h)
+  where
+    none : (p : List ℕ) {n k : ℕ} → Along (λ n m. ⊥) (λ n m. n ≡ m) p n [] k → ⊥
+    none [] (same h) = h
+    none (x ∷ p) h = elim h [ ]
+checkpointed-snoc (x ∷ p) (y ∷ q) n m k (more h) = go (checkpointed-snoc p q n m k h)
+  where
+    go : Along (λ n m. ⊥) (λ n m. n ≡ m) p n q m ⊎ ((p ≡ q) × (n ≡ m)) → Along (λ n m. ⊥) (λ n m. n ≡ m) (x ∷ p) n (x ∷ q) m ⊎ (((x ∷ p) ≡ (x ∷ q)) × (n ≡ m))
+    go (inl z) = inl (more z)
+    go (inr z) = inr (ap (λ l. x ∷ l) (z .0), z .1)
+
+-- signed after a signing: signed before it, or by it
+pub checkpointed-split : (a c : Incarnation) → Checkpointed a (checkpointIncarnation c) → Checkpointed a c ⊎ (a ≡ c)
+checkpointed-split a c s = go (checkpointed-snoc (a .checkpoints) (c .checkpoints) (a .number) (c .number) 0 (c-to s))
+  where
+    go : CheckpointedAlong a c ⊎ ((a .checkpoints ≡ c .checkpoints) × (a .number ≡ c .number)) → Checkpointed a c ⊎ (a ≡ c)
+    go (inl z) = inl (c-of z)
+    go (inr z) = inr (λ i. record { checkpoints = (z .0) i; number = (z .1) i })
+
+-- signed goes by the list alone
+pub checkpointed-list : {a b c : Incarnation} → b .checkpoints ≡ c .checkpoints → Checkpointed a b → Checkpointed a c
+checkpointed-list e (begins r f) = begins r (sym e ∙ f)
 
 -- how the present life of a take moves on: a freeze leaves it as it is
 pub data Step (a : Incarnation) : Incarnation → Type 0 where

@@ -18,24 +18,24 @@ use Rattle.octets.proofs.Chunks.{sides, step, length-tabulate, getD-tabulate, t
 use Rattle.octets.proofs.Zero.{getD-zeros, chunks-zeros, tabulate-zeros, allZero-zeros, zeros-is, both}
 use Rattle.marks.specs.declared.History.{History}
 use Rattle.marks.specs.History.{initialHistory, stabilized, rolledBack, checkpointed, Roomy}
-use Rattle.marks.specs.Packed.{historySize, bit, packNumberAt, packHistory, unpackHistory, loadNumberAt, presentIn, formedHistory, Packable}
+use Rattle.marks.specs.Packed.{countBound, historySize, bit, packNumberAt, packHistory, unpackHistory, loadNumberAt, presentIn, formedHistory, Packable}
 use Rattle.marks.proofs.Histories.{roomy-initial, Newer, newer-keeps}
 
 -- ---- the first byte
 
-pub head-fits : (t : Bool) (n : ℕ) → n < 16 → 128 + 64 * bit t + n < 256
+pub head-fits : (t : Bool) (n : ℕ) → n < countBound → 128 + 64 * bit t + n < 256
 head-fits true n h = omega arith
 head-fits false n h = omega arith
 
-head-stable : (t : Bool) (n : ℕ) → n < 16 → leb 64 ((128 + 64 * bit t + n) % 128) ≡ t
+head-stable : (t : Bool) (n : ℕ) → n < countBound → leb 64 ((128 + 64 * bit t + n) % 128) ≡ t
 head-stable true n h = le-leb 64 ((128 + 64 * 1 + n) % 128) (omega arith)
 head-stable false n h = lt-leb 64 ((128 + 64 * 0 + n) % 128) (omega arith)
 
-head-count : (t : Bool) (n : ℕ) → n < 16 → (128 + 64 * bit t + n) % 16 ≡ n
+head-count : (t : Bool) (n : ℕ) → n < countBound → (128 + 64 * bit t + n) % 16 ≡ n
 head-count true n h = omega arith
 head-count false n h = omega arith
 
-head-bits : (t : Bool) (n : ℕ) → n < 16 → (128 + 64 * bit t + n) / 16 % 4 ≡ 0
+head-bits : (t : Bool) (n : ℕ) → n < countBound → (128 + 64 * bit t + n) / 16 % 4 ≡ 0
 head-bits true n h = omega arith
 head-bits false n h = omega arith
 
@@ -87,7 +87,7 @@ module _ (w l : ℕ) (h : History) where
       (octets-append (be 1 (headOf h)) (be w (h .incarnation)) (octets-be 1 (headOf h)) (octets-be w (h .incarnation)))
       (octets-chunks l (packNumberAt w (h .checkpoints)) (λ i p. octets-be w (getD (h .checkpoints) i 0)))
 
-  first-byte : h .count < 16 → getD (packHistory w l h) 0 0 ≡ headOf h
+  first-byte : h .count < countBound → getD (packHistory w l h) 0 0 ≡ headOf h
   unfolding packHistory
   first-byte p = rw (be-one (headOf h) (head-fits (h .stable) (h .count) p))
 
@@ -183,7 +183,7 @@ pack-unpackHistory w l b n o p e =
 -- ---- what an unpacked history keeps
 
 -- the four bits of the count
-pub unpack-count : (w l : ℕ) (b : List ℕ) → unpackHistory w l b .count < 16
+pub unpack-count : (w l : ℕ) (b : List ℕ) → unpackHistory w l b .count < countBound
 unfolding unpackHistory
 unpack-count w l b = omega arith
 
@@ -285,7 +285,7 @@ set-below (x ∷ xs) zero v n (suc i) h k = k (suc i)
 set-below (x ∷ xs) (suc c) v n zero h k = k 0
 set-below (x ∷ xs) (suc c) v n (suc i) h k = set-below xs c v n i h (λ j. k (suc j))
 
-pub packable-checkpointed : {w l : ℕ} {h : History} → Packable w l h → h .count + 1 < 16 → Packable w l (checkpointed h)
+pub packable-checkpointed : {w l : ℕ} {h : History} → Packable w l h → h .count + 1 < countBound → Packable w l (checkpointed h)
 packable-checkpointed {w} {l} {h} p k = record {
   incarnation = bound-pos w;
   checkpoints = λ i. set-below (h .checkpoints) (h .count) (h .incarnation) (bound w) i (p .incarnation) (p .checkpoints);

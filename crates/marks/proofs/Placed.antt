@@ -18,7 +18,7 @@ use Rattle.octets.proofs.Chunks.{step, tabulate-same, fill-more, fill-all, put-
 use Rattle.octets.proofs.Zero.{allZero-windows}
 use Rattle.marks.specs.declared.History.{History}
 use Rattle.marks.proofs.Packed.{headOf, head-fits, front, numbers, length-packNumberAt, length-front, length-numbers}
-use Rattle.marks.specs.Packed.{historySize, bit, packNumberAt, packHistory, unpackHistory, loadNumberAt, presentIn, formedHistory}
+use Rattle.marks.specs.Packed.{countBound, historySize, bit, packNumberAt, packHistory, unpackHistory, loadNumberAt, presentIn, formedHistory}
 
 -- ---- the places of a list
 
@@ -52,7 +52,7 @@ unused-halves w l k at c s p q =
 put-then : (at n : ℕ) (bs cs l : List ℕ) → length bs ≡ n → at + n + length cs ≤ length l → put (at + n) cs (put at bs l) ≡ put at (bs ++ cs) l
 put-then at n bs cs l e h = ap (λ (k : ℕ). put (at + k) cs (put at bs l)) (sym e) ∙ put-append at bs cs l (omega (arith, e))
 
-pub put-history : (w l at : ℕ) (h : History) (f : ℕ) (b b' b'' : List ℕ) → at + historySize w l ≤ length b → f ≡ bit (h .stable) → h .count < 16
+pub put-history : (w l at : ℕ) (h : History) (f : ℕ) (b b' b'' : List ℕ) → at + historySize w l ≤ length b → f ≡ bit (h .stable) → h .count < countBound
     → b' ≡ put (at + 1) (be w (h .incarnation)) (set b at (128 + 64 * f + h .count))
     → b'' ≡ put (at + 1 + w) (chunks l (packNumberAt w (h .checkpoints))) b'
     → b'' ≡ put at (packHistory w l h) b

@@ -16,8 +16,8 @@ pub data Along (E N : ℕ → ℕ → Type 0) : List ℕ → ℕ → List ℕ �
   more : {x n m : ℕ} {p q : List ℕ} → Along E N p n q m → Along E N (x ∷ p) n (x ∷ q) m
 
 -- the same between lives
-abbrev pub Lives : (ℕ → ℕ → Type 0) → (ℕ → ℕ → Type 0) → Incarnation → Incarnation → Type 0
-Lives E N a b = Along E N (a .checkpoints) (a .number) (b .checkpoints) (b .number)
+abbrev pub Trails : (ℕ → ℕ → Type 0) → (ℕ → ℕ → Type 0) → Incarnation → Incarnation → Type 0
+Trails E N a b = Along E N (a .checkpoints) (a .number) (b .checkpoints) (b .number)
 
 -- ---- two relations
 
@@ -139,17 +139,17 @@ module _ where
 
 -- a is b, or signed in b
 abbrev pub Under : Incarnation → Incarnation → Type 0
-Under = Lives (λ n m. n ≡ m) (λ n m. n ≡ m)
+Under = Trails (λ n m. n ≡ m) (λ n m. n ≡ m)
 
 -- a is a past or present life of the take whose present life is b
 abbrev pub Precedes : Incarnation → Incarnation → Type 0
-Precedes = Lives (λ n m. n ≤ m) (λ n m. n ≤ m)
+Precedes = Trails (λ n m. n ≤ m) (λ n m. n ≤ m)
 
 abbrev pub SupersededAlong : Incarnation → Incarnation → Type 0
-SupersededAlong = Lives (λ n m. n < m) (λ n m. n < m)
+SupersededAlong = Trails (λ n m. n < m) (λ n m. n < m)
 
 abbrev pub CheckpointedAlong : Incarnation → Incarnation → Type 0
-CheckpointedAlong = Lives (λ n m. ⊥) (λ n m. n ≡ m)
+CheckpointedAlong = Trails (λ n m. ⊥) (λ n m. n ≡ m)
 
 pub superseded-along : (a b : Incarnation) → Superseded a b ↔ SupersededAlong a b
 superseded-along a b = (to, λ h. from (places h))

@@ -6,7 +6,7 @@ use lib.ListN.{length, take, getD, set}
 use lib.Dec.{ltb}
 use Rattle.octets.specs.Bytes.{pick, zeros}
 use Rattle.marks.specs.declared.History.{History}
-use Rattle.marks.specs.Incarnation.{Incarnation, initialIncarnation}
+use Rattle.marks.specs.Incarnation.{Incarnation, initialIncarnation, nextIncarnation, checkpointIncarnation}
 
 -- The life of a mark: the mark without its frozen flag. The list's unused places are no part of it.
 abbrev pub incarnationOf : History → Incarnation
@@ -66,6 +66,16 @@ viewOf h = record { stable = h .stable; incarnation = incarnationOf h }
 -- the opening mark
 abbrev pub initialView : HistoryView
 initialView = record { stable = false; incarnation = initialIncarnation }
+
+-- Freeze, a fall and signing, as above.
+abbrev pub stabilizedView : HistoryView → HistoryView
+stabilizedView v = record { stable = true; incarnation = v .incarnation }
+
+abbrev pub rolledBackView : HistoryView → HistoryView
+rolledBackView v = record { stable = false; incarnation = nextIncarnation (v .incarnation) }
+
+abbrev pub checkpointedView : HistoryView → HistoryView
+checkpointedView v = record { stable = false; incarnation = checkpointIncarnation (v .incarnation) }
 
 -- the mark whose list has no unused place
 abbrev pub historyOf : HistoryView → History

@@ -19,6 +19,10 @@ places = 15
 abbrev pub largest : ℕ
 largest = 255
 
+-- what the four bits of the count hold is below this
+abbrev pub countBound : ℕ
+countBound = 16
+
 -- present 1, frozen 1, zero 2, count of L 4, n, L
 abbrev pub historySize : ℕ → ℕ → ℕ
 historySize w l = 1 + w + w * l
@@ -64,4 +68,4 @@ formedHistory w l b =
 pub record Packable (w l : ℕ) (h : History) : Type 0 where
   pub incarnation : h .incarnation < bound w
   pub checkpoints : (i : ℕ) → getD (h .checkpoints) i 0 < bound w
-  pub count : h .count < 16
+  pub count : h .count < countBound

@@ -5,7 +5,7 @@ ghost use lib.ListN.{length, take};
 ghost use Rattle.octets.specs.Bytes.{put, part, chunks, tabulate, allZero};
 ghost use Rattle.octets.specs.Numbers.{ofBe, be};
 ghost use Rattle.marks.specs.Incarnation.{sameList, supersededBy, checkpointedIn, sameIncarnation};
-ghost use Rattle.marks.specs.History.{incarnationOf, initialHistory, stabilized, rolledBack, checkpointed, newerOf, isOlder};
+ghost use Rattle.marks.specs.History.{incarnationOf, stabilized, rolledBack, checkpointed, isOlder};
 ghost use Rattle.marks.specs.Packed.{width, places, largest, historySize, bit, packNumberAt, packHistory, unpackHistory, loadNumberAt, presentIn, formedHistory};
 
 // Bytes of a life number, places of the list, bytes of a packed history.
@@ -39,13 +39,6 @@ impl History {
         checkpoints: [0; 15],
     };
 
-    // The constant's promise.
-    pub fn initial() -> History
-        ensures { λ r. ⌜ r ≡ initialHistory places ⌝ }
-    {
-        History::INITIAL
-    }
-
     // Document 01: freeze.
     pub fn stabilize(mut self) -> History
         ensures { λ r. ⌜ r ≡ stabilized self ⌝ }
@@ -78,32 +71,7 @@ impl History {
         self
     }
 
-    // The newer of two; on a tie self, the left one.
-    pub fn newer(self, other: History) -> History
-        ensures { λ r. ⌜ r ≡ newerOf self other ⌝ }
-    {
-        if self.count < other.count {
-            return other;
-        }
-        if other.count < self.count {
-            return self;
-        }
-        if self.incarnation < other.incarnation {
-            return other;
-        }
-        if other.incarnation < self.incarnation {
-            return self;
-        }
-        if self.stable {
-            return self;
-        }
-        if other.stable {
-            return other;
-        }
-        self
-    }
-
-    // Whether other is the newer one.
+    // Whether other is the newer of the two; on a tie self is, the left one.
     pub fn older(self, other: History) -> bool
         ensures { λ r. ⌜ r ≡ isOlder self other ⌝ }
     {

@@ -29,7 +29,7 @@ use Rattle.session.specs.Provenance.{Provenance}
 use Rattle.session.specs.Fed.{Call, run}
 use Rattle.session.specs.Trace.{Answer, ran, Performed, beginning, running, offering, naming, showing, Trace, called}
 use Rattle.session.specs.Trace as trace
-use Rattle.session.proofs.Model.{viewMail, view}
+use Rattle.session.proofs.Model.{viewMessage, view}
 use Rattle.session.proofs.Relation.{all2-length}
 use Rattle.session.proofs.Run.{reply-part}
 use Rattle.session.proofs.Calls.{Holds, holds-fresh, right-length}
@@ -177,7 +177,7 @@ module _ {y : Layout} {m : Limits} (z : Fitting y) (l : Allowed y m) {s : State}
 
 holds-waiting : {y : Layout} {img : List ℕ} {b : Provenance} → Holds y img b → waiting y img ≡ length (b .messages)
 unfolding waiting view
-holds-waiting {y} {img} h = sym (length-map (unpack y img .messages) viewMail) ∙ all2-length (h .rel .messages)
+holds-waiting {y} {img} h = sym (length-map (unpack y img .messages) viewMessage) ∙ all2-length (h .rel .messages)
 
 waiting-pack : {y : Layout} {s : State} → WellFormed y s → waiting y (pack y s) ≡ length (s .messages)
 unfolding waiting

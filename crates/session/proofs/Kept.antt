@@ -11,7 +11,7 @@ use borrow.Author.Tests.{eqb-true, eqb-false, eq-eqb, ne-eqb, le-leb}
 use Rattle.octets.specs.Bytes.{pick}
 use Rattle.octets.specs.Numbers.{bound}
 use Rattle.marks.specs.History.{initialView}
-use Rattle.maps.specs.View.{emptyView}
+use Rattle.maps.specs.Internal.View.{emptyView}
 use Rattle.rules.specs.Layout.{Limits}
 use Rattle.rules.specs.declared.Step.{Step}
 use Rattle.rules.specs.Step.{root, letter, receive, new, send, fail, lose, sign}
@@ -20,11 +20,11 @@ use Rattle.rules.proofs.Keep.Accepted.{kind-known}
 use Rattle.session.specs.Provenance.{Live, Provenance, withHolder, withWaitingMessage, withoutWaitingMessage}
 use Rattle.session.specs.Grounds.{Equal}
 use Rattle.session.specs.Steps.{carried, acted, opensRoot, opensChild, receives, applied, signs, provenanceRefusal, ProvenanceStep, refuses, applies, signing, not-ready}
-use Rattle.session.proofs.Model.{Node, Ledger, withNode, openNode, withMail, withoutMail, findMail, anewNode, sentMap, childNode, openerNode, signLedger}
+use Rattle.session.proofs.Model.{Node, Ledger, withNode, openNode, withMessageView, withoutMessageView, findMessage, anewNode, sentMap, childNode, openerNode, signLedger}
 use Rattle.session.proofs.Tables.{pick-view, pick-both, and-of}
 use Rattle.session.proofs.Relation.{Rel}
 use Rattle.session.proofs.Locals.{actedNode, step-acted}
-use Rattle.session.proofs.Messages.{ReceiptTests, receiveMail, step-send, step-letter, step-lose, step-receive}
+use Rattle.session.proofs.Messages.{ReceiptTests, receiveMessage, step-send, step-letter, step-lose, step-receive}
 use Rattle.session.proofs.Opening.{step-root, step-new}
 use Rattle.session.proofs.Sign.{Ready, ready-equal, equal-ready}
 use Rattle.session.proofs.Signing.{step-sign}
@@ -38,11 +38,11 @@ appliedLedger d e ok l p =
     let t : ℕ = p .transactor in
     let x : Node = l .nodes t in
     pick (eqb (p .kind) root) (openNode l (anewNode (l .opened) initialView))
-    (pick (eqb (p .kind) letter) (withMail l t emptyView)
-    (pick (eqb (p .kind) receive) (receiveMail d e l (p .message))
+    (pick (eqb (p .kind) letter) (withMessageView l t emptyView)
+    (pick (eqb (p .kind) receive) (receiveMessage d e l (p .message))
     (pick (eqb (p .kind) new) (openNode (withNode l t (openerNode (l .opened) x)) (childNode (l .opened) (sentMap t x)))
-    (pick (eqb (p .kind) send) (withMail l (p .other) (sentMap t x))
-    (pick (eqb (p .kind) lose) (withoutMail l (p .message))
+    (pick (eqb (p .kind) send) (withMessageView l (p .other) (sentMap t x))
+    (pick (eqb (p .kind) lose) (withoutMessageView l (p .message))
     (pick (eqb (p .kind) sign) (pick ok (signLedger l (named (p .message))) l)
     (withNode l t (actedNode (p .kind) t x))))))))
 
@@ -50,7 +50,7 @@ unfoldable pub stepLedger : ℕ → Bool → Bool → Bool → Ledger → Step �
 stepLedger n d e ok l p = pick (eqb n 0) (appliedLedger d e ok l p) l
 
 pub record StepTests (l : Ledger) (p : Step) (d e ok : Bool) : Type 0 where
-  pub receipt : ReceiptTests (l .nodes (findMail (p .message) (l .mails) .addressee)) (findMail (p .message) (l .mails)) d e
+  pub receipt : ReceiptTests (l .nodes (findMessage (p .message) (l .messages) .addressee)) (findMessage (p .message) (l .messages)) d e
   pub ready : (ok ≡ true) ↔ Ready l (named (p .message))
 
 -- ---- a step that is not refused

@@ -8,6 +8,9 @@ pub mod Messages
 pub mod Model
 pub mod Opening
 pub mod Plays
+pub mod Promises
+pub mod Queries
+pub mod Reached
 pub mod Relation
 pub mod Run
 pub mod Seen
@@ -16,6 +19,7 @@ pub mod Sign
 pub mod Signing
 pub mod Step
 pub mod Tables
+pub mod Traces
 pub mod Tries
 pub mod Unique
 pub mod ViewRules

@@ -9,10 +9,10 @@ use native.Mathlib.Omega.{arith}
 use lib.Dec.{eqb}
 use Rattle.octets.specs.Bytes.{pick}
 use Rattle.octets.proofs.Chunks.{sides}
-use Rattle.marks.specs.Incarnation.{Incarnation, nextIncarnation}
-use Rattle.marks.specs.History.{HistoryView, initialView}
-use Rattle.marks.proofs.Order.{precedes-refl, precedes-next, precedes-eq, superseded-next, superseded-ne}
-use Rattle.marks.proofs.Histories.{_⊑_, ⊑-refl}
+use Rattle.marks.specs.Incarnation.{Incarnation}
+use Rattle.marks.specs.History.{HistoryView, initialView, stabilizedView, rolledBackView}
+use Rattle.marks.proofs.Order.{superseded-ne}
+use Rattle.marks.proofs.Histories.{_⊑_, ⊑-refl, ⊑-stabilized, ⊑-rolledBack, ⊑-annihilated}
 use Rattle.maps.specs.Table.{updated}
 use Rattle.maps.proofs.Tables.{updated-same, updated-view}
 use Rattle.rules.specs.Step.{read, write, freeze, finish, fall}
@@ -22,24 +22,6 @@ use Rattle.session.proofs.Model.{Node, Ledger, own, withNode, bareNode,
 use Rattle.session.proofs.Tables.{pick-both, updated-both}
 use Rattle.session.proofs.Sets.{set-join, set-later, none-rel, only-rel, only-same, in-one, Cell, newest, cell-has, cell-later, own-kept, coherent-part}
 use Rattle.session.proofs.Relation.{live-used, gone-used, goneView, presentOf, present, present-live, present-gone, Whole, in-state, in-creation, in-behaviour, HolderRel, Rel, own-history, holder-later, holder-kept, messages-kept, noted-kept, blank-rel}
-
--- ---- the present mark moves on
-
-abbrev frozen : HistoryView → HistoryView
-frozen m = record { stable = true; incarnation = m .incarnation }
-
-abbrev next : HistoryView → HistoryView
-next m = record { stable = false; incarnation = nextIncarnation (m .incarnation) }
-
-stable-grows : (m : HistoryView) → m ⊑ frozen m
-stable-grows m = record { incarnation = precedes-refl _; stable = λ e f. refl }
-
-next-grows : (m : HistoryView) → m ⊑ next m
-next-grows m = record { incarnation = precedes-next (m .incarnation); stable = λ e. absurd (superseded-ne (superseded-next (m .incarnation)) e) }
-
--- a take that vanishes was in its opening life
-gone-grows : (m : HistoryView) → m .incarnation .checkpoints ≡ [] → m .incarnation .number ≡ 0 → m ⊑ goneView
-gone-grows m p q = record { incarnation = precedes-eq (λ i. record { checkpoints = p i; number = q i }); stable = λ e f. refl }
 
 -- ---- one take changed on both sides
 
@@ -54,8 +36,10 @@ module _ (l : Ledger) (b : Provenance) (r : Rel l b) (t : ℕ) (live : Live (b .
     pub grow : (u : ℕ) → present (b .holders) u ⊑ present (updated (b .holders) t h) u
     grow = updated-view (λ u z. present (b .holders) u ⊑ presentOf (z .status) (z .history)) (b .holders) t h (rw present-is grows) (λ u n. ⊑-refl _)
 
-    pub put-rel : HolderRel (present (updated (b .holders) t h)) t x h → Rel (withNode l t x) (withHolder b t h)
-    put-rel k =
+    -- no such step signs
+    pub put-rel : presentOf (h .status) (h .history) .incarnation .checkpoints ≡ b .holders t .history .incarnation .checkpoints
+        → HolderRel (present (updated (b .holders) t h)) t x h → Rel (withNode l t x) (withHolder b t h)
+    put-rel list k =
         let later = present (updated (b .holders) t h) in
         record {
           opened = r .opened;
@@ -65,21 +49,24 @@ module _ (l : Ledger) (b : Provenance) (r : Rel l b) (t : ℕ) (live : Live (b .
               (λ i. let o = live-opened l b r t live in absurd (omega arith)) (λ u n. r .fresh u);
           holders = updated-both (λ u. HolderRel later u) (l .nodes) (b .holders) t x h k (λ u n. holder-kept l b r later grow u);
           messages = messages-kept l b r later grow;
-          noted = noted-kept l b r later grow;
+          noted = noted-kept l b r later grow (updated-view
+              (λ u z. presentOf (z .status) (z .history) .incarnation .checkpoints ≡ present (b .holders) u .incarnation .checkpoints) (b .holders) t h
+              (rw present-is list) (λ u n. refl));
         }
 
   -- a step that changes the mark
   change-rel : (x : Node) (h : Holder) (m : HistoryView) → (h .status ≡ unused → ⊥) → presentOf (h .status) (h .history) ≡ m → b .holders t .history ⊑ m
+      → m .incarnation .checkpoints ≡ b .holders t .history .incarnation .checkpoints
       → ((later : ℕ → HistoryView) → ((u : ℕ) → present (b .holders) u ⊑ later u) → later t ≡ m → HolderRel later t x h)
       → Rel (withNode l t x) (withHolder b t h)
-  change-rel x h m used e g k =
+  change-rel x h m used e g list k =
       let g′ : b .holders t .history ⊑ presentOf (h .status) (h .history) = rw e g in
-      put-rel x h used g′ (k _ (grow x h used g′) (rw (updated-same (b .holders) t h) e))
+      put-rel x h used g′ (rw e list) (k _ (grow x h used g′) (rw (updated-same (b .holders) t h) e))
 
   -- a step that keeps the mark
   pub keep-rel : (x : Node) (h : Holder) → Live (h .status) → h .history ≡ b .holders t .history → HolderRel (present (b .holders)) t x h → Rel (withNode l t x) (withHolder b t h)
   keep-rel x h k e i =
-      change-rel x h (h .history) (live-used k) (present-live (h .status) (h .history) k) (rw e (⊑-refl _)) (λ later g p. holder-later g i)
+      change-rel x h (h .history) (live-used k) (present-live (h .status) (h .history) k) (rw e (⊑-refl _)) (ap (λ (n : HistoryView). n .incarnation .checkpoints) e) (λ later g p. holder-later g i)
 
   -- no step
   pub held-rel : Rel (withNode l t (l .nodes t)) (withHolder b t (b .holders t))
@@ -146,17 +133,17 @@ module _ {now : ℕ → HistoryView} {t : ℕ} {x : Node} {h : Holder} (r : Hold
       whole u a (in-creation k) = in-creation k
       whole u a (in-behaviour k) = absurd (List·Memᴰ·not-nil k)
 
-  freeze-rel : (later : ℕ → HistoryView) → ((u : ℕ) → now u ⊑ later u) → later t ≡ frozen (h .history) → HolderRel later t (freezeNode t x) (freezes h)
+  freeze-rel : (later : ℕ → HistoryView) → ((u : ℕ) → now u ⊑ later u) → later t ≡ stabilizedView (h .history) → HolderRel later t (freezeNode t x) (freezes h)
   unfolding freezes
   freeze-rel later g e = record {
     status = r .status;
-    state = updated-view (λ u o. Cell (λ a. In u a (h .state)) (later u) o) (x .state) t (some (frozen (own t x)))
-        (let n = cell-has (r .own live) (r .state t) in rw (own-history r) (newest {m = frozen (h .history)} (record { has = n .has; top = n .top; known = rw e (⊑-refl _) })))
+    state = updated-view (λ u o. Cell (λ a. In u a (h .state)) (later u) o) (x .state) t (some (stabilizedView (own t x)))
+        (let n = cell-has (r .own live) (r .state t) in rw (own-history r) (newest {m = stabilizedView (h .history)} (record { has = n .has; top = n .top; known = rw e (⊑-refl _) })))
         (λ u n. cell-later (g u) (r .state u));
     creation = set-later now later (x .creation) (h .creation) g (r .creation);
     behaviour = set-later now later (x .behaviour) (h .behaviour) g (r .behaviour);
     coherent = coherent-part (Whole h) (Whole (freezes h)) whole (r .coherent);
-    own = λ k. rw (updated-same (x .state) t (some (frozen (own t x))), own-history r);
+    own = λ k. rw (updated-same (x .state) t (some (stabilizedView (own t x))), own-history r);
     gone = λ k. absurd (k live);
     first = r .first;
   }
@@ -244,8 +231,8 @@ module _ (l : Ledger) (b : Provenance) (r : Rel l b) (t : ℕ) (live : Live (b .
   -- a frozen take is frozen again: the same mark on both sides
   pub step-freeze : Rel (withNode l t (freezeNode t (l .nodes t))) (withHolder b t (freezes (b .holders t)))
   unfolding freezes
-  step-freeze = change-rel l b r t live (freezeNode t x) (freezes h) (frozen (h .history)) (live-used live) (present-live (h .status) (frozen (h .history)) live)
-      (stable-grows (h .history)) (λ later g e. freeze-rel (r .holders t) live later g e)
+  step-freeze = change-rel l b r t live (freezeNode t x) (freezes h) (stabilizedView (h .history)) (live-used live) (present-live (h .status) (stabilizedView (h .history)) live)
+      (⊑-stabilized (h .history)) refl (λ later g e. freeze-rel (r .holders t) live later g e)
 
   pub step-finish : Rel (withNode l t (finishNode (l .nodes t))) (withHolder b t (finishes (b .holders t)))
   unfolding finishes
@@ -254,16 +241,16 @@ module _ (l : Ledger) (b : Provenance) (r : Rel l b) (t : ℕ) (live : Live (b .
   -- by G the present life was the opening one, so what is known of the take stays known
   step-vanish : h .history .incarnation .checkpoints ≡ [] → Rel (withNode l t (bareNode annihilated)) (withHolder b t (blank annihilated))
   step-vanish p = change-rel l b r t live (bareNode annihilated) (blank annihilated) goneView gone-used (present-gone initialView)
-      (gone-grows (h .history) p (r .holders t .first p)) (λ later g k. blank-rel later t annihilated (λ i. elim i [ ]))
+      (⊑-annihilated (h .history) (λ i. record { checkpoints = p i; number = r .holders t .first p i })) (sym p) (λ later g k. blank-rel later t annihilated (λ i. elim i [ ]))
 
-  step-next : (h .history .incarnation .checkpoints ≡ [] → ⊥) → Rel (withNode l t (anewNode t (next (own t x)))) (withHolder b t (anew t (next (h .history))))
-  step-next p = change-rel l b r t live (anewNode t (next (own t x))) (anew t (next (h .history))) (next (h .history)) (live-used idle) (present-live ready (next (h .history)) idle)
-      (next-grows (h .history)) (λ later g k. rw same (anew-rel later t (next (h .history)) (rw k (⊑-refl _)) (λ q. absurd (p q))))
+  step-next : (h .history .incarnation .checkpoints ≡ [] → ⊥) → Rel (withNode l t (anewNode t (rolledBackView (own t x)))) (withHolder b t (anew t (rolledBackView (h .history))))
+  step-next p = change-rel l b r t live (anewNode t (rolledBackView (own t x))) (anew t (rolledBackView (h .history))) (rolledBackView (h .history)) (live-used idle) (present-live ready (rolledBackView (h .history)) idle)
+      (⊑-rolledBack (h .history)) refl (λ later g k. rw same (anew-rel later t (rolledBackView (h .history)) (rw k (⊑-refl _)) (λ q. absurd (p q))))
 
   pub step-rollback : Rel (withNode l t (rollbackNode t (l .nodes t))) (withHolder b t (rolledBackHolder t (b .holders t)))
   unfolding rolledBackHolder rollbackNode
   step-rollback = pick-both After (isNil (own t x .incarnation .checkpoints)) (isNil (h .history .incarnation .checkpoints))
-      (ap (λ m. isNil (m .incarnation .checkpoints)) same) (bareNode annihilated) (anewNode t (next (own t x))) (blank annihilated) (anew t (next (h .history)))
+      (ap (λ m. isNil (m .incarnation .checkpoints)) same) (bareNode annihilated) (anewNode t (rolledBackView (own t x))) (blank annihilated) (anew t (rolledBackView (h .history)))
       (λ e. step-vanish (isNil-true (h .history .incarnation .checkpoints) (rw same at e)))
       (λ e. step-next (isNil-false (h .history .incarnation .checkpoints) (rw same at e)))
 

@@ -9,10 +9,10 @@ use Rattle.octets.specs.Bytes.{pick}
 use Rattle.marks.specs.Incarnation.{Incarnation}
 use Rattle.marks.specs.History.{HistoryView}
 use Rattle.marks.proofs.Histories.{⊑-refl}
-use Rattle.maps.specs.View.{MapView, joinView, emptyView, singletonView, SupersededView}
+use Rattle.maps.specs.Internal.View.{MapView, joinView, emptyView, singletonView, SupersededView}
 use Rattle.session.specs.Provenance.{busy, Live, working, Incarnations, In, one, Holder, WaitingMessage, Provenance, withHolder, withWaitingMessage, remove, withoutWaitingMessage, find, isMissing, anySuperseded}
 use Rattle.session.specs.Steps.{carried, rolledBackHolder, isDropped, isRolledBack, received, receives}
-use Rattle.session.proofs.Model.{Node, Mail, Ledger, own, withNode, withMail, removeMail, withoutMail, findMail, missingMail, rollbackNode, knownMap, sentMap, takenNode}
+use Rattle.session.proofs.Model.{Node, MessageView, Ledger, own, withNode, withMessageView, removeMessage, withoutMessageView, findMessage, missingMessage, rollbackNode, knownMap, sentMap, busyNode}
 use Rattle.session.proofs.Tables.{pick-both, same-test}
 use Rattle.session.proofs.Sets.{SetRel, set-join, none-rel, only-rel, in-one, cell-has, Coherent, Members, coherent-part, SupersededSet, superseded-set, supersededSet-same, supersededSet-test}
 use Rattle.session.proofs.Relation.{present, Whole, in-state, in-creation, in-behaviour, HolderRel, MessageRel, All2, none2, cons2, Rel, own-history}
@@ -26,28 +26,28 @@ all2-append a b k (cons2 r h) = cons2 r (all2-append a b k h)
 
 module _ {now : ℕ → HistoryView} (n : ℕ) where
   -- both sides find a number at the same place
-  same-number : {m : Mail} {q : WaitingMessage} → MessageRel now m q → eqb (m .number) n ≡ eqb (q .number) n
+  same-number : {m : MessageView} {q : WaitingMessage} → MessageRel now m q → eqb (m .number) n ≡ eqb (q .number) n
   same-number r = ap (λ k. eqb k n) (r .number)
 
-  all2-remove : {s : List Mail} {t : List WaitingMessage} → All2 (MessageRel now) s t → All2 (MessageRel now) (removeMail n s) (remove n t)
-  unfolding removeMail remove
+  all2-remove : {s : List MessageView} {t : List WaitingMessage} → All2 (MessageRel now) s t → All2 (MessageRel now) (removeMessage n s) (remove n t)
+  unfolding removeMessage remove
   all2-remove none2 = none2
   all2-remove (cons2 {a = m} {b = q} {s = s} {t = t} r h) =
-      pick-both (All2 (MessageRel now)) (eqb (m .number) n) (eqb (q .number) n) (same-number r) s (m ∷ removeMail n s) t (q ∷ remove n t)
+      pick-both (All2 (MessageRel now)) (eqb (m .number) n) (eqb (q .number) n) (same-number r) s (m ∷ removeMessage n s) t (q ∷ remove n t)
       (λ e. h) (λ e. cons2 r (all2-remove h))
 
   -- where there is none, both give a parcel that nobody sent
-  pub find-rel : {s : List Mail} {t : List WaitingMessage} → All2 (MessageRel now) s t → MessageRel now (findMail n s) (find n t)
-  unfolding findMail find
+  pub find-rel : {s : List MessageView} {t : List WaitingMessage} → All2 (MessageRel now) s t → MessageRel now (findMessage n s) (find n t)
+  unfolding findMessage find
   find-rel none2 = record { number = refl; addressee = refl; incarnations = none-rel now; coherent = λ u a c x y s. List·Memᴰ·not-nil x }
   find-rel (cons2 {a = m} {b = q} {s = s} {t = t} r h) =
-      pick-both (MessageRel now) (eqb (m .number) n) (eqb (q .number) n) (same-number r) m (findMail n s) q (find n t) (λ e. r) (λ e. find-rel h)
+      pick-both (MessageRel now) (eqb (m .number) n) (eqb (q .number) n) (same-number r) m (findMessage n s) q (find n t) (λ e. r) (λ e. find-rel h)
 
-  pub missing-same : {s : List Mail} {t : List WaitingMessage} → All2 (MessageRel now) s t → missingMail n s ≡ isMissing n t
-  unfolding missingMail isMissing
+  pub missing-same : {s : List MessageView} {t : List WaitingMessage} → All2 (MessageRel now) s t → missingMessage n s ≡ isMissing n t
+  unfolding missingMessage isMissing
   missing-same none2 = refl
   missing-same (cons2 {a = m} {b = q} {s = s} {t = t} r h) =
-      pick-both (λ x y. x ≡ y) (eqb (m .number) n) (eqb (q .number) n) (same-number r) false (missingMail n s) false (isMissing n t) (λ e. refl) (λ e. missing-same h)
+      pick-both (λ x y. x ≡ y) (eqb (m .number) n) (eqb (q .number) n) (same-number r) false (missingMessage n s) false (isMissing n t) (λ e. refl) (λ e. missing-same h)
 
 -- ---- creation, behaviour and own mark, which a take sends and hands on
 
@@ -69,8 +69,8 @@ module _ {now : ℕ → HistoryView} {t : ℕ} {x : Node} {h : Holder} (r : Hold
 -- ---- send, letter, lose
 
 module _ (l : Ledger) (b : Provenance) (r : Rel l b) where
-  mail-rel : (to : ℕ) (M : MapView) (X : Incarnations) → SetRel (present (b .holders)) M X → Coherent (Members X) → Rel (withMail l to M) (withWaitingMessage b to X)
-  mail-rel to M X h k = record {
+  send-rel : (to : ℕ) (M : MapView) (X : Incarnations) → SetRel (present (b .holders)) M X → Coherent (Members X) → Rel (withMessageView l to M) (withWaitingMessage b to X)
+  send-rel to M X h k = record {
     opened = r .opened;
     next = ap (λ n. n + 1) (r .next);
     used = r .used;
@@ -81,15 +81,15 @@ module _ (l : Ledger) (b : Provenance) (r : Rel l b) where
     noted = r .noted;
   }
 
-  pub step-send : (t to : ℕ) → Live (b .holders t .status) → Rel (withMail l to (sentMap t (l .nodes t))) (withWaitingMessage b to (carried t (b .holders t)))
+  pub step-send : (t to : ℕ) → Live (b .holders t .status) → Rel (withMessageView l to (sentMap t (l .nodes t))) (withWaitingMessage b to (carried t (b .holders t)))
   step-send t to live =
       let is = present-is l b r t live in
-      mail-rel to (sentMap t (l .nodes t)) (carried t (b .holders t)) (sent-rel (r .holders t) live is) (sent-coherent (r .holders t) live is)
+      send-rel to (sentMap t (l .nodes t)) (carried t (b .holders t)) (sent-rel (r .holders t) live is) (sent-coherent (r .holders t) live is)
 
-  pub step-letter : (to : ℕ) → Rel (withMail l to emptyView) (withWaitingMessage b to [])
-  step-letter to = mail-rel to emptyView [] (none-rel (present (b .holders))) (λ u a c x y s. List·Memᴰ·not-nil x)
+  pub step-letter : (to : ℕ) → Rel (withMessageView l to emptyView) (withWaitingMessage b to [])
+  step-letter to = send-rel to emptyView [] (none-rel (present (b .holders))) (λ u a c x y s. List·Memᴰ·not-nil x)
 
-  pub step-lose : (n : ℕ) → Rel (withoutMail l n) (withoutWaitingMessage b n)
+  pub step-lose : (n : ℕ) → Rel (withoutMessageView l n) (withoutWaitingMessage b n)
   step-lose n = record {
     opened = r .opened;
     next = r .next;
@@ -102,7 +102,7 @@ module _ (l : Ledger) (b : Provenance) (r : Rel l b) where
 
 -- ---- receive
 
-module _ {now : ℕ → HistoryView} {t : ℕ} {x : Node} {h : Holder} (r : HolderRel now t x h) {m : Mail} {q : WaitingMessage} (p : MessageRel now m q) where
+module _ {now : ℕ → HistoryView} {t : ℕ} {x : Node} {h : Holder} (r : HolderRel now t x h) {m : MessageView} {q : WaitingMessage} (p : MessageRel now m q) where
   abbrev ground : Incarnations
   ground = h .state ++ h .creation
 
@@ -127,13 +127,13 @@ module _ {now : ℕ → HistoryView} {t : ℕ} {x : Node} {h : Holder} (r : Hold
       let j = supersededSet-test ground (q .incarnations) in
       same-test e (anySuperseded ground (q .incarnations)) (λ e. j .1 (k .1 (i .0 e))) (λ e. i .1 (k .0 (j .0 e)))
 
-  abbrev taken : Holder
-  taken = record { status = busy; history = h .history; state = h .state; creation = h .creation; behaviour = q .incarnations }
+  abbrev busyHolder : Holder
+  busyHolder = record { status = busy; history = h .history; state = h .state; creation = h .creation; behaviour = q .incarnations }
 
   -- C of state, creation and the new behaviour together, because both tests failed
-  taken-rel : Live (h .status) → isDropped h q ≡ false → isRolledBack h q ≡ false → HolderRel now t (takenNode x (m .dependences)) taken
+  busy-rel : Live (h .status) → isDropped h q ≡ false → isRolledBack h q ≡ false → HolderRel now t (busyNode x (m .dependences)) busyHolder
   unfolding isDropped isRolledBack
-  taken-rel live d e = record {
+  busy-rel live d e = record {
     status = refl;
     state = r .state;
     creation = r .creation;
@@ -144,7 +144,7 @@ module _ {now : ℕ → HistoryView} {t : ℕ} {x : Node} {h : Holder} (r : Hold
     first = r .first;
   }
     where
-      part : (u : ℕ) (a : Incarnation) → Whole taken u a → In u a ground ⊎ In u a (q .incarnations)
+      part : (u : ℕ) (a : Incarnation) → Whole busyHolder u a → In u a ground ⊎ In u a (q .incarnations)
       part u a (in-state z) = inl (Memᴰ·append-left (h .creation) z)
       part u a (in-creation z) = inl (Memᴰ·append-right (h .state) z)
       part u a (in-behaviour z) = inr z
@@ -152,7 +152,7 @@ module _ {now : ℕ → HistoryView} {t : ℕ} {x : Node} {h : Holder} (r : Hold
       none : (X Y : Incarnations) → anySuperseded X Y ≡ false → SupersededSet X Y → ⊥
       none X Y f s = false≢true (sym f ∙ supersededSet-test X Y .1 s)
 
-      coherent : Coherent (Whole taken)
+      coherent : Coherent (Whole busyHolder)
       coherent u a c y z s = go (part u a y) (part u c z)
         where
           go : In u a ground ⊎ In u a (q .incarnations) → In u c ground ⊎ In u c (q .incarnations) → ⊥
@@ -162,42 +162,42 @@ module _ {now : ℕ → HistoryView} {t : ℕ} {x : Node} {h : Holder} (r : Hold
           go (inr i) (inr j) = p .coherent u a c i j s
 
 -- d and e stand for the ledger's two tests where the take of node x receives mail m
-pub record ReceiptTests (x : Node) (m : Mail) (d e : Bool) : Type 0 where
+pub record ReceiptTests (x : Node) (m : MessageView) (d e : Bool) : Type 0 where
   pub dropped : (d ≡ true) ↔ SupersededView (m .dependences) (knownMap x)
   pub rolls-back : (e ≡ true) ↔ SupersededView (knownMap x) (m .dependences)
 
 -- what a receipt leaves of a node, by the outcomes of the two tests
 abbrev pub receivedNode : Bool → Bool → ℕ → Node → MapView → Node
-receivedNode d e t x M = pick d x (pick e (rollbackNode t x) (takenNode x M))
+receivedNode d e t x M = pick d x (pick e (rollbackNode t x) (busyNode x M))
 
 -- the receipt of the mail of number n
-abbrev pub receiveMail : Bool → Bool → Ledger → ℕ → Ledger
-receiveMail d e l n =
-    let m : Mail = findMail n (l .mails) in
+abbrev pub receiveMessage : Bool → Bool → Ledger → ℕ → Ledger
+receiveMessage d e l n =
+    let m : MessageView = findMessage n (l .messages) in
     let t : ℕ = m .addressee in
-    withNode (withoutMail l n) t (receivedNode d e t (l .nodes t) (m .dependences))
+    withNode (withoutMessageView l n) t (receivedNode d e t (l .nodes t) (m .dependences))
 
 module _ (l : Ledger) (b : Provenance) (r : Rel l b) (n : ℕ) (d e : Bool) where
   -- by whatever take, and whatever parcel
-  received-rel : {m : Mail} {q : WaitingMessage} → MessageRel (present (b .holders)) m q → (t : ℕ) → Live (b .holders t .status) → ReceiptTests (l .nodes t) m d e
-      → Rel (withNode (withoutMail l n) t (receivedNode d e t (l .nodes t) (m .dependences))) (withHolder (withoutWaitingMessage b n) t (received t (b .holders t) q))
+  received-rel : {m : MessageView} {q : WaitingMessage} → MessageRel (present (b .holders)) m q → (t : ℕ) → Live (b .holders t .status) → ReceiptTests (l .nodes t) m d e
+      → Rel (withNode (withoutMessageView l n) t (receivedNode d e t (l .nodes t) (m .dependences))) (withHolder (withoutWaitingMessage b n) t (received t (b .holders t) q))
   unfolding received
   received-rel {m} {q} p t live i =
       let x = l .nodes t in let h = b .holders t in let s = step-lose l b r n in
       let f = dropped-same (r .holders t) p d (i .dropped) in
       let g = rolledBack-same (r .holders t) p e (i .rolls-back) in
-      let y = taken (r .holders t) p in
-      pick-both (λ z w. Rel (withNode (withoutMail l n) t z) (withHolder (withoutWaitingMessage b n) t w)) d (isDropped h q) f x (pick e (rollbackNode t x) (takenNode x (m .dependences))) h (pick (isRolledBack h q) (rolledBackHolder t h) y)
-      (λ k. held-rel (withoutMail l n) (withoutWaitingMessage b n) s t live) λ k.
-      pick-both (λ z w. Rel (withNode (withoutMail l n) t z) (withHolder (withoutWaitingMessage b n) t w)) e (isRolledBack h q) g (rollbackNode t x) (takenNode x (m .dependences)) (rolledBackHolder t h) y
-      (λ j. step-rollback (withoutMail l n) (withoutWaitingMessage b n) s t live)
-      (λ j. keep-rel (withoutMail l n) (withoutWaitingMessage b n) s t live (takenNode x (m .dependences)) y working refl (taken-rel (r .holders t) p live (sym f ∙ k) (sym g ∙ j)))
+      let y = busyHolder (r .holders t) p in
+      pick-both (λ z w. Rel (withNode (withoutMessageView l n) t z) (withHolder (withoutWaitingMessage b n) t w)) d (isDropped h q) f x (pick e (rollbackNode t x) (busyNode x (m .dependences))) h (pick (isRolledBack h q) (rolledBackHolder t h) y)
+      (λ k. held-rel (withoutMessageView l n) (withoutWaitingMessage b n) s t live) λ k.
+      pick-both (λ z w. Rel (withNode (withoutMessageView l n) t z) (withHolder (withoutWaitingMessage b n) t w)) e (isRolledBack h q) g (rollbackNode t x) (busyNode x (m .dependences)) (rolledBackHolder t h) y
+      (λ j. step-rollback (withoutMessageView l n) (withoutWaitingMessage b n) s t live)
+      (λ j. keep-rel (withoutMessageView l n) (withoutWaitingMessage b n) s t live (busyNode x (m .dependences)) y working refl (busy-rel (r .holders t) p live (sym f ∙ k) (sym g ∙ j)))
 
   pub step-receive : Live (b .holders (find n (b .messages) .addressee) .status)
-      → ReceiptTests (l .nodes (findMail n (l .mails) .addressee)) (findMail n (l .mails)) d e → Rel (receiveMail d e l n) (receives b n)
+      → ReceiptTests (l .nodes (findMessage n (l .messages) .addressee)) (findMessage n (l .messages)) d e → Rel (receiveMessage d e l n) (receives b n)
   unfolding receives
   step-receive live i =
-      let m = findMail n (l .mails) in
+      let m = findMessage n (l .messages) in
       let p = find-rel n (r .messages) in
-      subst (λ t. ReceiptTests (l .nodes t) m d e → Rel (withNode (withoutMail l n) t (receivedNode d e t (l .nodes t) (m .dependences))) (receives b n))
+      subst (λ t. ReceiptTests (l .nodes t) m d e → Rel (withNode (withoutMessageView l n) t (receivedNode d e t (l .nodes t) (m .dependences))) (receives b n))
       (sym (p .addressee)) (received-rel p (find n (b .messages) .addressee) live) i

@@ -6,10 +6,9 @@ use mathlib.Core.List.{List, [], _∷_, _++_, map}
 use mathlib.Core.Option.{some, Option·getD}
 use lib.Dec.{eqb}
 use Rattle.octets.specs.Bytes.{pick}
-use Rattle.marks.specs.Incarnation.{nextIncarnation, checkpointIncarnation}
-use Rattle.marks.specs.History.{HistoryView, initialView}
+use Rattle.marks.specs.History.{HistoryView, initialView, stabilizedView, rolledBackView, checkpointedView}
 use Rattle.maps.specs.Table.{updated}
-use Rattle.maps.specs.View.{MapView, mapView, emptyView, singletonView, joinView}
+use Rattle.maps.specs.Internal.View.{MapView, mapView, emptyView, singletonView, joinView}
 use Rattle.rules.specs.State.{Transactor, Message, State, transactorAt}
 use Rattle.session.specs.Provenance.{Status, unused, ready, busy, annihilated}
 use Rattle.session.specs.Steps.{isNil}
@@ -22,7 +21,7 @@ pub record Node : Type 0 where
   pub creation : MapView
   pub behaviour : MapView
 
-pub record Mail : Type 0 where
+pub record MessageView : Type 0 where
   pub number : ℕ
   pub addressee : ℕ
   pub dependences : MapView
@@ -31,7 +30,7 @@ pub record Ledger : Type 0 where
   pub opened : ℕ
   pub next : ℕ
   pub nodes : ℕ → Node
-  pub mails : List Mail
+  pub messages : List MessageView
 
 -- the own mark of take t
 abbrev pub own : ℕ → Node → HistoryView
@@ -40,28 +39,28 @@ own t x = Option·getD (x .state t) initialView
 -- ---- operations
 
 abbrev pub withNode : Ledger → ℕ → Node → Ledger
-withNode l t x = record { opened = l .opened; next = l .next; nodes = updated (l .nodes) t x; mails = l .mails }
+withNode l t x = record { opened = l .opened; next = l .next; nodes = updated (l .nodes) t x; messages = l .messages }
 
 abbrev pub openNode : Ledger → Node → Ledger
-openNode l x = record { opened = l .opened + 1; next = l .next; nodes = updated (l .nodes) (l .opened) x; mails = l .mails }
+openNode l x = record { opened = l .opened + 1; next = l .next; nodes = updated (l .nodes) (l .opened) x; messages = l .messages }
 
-abbrev pub withMail : Ledger → ℕ → MapView → Ledger
-withMail l to M = record { opened = l .opened; next = l .next + 1; nodes = l .nodes; mails = l .mails ++ (record { number = l .next; addressee = to; dependences = M } ∷ []) }
+abbrev pub withMessageView : Ledger → ℕ → MapView → Ledger
+withMessageView l to M = record { opened = l .opened; next = l .next + 1; nodes = l .nodes; messages = l .messages ++ (record { number = l .next; addressee = to; dependences = M } ∷ []) }
 
-unfoldable pub removeMail : ℕ → List Mail → List Mail
-removeMail n [] = []
-removeMail n (q ∷ qs) = pick (eqb (q .number) n) qs (q ∷ removeMail n qs)
+unfoldable pub removeMessage : ℕ → List MessageView → List MessageView
+removeMessage n [] = []
+removeMessage n (q ∷ qs) = pick (eqb (q .number) n) qs (q ∷ removeMessage n qs)
 
-abbrev pub withoutMail : Ledger → ℕ → Ledger
-withoutMail l n = record { opened = l .opened; next = l .next; nodes = l .nodes; mails = removeMail n (l .mails) }
+abbrev pub withoutMessageView : Ledger → ℕ → Ledger
+withoutMessageView l n = record { opened = l .opened; next = l .next; nodes = l .nodes; messages = removeMessage n (l .messages) }
 
-unfoldable pub findMail : ℕ → List Mail → Mail
-findMail n [] = record { number = 0; addressee = 0; dependences = emptyView }
-findMail n (q ∷ qs) = pick (eqb (q .number) n) q (findMail n qs)
+unfoldable pub findMessage : ℕ → List MessageView → MessageView
+findMessage n [] = record { number = 0; addressee = 0; dependences = emptyView }
+findMessage n (q ∷ qs) = pick (eqb (q .number) n) q (findMessage n qs)
 
-unfoldable pub missingMail : ℕ → List Mail → Bool
-missingMail n [] = true
-missingMail n (q ∷ qs) = pick (eqb (q .number) n) false (missingMail n qs)
+unfoldable pub missingMessage : ℕ → List MessageView → Bool
+missingMessage n [] = true
+missingMessage n (q ∷ qs) = pick (eqb (q .number) n) false (missingMessage n qs)
 
 abbrev pub bareNode : Status → Node
 bareNode status = record { status = status; state = emptyView; creation = emptyView; behaviour = emptyView }
@@ -78,7 +77,7 @@ writeNode x = record { status = x .status; state = joinView (x .behaviour) (x .s
 abbrev pub freezeNode : ℕ → Node → Node
 freezeNode t x = record {
   status = x .status;
-  state = updated (x .state) t (some (record { stable = true; incarnation = own t x .incarnation }));
+  state = updated (x .state) t (some (stabilizedView (own t x)));
   creation = x .creation;
   behaviour = x .behaviour;
 }
@@ -89,7 +88,7 @@ finishNode x = record { status = ready; state = x .state; creation = x .creation
 unfoldable pub rollbackNode : ℕ → Node → Node
 rollbackNode t x =
     pick (isNil (own t x .incarnation .checkpoints)) (bareNode annihilated)
-    (anewNode t (record { stable = false; incarnation = nextIncarnation (own t x .incarnation) }))
+    (anewNode t (rolledBackView (own t x)))
 
 -- state and creation joined
 abbrev pub knownMap : Node → MapView
@@ -99,8 +98,8 @@ knownMap x = joinView (x .state) (x .creation)
 abbrev pub sentMap : ℕ → Node → MapView
 sentMap t x = joinView (joinView (x .creation) (x .behaviour)) (singletonView t (own t x))
 
-abbrev pub takenNode : Node → MapView → Node
-takenNode x M = record { status = busy; state = x .state; creation = x .creation; behaviour = M }
+abbrev pub busyNode : Node → MapView → Node
+busyNode x M = record { status = busy; state = x .state; creation = x .creation; behaviour = M }
 
 abbrev pub childNode : ℕ → MapView → Node
 childNode c M = record { status = ready; state = singletonView c initialView; creation = M; behaviour = emptyView }
@@ -109,10 +108,10 @@ abbrev pub openerNode : ℕ → Node → Node
 openerNode c x = record { status = x .status; state = x .state; creation = x .creation; behaviour = joinView (singletonView c initialView) (x .behaviour) }
 
 unfoldable pub checkpointedNodes : (ℕ → Bool) → (ℕ → Node) → ℕ → Node
-checkpointedNodes v N t = pick (v t) (anewNode t (record { stable = false; incarnation = checkpointIncarnation (own t (N t) .incarnation) })) (N t)
+checkpointedNodes v N t = pick (v t) (anewNode t (checkpointedView (own t (N t)))) (N t)
 
 abbrev pub signLedger : Ledger → (ℕ → Bool) → Ledger
-signLedger l v = record { opened = l .opened; next = l .next; nodes = checkpointedNodes v (l .nodes); mails = l .mails }
+signLedger l v = record { opened = l .opened; next = l .next; nodes = checkpointedNodes v (l .nodes); messages = l .messages }
 
 -- ---- the view of a state
 
@@ -125,8 +124,8 @@ statusOf (suc (suc (suc n))) = annihilated
 abbrev pub viewNode : Transactor → Node
 viewNode x = record { status = statusOf (x .status); state = mapView (x .state); creation = mapView (x .creation); behaviour = mapView (x .behaviour) }
 
-abbrev pub viewMail : Message → Mail
-viewMail m = record { number = m .number; addressee = m .addressee; dependences = mapView (m .dependences) }
+abbrev pub viewMessage : Message → MessageView
+viewMessage m = record { number = m .number; addressee = m .addressee; dependences = mapView (m .dependences) }
 
 unfoldable pub view : State → Ledger
-view s = record { opened = s .opened; next = s .next; nodes = λ t. viewNode (transactorAt s t); mails = map viewMail (s .messages) }
+view s = record { opened = s .opened; next = s .next; nodes = λ t. viewNode (transactorAt s t); messages = map viewMessage (s .messages) }

@@ -10,7 +10,7 @@ use Rattle.marks.proofs.Trail.{Precedes}
 use Rattle.marks.proofs.Order.{precedes-initial, superseded-ne}
 use Rattle.marks.proofs.Histories.{_⊑_, ⊑-refl, ⊑-trans}
 use Rattle.maps.specs.Table.{updated}
-use Rattle.maps.specs.View.{singletonView}
+use Rattle.maps.specs.Internal.View.{singletonView}
 use Rattle.maps.proofs.Tables.{updated-same, updated-view}
 use Rattle.session.specs.Provenance.{unused, ready, Live, idle, one, Holder, Provenance, withHolder, withOpened}
 use Rattle.session.specs.Steps.{anew, carried, opensRoot, opensChild}
@@ -32,6 +32,10 @@ module _ (l : Ledger) (b : Provenance) (r : Rel l b) (x : Node) (h : Holder) (us
   open-grow = updated-view (λ u z. present (b .holders) u ⊑ presentOf (z .status) (z .history)) (b .holders) (b .opened) h
       (rw (first, opening-is l b r) (⊑-refl _)) (λ u n. ⊑-refl _)
 
+  open-lists : (u : ℕ) → present (updated (b .holders) (b .opened) h) u .incarnation .checkpoints ≡ present (b .holders) u .incarnation .checkpoints
+  open-lists = updated-view (λ u z. presentOf (z .status) (z .history) .incarnation .checkpoints ≡ present (b .holders) u .incarnation .checkpoints) (b .holders) (b .opened) h
+      (rw (first, opening-is l b r)) (λ u n. refl)
+
   open-rel : ((later : ℕ → HistoryView) → ((u : ℕ) → present (b .holders) u ⊑ later u) → later (b .opened) ≡ initialView → HolderRel later (b .opened) x h)
       → Rel (openNode l x) (withOpened b h)
   open-rel k =
@@ -44,7 +48,7 @@ module _ (l : Ledger) (b : Provenance) (r : Rel l b) (x : Node) (h : Holder) (us
         holders = rw (r .opened) (updated-both (λ u. HolderRel later u) (l .nodes) (b .holders) (b .opened) x h
             (k later open-grow (rw (updated-same (b .holders) (b .opened) h) first)) (λ u n. holder-kept l b r later open-grow u));
         messages = messages-kept l b r later open-grow;
-        noted = noted-kept l b r later open-grow;
+        noted = noted-kept l b r later open-grow open-lists;
       }
 
 -- ---- root

@@ -1,9 +1,9 @@
 -- Lists of steps for the book alone, to try its definitions on.
-use Prim.Native.Nat.{ℕ, zero, suc, _+_, _<_}
-use mathlib.Core.Bool.{Bool, true, not}
+use Prim.Native.Nat.{ℕ, zero, suc, _+_}
+use mathlib.Core.Bool.{Bool, true, not, false≢true}
 use mathlib.Core.Path.{_≡_, refl, ap, sym, _∙_}
 use mathlib.Core.List.{List, [], _∷_, _++_, List·Memᴰ·head, List·Memᴰ·not-nil, List·Memᴰ·cases-cons}
-use mathlib.Core.Logic.{_⊎_, inl, inr, ⊎-elim}
+use mathlib.Core.Logic.{_⊎_, inl, inr, ⊎-elim, _↔_}
 use native.Mathlib.Omega.{arith}
 use lib.Dec.{eqb}
 use lib.ListN.{length, length-append}
@@ -86,22 +86,26 @@ play-quiet b (p ∷ ps) e =
     let g = both (not (eqb (p .kind) sign)) _ (f .1) in
     then (applies (eqb-true (provenanceRefusal standard b p) 0 (f .0)) (eqb-false (p .kind) sign (not-true (eqb (p .kind) sign) (g .0)))) (play-quiet (applied b p) ps (g .1))
 
--- they note nothing
-applied-notes : (b : Provenance) (p : Step) (t : ℕ) (a : Incarnation) (u : ℕ) (c : Incarnation) → applied b p .noted t a u c → b .noted t a u c
+-- they note nothing and forget nothing
+applied-notes : (b : Provenance) (p : Step) (t : ℕ) (a : Incarnation) (u : ℕ) (c : Incarnation) → applied b p .noted t a u c ↔ b .noted t a u c
 unfolding applied opensRoot opensChild receives
 applied-notes b p t a u c =
-    let P : Provenance → Type 0 = λ d. d .noted t a u c → b .noted t a u c in
-    pick-view P (eqb (p .kind) root) _ _ (λ e x. x) λ e0.
-    pick-view P (eqb (p .kind) letter) _ _ (λ e x. x) λ e1.
-    pick-view P (eqb (p .kind) receive) _ _ (λ e x. x) λ e2.
-    pick-view P (eqb (p .kind) new) _ _ (λ e x. x) λ e3.
-    pick-view P (eqb (p .kind) send) _ _ (λ e x. x) λ e4.
-    pick-view P (eqb (p .kind) lose) _ _ (λ e x. x) (λ e5 x. x)
+    let P : Provenance → Type 0 = λ d. d .noted t a u c ↔ b .noted t a u c in
+    let same : b .noted t a u c ↔ b .noted t a u c = (λ x. x, λ x. x) in
+    pick-view P (eqb (p .kind) root) _ _ (λ e. same) λ e0.
+    pick-view P (eqb (p .kind) letter) _ _ (λ e. same) λ e1.
+    pick-view P (eqb (p .kind) receive) _ _ (λ e. same) λ e2.
+    pick-view P (eqb (p .kind) new) _ _ (λ e. same) λ e3.
+    pick-view P (eqb (p .kind) send) _ _ (λ e. same) λ e4.
+    pick-view P (eqb (p .kind) lose) _ _ (λ e. same) (λ e5. same)
 
-pub played-notes : (b : Provenance) (ps : List Step) (t : ℕ) (a : Incarnation) (u : ℕ) (c : Incarnation) → played b ps .noted t a u c → b .noted t a u c
+pub played-notes : (b : Provenance) (ps : List Step) (t : ℕ) (a : Incarnation) (u : ℕ) (c : Incarnation) → played b ps .noted t a u c ↔ b .noted t a u c
 unfolding played
-played-notes b [] t a u c x = x
-played-notes b (p ∷ ps) t a u c x = applied-notes b p t a u c (played-notes (applied b p) ps t a u c x)
+played-notes b [] t a u c = (λ x. x, λ x. x)
+played-notes b (p ∷ ps) t a u c =
+    let later = played-notes (applied b p) ps t a u c in
+    let first = applied-notes b p t a u c in
+    (λ x. first .0 (later .0 x), λ x. later .1 (first .1 x))
 
 -- ---- the two sets
 
@@ -127,12 +131,6 @@ stable-at {b} {g} {t} {h} e n k f u a i =
 pub differs : {b : Provenance} {g : ℕ} (t : ℕ) {u : ℕ} {a : Incarnation} → named g t ≡ true → RestsOn b t u a → (CheckpointedNow b u a → ⊥) → (StablePresent b g u a → ⊥) → Equal b g → ⊥
 differs t {u} {a} n r s f e = f (e u a .0 (record { by = t; named = n; rests = r; uncheckpointed = s }))
 
--- what holds of 0 and 1 holds below 2
-pub below-two : (P : ℕ → Type 0) → P 0 → P 1 → (t : ℕ) → t < 2 → P t
-below-two P p q zero h = p
-below-two P p q (suc zero) h = q
-below-two P p q (suc (suc t)) h = absurd (omega arith)
-
 -- a set of opening lives brings in itself alone where nothing was noted
 pub brings-itself : {b : Provenance} {start : ℕ → Incarnation → Type 0} → ((t : ℕ) (a : Incarnation) (u : ℕ) (c : Incarnation) → b .noted t a u c → ⊥)
     → ((u : ℕ) (a : Incarnation) → start u a → a .checkpoints ≡ []) → (u : ℕ) (a : Incarnation) → Brought b start u a → start u a
@@ -146,34 +144,50 @@ brings-itself none first u c (from-list {a = a} x e) =
 pub alone-equal : {b : Provenance} {h : Holder} → b .holders 0 ≡ h → h .creation ≡ [] → h .state ≡ one 0 (h .history .incarnation) → Live (h .status) → h .history .stable ≡ true
     → ((t : ℕ) (a : Incarnation) (u : ℕ) (c : Incarnation) → b .noted t a u c → CheckpointedNow b u c) → Equal b 1
 unfolding named
-alone-equal {b} {h} e created state live frozen noted = settled-equal b 1
-    (λ t n. settle b 1 noted (λ u a g. stable-at e refl live frozen u a (one-case (rw state at (ground-state created u a (rw (is-0 t n, e) at g))))))
+alone-equal {b} {h} e created state live stable noted = settled-equal b 1
+    (λ t n. settle b 1 noted (λ u a g. stable-at e refl live stable u a (one-case (rw state at (ground-state created u a (rw (is-0 t n, e) at g))))))
     (λ t n k. rw (is-0 t n, e, state) (List·Memᴰ·head refl))
   where
     is-0 : (t : ℕ) → named 1 t ≡ true → t ≡ 0
     is-0 t n = omega (arith, named-within 1 1 t (omega arith) n)
 
--- takes 0 and 1, both frozen, the first resting on its own life and the second on no other than these two: volume 3 has equal
--- sets where nothing was noted
-pub both-equal : {b : Provenance} {h k : Holder} → ((t : ℕ) (a : Incarnation) (u : ℕ) (c : Incarnation) → b .noted t a u c → ⊥) → b .holders 0 ≡ h → b .holders 1 ≡ k
-    → Live (h .status) → h .history .stable ≡ true → Live (k .status) → k .history .stable ≡ true
-    → In 0 (h .history .incarnation) (h .state) → In 1 (k .history .incarnation) (k .state)
-    → ((u : ℕ) (a : Incarnation) → Ground h u a → (u ≡ 0) × (a ≡ h .history .incarnation))
-    → ((u : ℕ) (a : Incarnation) → Ground k u a → ((u ≡ 0) × (a ≡ h .history .incarnation)) ⊎ ((u ≡ 1) × (a ≡ k .history .incarnation))) → Equal b 3
-unfolding named
-both-equal {b} {h} {k} none e f live-0 stable-0 live-1 stable-1 own-0 own-1 rests-0 rests-1 = settled-equal b 3
-    (λ t n. settle b 3 (λ t a u c x. absurd (none t a u c x))
-    (below-two (λ t. (u : ℕ) (a : Incarnation) → Ground (b .holders t) u a → Settled b 3 u a) ground-0 ground-1 t (named-within 2 3 t (omega arith) n)))
-    (λ t n l. below-two (λ t. In t (b .holders t .history .incarnation) (b .holders t .state)) (rw e own-0) (rw f own-1) t (named-within 2 3 t (omega arith) n))
+-- take t is live and frozen, h in the book, and has its own life in its state set
+pub record StableAs (b : Provenance) (t : ℕ) (h : Holder) : Type 0 where
+  pub is : b .holders t ≡ h
+  pub live : Live (h .status)
+  pub stable : h .history .stable ≡ true
+  pub own : In t (h .history .incarnation) (h .state)
+
+-- takes i and j, both frozen and resting on no other lives than their own two: the volume of both has equal sets where all that
+-- was noted is signed
+pub pair-equal : {b : Provenance} {g i j : ℕ} {h k : Holder} → ((t : ℕ) → named g t ≡ true → (t ≡ i) ⊎ (t ≡ j)) → named g i ≡ true → named g j ≡ true
+    → ((t : ℕ) (a : Incarnation) (u : ℕ) (c : Incarnation) → b .noted t a u c → CheckpointedNow b u c)
+    → StableAs b i h → StableAs b j k
+    → ((u : ℕ) (a : Incarnation) → Ground h u a ⊎ Ground k u a → ((u ≡ i) × (a ≡ h .history .incarnation)) ⊎ ((u ≡ j) × (a ≡ k .history .incarnation))) → Equal b g
+pair-equal {b} {g} {i} {j} {h} {k} only named-i named-j noted p q rests = settled-equal b g
+    (λ t n. settle b g noted (ground t (only t n)))
+    (λ t n l. own t (only t n))
   where
-    is-0 : (u : ℕ) (a : Incarnation) → (u ≡ 0) × (a ≡ h .history .incarnation) → Settled b 3 u a
-    is-0 = stable-at e refl live-0 stable-0
+    own-incarnation : (u : ℕ) (a : Incarnation) → ((u ≡ i) × (a ≡ h .history .incarnation)) ⊎ ((u ≡ j) × (a ≡ k .history .incarnation)) → Settled b g u a
+    own-incarnation u a = ⊎-elim (stable-at (p .is) named-i (p .live) (p .stable) u a) (stable-at (q .is) named-j (q .live) (q .stable) u a)
 
-    is-1 : (u : ℕ) (a : Incarnation) → (u ≡ 1) × (a ≡ k .history .incarnation) → Settled b 3 u a
-    is-1 = stable-at f refl live-1 stable-1
+    ground : (t : ℕ) → (t ≡ i) ⊎ (t ≡ j) → (u : ℕ) (a : Incarnation) → Ground (b .holders t) u a → Settled b g u a
+    ground t (inl e) u a x = own-incarnation u a (rests u a (inl (rw (e, p .is) at x)))
+    ground t (inr e) u a x = own-incarnation u a (rests u a (inr (rw (e, q .is) at x)))
 
-    ground-0 : (u : ℕ) (a : Incarnation) → Ground (b .holders 0) u a → Settled b 3 u a
-    ground-0 u a g = is-0 u a (rests-0 u a (rw e at g))
+    own : (t : ℕ) → (t ≡ i) ⊎ (t ≡ j) → In t (b .holders t .history .incarnation) (b .holders t .state)
+    own t (inl e) = rw (e, p .is) (p .own)
+    own t (inr e) = rw (e, q .is) (q .own)
 
-    ground-1 : (u : ℕ) (a : Incarnation) → Ground (b .holders 1) u a → Settled b 3 u a
-    ground-1 u a g = ⊎-elim (is-0 u a) (is-1 u a) (rests-1 u a (rw f at g))
+-- volume 3 names takes 0 and 1, volume 6 takes 1 and 2
+pub only-3 : (t : ℕ) → named 3 t ≡ true → (t ≡ 0) ⊎ (t ≡ 1)
+only-3 zero n = inl refl
+only-3 (suc zero) n = inr refl
+only-3 (suc (suc t)) n = absurd (omega (arith, named-within 2 3 (suc (suc t)) (omega arith) n))
+
+pub only-6 : (t : ℕ) → named 6 t ≡ true → (t ≡ 1) ⊎ (t ≡ 2)
+unfolding named
+only-6 zero n = absurd (false≢true n)
+only-6 (suc zero) n = inl refl
+only-6 (suc (suc zero)) n = inr refl
+only-6 (suc (suc (suc t))) n = absurd (omega (arith, named-within 3 6 (suc (suc (suc t))) (omega arith) n))

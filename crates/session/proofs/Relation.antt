@@ -7,13 +7,13 @@ use mathlib.Core.Logic.{_⊎_, inl, inr}
 use mathlib.Core.Option.{some, Option·getD}
 use native.Mathlib.Omega.{arith}
 use lib.ListN.{length}
-use Rattle.marks.specs.Incarnation.{Incarnation, initialIncarnation, Checkpointed}
-use Rattle.marks.specs.History.{HistoryView, initialView}
+use Rattle.marks.specs.Incarnation.{Incarnation, Checkpointed}
+use Rattle.marks.specs.History.{HistoryView, initialView, stabilizedView}
 use Rattle.marks.proofs.Trail.{Precedes}
-use Rattle.marks.proofs.Order.{checkpointed-up, checkpointed-irrefl, initial-precedes}
+use Rattle.marks.proofs.Order.{checkpointed-up, checkpointed-list, checkpointed-irrefl, initial-precedes}
 use Rattle.marks.proofs.Histories.{_⊑_}
 use Rattle.session.specs.Provenance.{Status, unused, ready, busy, annihilated, Live, idle, working, In, Holder, WaitingMessage, Provenance, blank, emptyProvenance}
-use Rattle.session.proofs.Model.{Node, Mail, Ledger, own, bareNode}
+use Rattle.session.proofs.Model.{Node, MessageView, Ledger, own, bareNode}
 use Rattle.session.proofs.Sets.{SetRel, set-later, set-known, none-rel, cell-none, Coherent, Members}
 
 -- ---- statuses
@@ -37,7 +37,7 @@ gone-used e = let z : _≡_ {A = ℕ} 0 1 = cc in omega arith
 
 -- of a vanished take the opening life, with the flag that says most: whatever was known of it stays known
 abbrev pub goneView : HistoryView
-goneView = record { stable = true; incarnation = initialIncarnation }
+goneView = stabilizedView initialView
 
 unfoldable pub presentOf : Status → HistoryView → HistoryView
 presentOf unused m = initialView
@@ -92,7 +92,7 @@ pub record HolderRel (now : ℕ → HistoryView) (t : ℕ) (x : Node) (h : Holde
   -- G: with an empty list n is 0
   pub first : h .history .incarnation .checkpoints ≡ [] → h .history .incarnation .number ≡ 0
 
-pub record MessageRel (now : ℕ → HistoryView) (m : Mail) (q : WaitingMessage) : Type 0 where
+pub record MessageRel (now : ℕ → HistoryView) (m : MessageView) (q : WaitingMessage) : Type 0 where
   pub number : m .number ≡ q .number
   pub addressee : m .addressee ≡ q .addressee
   pub incarnations : SetRel now (m .dependences) (q .incarnations)
@@ -103,6 +103,15 @@ pub data All2 {A B : Type 0} (R : A → B → Type 0) : List A → List B → Ty
   none2 : All2 R [] []
   cons2 : {a : A} {b : B} {s : List A} {t : List B} → R a b → All2 R s t → All2 R (a ∷ s) (b ∷ t)
 
+-- what was noted at signings
+pub record NotedRel (now : ℕ → HistoryView) (noted : ℕ → Incarnation → ℕ → Incarnation → Type 0) : Type 0 where
+  -- E: every life that a noted set holds is signed now
+  pub grounds : (t : ℕ) (a : Incarnation) (u : ℕ) (c : Incarnation) → noted t a u c → Checkpointed c (now u .incarnation)
+  -- and so is the life that it was noted for
+  pub keys : (t : ℕ) (a : Incarnation) (u : ℕ) (c : Incarnation) → noted t a u c → Checkpointed a (now t .incarnation)
+  -- for every signed life at least the life itself was noted
+  pub own : (t : ℕ) (a : Incarnation) → Checkpointed a (now t .incarnation) → noted t a t a
+
 -- ---- the whole
 
 pub record Rel (l : Ledger) (b : Provenance) : Type 0 where
@@ -112,9 +121,8 @@ pub record Rel (l : Ledger) (b : Provenance) : Type 0 where
   pub used : (t : ℕ) → t < b .opened → b .holders t .status ≡ unused → ⊥
   pub fresh : (t : ℕ) → b .opened ≤ t → b .holders t .status ≡ unused
   pub holders : (t : ℕ) → HolderRel (present (b .holders)) t (l .nodes t) (b .holders t)
-  pub messages : All2 (MessageRel (present (b .holders))) (l .mails) (b .messages)
-  -- E: every life that a noted set holds is signed now
-  pub noted : (t : ℕ) (a : Incarnation) (u : ℕ) (c : Incarnation) → b .noted t a u c → Checkpointed c (present (b .holders) u .incarnation)
+  pub messages : All2 (MessageRel (present (b .holders))) (l .messages) (b .messages)
+  pub noted : NotedRel (present (b .holders)) (b .noted)
 
 -- ---- the own mark
 
@@ -144,7 +152,7 @@ holder-later {now} {later} {t} {x} {h} l r = record {
   first = r .first;
 }
 
-pub message-later : {now later : ℕ → HistoryView} {m : Mail} {q : WaitingMessage} → ((u : ℕ) → now u ⊑ later u) → MessageRel now m q → MessageRel later m q
+pub message-later : {now later : ℕ → HistoryView} {m : MessageView} {q : WaitingMessage} → ((u : ℕ) → now u ⊑ later u) → MessageRel now m q → MessageRel later m q
 message-later {now} {later} {m} {q} l r = record {
   number = r .number;
   addressee = r .addressee;
@@ -164,11 +172,18 @@ module _ (l : Ledger) (b : Provenance) (r : Rel l b) (later : ℕ → HistoryVie
   pub holder-kept : (t : ℕ) → HolderRel later t (l .nodes t) (b .holders t)
   holder-kept t = holder-later grow (r .holders t)
 
-  pub messages-kept : All2 (MessageRel later) (l .mails) (b .messages)
+  pub messages-kept : All2 (MessageRel later) (l .messages) (b .messages)
   messages-kept = all2-map (λ m q. message-later grow) (r .messages)
 
-  pub noted-kept : (t : ℕ) (a : Incarnation) (u : ℕ) (c : Incarnation) → b .noted t a u c → Checkpointed c (later u .incarnation)
-  noted-kept t a u c k = checkpointed-up (r .noted t a u c k) (grow u .incarnation)
+  pub grounds-kept : (t : ℕ) (a : Incarnation) (u : ℕ) (c : Incarnation) → b .noted t a u c → Checkpointed c (later u .incarnation)
+  grounds-kept t a u c k = checkpointed-up (r .noted .grounds t a u c k) (grow u .incarnation)
+
+  pub keys-kept : (t : ℕ) (a : Incarnation) (u : ℕ) (c : Incarnation) → b .noted t a u c → Checkpointed a (later t .incarnation)
+  keys-kept t a u c k = checkpointed-up (r .noted .keys t a u c k) (grow t .incarnation)
+
+  -- where no list changes, no life is signed
+  pub noted-kept : ((u : ℕ) → later u .incarnation .checkpoints ≡ present (b .holders) u .incarnation .checkpoints) → NotedRel later (b .noted)
+  noted-kept lists = record { grounds = grounds-kept; keys = keys-kept; own = λ t a s. r .noted .own t a (checkpointed-list (lists t) s) }
 
 -- every life of a take's sets is a past or present one
 pub whole-known : {now : ℕ → HistoryView} {t : ℕ} {x : Node} {h : Holder} → HolderRel now t x h → (u : ℕ) (a : Incarnation) → Whole h u a → Precedes a (now u .incarnation)
@@ -196,7 +211,7 @@ blank-rel now t s k = record {
     nothing u a (in-behaviour i) = List·Memᴰ·not-nil i
 
 abbrev pub freshLedger : Ledger
-freshLedger = record { opened = 0; next = 0; nodes = λ t. bareNode unused; mails = [] }
+freshLedger = record { opened = 0; next = 0; nodes = λ t. bareNode unused; messages = [] }
 
 pub fresh-rel : Rel freshLedger emptyProvenance
 fresh-rel = record {
@@ -206,5 +221,5 @@ fresh-rel = record {
   fresh = λ t h. refl;
   holders = λ t. blank-rel (present (emptyProvenance .holders)) t unused (λ h. elim h [ ]);
   messages = none2;
-  noted = λ t a u c k. absurd k;
+  noted = record { grounds = λ t a u c k. absurd k; keys = λ t a u c k. absurd k; own = λ t a s. absurd (nothing-checkpointed unused initialView (λ h. elim h [ ]) s) };
 }

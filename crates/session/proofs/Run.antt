@@ -16,7 +16,7 @@ use Rattle.rules.specs.Internal.Well.{WellFormed}
 use Rattle.rules.proofs.Keep.Run.{stepOk-at}
 use Rattle.rules.proofs.Keep.Step.{keeps-after}
 use Rattle.session.specs.Provenance.{Provenance}
-use Rattle.session.specs.Fed as book
+use Rattle.session.specs.Fed as provenance
 use Rattle.session.specs.Trace as trace
 use Rattle.session.specs.Fed.{ProvenanceSteps}
 use Rattle.session.specs.Trace.{StepsRight}
@@ -56,5 +56,5 @@ reply-part y m s steps n i h = part-chunks stepBytes (replyAt y m s steps) (λ j
 
 -- the book takes these steps
 pub steps-provenance : {y : Layout} {m : Limits} {s : State} {b c : Provenance} {steps : List ℕ} {i : ℕ} → StepsRight y m s b steps i c → ProvenanceSteps m b steps i c
-steps-provenance trace.none = book.none
-steps-provenance (trace.more before right) = book.more (steps-provenance before) (right .provenance)
+steps-provenance trace.none = provenance.none
+steps-provenance (trace.more before right) = provenance.more (steps-provenance before) (right .provenance)

@@ -10,7 +10,7 @@ use Rattle.rules.specs.declared.Step.{Step}
 use Rattle.rules.specs.Refusals.{Seen, refusalOf}
 use Rattle.session.specs.Provenance.{statusNumber, Provenance, find}
 use Rattle.session.specs.Steps.{isDropped, isRolledBack, provenanceSeen, provenanceRefusal}
-use Rattle.session.proofs.Model.{Ledger, own, findMail, missingMail}
+use Rattle.session.proofs.Model.{Ledger, own, findMessage, missingMessage}
 use Rattle.session.proofs.Relation.{present, MessageRel, Rel, own-history, all2-length}
 use Rattle.session.proofs.Messages.{find-rel, missing-same, ReceiptTests, dropped-same, rolledBack-same}
 
@@ -47,32 +47,32 @@ unfoldable pub seenOf : Ledger → (ℕ → Bool) → (ℕ → Bool) → Seen
 seenOf l d e = record {
   opened = l .opened;
   next = l .next;
-  waiting = length (l .mails);
+  waiting = length (l .messages);
   status = λ t. statusNumber (l .nodes t .status);
   stable = λ t. own t (l .nodes t) .stable;
   checkpoints = λ t. length (own t (l .nodes t) .incarnation .checkpoints);
   incarnation = λ t. own t (l .nodes t) .incarnation .number;
-  missing = λ n. missingMail n (l .mails);
-  addressee = λ n. findMail n (l .mails) .addressee;
+  missing = λ n. missingMessage n (l .messages);
+  addressee = λ n. findMessage n (l .messages) .addressee;
   falls = λ n. not (d n) and e n;
 }
 
 module _ (l : Ledger) (b : Provenance) (r : Rel l b) (d e : ℕ → Bool)
-    (tests : (n : ℕ) → ReceiptTests (l .nodes (findMail n (l .mails) .addressee)) (findMail n (l .mails)) (d n) (e n)) where
+    (tests : (n : ℕ) → ReceiptTests (l .nodes (findMessage n (l .messages) .addressee)) (findMessage n (l .messages)) (d n) (e n)) where
   history-shown : {A : Type 0} (f : HistoryView → A) (t : ℕ) → f (own t (l .nodes t)) ≡ f (b .holders t .history)
   history-shown f t = ap f (own-history (r .holders t))
 
-  found : (n : ℕ) → MessageRel (present (b .holders)) (findMail n (l .mails)) (find n (b .messages))
+  found : (n : ℕ) → MessageRel (present (b .holders)) (findMessage n (l .messages)) (find n (b .messages))
   found n = find-rel n (r .messages)
 
   dropped-shown : (n : ℕ) → d n ≡ isDropped (b .holders (find n (b .messages) .addressee)) (find n (b .messages))
   dropped-shown n =
-      dropped-same (r .holders (findMail n (l .mails) .addressee)) (found n) (d n) (tests n .dropped)
+      dropped-same (r .holders (findMessage n (l .messages) .addressee)) (found n) (d n) (tests n .dropped)
       ∙ ap (λ t. isDropped (b .holders t) (find n (b .messages))) (found n .addressee)
 
   rolledBack-shown : (n : ℕ) → e n ≡ isRolledBack (b .holders (find n (b .messages) .addressee)) (find n (b .messages))
   rolledBack-shown n =
-      rolledBack-same (r .holders (findMail n (l .mails) .addressee)) (found n) (e n) (tests n .rolls-back)
+      rolledBack-same (r .holders (findMessage n (l .messages) .addressee)) (found n) (e n) (tests n .rolls-back)
       ∙ ap (λ t. isRolledBack (b .holders t) (find n (b .messages))) (found n .addressee)
 
   pub seen-same : SameSeen (seenOf l d e) (provenanceSeen b)

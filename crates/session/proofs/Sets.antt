@@ -17,7 +17,7 @@ use Rattle.marks.proofs.Order.{precedes-refl, precedes-trans, newest-superseded
 use Rattle.octets.proofs.Zero.{both}
 use Rattle.marks.proofs.Tests.{superseded-test}
 use Rattle.marks.proofs.Histories.{_⊑_, ⊑-trans, newerView-which, newerView-later, newerView-right}
-use Rattle.maps.specs.View.{MapView, joinEntry, joinView, emptyView, singletonView, SupersededView, superseded-entry}
+use Rattle.maps.specs.Internal.View.{MapView, joinEntry, joinView, emptyView, singletonView, SupersededView, superseded-entry}
 use Rattle.maps.proofs.Tables.{updated-view, updated-same}
 use Rattle.session.specs.Provenance.{Entry, Incarnations, In, one, anyEntry, supersededEntry, anySuperseded}
 use Rattle.session.proofs.Tables.{or-to, or-of, and-of}

@@ -1,18 +1,18 @@
 -- Signing: the ledger's test holds exactly if the book's two sets are equal; and no signed text rests on a withdrawn life.
 use Prim.Native.Nat.{ℕ}
 use mathlib.Core.Bool.{Bool, true, false≢true}
-use mathlib.Core.Path.{_≡_, ap, sym, _∙_}
+use mathlib.Core.Path.{_≡_, refl, ap, sym, _∙_}
 use mathlib.Core.Logic.{_⊎_, inl, inr, ⊎-elim}
 use mathlib.Core.Option.{some}
 use Rattle.marks.specs.Incarnation.{Incarnation, Checkpointed}
 use Rattle.marks.specs.History.{HistoryView}
 use Rattle.marks.proofs.Trail.{Under}
-use Rattle.marks.proofs.Order.{precedes-split, under-split, under-checkpointed, checkpointed-under, before-checkpointed, checkpointed-irrefl}
+use Rattle.marks.proofs.Order.{precedes-split, under-split, under-checkpointed, checkpointed-under, checkpointed-longer, before-checkpointed}
 use Rattle.marks.proofs.Tests.{decCheckpointed}
-use Rattle.maps.specs.View.{MapView}
+use Rattle.maps.specs.Internal.View.{MapView}
 use Rattle.rules.specs.Refusals.{named}
-use Rattle.session.specs.Provenance.{annihilated, Live, Incarnations, In, Provenance}
-use Rattle.session.specs.Grounds.{Brought, from-start, from-noted, from-list, Ground, in-state, in-creation, RestsOn, ValueRestsOn, CheckpointedNow, SupersededOrAnnihilated, gone, neither, UncheckpointedGround, StablePresent, Equal, Sound}
+use Rattle.session.specs.Provenance.{Status, annihilated, Live, Incarnations, In, Provenance}
+use Rattle.session.specs.Grounds.{Brought, from-start, from-noted, from-list, Ground, in-state, in-creation, RestsOn, ValueRestsOn, Present, CheckpointedNow, SupersededOrAnnihilated, gone, neither, UncheckpointedGround, StablePresent, Equal, Sound}
 use Rattle.session.proofs.Model.{Ledger, own}
 use Rattle.session.proofs.Sets.{SetRel, cell-some, cell-has}
 use Rattle.session.proofs.Relation.{live-or-not, present, present-live, nothing-checkpointed, Whole, Rel, own-history}
@@ -33,7 +33,7 @@ pub record Ready (l : Ledger) (v : ℕ → Bool) : Type 0 where
 -- ---- signed lives
 
 -- signed, by the total present marks of the relation
-checkpointedNow-of : (b : Provenance) {u : ℕ} {a : Incarnation} → Checkpointed a (present (b .holders) u .incarnation) → CheckpointedNow b u a
+pub checkpointedNow-of : (b : Provenance) {u : ℕ} {a : Incarnation} → Checkpointed a (present (b .holders) u .incarnation) → CheckpointedNow b u a
 checkpointedNow-of b {u} {a} c = go (live-or-not (b .holders u .status))
   where
     go : Live (b .holders u .status) ⊎ (Live (b .holders u .status) → ⊥) → CheckpointedNow b u a
@@ -46,6 +46,22 @@ checkpointedNow-to b {u} s = rw (present-live (b .holders u .status) (b .holders
 -- a life under a signed one is signed
 checkpointedNow-under : (b : Provenance) {u : ℕ} {a c : Incarnation} → Under c a → CheckpointedNow b u a → CheckpointedNow b u c
 checkpointedNow-under b h s = record { live = s .live; is = under-checkpointed h (s .is) }
+
+-- ---- withdrawn: neither a signed life is, nor a present one
+
+live-there : {s : Status} → Live s → s ≡ annihilated → ⊥
+live-there {s} k e = none (rw e at k)
+  where
+    none : Live annihilated → ⊥
+    none h = elim h [ ]
+
+checkpointed-stands : (b : Provenance) {u : ℕ} {a : Incarnation} → CheckpointedNow b u a → SupersededOrAnnihilated b u a → ⊥
+checkpointed-stands b s (gone e) = live-there (s .live) e
+checkpointed-stands b s (neither p n) = n s
+
+pub present-stands : (b : Provenance) {u : ℕ} {a : Incarnation} → Present b u a → SupersededOrAnnihilated b u a → ⊥
+present-stands b k (gone e) = live-there (k .live) e
+present-stands b k (neither p n) = p k
 
 module _ (l : Ledger) (b : Provenance) (r : Rel l b) where
   own-is : (u : ℕ) → own u (l .nodes u) ≡ b .holders u .history
@@ -61,31 +77,27 @@ module _ (l : Ledger) (b : Provenance) (r : Rel l b) where
   creation-has : (t u : ℕ) (m : HistoryView) → l .nodes t .creation u ≡ some m → In u (m .incarnation) (b .holders t .creation)
   creation-has t u m e = cell-has e (r .holders t .creation u) .has
 
-  own-has : (t : ℕ) → Live (b .holders t .status) → In t (b .holders t .history .incarnation) (b .holders t .state)
+  -- a live take has its own present life in its state set
+  pub own-has : (t : ℕ) → Live (b .holders t .status) → In t (b .holders t .history .incarnation) (b .holders t .state)
   own-has t k = state-has t t (b .holders t .history) (r .holders t .own k)
-
-  -- a live take rests on its own present life: "own included"
-  pub own-included : (t : ℕ) → Live (b .holders t .status) → RestsOn b t t (b .holders t .history .incarnation)
-  own-included t k = from-start (in-state (own-has t k))
 
   -- what was noted is signed, and so is all that it brings in
   value-checkpointed : (t : ℕ) (n : Incarnation) (u : ℕ) (a : Incarnation) → ValueRestsOn b t n u a → CheckpointedNow b u a
-  value-checkpointed t n u a (from-start s) = checkpointedNow-of b (r .noted _ _ _ _ s)
-  value-checkpointed t n u a (from-noted x y) = checkpointedNow-of b (r .noted _ _ _ _ y)
+  value-checkpointed t n u a (from-start s) = checkpointedNow-of b (r .noted .grounds _ _ _ _ s)
+  value-checkpointed t n u a (from-noted x y) = checkpointedNow-of b (r .noted .grounds _ _ _ _ y)
   value-checkpointed t n u a (from-list {u = w} {a = z} {c = y} x e) = checkpointedNow-under b (checkpointed-under (before-checkpointed z y e)) (value-checkpointed t n w z x)
 
-  -- no signed life is withdrawn
-  checkpointedNow-stands : (u : ℕ) (a : Incarnation) → CheckpointedNow b u a → SupersededOrAnnihilated b u a → ⊥
-  checkpointedNow-stands u a s (gone e) = none (rw e at (s .live))
-    where
-      none : Live annihilated → ⊥
-      none k = elim k [ ]
-  checkpointedNow-stands u a s (neither p n) = n s
-
   pub rel-sound : Sound b
-  rel-sound t n u a h = checkpointedNow-stands u a (value-checkpointed t n u a h)
+  rel-sound t n u a h = checkpointed-stands b (value-checkpointed t n u a h)
 
 -- ---- the two sets, by the book alone
+
+-- a take rests on its state set and on its creation set
+rests-state : (b : Provenance) (t u : ℕ) (a : Incarnation) → In u a (b .holders t .state) → RestsOn b t u a
+rests-state b t u a i = from-start (in-state i)
+
+rests-creation : (b : Provenance) (t u : ℕ) (a : Incarnation) → In u a (b .holders t .creation) → RestsOn b t u a
+rests-creation b t u a i = from-start (in-creation i)
 
 -- signed, or in the second set
 abbrev pub Settled : Provenance → ℕ → ℕ → Incarnation → Type 0
@@ -104,9 +116,9 @@ module _ (b : Provenance) (g : ℕ) where
   settle noted ground u a (from-noted x y) = inl (noted _ _ _ _ y)
   settle noted ground u c (from-list {a = a} x e) = inl (settle-before u a c (before-checkpointed a c e) (settle noted ground u a x))
 
-  -- the own life of a named take is unsigned
-  own-uncheckpointed : (t : ℕ) → named g t ≡ true → In t (b .holders t .history .incarnation) (b .holders t .state) → UncheckpointedGround b g t (b .holders t .history .incarnation)
-  own-uncheckpointed t n i = record { by = t; named = n; rests = from-start (in-state i); uncheckpointed = λ s. checkpointed-irrefl (s .is) }
+  -- the own life of a named take is in the first set: no life with the present list is signed
+  pub own-uncheckpointed : (t : ℕ) → named g t ≡ true → In t (b .holders t .history .incarnation) (b .holders t .state) → UncheckpointedGround b g t (b .holders t .history .incarnation)
+  own-uncheckpointed t n i = record { by = t; named = n; rests = rests-state b t t _ i; uncheckpointed = λ s. checkpointed-longer (s .is) refl }
 
   -- the sets are equal where each named take rests on its own life and on settled ones alone
   pub settled-equal : ((t : ℕ) → named g t ≡ true → (u : ℕ) (a : Incarnation) → RestsOn b t u a → Settled b g u a)
@@ -157,7 +169,7 @@ module _ (l : Ledger) (b : Provenance) (r : Rel l b) (g : ℕ) where
 
     -- all that a named take rests on is settled
     pub settled : (t : ℕ) → named g t ≡ true → (u : ℕ) (a : Incarnation) → RestsOn b t u a → Settled b g u a
-    settled t n = settle b g (λ t a u c y. checkpointedNow-of b (r .noted t a u c y)) (settle-ground t n)
+    settled t n = settle b g (λ t a u c y. checkpointedNow-of b (r .noted .grounds t a u c y)) (settle-ground t n)
 
     pub ready-equal : Equal b g
     ready-equal = settled-equal b g settled (λ t n k. own-has l b r t k)
@@ -166,8 +178,8 @@ module _ (l : Ledger) (b : Provenance) (r : Rel l b) (g : ℕ) where
   pub equal-ready : ((t : ℕ) → named g t ≡ true → Live (b .holders t .status)) → Equal b g → Ready l (named g)
   equal-ready live same = record {
     stable = λ t n. rw (own-is l b r t) (same t _ .0 (own-uncheckpointed b g t n (own-has l b r t (live t n))) .stable);
-    state = λ t n u m e. test t n u m (from-start (in-state (state-has l b r t u m e))) (decCheckpointed (m .incarnation) (present (b .holders) u .incarnation));
-    creation = λ t n u m e. test t n u m (from-start (in-creation (creation-has l b r t u m e))) (decCheckpointed (m .incarnation) (present (b .holders) u .incarnation));
+    state = λ t n u m e. test t n u m (rests-state b t u _ (state-has l b r t u m e)) (decCheckpointed (m .incarnation) (present (b .holders) u .incarnation));
+    creation = λ t n u m e. test t n u m (rests-creation b t u _ (creation-has l b r t u m e)) (decCheckpointed (m .incarnation) (present (b .holders) u .incarnation));
   }
     where
       live-back : (u : ℕ) → Live (b .holders u .status) → Live (l .nodes u .status)

@@ -1,11 +1,11 @@
 -- Small sessions run through the book's definitions: document 01's own, and one for each reading to guard against.
-use Prim.Native.Nat.{ℕ}
+use Prim.Native.Nat.{ℕ, _+_}
 use mathlib.Core.Bool.{Bool, true, false, false≢true}
-use mathlib.Core.Path.{_≡_, refl, ap}
+use mathlib.Core.Path.{_≡_, refl, ap, sym, _∙_}
 use mathlib.Core.List.{List, [], _∷_, _++_, List·Memᴰ·head, List·Memᴰ·tail}
 use mathlib.Core.Logic.{_⊎_, inl, inr, ⊎-elim}
 use native.Mathlib.Omega.{arith}
-use lib.ListN.{length}
+use lib.ListN.{length, length-append}
 use Rattle.marks.specs.Incarnation.{Incarnation, initialIncarnation, Checkpointed, begins, sameList, beginsWith, strictPrefix, supersededBy}
 use Rattle.marks.proofs.Order.{checkpointed-irrefl}
 use Rattle.maps.specs.Table.{updated}
@@ -13,11 +13,11 @@ use Rattle.rules.specs.Layout.{standard}
 use Rattle.rules.specs.declared.Step.{Step}
 use Rattle.rules.specs.Step.{read, freeze, finish, fail}
 use Rattle.rules.specs.Refusals.{any, named, anyNamed, malformed, notWaiting, emptyGroup, unopened, isGone, wrongStatus, allOpened, allWaiting, allNumbered, allCheckpointed, atLast, lastRollsBack, refusalOf}
-use Rattle.session.specs.Provenance.{Incarnations, In, one, Status, ready, busy, annihilated, working, Holder, Provenance, emptyProvenance, remove, find, isMissing, anyEntry, supersededEntry, anySuperseded}
-use Rattle.session.specs.Grounds.{from-start, Ground, in-state, in-creation, RestsOn, CheckpointedNow, Equal}
+use Rattle.session.specs.Provenance.{Incarnations, In, one, Status, ready, busy, annihilated, idle, working, Holder, Provenance, emptyProvenance, remove, find, isMissing, anyEntry, supersededEntry, anySuperseded}
+use Rattle.session.specs.Grounds.{from-start, from-noted, from-list, Ground, in-state, in-creation, RestsOn, ValueRestsOn, Present, CheckpointedNow, SupersededOrAnnihilated, gone, neither, Equal}
 use Rattle.session.specs.Steps.{rolledBackHolder, reads, writes, freezes, finishes, rollsBackOrFinishes, rollsBackOrStays, acted, isDropped, isRolledBack, received, signs, checkpointedAt, NotedBy, before, now-checkpointed, opensRoot, opensChild, receives, applied, provenanceSeen, provenanceRefusal, signing, not-ready}
 use Rattle.session.proofs.Accepted.{named-within}
-use Rattle.session.proofs.Plays.{aRoot, aLetter, aReceive, aNew, aSend, aWrite, aStep, aSign, Play, end, then, After, play-on, quiet, played, play-quiet, played-notes, entry-cases, one-case, ground-state, differs, brings-itself, alone-equal, both-equal}
+use Rattle.session.proofs.Plays.{aRoot, aLetter, aReceive, aNew, aSend, aWrite, aStep, aSign, Play, end, then, After, play-on, quiet, played, play-quiet, played-notes, entry-cases, one-case, ground-state, differs, brings-itself, alone-equal, pair-equal, only-3, only-6}
 
 -- ---- document 01's session
 
@@ -33,6 +33,10 @@ firstEleven = firstNine ++ (aSign 2 ∷ aStep freeze 0 ∷ [])
 abbrev pub thirteen : List Step
 thirteen = firstEleven ++ (aSign 3 ∷ aStep fail 0 ∷ [])
 
+-- carried on after step 12: root 3; letter to 1; receive 2; send 1 to 2; receive 3; write take 2; freeze 2; freeze 1
+abbrev pub carriedOn : List Step
+carriedOn = aRoot 3 ∷ aLetter 1 4 ∷ aReceive 2 ∷ aSend 1 2 5 ∷ aReceive 3 ∷ aWrite 2 6 ∷ aStep freeze 2 ∷ aStep freeze 1 ∷ []
+
 provenance9 : Provenance
 provenance9 = played emptyProvenance firstNine
 
@@ -41,6 +45,9 @@ provenance11 = played provenance9 (aStep freeze 0 ∷ [])
 
 provenance13 : Provenance
 provenance13 = played (signs provenance11 3) (aStep fail 0 ∷ [])
+
+carriedProvenance : Provenance
+carriedProvenance = played (signs provenance11 3) carriedOn
 
 -- ---- sessions in which take 0 is signed at its opening life
 
@@ -142,6 +149,11 @@ record Computed : Type 0 where
   quiet-13 : quiet (signs provenance11 3) (aStep fail 0 ∷ []) ≡ true
   zero-13 : provenance13 .holders 0 ≡ holder ready false incarnation2 (one 0 incarnation2) []
   one-13 : provenance13 .holders 1 ≡ holder ready false incarnation1 (one 1 incarnation1) []
+  quiet-carried : quiet (signs provenance11 3) carriedOn ≡ true
+  zero-carried : carriedProvenance .holders 0 ≡ holder ready false incarnation1 (one 0 incarnation1) []
+  one-carried : carriedProvenance .holders 1 ≡ holder busy true incarnation1 (one 1 incarnation1) []
+  two-carried : carriedProvenance .holders 2 ≡ holder busy true incarnation0 (one 1 incarnation1 ++ one 2 incarnation0) (one 1 incarnation1)
+  sign-carried : provenanceRefusal standard carriedProvenance (aSign 6) ≡ 0
   quiet-uncheckpointed : quiet emptyProvenance upToSigning ≡ true
   zero-uncheckpointed : uncheckpointedProvenance .holders 0 ≡ holder busy true incarnation0 (one 0 incarnation0) []
   sign-uncheckpointed : provenanceRefusal standard uncheckpointedProvenance (aSign 1) ≡ 0
@@ -171,7 +183,7 @@ record Computed : Type 0 where
   one-opener : openerProvenance .holders 1 ≡ child busy true incarnation0 (one 1 incarnation0) (one 0 incarnation0) []
 
 computed : Computed
-unfolding quiet played provenanceRefusal provenanceSeen refusalOf malformed notWaiting emptyGroup unopened isGone wrongStatus allOpened allWaiting allNumbered allCheckpointed atLast lastRollsBack any named anyNamed updated remove find isMissing anyEntry supersededEntry anySuperseded sameList beginsWith strictPrefix supersededBy rolledBackHolder reads writes freezes finishes rollsBackOrFinishes rollsBackOrStays acted isDropped isRolledBack received opensRoot opensChild receives applied checkpointedAt provenance9 provenance11 provenance13 uncheckpointedProvenance checkpointedProvenance oldProvenance rolledBackProvenance againProvenance toldProvenance unreadProvenance readProvenance childProvenance openerProvenance
+unfolding quiet played provenanceRefusal provenanceSeen refusalOf malformed notWaiting emptyGroup unopened isGone wrongStatus allOpened allWaiting allNumbered allCheckpointed atLast lastRollsBack any named anyNamed updated remove find isMissing anyEntry supersededEntry anySuperseded sameList beginsWith strictPrefix supersededBy rolledBackHolder reads writes freezes finishes rollsBackOrFinishes rollsBackOrStays acted isDropped isRolledBack received opensRoot opensChild receives applied checkpointedAt provenance9 provenance11 provenance13 carriedProvenance uncheckpointedProvenance checkpointedProvenance oldProvenance rolledBackProvenance againProvenance toldProvenance unreadProvenance readProvenance childProvenance openerProvenance
 computed = record {
   quiet-9 = refl;
   zero-9 = refl;
@@ -184,6 +196,11 @@ computed = record {
   quiet-13 = refl;
   zero-13 = refl;
   one-13 = refl;
+  quiet-carried = refl;
+  zero-carried = refl;
+  one-carried = refl;
+  two-carried = refl;
+  sign-carried = refl;
   quiet-uncheckpointed = refl;
   zero-uncheckpointed = refl;
   sign-uncheckpointed = refl;
@@ -222,12 +239,15 @@ differ-2 b g e = differs 1 refl (from-start g) (λ s. checkpointed-irrefl (rw e 
 
 none-11 : (t : ℕ) (a : Incarnation) (u : ℕ) (c : Incarnation) → provenance11 .noted t a u c → ⊥
 unfolding provenance9 provenance11
-none-11 t a u c x = played-notes emptyProvenance firstNine t a u c (played-notes provenance9 (aStep freeze 0 ∷ []) t a u c x)
+none-11 t a u c x = played-notes emptyProvenance firstNine t a u c .0 (played-notes provenance9 (aStep freeze 0 ∷ []) t a u c .0 x)
 
 -- both takes are frozen, and rest on nothing but the two
 equal-3 : Equal provenance11 3
-equal-3 = both-equal none-11 (computed .zero-11) (computed .one-11) working refl working refl (List·Memᴰ·head refl) (List·Memᴰ·tail (List·Memᴰ·head refl))
-    (λ u a g. one-case (ground-state refl u a g)) (λ u a g. ⊎-elim inl (λ i. inr (one-case i)) (entry-cases (ground-state refl u a g)))
+unfolding named
+equal-3 = pair-equal only-3 refl refl (λ t a u c x. absurd (none-11 t a u c x))
+    (record { is = computed .zero-11; live = working; stable = refl; own = List·Memᴰ·head refl })
+    (record { is = computed .one-11; live = working; stable = refl; own = List·Memᴰ·tail (List·Memᴰ·head refl) })
+    (λ u a. ⊎-elim (λ g. inl (one-case (ground-state refl u a g))) (λ g. ⊎-elim inl (λ i. inr (one-case i)) (entry-cases (ground-state refl u a g))))
 
 differ-9 : Equal provenance9 2 → ⊥
 differ-9 = differ-2 provenance9 (rw (computed .one-9) (in-state (List·Memᴰ·head refl))) (rw (computed .zero-9))
@@ -256,11 +276,92 @@ document-12 = record { provenance = provenance11; play = play-11; holds = equal-
 pub document-13 : After thirteen (λ b. (b .holders 0 ≡ holder ready false incarnation2 (one 0 incarnation2) []) × (b .holders 1 ≡ holder ready false incarnation1 (one 1 incarnation1) []))
 document-13 = record { provenance = provenance13; play = play-13; holds = (computed .zero-13, computed .one-13) }
 
+-- ---- what signed texts rest on
+
+-- what take t rests on at step 12: the life of take 0, and take 1 on its own too
+data Rests12 (t u : ℕ) (a : Incarnation) : Type 0 where
+  on-0 : u ≡ 0 → a ≡ incarnation0 → Rests12 t u a
+  on-1 : t ≡ 1 → u ≡ 1 → a ≡ incarnation0 → Rests12 t u a
+
+rests-11 : (t : ℕ) → named 3 t ≡ true → (u : ℕ) (a : Incarnation) → RestsOn provenance11 t u a → Rests12 t u a
+rests-11 t n u a r = start t (only-3 t n) u a (brings-itself none-11 (λ u a g. first (start t (only-3 t n) u a g)) u a r)
+  where
+    start : (t : ℕ) → (t ≡ 0) ⊎ (t ≡ 1) → (u : ℕ) (a : Incarnation) → Ground (provenance11 .holders t) u a → Rests12 t u a
+    start t (inl e) u a g = let i = one-case (ground-state refl u a (rw (e, computed .zero-11) at g)) in on-0 (i .0) (i .1)
+    start t (inr e) u a g = ⊎-elim (λ i. on-0 (i .0) (i .1)) (λ i. let k = one-case i in on-1 e (k .0) (k .1)) (entry-cases (ground-state refl u a (rw (e, computed .one-11) at g)))
+
+    first : {t u : ℕ} {a : Incarnation} → Rests12 t u a → a .checkpoints ≡ []
+    first (on-0 i e) = ap (λ (x : Incarnation). x .checkpoints) e
+    first (on-1 n i e) = ap (λ (x : Incarnation). x .checkpoints) e
+
+-- what was noted at step 12
+notes-12 : (t : ℕ) (a : Incarnation) (u : ℕ) (c : Incarnation) → signs provenance11 3 .noted t a u c → Rests12 t u c
+notes-12 t a u c (before x) = absurd (none-11 t a u c x)
+notes-12 t a u c (now-checkpointed n e r) = rests-11 t n u c r
+
+-- The text that take 0 signed at step 12 rests on the life at which it was signed, and on no other: not on that of take 1,
+-- which was signed with it.
+pub value-alone : After thirteen (λ b. ValueRestsOn b 0 incarnation0 0 incarnation0 × ((u : ℕ) (a : Incarnation) → ValueRestsOn b 0 incarnation0 u a → (u ≡ 0) × (a ≡ incarnation0)))
+unfolding provenance13 named
+value-alone = record { provenance = provenance13; play = play-13; holds = (from-start own, only) }
+  where
+    own : provenance13 .noted 0 incarnation0 0 incarnation0
+    own = played-notes (signs provenance11 3) (aStep fail 0 ∷ []) 0 incarnation0 0 incarnation0 .1
+        (now-checkpointed refl (rw (computed .zero-11)) (from-start (let i : In 0 incarnation0 (provenance11 .holders 0 .state) = rw (computed .zero-11) (List·Memᴰ·head refl) in in-state i)))
+
+    zero-only : {t u : ℕ} {a : Incarnation} → t ≡ 0 → Rests12 t u a → (u ≡ 0) × (a ≡ incarnation0)
+    zero-only z (on-0 i e) = (i, e)
+    zero-only z (on-1 n i e) = absurd (omega arith)
+
+    noted-0 : (u : ℕ) (a : Incarnation) (t : ℕ) (c : Incarnation) → t ≡ 0 → provenance13 .noted t c u a → (u ≡ 0) × (a ≡ incarnation0)
+    noted-0 u a t c z x = zero-only z (notes-12 t c u a (played-notes (signs provenance11 3) (aStep fail 0 ∷ []) t c u a .0 x))
+
+    only : (u : ℕ) (a : Incarnation) → ValueRestsOn provenance13 0 incarnation0 u a → (u ≡ 0) × (a ≡ incarnation0)
+    only u a (from-start x) = noted-0 u a 0 incarnation0 refl x
+    only u a (from-noted {t = t} {a = c} x y) = noted-0 u a t c (only t c x .0) y
+    only u c (from-list {a = a} x e) =
+        let n : 0 ≡ length (c .checkpoints) + 1 = ap length (sym (ap (λ (z : Incarnation). z .checkpoints) (only u a x .1)) ∙ e) ∙ length-append (c .checkpoints) (c .number ∷ []) in
+        absurd (omega arith)
+
+-- all that was noted at step 12 is signed, when the session is carried on
+noted-carried : (t : ℕ) (a : Incarnation) (u : ℕ) (c : Incarnation) → carriedProvenance .noted t a u c → CheckpointedNow carriedProvenance u c
+unfolding carriedProvenance
+noted-carried t a u c x = go (notes-12 t a u c (played-notes (signs provenance11 3) carriedOn t a u c .0 x))
+  where
+    go : Rests12 t u c → CheckpointedNow carriedProvenance u c
+    go (on-0 i e) = rw (i, e) (record { live = rw (computed .zero-carried) idle; is = rw (computed .zero-carried) (begins [] refl) })
+    go (on-1 n i e) = rw (i, e) (record { live = rw (computed .one-carried) working; is = rw (computed .one-carried) (begins [] refl) })
+
+equal-carried : Equal carriedProvenance 6
+unfolding named
+equal-carried = pair-equal only-6 refl refl noted-carried
+    (record { is = computed .one-carried; live = working; stable = refl; own = List·Memᴰ·head refl })
+    (record { is = computed .two-carried; live = working; stable = refl; own = List·Memᴰ·tail (List·Memᴰ·head refl) })
+    (λ u a. ⊎-elim (λ g. inl (one-case (ground-state refl u a g))) (λ g. ⊎-elim inl (λ i. inr (one-case i)) (entry-cases (ground-state refl u a g))))
+
+-- Over two signings: the text that take 2 signs rests on the life of take 0 that step 12 signed, though no set of take 2 held
+-- it. Its state holds the second life of take 1; that brings in the life signed last before it, and this what was noted for it.
+pub value-rests : After (firstEleven ++ (aSign 3 ∷ []) ++ carriedOn ++ (aSign 6 ∷ [])) (λ b. ValueRestsOn b 2 incarnation0 0 incarnation0)
+unfolding carriedProvenance named
+value-rests = record {
+  provenance = signs carriedProvenance 6;
+  play = play-on (play-on (play-on play-11 (then (signing (computed .sign-12) refl equal-3) end)) (play-quiet (signs provenance11 3) carriedOn (computed .quiet-carried)))
+      (then (signing (computed .sign-carried) refl equal-carried) end);
+  holds = from-start (now-checkpointed refl (rw (computed .two-carried)) (from-noted (from-list {c = incarnation0} present refl) noted-1));
+}
+  where
+    present : RestsOn carriedProvenance 2 1 incarnation1
+    present = let i : In 1 incarnation1 (carriedProvenance .holders 2 .state) = rw (computed .two-carried) (List·Memᴰ·head refl) in from-start (in-state i)
+
+    noted-1 : carriedProvenance .noted 1 incarnation0 0 incarnation0
+    noted-1 = played-notes (signs provenance11 3) carriedOn 1 incarnation0 0 incarnation0 .1
+        (now-checkpointed refl (rw (computed .one-11)) (from-start (let i : In 0 incarnation0 (provenance11 .holders 1 .state) = rw (computed .one-11) (List·Memᴰ·head refl) in in-state i)))
+
 -- ---- take 0 signed, once and again
 
 none-uncheckpointed : (t : ℕ) (a : Incarnation) (u : ℕ) (c : Incarnation) → uncheckpointedProvenance .noted t a u c → ⊥
 unfolding uncheckpointedProvenance
-none-uncheckpointed t a u c x = played-notes emptyProvenance upToSigning t a u c x
+none-uncheckpointed t a u c x = played-notes emptyProvenance upToSigning t a u c .0 x
 
 -- take 0 rested on its opening life alone
 only-0 : (t : ℕ) → named 1 t ≡ true → (u : ℕ) (c : Incarnation) → RestsOn uncheckpointedProvenance t u c → (u ≡ 0) × (c ≡ incarnation0)
@@ -281,7 +382,7 @@ play-checkpointed = play-on (play-quiet emptyProvenance upToSigning (computed .q
 -- what was noted at the first signing is signed
 noted-checkpointed : (t : ℕ) (a : Incarnation) (u : ℕ) (c : Incarnation) → rolledBackProvenance .noted t a u c → CheckpointedNow rolledBackProvenance u c
 unfolding rolledBackProvenance checkpointedProvenance
-noted-checkpointed t a u c x = go (played-notes checkpointedProvenance thenRolledBack t a u c x)
+noted-checkpointed t a u c x = go (played-notes checkpointedProvenance thenRolledBack t a u c .0 x)
   where
     go : NotedBy uncheckpointedProvenance 1 t a u c → CheckpointedNow rolledBackProvenance u c
     go (before x) = absurd (none-uncheckpointed t a u c x)
@@ -299,13 +400,13 @@ unfolding oldProvenance
 number-alone = record { provenance = oldProvenance; play = play-on play-checkpointed (play-quiet checkpointedProvenance oldMessage (computed .quiet-old)); holds = computed .one-old }
 
 -- "Treating a withdrawn life before a signing as mended by it." Take 1 rests on a life of take 0 that was withdrawn before take
--- 0 was signed again: no volume with take 1 can be signed.
-pub not-mended : After (upToSigning ++ (aSign 1 ∷ []) ++ thenRolledBack ++ (aSign 1 ∷ [])) (λ b. (g : ℕ) → named g 1 ≡ true → Equal b g → ⊥)
+-- 0 was signed again: it stays withdrawn, and no volume with take 1 can be signed.
+pub not-mended : After (upToSigning ++ (aSign 1 ∷ []) ++ thenRolledBack ++ (aSign 1 ∷ [])) (λ b. SupersededOrAnnihilated b 0 incarnation1 × ((g : ℕ) → named g 1 ≡ true → Equal b g → ⊥))
 unfolding rolledBackProvenance againProvenance
 not-mended = record {
   provenance = againProvenance;
   play = play-on (play-on play-checkpointed (play-quiet checkpointedProvenance thenRolledBack (computed .quiet-rolledBack))) (then (signing (computed .sign-rolledBack) refl equal-rolledBack) end);
-  holds = λ g n. differs 1 n rests (λ s. uncheckpointed (rw (computed .zero-again) at (s .is))) (λ f. absent (rw (computed .zero-again) at (f .present .is)));
+  holds = (neither not-present not-checkpointed, λ g n. differs 1 n rests not-checkpointed (λ f. not-present (f .present)));
 }
   where
     rests : RestsOn againProvenance 1 0 incarnation1
@@ -317,17 +418,23 @@ not-mended = record {
     absent : incarnation1 ≡ incarnation3 → ⊥
     absent e = let z : _≡_ {A = ℕ} 1 2 = ap (λ (a : Incarnation). length (a .checkpoints)) e in omega arith
 
+    not-present : Present againProvenance 0 incarnation1 → ⊥
+    not-present p = absent (rw (computed .zero-again) at (p .is))
+
+    not-checkpointed : CheckpointedNow againProvenance 0 incarnation1 → ⊥
+    not-checkpointed s = uncheckpointed (rw (computed .zero-again) at (s .is))
+
 -- "Sparing a frozen take when a parcel shows that its ground fell." Take 1 is frozen; parcel 5 shows that its ground fell.
 pub still-stable : After (upToSigning ++ (aSign 1 ∷ []) ++ thenTold) (λ b. b .holders 1 ≡ holder ready true incarnation0 (one 0 incarnation1 ++ one 1 incarnation0) [])
 unfolding toldProvenance
 still-stable = record { provenance = toldProvenance; play = play-on play-checkpointed (play-quiet checkpointedProvenance thenTold (computed .quiet-told)); holds = computed .one-told }
 
-pub not-spared : After (upToSigning ++ (aSign 1 ∷ []) ++ thenTold ++ (aReceive 5 ∷ [])) (λ b. b .holders 1 .status ≡ annihilated)
+pub not-spared : After (upToSigning ++ (aSign 1 ∷ []) ++ thenTold ++ (aReceive 5 ∷ [])) (λ b. (b .holders 1 .status ≡ annihilated) × SupersededOrAnnihilated b 1 incarnation0)
 unfolding toldProvenance
 not-spared = record {
   provenance = played toldProvenance (aReceive 5 ∷ []);
   play = play-on (play-on play-checkpointed (play-quiet checkpointedProvenance thenTold (computed .quiet-told))) (play-quiet toldProvenance (aReceive 5 ∷ []) (computed .quiet-gone));
-  holds = computed .one-gone;
+  holds = (computed .one-gone, gone (computed .one-gone));
 }
 
 -- "Sending the state map with a parcel whose sender has not read." Take 1 has a life of take 0 in its state; what it sends holds
@@ -352,7 +459,7 @@ differ-child = differ-2 childProvenance (rw (computed .one-child) (in-creation (
 
 none-opener : (t : ℕ) (a : Incarnation) (u : ℕ) (c : Incarnation) → openerProvenance .noted t a u c → ⊥
 unfolding childProvenance openerProvenance
-none-opener t a u c x = played-notes emptyProvenance childSteps t a u c (played-notes childProvenance (aStep freeze 0 ∷ []) t a u c x)
+none-opener t a u c x = played-notes emptyProvenance childSteps t a u c .0 (played-notes childProvenance (aStep freeze 0 ∷ []) t a u c .0 x)
 
 -- the child rests on its own life, and on its opener's by its creation set
 child-rests : (u : ℕ) (a : Incarnation) → Ground (child busy true incarnation0 (one 1 incarnation0) (one 0 incarnation0) []) u a → ((u ≡ 0) × (a ≡ incarnation0)) ⊎ ((u ≡ 1) × (a ≡ incarnation0))
@@ -360,8 +467,11 @@ child-rests u a (in-state i) = inr (one-case i)
 child-rests u a (in-creation i) = inl (one-case i)
 
 equal-opener : Equal openerProvenance 3
-equal-opener = both-equal none-opener (computed .zero-opener) (computed .one-opener) working refl working refl (List·Memᴰ·head refl) (List·Memᴰ·head refl)
-    (λ u a g. one-case (ground-state refl u a g)) child-rests
+unfolding named
+equal-opener = pair-equal only-3 refl refl (λ t a u c x. absurd (none-opener t a u c x))
+    (record { is = computed .zero-opener; live = working; stable = refl; own = List·Memᴰ·head refl })
+    (record { is = computed .one-opener; live = working; stable = refl; own = List·Memᴰ·head refl })
+    (λ u a. ⊎-elim (λ g. inl (one-case (ground-state refl u a g))) (child-rests u a))
 
 play-child : Play emptyProvenance childSteps childProvenance
 unfolding childProvenance

@@ -6,14 +6,14 @@ use Rattle.rules.specs.Layout.{Layout, Limits}
 use Rattle.rules.specs.Step.{stepAt}
 use Rattle.session.specs.Provenance.{Provenance}
 use Rattle.session.specs.Steps.{ProvenanceStep}
-use Rattle.session.specs.Fed as book
+use Rattle.session.specs.Fed as provenance
 use Rattle.session.specs.Fed.{Call, ProvenanceSteps, ProvenanceCall, provenance-refuses, provenance-begins, provenance-runs, provenance-offers, provenance-names, provenance-shows, ProvenanceOf, new-provenance, fed}
 use Rattle.session.specs.Trace.{Trace, callsOf, Right, opened-right, called-right}
 use Rattle.session.proofs.Kept.{provenance-determined}
 
-steps-determined : {m : Limits} {b c d : Provenance} {steps : List ℕ} {i : ℕ} → ProvenanceSteps m b steps i c → ProvenanceSteps m b steps i d → c ≡ d
-steps-determined book.none book.none = refl
-steps-determined {m} {b} {c} {d} {steps} (book.more {i} p q) (book.more r s) =
+pub steps-determined : {m : Limits} {b c d : Provenance} {steps : List ℕ} {i : ℕ} → ProvenanceSteps m b steps i c → ProvenanceSteps m b steps i d → c ≡ d
+steps-determined provenance.none provenance.none = refl
+steps-determined {m} {b} {c} {d} {steps} (provenance.more {i} p q) (provenance.more r s) =
     provenance-determined (subst (λ x. ProvenanceStep m x (stepAt steps i) c) (steps-determined p r) q) s
 
 call-determined : {m : Limits} {b d e : Provenance} {c : Call} → ProvenanceCall m b c d → ProvenanceCall m b c e → d ≡ e

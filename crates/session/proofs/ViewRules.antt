@@ -13,14 +13,14 @@ use Rattle.octets.specs.Bytes.{pick, _and_, _or_, every}
 use Rattle.octets.proofs.Chunks.{sides}
 use Rattle.octets.proofs.Zero.{both, every-all, every-at}
 use Rattle.marks.specs.declared.History.{History}
-use Rattle.marks.specs.Incarnation.{Incarnation, nextIncarnation, Checkpointed, checkpointedIn, sameIncarnation}
-use Rattle.marks.specs.History.{incarnationOf, initialHistory, stabilized, rolledBack, Roomy, HistoryView, initialView, viewOf}
+use Rattle.marks.specs.Incarnation.{Incarnation, Checkpointed, checkpointedIn, sameIncarnation}
+use Rattle.marks.specs.History.{incarnationOf, initialHistory, stabilized, rolledBack, Roomy, HistoryView, initialView, stabilizedView, rolledBackView, viewOf}
 use Rattle.marks.proofs.Histories.{roomy-length, roomy-initial}
 use Rattle.marks.proofs.Tests.{checkpointed-test, same-test}
 use Rattle.maps.specs.declared.DependenceMap.{DependenceMap}
 use Rattle.maps.specs.Map.{heldAt, historyAt}
 use Rattle.maps.specs.Table.{updated}
-use Rattle.maps.specs.View.{joinEntry, emptyView, singletonView, mapView, SupersededView}
+use Rattle.maps.specs.Internal.View.{joinEntry, emptyView, singletonView, mapView, SupersededView}
 use Rattle.maps.proofs.View.{Answers, one, no-one, view-superseded, view-held, view-some, Within, roomy-entry, within-none, within-ok, within-singleton, within-join, view-empty, view-withEntry, view-singleton, view-join}
 use Rattle.rules.specs.Layout.{Layout}
 use Rattle.rules.specs.State.{Transactor, Message, State, transactorAt, messageAt, ownHistory, live, withTransactor, withoutMessage, numbered, placeOf}
@@ -33,10 +33,10 @@ use Rattle.rules.specs.Rules as rules
 use Rattle.rules.specs.Internal.Well.{TransactorOk, WellFormed}
 use Rattle.session.specs.Provenance.{Live, idle, working}
 use Rattle.session.specs.Steps.{isNil}
-use Rattle.session.proofs.Model.{Node, Ledger, own, withNode, openNode, withMail, withoutMail, findMail, anewNode, readNode, freezeNode, finishNode, rollbackNode, knownMap, sentMap, childNode, openerNode, signLedger, statusOf, viewNode, view}
+use Rattle.session.proofs.Model.{Node, Ledger, own, withNode, openNode, withMessageView, withoutMessageView, findMessage, anewNode, readNode, freezeNode, finishNode, rollbackNode, knownMap, sentMap, childNode, openerNode, signLedger, statusOf, viewNode, view}
 use Rattle.session.proofs.Tables.{pick-both, and-of, or-to, or-of}
 use Rattle.session.proofs.Locals.{writtenNode, fallNode, failNode, actedNode}
-use Rattle.session.proofs.Messages.{receivedNode, receiveMail}
+use Rattle.session.proofs.Messages.{receivedNode, receiveMessage}
 use Rattle.session.proofs.Sign.{EntryReady, Ready}
 use Rattle.session.proofs.ViewState.{node-same, view-bare, view-anew, view-withTransactor, view-opened, view-own, at-transactor, own-view, no-message, view-withMessage, view-find, view-withoutMessage, view-checkpointGroup}
 
@@ -77,7 +77,7 @@ module _ {y : Layout} {x : Transactor} (ok : TransactorOk y x) where
       unfolding freezeBy
       view-freeze = node-same refl
           (λ u. view-withEntry (ok .state) t (stabilized (ownHistory t x)) below u
-          ∙ ap (λ (m : HistoryView). updated (mapView (x .state)) t (some (record { stable = true; incarnation = m .incarnation })) u) (sym (view-own (ok .state) t)))
+          ∙ ap (λ (m : HistoryView). updated (mapView (x .state)) t (some (stabilizedView m)) u) (sym (view-own (ok .state) t)))
           (λ u. refl)
           (λ u. refl)
 
@@ -93,7 +93,7 @@ module _ {y : Layout} {x : Transactor} (ok : TransactorOk y x) where
       view-rollback = pick-both Leaves (eqb (ownHistory t x .count) 0) (isNil (own t (viewNode x) .incarnation .checkpoints)) never-checkpointed _ _ _ _
           (λ e. view-bare y state.annihilated)
           (λ e. view-anew y t (x .saved) (x .saved) (rolledBack (ownHistory t x)) below
-          ∙ ap (λ (m : HistoryView). anewNode t (record { stable = false; incarnation = nextIncarnation (m .incarnation) })) (sym (view-own (ok .state) t)))
+          ∙ ap (λ (m : HistoryView). anewNode t (rolledBackView m)) (sym (view-own (ok .state) t)))
 
       pub view-carried : (u : ℕ) → mapView (carried y t x) u ≡ sentMap t (viewNode x) u
       unfolding carried
@@ -160,14 +160,14 @@ module _ {y : Layout} {s : State} (well : WellFormed y s) where
 
   -- for every number, of a parcel that waits or not
   module _ (n : ℕ) where
-    pub dropped-test : (droppedAt y s n ≡ true) ↔ SupersededView (findMail n (view s .mails) .dependences) (knownMap (view s .nodes (findMail n (view s .mails) .addressee)))
+    pub dropped-test : (droppedAt y s n ≡ true) ↔ SupersededView (findMessage n (view s .messages) .dependences) (knownMap (view s .nodes (findMessage n (view s .messages) .addressee)))
     unfolding droppedAt messageSuperseded view
     dropped-test =
         let m : Message = messageAt s (placeOf s n) in
         let x : Transactor = transactorAt s (m .addressee) in
         rw (view-find s n, ← view-known (m .addressee)) (is-some (view-superseded (within-message (placeOf s n)) (known y x)))
 
-    pub rolledBack-test : (rolledBackAt y s n ≡ true) ↔ SupersededView (knownMap (view s .nodes (findMail n (view s .mails) .addressee))) (findMail n (view s .mails) .dependences)
+    pub rolledBack-test : (rolledBackAt y s n ≡ true) ↔ SupersededView (knownMap (view s .nodes (findMessage n (view s .messages) .addressee))) (findMessage n (view s .messages) .dependences)
     unfolding rolledBackAt receiverSuperseded view
     rolledBack-test =
         let m : Message = messageAt s (placeOf s n) in
@@ -193,21 +193,21 @@ module _ {y : Layout} {s : State} (well : WellFormed y s) (p : Step) where
       view-opened s (opening y (s .opened) (p .value) (rules.noDependences y)) (inside (s .opened) h)
       ∙ ap (openNode (view s)) (view-anew y (s .opened) (p .value) 0 (initialHistory (y .places)) h)
 
-  pub view-letter : view (applyLetter y s p .state) ≡ withMail (view s) (p .transactor) emptyView
+  pub view-letter : view (applyLetter y s p .state) ≡ withMessageView (view s) (p .transactor) emptyView
   unfolding applyLetter
   view-letter =
       view-withMessage s (p .transactor) (p .value) (rules.noDependences y)
-      ∙ ap (withMail (view s) (p .transactor)) (λ i u. view-empty (y .places) (y .transactors) u i)
+      ∙ ap (withMessageView (view s) (p .transactor)) (λ i u. view-empty (y .places) (y .transactors) u i)
 
-  pub view-lose : view (applyLose s p .state) ≡ withoutMail (view s) (p .message)
+  pub view-lose : view (applyLose s p .state) ≡ withoutMessageView (view s) (p .message)
   unfolding applyLose
   view-lose = view-withoutMessage s (p .message)
 
-  pub view-send : p .transactor < y .transactors → view (applySend y s p .state) ≡ withMail (view s) (p .other) (sentMap (p .transactor) (view s .nodes (p .transactor)))
+  pub view-send : p .transactor < y .transactors → view (applySend y s p .state) ≡ withMessageView (view s) (p .other) (sentMap (p .transactor) (view s .nodes (p .transactor)))
   unfolding applySend view
   view-send h =
       view-withMessage s (p .other) (p .value) (carried y (p .transactor) (transactorAt s (p .transactor)))
-      ∙ ap (withMail (view s) (p .other)) (λ i u. view-carried (ok-at (p .transactor) h) (p .transactor) h u i)
+      ∙ ap (withMessageView (view s) (p .other)) (λ i u. view-carried (ok-at (p .transactor) h) (p .transactor) h u i)
 
   pub view-acted : p .transactor < y .transactors
       → view (applyLocal y s p .state) ≡ withNode (view s) (p .transactor) (actedNode (p .kind) (p .transactor) (view s .nodes (p .transactor)))
@@ -252,16 +252,16 @@ module _ {y : Layout} {s : State} (well : WellFormed y s) (p : Step) where
 
   -- a take changed while a parcel is removed
   changed-removed : (t : ℕ) (x : Transactor) → t < y .transactors → (n : ℕ)
-      → view (withoutMessage (withTransactor s t x) (placeOf s n)) ≡ withNode (withoutMail (view s) n) t (viewNode x)
+      → view (withoutMessage (withTransactor s t x) (placeOf s n)) ≡ withNode (withoutMessageView (view s) n) t (viewNode x)
   changed-removed t x h n =
-      subst (λ (k : ℕ). view (withoutMessage (withTransactor s t x) k) ≡ withoutMail (view (withTransactor s t x)) n) (place-kept s t x n) (view-withoutMessage (withTransactor s t x) n)
-      ∙ ap (λ (l : Ledger). withoutMail l n) (view-withTransactor s t x (inside t h))
+      subst (λ (k : ℕ). view (withoutMessage (withTransactor s t x) k) ≡ withoutMessageView (view (withTransactor s t x)) n) (place-kept s t x n) (view-withoutMessage (withTransactor s t x) n)
+      ∙ ap (λ (l : Ledger). withoutMessageView l n) (view-withTransactor s t x (inside t h))
 
   module _ (waits : placeOf s (p .message) < length (s .messages)) where
     pub addressee-below : messageAt s (placeOf s (p .message)) .addressee < y .transactors
     addressee-below = omega (arith, well .opened, well .addressees (placeOf s (p .message)) waits)
 
-    pub view-receive : view (applyReceive y s p .state) ≡ receiveMail (droppedAt y s (p .message)) (rolledBackAt y s (p .message)) (view s) (p .message)
+    pub view-receive : view (applyReceive y s p .state) ≡ receiveMessage (droppedAt y s (p .message)) (rolledBackAt y s (p .message)) (view s) (p .message)
     unfolding applyReceive view droppedAt rolledBackAt
     view-receive =
         let m : Message = messageAt s (placeOf s (p .message)) in
@@ -269,7 +269,7 @@ module _ {y : Layout} {s : State} (well : WellFormed y s) (p : Step) where
         let x : Transactor = transactorAt s t in
         rw (view-find s (p .message))
         (changed-removed t (receiveBy y t x m .transactor) addressee-below (p .message)
-        ∙ ap (withNode (withoutMail (view s) (p .message)) t) (view-received (ok-at t addressee-below) t addressee-below m))
+        ∙ ap (withNode (withoutMessageView (view s) (p .message)) t) (view-received (ok-at t addressee-below) t addressee-below m))
 
 -- ---- sign
 

@@ -10,7 +10,7 @@ use Rattle.rules.specs.State.{State, transactorAt, ownHistory}
 use Rattle.rules.specs.Rules.{receiptRollsBack, seen}
 use Rattle.rules.specs.Internal.Well.{WellFormed}
 use Rattle.session.specs.Provenance.{statusNumber}
-use Rattle.session.proofs.Model.{statusOf, viewMail, view}
+use Rattle.session.proofs.Model.{statusOf, viewMessage, view}
 use Rattle.session.proofs.ViewState.{at-transactor, own-view, own-roomy, view-find, view-missing}
 use Rattle.session.proofs.Seen.{seenOf}
 use Rattle.session.proofs.ViewRules.{droppedAt, rolledBackAt}
@@ -38,7 +38,7 @@ module _ {y : Layout} {s : State} (well : WellFormed y s) where
   view-seen = λ i. record {
     opened = s .opened;
     next = s .next;
-    waiting = sym (length-map (s .messages) viewMail) i;
+    waiting = sym (length-map (s .messages) viewMessage) i;
     status = λ t. seen-status t i;
     stable = λ t. sym (own-view well t) i .stable;
     checkpoints = λ t. (seen-checkpoints t ∙ ap (λ (m : HistoryView). length (m .incarnation .checkpoints)) (sym (own-view well t))) i;

@@ -13,14 +13,13 @@ use borrow.Author.Tests.{lt-leb}
 use Rattle.octets.specs.Bytes.{pick, tabulate}
 use Rattle.octets.proofs.Chunks.{sides, length-tabulate, getD-tabulate}
 use Rattle.marks.specs.declared.History.{History}
-use Rattle.marks.specs.Incarnation.{checkpointIncarnation}
-use Rattle.marks.specs.History.{checkpointed, Roomy, HistoryView, initialView, viewOf}
+use Rattle.marks.specs.History.{checkpointed, Roomy, HistoryView, initialView, checkpointedView, viewOf}
 use Rattle.marks.proofs.Histories.{view-checkpointed}
 use Rattle.maps.specs.declared.DependenceMap.{DependenceMap}
 use Rattle.maps.specs.Map.{historyAt}
-use Rattle.maps.specs.Packed.{EntryOk, present, absent, MapOk}
+use Rattle.maps.specs.Internal.Fitting.{EntryOk, present, absent, MapOk}
 use Rattle.maps.specs.Table.{updated}
-use Rattle.maps.specs.View.{mapView}
+use Rattle.maps.specs.Internal.View.{mapView}
 use Rattle.maps.proofs.Map.{outside}
 use Rattle.maps.proofs.Tables.{updated-is}
 use Rattle.maps.proofs.View.{roomy-entry, within-ok, view-past, view-empty, view-singleton}
@@ -32,7 +31,7 @@ use Rattle.rules.specs.Rules.{opened, checkpointBy, checkpointAt, checkpointGro
 use Rattle.rules.specs.Rules as rules
 use Rattle.rules.specs.Internal.Well.{WellFormed}
 use Rattle.session.specs.Provenance.{unused}
-use Rattle.session.proofs.Model.{Node, Mail, own, withNode, openNode, withMail, removeMail, withoutMail, findMail, missingMail, bareNode, anewNode, checkpointedNodes, signLedger, statusOf, viewNode, viewMail, view}
+use Rattle.session.proofs.Model.{Node, MessageView, own, withNode, openNode, withMessageView, removeMessage, withoutMessageView, findMessage, missingMessage, bareNode, anewNode, checkpointedNodes, signLedger, statusOf, viewNode, viewMessage, view}
 use Rattle.session.proofs.Relation.{freshLedger}
 
 -- ---- equal by their values
@@ -75,15 +74,15 @@ module _ (s : State) (t : ℕ) (x : Transactor) (below : t < length (s .transact
 
   pub view-withTransactor : view (withTransactor s t x) ≡ withNode (view s) t (viewNode x)
   unfolding view withTransactor transactorAt
-  view-withTransactor = λ i. record { opened = s .opened; next = s .next; nodes = λ u. nodes-with u i; mails = map viewMail (s .messages) }
+  view-withTransactor = λ i. record { opened = s .opened; next = s .next; nodes = λ u. nodes-with u i; messages = map viewMessage (s .messages) }
 
 pub view-opened : (s : State) (x : Transactor) → s .opened < length (s .transactors) → view (opened s x) ≡ openNode (view s) (viewNode x)
 unfolding opened view withOpened withTransactor transactorAt
-view-opened s x below = λ i. record { opened = s .opened + 1; next = s .next; nodes = λ u. nodes-with s (s .opened) x below u i; mails = map viewMail (s .messages) }
+view-opened s x below = λ i. record { opened = s .opened + 1; next = s .next; nodes = λ u. nodes-with s (s .opened) x below u i; messages = map viewMessage (s .messages) }
 
 pub view-fresh : (y : Layout) → view (fresh y) ≡ freshLedger
 unfolding view fresh transactorAt statusOf
-view-fresh y = λ i. record { opened = 0; next = 0; nodes = λ t. each t i; mails = [] }
+view-fresh y = λ i. record { opened = 0; next = 0; nodes = λ t. each t i; messages = [] }
   where
     each : (t : ℕ) → viewNode (getD (replicate (y .transactors) (bare y state.unused)) t noTransactor) ≡ bareNode unused
     each t = ⊎-elim
@@ -131,13 +130,13 @@ module _ {y : Layout} {s : State} (well : WellFormed y s) where
 
 -- ---- parcels
 
-pub view-withMessage : (s : State) (to v : ℕ) (m : DependenceMap) → view (withMessage s to v m) ≡ withMail (view s) to (mapView m)
+pub view-withMessage : (s : State) (to v : ℕ) (m : DependenceMap) → view (withMessage s to v m) ≡ withMessageView (view s) to (mapView m)
 unfolding view withMessage transactorAt
 view-withMessage s to v m = λ i. record {
   opened = s .opened;
   next = s .next + 1;
   nodes = λ t. viewNode (getD (s .transactors) t noTransactor);
-  mails = map-append viewMail (s .messages) (record { addressee = to; number = s .next; value = v; dependences = m } ∷ []) i;
+  messages = map-append viewMessage (s .messages) (record { addressee = to; number = s .next; value = v; dependences = m } ∷ []) i;
 }
 
 -- past the last parcel
@@ -164,51 +163,51 @@ unfolding placeOf numbered messageAt
 place-in s p = place-from p (λ k. eqb (getD (s .messages) k noMessage .number) p) (s .messages) 0 (λ j. ap (λ (k : ℕ). eqb (getD (s .messages) k noMessage .number) p) {x = 0 + j} (omega arith)) ∙ omega arith
 
 module _ (p : ℕ) where
-  find-in : (ms : List Message) → findMail p (map viewMail ms) ≡ viewMail (getD ms (placeIn p ms) noMessage)
-  unfolding findMail placeIn
+  find-in : (ms : List Message) → findMessage p (map viewMessage ms) ≡ viewMessage (getD ms (placeIn p ms) noMessage)
+  unfolding findMessage placeIn
   find-in [] = λ i. record { number = 0; addressee = 0; dependences = λ u. sym (view-no-map u) i }
   find-in (m ∷ ms) = go (eqb (m .number) p) (find-in ms)
     where
-      go : (t : Bool) → findMail p (map viewMail ms) ≡ viewMail (getD ms (placeIn p ms) noMessage)
-          → pick t (viewMail m) (findMail p (map viewMail ms)) ≡ viewMail (getD (m ∷ ms) (pick t 0 (suc (placeIn p ms))) noMessage)
+      go : (t : Bool) → findMessage p (map viewMessage ms) ≡ viewMessage (getD ms (placeIn p ms) noMessage)
+          → pick t (viewMessage m) (findMessage p (map viewMessage ms)) ≡ viewMessage (getD (m ∷ ms) (pick t 0 (suc (placeIn p ms))) noMessage)
       go true ih = refl
       go false ih = ih
 
-  missing-in : (ms : List Message) → missingMail p (map viewMail ms) ≡ leb (length ms) (placeIn p ms)
-  unfolding missingMail placeIn
+  missing-in : (ms : List Message) → missingMessage p (map viewMessage ms) ≡ leb (length ms) (placeIn p ms)
+  unfolding missingMessage placeIn
   missing-in [] = refl
   missing-in (m ∷ ms) = go (eqb (m .number) p) (missing-in ms)
     where
-      go : (t : Bool) → missingMail p (map viewMail ms) ≡ leb (length ms) (placeIn p ms)
-          → pick t false (missingMail p (map viewMail ms)) ≡ leb (suc (length ms)) (pick t 0 (suc (placeIn p ms)))
+      go : (t : Bool) → missingMessage p (map viewMessage ms) ≡ leb (length ms) (placeIn p ms)
+          → pick t false (missingMessage p (map viewMessage ms)) ≡ leb (suc (length ms)) (pick t 0 (suc (placeIn p ms)))
       go true ih = sym (lt-leb (suc (length ms)) 0 (omega arith))
       go false ih = ih ∙ sym (leb·suc-suc (length ms) (placeIn p ms))
 
-  remove-in : (ms : List Message) → map viewMail (take (placeIn p ms) ms ++ drop (placeIn p ms + 1) ms) ≡ removeMail p (map viewMail ms)
-  unfolding removeMail placeIn
+  remove-in : (ms : List Message) → map viewMessage (take (placeIn p ms) ms ++ drop (placeIn p ms + 1) ms) ≡ removeMessage p (map viewMessage ms)
+  unfolding removeMessage placeIn
   remove-in [] = refl
   remove-in (m ∷ ms) = go (eqb (m .number) p) (remove-in ms)
     where
-      go : (t : Bool) → map viewMail (take (placeIn p ms) ms ++ drop (placeIn p ms + 1) ms) ≡ removeMail p (map viewMail ms)
-          → map viewMail (take (pick t 0 (suc (placeIn p ms))) (m ∷ ms) ++ drop (pick t 0 (suc (placeIn p ms)) + 1) (m ∷ ms)) ≡ pick t (map viewMail ms) (viewMail m ∷ removeMail p (map viewMail ms))
+      go : (t : Bool) → map viewMessage (take (placeIn p ms) ms ++ drop (placeIn p ms + 1) ms) ≡ removeMessage p (map viewMessage ms)
+          → map viewMessage (take (pick t 0 (suc (placeIn p ms))) (m ∷ ms) ++ drop (pick t 0 (suc (placeIn p ms)) + 1) (m ∷ ms)) ≡ pick t (map viewMessage ms) (viewMessage m ∷ removeMessage p (map viewMessage ms))
       go true ih = refl
       go false ih =
           let e : suc (placeIn p ms) + 1 ≡ suc (placeIn p ms + 1) = omega arith in
-          ap (λ (n : ℕ). viewMail m ∷ map viewMail (take (placeIn p ms) ms ++ drop n (m ∷ ms))) e
-          ∙ ap (λ (l : List Mail). viewMail m ∷ l) ih
+          ap (λ (n : ℕ). viewMessage m ∷ map viewMessage (take (placeIn p ms) ms ++ drop n (m ∷ ms))) e
+          ∙ ap (λ (l : List MessageView). viewMessage m ∷ l) ih
 
 module _ (s : State) (p : ℕ) where
-  pub view-find : findMail p (view s .mails) ≡ viewMail (messageAt s (placeOf s p))
+  pub view-find : findMessage p (view s .messages) ≡ viewMessage (messageAt s (placeOf s p))
   unfolding view messageAt
   view-find = rw place-in (find-in p (s .messages))
 
-  pub view-missing : missingMail p (view s .mails) ≡ leb (length (s .messages)) (placeOf s p)
+  pub view-missing : missingMessage p (view s .messages) ≡ leb (length (s .messages)) (placeOf s p)
   unfolding view
   view-missing = rw place-in (missing-in p (s .messages))
 
-  pub view-withoutMessage : view (withoutMessage s (placeOf s p)) ≡ withoutMail (view s) p
+  pub view-withoutMessage : view (withoutMessage s (placeOf s p)) ≡ withoutMessageView (view s) p
   unfolding view withoutMessage transactorAt
-  view-withoutMessage = rw place-in (λ i. record { opened = s .opened; next = s .next; nodes = λ t. viewNode (getD (s .transactors) t noTransactor); mails = remove-in p (s .messages) i })
+  view-withoutMessage = rw place-in (λ i. record { opened = s .opened; next = s .next; nodes = λ t. viewNode (getD (s .transactors) t noTransactor); messages = remove-in p (s .messages) i })
 
 -- ---- sign
 
@@ -216,14 +215,14 @@ module _ {y : Layout} {s : State} (well : WellFormed y s) (g : ℕ) where
   module _ (bounded : (t : ℕ) → named g t ≡ true → t < y .transactors)
       (room : (t : ℕ) → named g t ≡ true → ownHistory t (transactorAt s t) .count < y .places) where
     pub view-checkpointBy : (t : ℕ) → named g t ≡ true
-        → viewNode (checkpointBy y t (transactorAt s t)) ≡ anewNode t (record { stable = false; incarnation = checkpointIncarnation (own t (viewNode (transactorAt s t)) .incarnation) })
+        → viewNode (checkpointBy y t (transactorAt s t)) ≡ anewNode t (checkpointedView (own t (viewNode (transactorAt s t))))
     unfolding checkpointBy
     view-checkpointBy t e =
         let below : t < y .transactors = bounded t e in
         let x : Transactor = transactorAt s t in
         view-anew y t (x .value) (x .value) (checkpointed (ownHistory t x)) below
         ∙ ap (anewNode t) (view-checkpointed (own-roomy well t below) (room t e))
-        ∙ ap (λ (m : HistoryView). anewNode t (record { stable = false; incarnation = checkpointIncarnation (m .incarnation) })) (sym (own-view well t))
+        ∙ ap (λ (m : HistoryView). anewNode t (checkpointedView m)) (sym (own-view well t))
 
     checkpointed-at : (t : ℕ) → viewNode (getD (tabulate (y .transactors) (checkpointAt y s g)) t noTransactor) ≡ checkpointedNodes (named g) (λ u. viewNode (transactorAt s u)) t
     unfolding checkpointedNodes checkpointAt
@@ -235,7 +234,7 @@ module _ {y : Layout} {s : State} (well : WellFormed y s) (g : ℕ) where
         (sides t (y .transactors))
       where
         renewed-node : Node
-        renewed-node = anewNode t (record { stable = false; incarnation = checkpointIncarnation (own t (viewNode (transactorAt s t)) .incarnation) })
+        renewed-node = anewNode t (checkpointedView (own t (viewNode (transactorAt s t))))
 
         within : (c : Bool) → named g t ≡ c → viewNode (pick c (checkpointBy y t (transactorAt s t)) (transactorAt s t)) ≡ pick c renewed-node (viewNode (transactorAt s t))
         within true e = view-checkpointBy t e
@@ -247,4 +246,4 @@ module _ {y : Layout} {s : State} (well : WellFormed y s) (g : ℕ) where
 
     pub view-checkpointGroup : view (checkpointGroup y s g) ≡ signLedger (view s) (named g)
     unfolding view checkpointGroup transactorAt
-    view-checkpointGroup = λ i. record { opened = s .opened; next = s .next; nodes = λ t. checkpointed-at t i; mails = map viewMail (s .messages) }
+    view-checkpointGroup = λ i. record { opened = s .opened; next = s .next; nodes = λ t. checkpointed-at t i; messages = map viewMessage (s .messages) }

@@ -21,7 +21,7 @@ use Rattle.rules.specs.Rules.{Result, groupReady, seen, refusal, apply, stepOf}
 use Rattle.rules.specs.Internal.Well.{WellFormed}
 use Rattle.session.specs.Provenance.{Provenance}
 use Rattle.session.specs.Steps.{provenanceRefusal}
-use Rattle.session.proofs.Model.{Ledger, own, findMail, viewNode, view}
+use Rattle.session.proofs.Model.{Ledger, own, findMessage, viewNode, view}
 use Rattle.session.proofs.Tables.{pick-both, and-of, or-of}
 use Rattle.session.proofs.Relation.{Rel}
 use Rattle.session.proofs.Messages.{ReceiptTests}
@@ -87,7 +87,7 @@ module _ {y : Layout} {s : State} (well : WellFormed y s) (g : ℕ) (bits : g < 
 -- ---- what the tests stand for
 
 pub receipt-tests : {y : Layout} {s : State} → WellFormed y s → (n : ℕ)
-    → ReceiptTests (view s .nodes (findMail n (view s .mails) .addressee)) (findMail n (view s .mails)) (droppedAt y s n) (rolledBackAt y s n)
+    → ReceiptTests (view s .nodes (findMessage n (view s .messages) .addressee)) (findMessage n (view s .messages)) (droppedAt y s n) (rolledBackAt y s n)
 receipt-tests well n = record { dropped = dropped-test well n; rolls-back = rolledBack-test well n }
 
 pub step-tests : {y : Layout} {s : State} → WellFormed y s → (p : Step) → p .message < bound 2

@@ -43,7 +43,7 @@ abbrev pub repliesIn : Answer → List ℕ
 repliesIn (begun r) = []
 repliesIn (ran r replies) = replies
 repliesIn (offered r message) = []
-repliesIn (grouped r volume) = []
+repliesIn (grouped r group) = []
 repliesIn (showed r bytes) = []
 
 -- a call, n counted before it: an accepted begin counts from 0, an accepted run adds its steps

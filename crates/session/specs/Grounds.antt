@@ -51,21 +51,21 @@ pub data SupersededOrAnnihilated (b : Provenance) (u : ℕ) (a : Incarnation) : 
 
 -- Demand 3: "a signing signs exactly when the book's two sets of lives are equal, else it replies 5".
 
--- The first: "unsigned lives that the named takes rest on, own included". A live take has its present life in its state set, so
--- it rests on it, and no clause of its own is needed for that (law own-included of proofs/Sign).
+-- The first: the unsigned lives that the named takes rest on, their own included. A live take has its present life in its state set, so
+-- it rests on it, and no clause of its own is needed for that (law own-included of proofs/Reached).
 pub record UncheckpointedGround (b : Provenance) (g u : ℕ) (a : Incarnation) : Type 0 where
   pub by : ℕ
   pub named : named g by ≡ true
   pub rests : RestsOn b by u a
   pub uncheckpointed : CheckpointedNow b u a → ⊥
 
--- The second: "present lives of the named takes that are frozen".
+-- The second: the present lives of the named takes that are frozen.
 pub record StablePresent (b : Provenance) (g u : ℕ) (a : Incarnation) : Type 0 where
   pub named : named g u ≡ true
   pub present : Present b u a
   pub stable : b .holders u .history .stable ≡ true
 
--- "Equality is mutual inclusion": each life of the one is in the other.
+-- Equal: each life of the one is in the other.
 abbrev pub Equal : Provenance → ℕ → Type 0
 Equal b g = (u : ℕ) (a : Incarnation) → UncheckpointedGround b g u a ↔ StablePresent b g u a
 

@@ -6,8 +6,8 @@ use mathlib.Core.List.{List, [], _∷_, _++_}
 use lib.ListN.{length}
 use lib.Dec.{eqb}
 use Rattle.octets.specs.Bytes.{pick, _and_}
-use Rattle.marks.specs.Incarnation.{Incarnation, nextIncarnation, checkpointIncarnation}
-use Rattle.marks.specs.History.{HistoryView, initialView}
+use Rattle.marks.specs.Incarnation.{Incarnation}
+use Rattle.marks.specs.History.{HistoryView, initialView, stabilizedView, rolledBackView, checkpointedView}
 use Rattle.rules.specs.Layout.{Limits}
 use Rattle.rules.specs.declared.Step.{Step}
 use Rattle.rules.specs.Step.{root, letter, receive, new, send, read, write, freeze, finish, fall, lose, sign}
@@ -32,7 +32,7 @@ isNil (x ∷ xs) = false
 unfoldable pub rolledBackHolder : ℕ → Holder → Holder
 rolledBackHolder t h =
     pick (isNil (h .history .incarnation .checkpoints)) (blank annihilated)
-    (anew t (record { stable = false; incarnation = nextIncarnation (h .history .incarnation) }))
+    (anew t (rolledBackView (h .history)))
 
 -- ---- one take alone
 
@@ -49,7 +49,7 @@ writes h = pick (h .history .stable) h
 unfoldable pub freezes : Holder → Holder
 freezes h = record {
   status = h .status;
-  history = record { stable = true; incarnation = h .history .incarnation };
+  history = stabilizedView (h .history);
   state = h .state;
   creation = h .creation;
   behaviour = h .behaviour;
@@ -100,7 +100,7 @@ received t h q =
 unfoldable pub checkpointedAt : Provenance → ℕ → ℕ → Holder
 checkpointedAt b g t =
     pick (named g t)
-    (anew t (record { stable = false; incarnation = checkpointIncarnation (b .holders t .history .incarnation) }))
+    (anew t (checkpointedView (b .holders t .history)))
     (b .holders t)
 
 -- what each named take rests on is noted for its present life

@@ -34,7 +34,7 @@ abbrev pub refusalIn : Answer → ℕ
 refusalIn (begun r) = r
 refusalIn (ran r replies) = r
 refusalIn (offered r message) = r
-refusalIn (grouped r volume) = r
+refusalIn (grouped r group) = r
 refusalIn (showed r bytes) = r
 
 -- A call performed on an image: what it gives back and leaves, by the definitions that the contracts of begin, run, offer,
@@ -46,7 +46,7 @@ pub data Performed (y : Layout) (m : Limits) (img : List ℕ) : Call → Answer 
       (ran (runAnswer y img list start end replies) (runReplies y m img list start end replies))
       (runImage y m img list start end replies)
   offering : {t : ℕ} {message : Option ℕ} → Offers y img t message → Performed y m img (offer t) (offered (offerRefusal y img t) message) img
-  naming : {t : ℕ} {volume : Option ℕ} → Smallest y m img t volume → Performed y m img (smallest t) (grouped (offerRefusal y img t) volume) img
+  naming : {t : ℕ} {group : Option ℕ} → Smallest y m img t group → Performed y m img (smallest t) (grouped (offerRefusal y img t) group) img
   showing : {n : ℕ} → Performed y m img (show n) (showed (showRefusal y img n) (shown y img n)) img
 
 -- A session grown from a fresh one: an accepted begin, then any list of calls, each on the image that the last one left.

@@ -16,7 +16,7 @@ ghost use Prim.Native.Nat.{_+_, _≤_, _<_};
 ghost use lib.ListN.{length};
 ghost use lib.Dec.{eqb};
 ghost use Rattle.octets.specs.Bytes.{_or_};
-ghost use Rattle.maps.specs.Packed.{Bounded};
+ghost use Rattle.maps.specs.Internal.Fitting.{Bounded};
 ghost use Rattle.rules.specs.Layout.{base, standard, imageBytes};
 ghost use Rattle.rules.specs.State.{transactorAt};
 ghost use Rattle.rules.specs.Step.{root, letter, receive, new, send, lose, sign};

@@ -10,7 +10,7 @@ use Rattle.octets.proofs.Put.{put-def, part-def, length-put}
 use Rattle.octets.proofs.Numbers.{put-be-one}
 use Rattle.octets.proofs.Chunks.{step}
 use Rattle.maps.specs.declared.DependenceMap.{DependenceMap}
-use Rattle.maps.specs.Packed.{Bounded}
+use Rattle.maps.specs.Internal.Fitting.{Bounded}
 use Rattle.maps.proofs.Packed.{bounded-at, bounded-unpack, bounded-singleton, bounded-join}
 use Rattle.rules.specs.Layout.{Layout, base, mapBytes, stateAt, creationAt, behaviourAt, transactorBytes, transactorAddress, imageBytes}
 use Rattle.rules.specs.State.{Transactor, State, ownHistory, transactorAt, withTransactor}

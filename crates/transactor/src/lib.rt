@@ -14,7 +14,7 @@ use rules::numbers;
 ghost use mathlib.Core.Path.{_≡_};
 ghost use Prim.Native.Nat.{_≤_, _<_};
 ghost use lib.ListN.{length};
-ghost use Rattle.maps.specs.Packed.{Bounded};
+ghost use Rattle.maps.specs.Internal.Fitting.{Bounded};
 ghost use Rattle.rules.specs.Layout.{base, standard, transactorBytes};
 ghost use Rattle.rules.specs.State.{bare, ownHistory};
 ghost use Rattle.rules.specs.Rules.{renewed, opening, carried, readBy, writeBy, freezeBy, finishBy, checkpointBy};
@@ -95,7 +95,8 @@ pub fn carry(part: &[u8], t: usize) -> DependenceMap
     ensures { λ r. ⌜ r ≡ carried base t (unpackTransactor base (now (part .entry))) ⌝ }
 {
     let h = own(part, t);
-    DependenceMap::load_join(part, CREATION, BEHAVIOUR).join_entry(t, h)
+    let creation = DependenceMap::load(part, CREATION);
+    creation.join_from(part, BEHAVIOUR).join_entry(t, h)
 }
 
 // Falls: annihilated if never checkpointed, else the next incarnation; 28 at the last one.
@@ -129,7 +130,8 @@ fn read(part: &mut [u8]) -> Acted
     requires { ⌜ GoodPart (now part) ⌝ }
     ensures { λ r. ⌜ Acts (readBy base (unpackTransactor base (now (part .entry)))) (r .outcome) (r .value) (now (part .exit)) ⌝ }
 {
-    maps::in_place::join_into(part, STATE, BEHAVIOUR);
+    let state = DependenceMap::load(part, STATE);
+    state.join_into(part, BEHAVIOUR);
     let value = octets::load32(part, VALUE);
     Acted {
         outcome: numbers::DONE,
@@ -146,7 +148,8 @@ fn write(part: &mut [u8], t: usize, value: u32) -> Acted
         return outcome_of(numbers::HELD);
     }
     octets::store32(part, VALUE, value);
-    maps::in_place::join_into(part, BEHAVIOUR, STATE);
+    let behaviour = DependenceMap::load(part, BEHAVIOUR);
+    behaviour.join_into(part, STATE);
     outcome_of(numbers::DONE)
 }
 

@@ -1,4 +1,4 @@
-// A receipt: the message's map is compared with what the addressee rests on, in the image where both stand.
+// A receipt: what the addressee rests on, by value, is compared with the message's map, which stands packed in the same image.
 use crate::Acted;
 use image::layout::BEHAVIOUR;
 use image::layout::CREATION;
@@ -9,6 +9,7 @@ use image::layout::MESSAGE;
 use image::layout::STATE;
 use image::layout::TRANSACTOR;
 use maps::Comparison;
+use maps::DependenceMap;
 use rules::numbers;
 ghost use mathlib.Core.Path.{_≡_};
 ghost use Prim.Native.Nat.{_<_};
@@ -43,9 +44,12 @@ pub fn accept(image: &mut [u8], t: usize, k: usize) -> Acted
     let state = at + STATE;
     let creation = at + CREATION;
     let m = FIRST_MESSAGE + MESSAGE * k + DEPENDENCES;
-    let answers = maps::in_place::compare(image, m, state, creation);
-    let message = answers.map;
-    let receiver = answers.join;
+    let known = DependenceMap::load(image, state).join_from(image, creation);
+    let answers = known.compare(image, m);
+    let message = answers.packed;
+    let receiver = answers.own;
+    // What let else takes out is the first superseded transactor's number. Which one it is decides nothing: the rules ask whether there
+    // is one, and a reply names the addressee.
     let Comparison::Superseded(first) = message else {
         let Comparison::Superseded(first) = receiver else {
             take_in(image, t, k);

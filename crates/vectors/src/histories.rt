@@ -69,7 +69,10 @@ fn newer(image: &mut [u8], a: usize, b: usize, at: usize) -> u8
 {
     let x = load(image, a);
     let y = load(image, b);
-    store(image, at, x.newer(y))
+    if x.older(y) {
+        return store(image, at, y);
+    }
+    store(image, at, x)
 }
 
 // S, C, I: stale by, signed, of one life.
@@ -149,7 +152,8 @@ fn compare(image: &[u8], at: usize, a: usize, b: usize) -> u8
     if n < a + maps::SIZE || n < b + maps::SIZE || n < at + maps::SIZE {
         return BAD;
     }
-    let found = maps::in_place::compare(image, at, a, b).map;
+    let known = DependenceMap::load(image, a).join_from(image, b);
+    let found = known.compare(image, at).packed;
     match found {
         Comparison::Superseded(t) => print::number(t),
         Comparison::Current => print::truth(false),

@@ -14,7 +14,7 @@ use Rattle.marks.proofs.Histories.{newer-count, roomy-initial, roomy-stabilized
 use Rattle.marks.proofs.Packed.{packable-initial, packable-stabilized, packable-rolledBack, packable-checkpointed}
 use Rattle.maps.specs.declared.DependenceMap.{DependenceMap}
 use Rattle.maps.specs.Map.{heldAt, historyAt, withEntry, joinedHeldAt}
-use Rattle.maps.specs.Packed.{EntryOk}
+use Rattle.maps.specs.Internal.Fitting.{EntryOk}
 use Rattle.maps.proofs.Map.{Joined, held-empty, held-singleton, held-singleton-other, history-singleton, held-withEntry, history-withEntry, held-withEntry-other, sized-join, held-join, held-join-test, join-view}
 use Rattle.maps.proofs.Packed.{mapOk-sized, mapOk-empty, mapOk-withEntry, mapOk-singleton, mapOk-join}
 use Rattle.rules.specs.Layout.{Layout, Fitting}
@@ -118,7 +118,7 @@ module _ (y : Layout) (t : ℕ) (below : t < y .transactors) where
       go (Joined.both p q n) k c = omega (arith, newer-count n)
       go (Joined.left p q) k c = never (sym k ∙ q)
       go (Joined.right p q) k c = c
-      go (Joined.neither p q) k c = c
+      go (Joined.neither p q) k c = never (sym k ∙ q)
 
 -- ---- what a parcel or a child is given
 

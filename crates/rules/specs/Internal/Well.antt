@@ -6,7 +6,7 @@ use lib.ListN.{length}
 use Rattle.octets.specs.Numbers.{bound}
 use Rattle.maps.specs.declared.DependenceMap.{DependenceMap}
 use Rattle.maps.specs.Map.{heldAt, emptyMap}
-use Rattle.maps.specs.Packed.{MapOk}
+use Rattle.maps.specs.Internal.Fitting.{MapOk}
 use Rattle.rules.specs.Layout.{Layout}
 use Rattle.rules.specs.Status.{unused, ready, busy, annihilated}
 use Rattle.rules.specs.State.{Transactor, Message, State, bare, transactorAt, messageAt, ownHistory}

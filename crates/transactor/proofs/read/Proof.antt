@@ -1,8 +1,8 @@
 -- The behaviour map changes; the text stands before it.
-use mathlib.Core.Path.{refl, sym}
+use mathlib.Core.Path.{refl, sym, _∙_}
 use native.Mathlib.Omega.{arith}
 use borrow.Author.Needs.{needs}
-use Rattle.maps.specs.Packed.{Apart}
+use Rattle.maps.proofs.Packed.{bounded-unpack}
 use Rattle.rules.specs.Layout.{base, behaviourAt}
 use Rattle.rules.specs.Rules.{readBy}
 use Rattle.rules.specs.Pack.{unpackTransactor}
@@ -11,10 +11,17 @@ use Rattle.transactor.proofs.Bytes.{stored, map-exact, value-behind}
 use Rattle.transactor.proofs.read.Statement.{statement}
 use Rattle.transactor.proofs.read.Tie as tie
 
+load-requires : tie.Need-load-requires
+load-requires c κs = search needs
+
 join-into-requires : tie.Need-join-into-requires
 unfolding unpackTransactor
 join-into-requires c κs =
-    (search needs, search needs, Apart.before (omega arith), map-exact base _ (behaviourAt base) _ (omega arith) (put-behaviour base _ _) (sym (c .before .before .pre .back)) refl)
+    let p = c .before .before .before .before .pre in (
+      search needs,
+      rw (c .before .load .ensures) (bounded-unpack _ _ _ _ (omega arith)),
+      map-exact base _ (behaviourAt base) _ (omega arith) (put-behaviour base _ _) (sym (p .back)) refl,
+    )
 
 load32-requires : tie.Need-load32-requires
 load32-requires c κs = search needs
@@ -26,7 +33,12 @@ returns : tie.Need-returns
 unfolding readBy unpackTransactor
 returns c =
     let d = c .before .before .before .before in
-    record { outcome = refl; value = value-behind base _ _ (search needs) (d .join-into .ensures) (c .load32 .ensures); bytes = stored base _ _ _ _ (put-behaviour base _ _) (sym (d .before .before .before .pre .back)) (d .join-into .ensures) }
+    let e = d .before .before in
+    record {
+      outcome = refl;
+      value = value-behind base _ _ (search needs) (d .join-into .ensures) (c .load32 .ensures);
+      bytes = stored base _ _ _ _ (put-behaviour base _ _) (sym (e .before .before .before .pre .back)) (d .join-into .ensures ∙ rw (e .load .ensures));
+    }
 
 pub read-spec : {M : Type 1} → statement M
-read-spec = tie.close (tie.spec join-into-requires load32-requires same-length returns)
+read-spec = tie.close (tie.spec load-requires join-into-requires load32-requires same-length returns)

@@ -2,7 +2,7 @@
 use mathlib.Core.Path.{sym, _∙_}
 use native.Mathlib.Omega.{arith}
 use borrow.Author.Needs.{needs}
-use Rattle.maps.specs.Packed.{Apart}
+use Rattle.maps.proofs.Packed.{bounded-unpack}
 use Rattle.rules.specs.Layout.{base, stateAt, behaviourAt}
 use Rattle.rules.specs.Pack.{unpackTransactor}
 use Rattle.rules.proofs.Pack.Stores.{put-value, put-state}
@@ -28,14 +28,16 @@ returns c =
 store32-requires : tie.Need-store32-requires
 store32-requires c κs = search needs
 
+load-requires : tie.Need-load-requires
+load-requires c κs = search needs
+
 join-into-requires : tie.Need-join-into-requires
 unfolding unpackTransactor
 join-into-requires c κs =
-    let d = c .before .before .before in
+    let d = c .before .before .before .before .before in
     let p = d .before .before .before .before .before .before .pre .0 in (
       search needs,
-      search needs,
-      Apart.behind (omega arith),
+      rw (c .before .load .ensures) (bounded-unpack _ _ _ _ (omega arith)),
       map-exact base _ stateAt _ (omega arith) (put-state base _ _)
           (stored base _ _ _ _ (put-value base _ _) (sym (p .back)) (d .store32 .ensures)) (map-behind base _ _ (p .long) (d .store32 .ensures) stateAt (omega arith)),
     )
@@ -50,14 +52,15 @@ returns-2 : tie.Need-returns-2
 unfolding unpackTransactor
 returns-2 c =
     let d = c .before .before .before in
-    let e = d .before .before .before .before in
+    let m = d .before .before in
+    let e = m .before .before .before .before in
     let f = e .before .before in
     let p = f .before .before .before .before .pre .0 in
     let kept = map-behind base _ _ (p .long) (e .store32 .ensures) in
     acted
     (write-loose base _ _ (f .before .own .ensures) _ (f .if1 .left)) (c .outcome-of2 .ensures)
     (stored base _ _ _ _ (put-state base _ _) (stored base _ _ _ _ (put-value base _ _) (sym (p .back)) (e .store32 .ensures))
-    (d .join-into .ensures ∙ rw (kept (behaviourAt base) (omega arith), kept stateAt (omega arith))))
+    (d .join-into .ensures ∙ rw (m .load .ensures, kept (behaviourAt base) (omega arith), kept stateAt (omega arith))))
 
 pub write-spec : {M : Type 1} → statement M
 write-spec =
@@ -68,6 +71,7 @@ write-spec =
     same-length
     returns
     store32-requires
+    load-requires
     join-into-requires
     outcome-of-requires-2
     same-length-2

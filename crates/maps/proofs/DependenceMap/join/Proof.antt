@@ -1,6 +1,6 @@
 -- After i turns the first i entries are joined, the others still the left map's.
 use Prim.Native.Nat.{_+_, _-_, _≤_}
-use mathlib.Core.Path.{sym, _∙_, subst}
+use mathlib.Core.Path.{refl, sym, _∙_, subst}
 use mathlib.Core.Logic.{⊎-elim}
 use native.Mathlib.Omega.{arith}
 use Rattle.maps.specs.Packed.{entries}
@@ -10,10 +10,10 @@ use Rattle.maps.proofs.DependenceMap.join.Statement.{statement}
 use Rattle.maps.proofs.DependenceMap.join.Tie as tie
 
 abbrev Inv-loop : tie.InvT-loop
-Inv-loop self other r₀ i₀ r i = (i ≤ entries) × Joining entries self other i r
+Inv-loop self₀ other i₀ self i = (i ≤ entries) × Joining entries self₀ other i self
 
 abbrev μ-loop : tie.MeasureT-loop
-μ-loop self other r₀ i₀ r i = entries - i
+μ-loop self₀ other i₀ self i = entries - i
 
 loop-holds : tie.Need-loop-holds Inv-loop μ-loop
 loop-holds c = (search needs, joining-none _ _ (record { helds = search (needs, length-of-map); histories = search (needs, length-of-map) }))
@@ -21,14 +21,14 @@ loop-holds c = (search needs, joining-none _ _ (record { helds = search (needs, 
 element-copy-out-p : tie.Need-element-copy-out-p Inv-loop μ-loop
 element-copy-out-p c = search needs
 
-element-copy-out-q : tie.Need-element-copy-out-q Inv-loop μ-loop
-element-copy-out-q c = search needs
-
 mul-x : tie.Need-mul-x Inv-loop μ-loop
 mul-x c = search needs
 
 element-copy-out-x : tie.Need-element-copy-out-x Inv-loop μ-loop
 element-copy-out-x c = search needs
+
+element-copy-out-q : tie.Need-element-copy-out-q Inv-loop μ-loop
+element-copy-out-q c = search needs
 
 mul-y : tie.Need-mul-y Inv-loop μ-loop
 mul-y c = search needs
@@ -39,8 +39,8 @@ element-copy-out-y c = search needs
 chooses-right-requires : tie.Need-chooses-right-requires Inv-loop μ-loop
 chooses-right-requires c κs = search needs
 
-element-write-r : tie.Need-element-write-r Inv-loop μ-loop
-element-write-r c = search needs
+element-write-self : tie.Need-element-write-self Inv-loop μ-loop
+element-write-self c = search needs
 
 mul-y-2 : tie.Need-mul-y-2 Inv-loop μ-loop
 mul-y-2 c = search needs
@@ -60,13 +60,13 @@ loop-again c =
       omega arith,
       let P = Joining entries _ _ (b .i + 1) in
           ⊎-elim
-          (λ w. subst P (sym (w .1)) (joining-right _ _ (b .i) (b .inv .1) (omega arith) (sym (c .before .chooses-right .ensures) ∙ w .0 .taken)))
-          (λ w. subst P (sym (w .1)) (joining-left _ _ (b .i) (b .inv .1) (omega arith) (sym (c .before .chooses-right .ensures) ∙ w .0 .left)))
+          (λ w. subst P (sym (w .1)) (joining-right _ _ (b .i) (b .inv .1) (record { held = refl; history = refl }) (omega arith) (sym (w .0 .taken) ∙ c .before .chooses-right .ensures)))
+          (λ w. subst P (sym (w .1)) (joining-left _ _ (b .i) (b .inv .1) (record { held = refl; history = refl }) (sym (w .0 .left) ∙ c .before .chooses-right .ensures)))
           (c .if1 .came),
     )
 
 returns : tie.Need-returns Inv-loop μ-loop
-returns c = let b = c .before .loop in joining-all _ _ (b .i) (b .inv .1) (omega arith)
+returns c = let b = c .before .loop in joining-all _ _ (b .i) (b .inv .1) (λ j p h. absurd (omega arith))
 
 pub join-spec : {M : Type 1} → statement M
 join-spec =
@@ -76,13 +76,13 @@ join-spec =
     μ-loop
     loop-holds
     element-copy-out-p
-    element-copy-out-q
     mul-x
     element-copy-out-x
+    element-copy-out-q
     mul-y
     element-copy-out-y
     chooses-right-requires
-    element-write-r
+    element-write-self
     mul-y-2
     element-set-from-y
     add-i

@@ -1,6 +1,8 @@
 -- A message that is dropped leaves the image; a fall is one of the take's bytes.
+use mathlib.Core.Path.{_∙_}
 use native.Mathlib.Omega.{arith}
 use borrow.Author.Needs.{needs}
+use Rattle.maps.proofs.Packed.{bounded-unpack, bounded-join}
 use Rattle.rules.specs.Layout.{base, standard}
 use Rattle.transactor.specs.Internal.Effects.{rollbackOr28}
 use Rattle.rules.proofs.Pack.Loads.{waiting-few}
@@ -33,11 +35,18 @@ add-m c = omega (arith, waiting-few base (c .before .args .image .now))
 add-m-2 : tie.Need-add-m-2
 add-m-2 c = omega (arith, waiting-few base (c .before .args .image .now))
 
+load-requires : tie.Need-load-requires
+load-requires c κs = search needs
+
+join-from-requires : tie.Need-join-from-requires
+join-from-requires c κs = search needs
+
 compare-requires : tie.Need-compare-requires
 compare-requires c κs =
-    let s = c .before .before in
-    let few = waiting-few base (s .args .image .now) in
-    (omega (arith, few), omega arith, omega arith)
+    let j = c .before in
+    let l = j .before .before in
+    let few = waiting-few base (l .before .before .before .args .image .now) in
+    (omega (arith, few), rw (j .join-from .ensures, l .load .ensures) (bounded-join _ _ _ _ (bounded-unpack _ _ _ _ (omega arith)) (bounded-unpack _ _ _ _ (omega arith))))
 
 enum-known-message : tie.Need-enum-known-message
 enum-known-message c = search needs
@@ -65,9 +74,11 @@ returns c =
     let taken = c .before .before .before in
     let told = taken .before .before in
     let asked = told .before .before .before .before in
-    let s = asked .before .before .before in
+    let j = asked .before .before in
+    let l = j .before .before in
+    let s = l .before .before .before in
     acted-at _ _
-    (accepts-done base _ _ (s .pre .1) _ (s .pre .2) standard _ (asked .compare .ensures .0) (told .before .before .enum-told .given .1) _ (asked .compare .ensures .1) (told .enum-told2 .given .1))
+    (accepts-done base _ _ (s .pre .1) _ (s .pre .2) standard _ (asked .compare .ensures .0 ∙ rw (j .join-from .ensures, l .load .ensures)) (told .before .before .enum-told .given .1) _ (asked .compare .ensures .1 ∙ rw (j .join-from .ensures, l .load .ensures)) (told .enum-told2 .given .1))
     (c .outcome-of .ensures) (taken .take-in .ensures)
 
 sub-roll-back : tie.Need-sub-roll-back
@@ -81,7 +92,7 @@ part-roll-back-end c = search needs
 
 roll-back-requires : tie.Need-roll-back-requires
 roll-back-requires c κs =
-    let s = c .before .before .before .before .before .before .before .before .before in
+    let s = c .before .before .before .before .before .before .before .before .before .before .before .before .before in
     (good-lent _ (s .pre .0) _ (s .pre .1), s .pre .1)
 
 same-length-2 : tie.Need-same-length-2
@@ -92,9 +103,11 @@ returns-2 c =
     let fell = c .before .before in
     let told = fell .before .before .before in
     let asked = told .before .before .before .before in
-    let s = asked .before .before .before in
+    let j = asked .before .before in
+    let l = j .before .before in
+    let s = l .before .before .before in
     lent-at _ (s .pre .0) _ (s .pre .1) (rollbackOr28 base standard _)
-    (accepts-rollback base _ _ (s .pre .1) _ (s .pre .2) standard _ (asked .compare .ensures .0) (told .before .before .enum-told .given .1) _ (asked .compare .ensures .1) (told .receiver .given .1))
+    (accepts-rollback base _ _ (s .pre .1) _ (s .pre .2) standard _ (asked .compare .ensures .0 ∙ rw (j .join-from .ensures, l .load .ensures)) (told .before .before .enum-told .given .1) _ (asked .compare .ensures .1 ∙ rw (j .join-from .ensures, l .load .ensures)) (told .receiver .given .1))
     (fell .roll-back .ensures)
 
 outcome-of-requires-2 : tie.Need-outcome-of-requires-2
@@ -107,9 +120,11 @@ returns-3 : tie.Need-returns-3
 returns-3 c =
     let told = c .before .before in
     let asked = told .before .before in
-    let s = asked .before .before .before in
+    let j = asked .before .before in
+    let l = j .before .before in
+    let s = l .before .before .before in
     acted-at _ _
-    (accepts-dropped base _ _ (s .pre .1) _ (s .pre .2) standard _ (asked .compare .ensures .0) (told .message .given .1))
+    (accepts-dropped base _ _ (s .pre .1) _ (s .pre .2) standard _ (asked .compare .ensures .0 ∙ rw (j .join-from .ensures, l .load .ensures)) (told .message .given .1))
     (c .outcome-of2 .ensures) (kept-at _ (s .pre .0) _)
 
 pub accept-spec : {M : Type 1} → statement M
@@ -124,6 +139,8 @@ accept-spec =
     mul-m
     add-m
     add-m-2
+    load-requires
+    join-from-requires
     compare-requires
     enum-known-message
     enum-told

@@ -1,0 +1,3 @@
+-- What the proofs of the code cite, and no definition of document 01.
+pub mod Fitting
+pub mod View

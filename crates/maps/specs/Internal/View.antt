@@ -1,0 +1,37 @@
+-- A map as a table: "A map holds at most one mark for each take."
+use Prim.Native.Nat.{ℕ}
+use mathlib.Core.Path.{_≡_}
+use mathlib.Core.Option.{Option, none, some}
+use Rattle.octets.specs.Bytes.{pick}
+use Rattle.marks.specs.Incarnation.{Superseded}
+use Rattle.marks.specs.History.{HistoryView, viewOf, newerView}
+use Rattle.maps.specs.declared.DependenceMap.{DependenceMap}
+use Rattle.maps.specs.Map.{heldAt, historyAt}
+use Rattle.maps.specs.Table.{updated}
+
+-- of each take the mark that the map holds, or none
+abbrev pub MapView : Type 0
+MapView = ℕ → Option HistoryView
+
+unfoldable pub mapView : DependenceMap → MapView
+mapView m u = pick (heldAt m u) (some (viewOf (historyAt m u))) none
+
+abbrev pub emptyView : MapView
+emptyView u = none
+
+-- the mark h of take t alone
+unfoldable pub singletonView : ℕ → HistoryView → MapView
+singletonView t h = updated emptyView t (some h)
+
+-- "Joining takes the newer mark where both have one."
+unfoldable pub joinEntry : Option HistoryView → Option HistoryView → Option HistoryView
+joinEntry none z = z
+joinEntry (some a) none = some a
+joinEntry (some a) (some b) = some (newerView a b)
+
+abbrev pub joinView : MapView → MapView → MapView
+joinView M N u = joinEntry (M u) (N u)
+
+-- a mark of M is stale by N's of the same take
+pub data SupersededView (M N : MapView) : Type 0 where
+  superseded-entry : (u : ℕ) (a b : HistoryView) → M u ≡ some a → N u ≡ some b → Superseded (a .incarnation) (b .incarnation) → SupersededView M N
