@@ -71,7 +71,8 @@ enum ledger_outcome {
     LEDGER_ALL_NUMBERED = 27, /* next message number is 65,535 */
     LEDGER_LAST_INCARNATION = 28, /* a checkpointed transactor would fall from incarnation 255 */
     LEDGER_EMPTY_GROUP = 29,  /* group empty */
-    LEDGER_ALL_CHECKPOINTED = 30 /* a named transactor has 15 checkpoints */
+    LEDGER_ALL_CHECKPOINTED = 30, /* a named transactor has 15 checkpoints */
+    LEDGER_UNRELATED = 31     /* receive: histories of one transactor from two different sessions */
 };
 
 /* A part of the image: the length bytes from image + offset on. */
@@ -85,7 +86,7 @@ struct ledger_part {
 uint8_t ledger_begin(uint8_t *image, size_t image_length);
 
 /* Runs the steps of list from byte start up to byte end, writes a reply of 8 bytes for each, leaves the image as the rules give
- * it, and answers 0, whatever the steps reply: 20 to 30 are replies, and the list goes on. 16 to 19: no byte is changed. */
+ * it, and answers 0, whatever the steps reply: 20 to 31 are replies, and the list goes on. 16 to 19: no byte is changed. */
 uint8_t ledger_run(uint8_t *image, size_t image_length,
                    const uint8_t *list, size_t list_length, size_t start, size_t end,
                    uint8_t *replies, size_t replies_length);

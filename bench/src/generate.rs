@@ -376,6 +376,24 @@ fn image_of(r: &mut Random, opened: usize, percent: usize, parcels: usize, statu
     image
 }
 
+/// Marks of another hearing pasted over some of those that stand in maps, a take's own apart: the image stays well-formed.
+pub fn paste(r: &mut Random, image: &mut [u8]) {
+    let list: [u8; 15] = std::array::from_fn(|_| life(r));
+    for _ in 0..1 + r.below(12) {
+        let u = r.below(TAKES);
+        let t = r.below(TAKES);
+        let map = match r.below(2) {
+            0 => take_at(t) + STATE + MAP * r.below(3),
+            _ => parcel_at(r.below(PARCELS)) + 7,
+        };
+        let own = take_at(u) + STATE + MARK * u;
+        let at = map + MARK * u;
+        if at != own && image[at] & 0x80 != 0 {
+            image[at..at + MARK].copy_from_slice(&mark(r, &list));
+        }
+    }
+}
+
 // ---- damaged images
 
 /// A change of at most two bytes beside a rule of the form: as often kept as broken.

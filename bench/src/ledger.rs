@@ -1,4 +1,4 @@
-//! A ledger written from document 01 alone, for speed: the yardstick of the differential test and of the benchmark.
+//! A ledger written from documents 01 and 02 alone, for speed: the yardstick of the differential test and of the benchmark.
 //! Names are document 01's. It works in place on the caller's bytes.
 
 pub const IMAGE: usize = 22_132;
@@ -106,17 +106,6 @@ impl Mark {
     #[inline(always)]
     fn agrees(&self, other: &Mark, count: usize) -> bool {
         (self.rest() ^ other.rest()) & !PAST[count] & !0xff == 0
-    }
-
-    /// Both present: stale by the other.
-    #[inline(always)]
-    fn stale_by(&self, other: &Mark) -> bool {
-        let (a, b) = (self.count(), other.count());
-        if a > b {
-            return false;
-        }
-        let next = if a == b { other.rest[0] } else { other.rest[1 + a] };
-        self.rest[0] < next && self.agrees(other, a)
     }
 
     /// The life of this mark is signed, where the take's present mark is `present`.
@@ -294,13 +283,15 @@ impl Take {
 }
 
 enum Compared {
+    Unrelated,
     Dropped,
     Fallen,
     Fit,
 }
 
+/// 31 if marks of some take are from two different books; else whether one of the parcel is stale, else whether one of the take's is.
 fn compare(parcel: &Map, take: &Take, opened: usize) -> Compared {
-    let mut answer = Compared::Fit;
+    let (mut dropped, mut fallen) = (false, false);
     for u in 0..opened {
         let p = &parcel[u];
         if p.head == 0 {
@@ -308,17 +299,24 @@ fn compare(parcel: &Map, take: &Take, opened: usize) -> Compared {
         }
         let (s, c) = (&take.state[u], &take.creation[u]);
         let t = if c.key() > s.key() { c } else { s };
-        if t.head == 0 || (p.head ^ t.head) & COUNT == 0 && p.rest[0] == t.rest[0] {
+        if t.head == 0 || p.same_life(t) {
             continue;
         }
-        if p.stale_by(t) {
-            return Compared::Dropped;
+        let (a, b) = (p.count(), t.count());
+        let early = if a < b || a == b && p.rest[0] < t.rest[0] { p } else { t };
+        let next = if a == b { p.rest[0].max(t.rest[0]) } else if a < b { t.rest[1 + a] } else { p.rest[1 + b] };
+        if next < early.rest[0] || !p.agrees(t, a.min(b)) {
+            return Compared::Unrelated;
         }
-        if t.stale_by(p) {
-            answer = Compared::Fallen;
-        }
+        let stale = early.rest[0] < next;
+        dropped |= stale && std::ptr::eq(early, p);
+        fallen |= stale && std::ptr::eq(early, t);
     }
-    answer
+    match (dropped, fallen) {
+        (true, _) => Compared::Dropped,
+        (false, true) => Compared::Fallen,
+        _ => Compared::Fit,
+    }
 }
 
 // The fields that a step of each kind may use.
@@ -425,6 +423,7 @@ impl Session<'_> {
             return refuse(23);
         }
         let answer = match compare(&parcel.map, take, opened) {
+            Compared::Unrelated => return refuse(31),
             Compared::Dropped => reply(DROPPED, t, number, 0),
             Compared::Fallen => match take.fall(t) {
                 Some(outcome) => reply(outcome, t, number, 0),

@@ -247,6 +247,21 @@ impl Test {
         self.set(kept);
     }
 
+    /// Runs on a copy with marks of another hearing in it.
+    fn pasted(&mut self) {
+        let kept = self.ours.clone();
+        let mut image = kept.clone();
+        generate::paste(&mut self.r, &mut image);
+        if ledger::offer(&image, 0) == Err(19) {
+            return;
+        }
+        self.set(image);
+        let n = 1 + self.r.below(60);
+        let (list, start) = self.list(n);
+        self.run(&list, start, start + STEP * n, STEP * n);
+        self.set(kept);
+    }
+
     /// Calls on a copy with one to five bytes changed: ill-formed, or another well-formed image.
     fn damaged(&mut self) {
         let kept = self.ours.clone();
@@ -297,7 +312,8 @@ impl Test {
                 }
                 14 => self.bad_run(),
                 15 => self.wrong_length(),
-                16..=18 => self.damaged(),
+                16 | 17 => self.damaged(),
+                18 => self.pasted(),
                 _ if self.r.one_in(4) => self.begin(),
                 _ => {}
             }
@@ -316,10 +332,10 @@ impl Test {
             self.expect(n > 0, &format!("no smallest volume was of {what}"));
         }
         let outcome = |n: usize| self.steps.iter().map(|kind| kind[n]).sum::<u64>();
-        for n in (0..=5).chain(20..=30) {
+        for n in (0..=5).chain(20..=31) {
             self.expect(outcome(n) > 0, &format!("no step had outcome or refusal {n}"));
         }
-        for n in [0, 2, 3, 4, 20, 22, 23, 24, 28] {
+        for n in [0, 2, 3, 4, 20, 22, 23, 24, 28, 31] {
             self.expect(self.steps[2][n] > 0, &format!("no receive had outcome or refusal {n}"));
         }
         let query: &[usize] = &[0, 16, 19, 21, 22];

@@ -1,3 +1,4 @@
+pub mod Compared
 pub mod Joins
 pub mod Loops
 pub mod Map
@@ -5,4 +6,5 @@ pub mod Packed
 pub mod Placed
 pub mod Superseded
 pub mod Tables
+pub mod Unrelated
 pub mod View

@@ -13,10 +13,8 @@ use Rattle.octets.specs.Bytes.{pick, tabulate}
 use Rattle.octets.proofs.Chunks.{sides, length-tabulate, getD-tabulate}
 use Rattle.octets.proofs.Zero.{every-none, every-more, every-off}
 use Rattle.marks.specs.declared.History.{History}
-use Rattle.marks.specs.History.{incarnationOf}
-use Rattle.marks.specs.Incarnation.{supersededBy}
 use Rattle.maps.specs.declared.DependenceMap.{DependenceMap}
-use Rattle.maps.specs.Map.{heldAt, historyAt, isEmpty, choosesRight, joinedHeldAt, joinedHistoryAt, joinOf, supersededEntry, supersededAt, firstFrom, firstSuperseded}
+use Rattle.maps.specs.Map.{heldAt, historyAt, isEmpty, choosesRight, joinedHeldAt, joinedHistoryAt, joinOf, supersededAt, firstFrom, firstSuperseded}
 use Rattle.maps.proofs.Map.{outside, Entry, Sized, same-map, choosesRightAt, held-picked, history-picked, held-join, history-join, held-join-off, history-join-off}
 
 -- an array of structs: what owning it tells stands at a map of its list
@@ -136,26 +134,6 @@ module _ (m : DependenceMap) where
 
   pub isEmpty-all : (n i : ℕ) → isEmpty i m ≡ true → i ≡ n → isEmpty n m ≡ true
   isEmpty-all n i e h = rw h at e
-
--- ---- one entry compared
-
-module _ (p : Bool) (x : History) (q : Bool) (y : History) where
-  pub absent-left : p ≡ false → supersededEntry p x q y ≡ false
-  unfolding supersededEntry
-  absent-left e = rw e
-
-  pub absent-right : p ≡ true → q ≡ false → supersededEntry p x q y ≡ false
-  unfolding supersededEntry
-  absent-right e f = rw (e, f)
-
-  pub both-held : p ≡ true → q ≡ true → supersededEntry p x q y ≡ supersededBy (incarnationOf x) (incarnationOf y)
-  unfolding supersededEntry
-  both-held e f = rw (e, f)
-
-pub superseded-here : {a b : DependenceMap} {i : ℕ} {p q : Bool} {x y : History} → Entry a i p x → Entry b i q y → (t : Bool) → t ≡ supersededEntry p x q y
-    → supersededAt a b i ≡ t
-unfolding supersededAt
-superseded-here f g t e = sym (rw (f .held, f .history, g .held, g .history) at e)
 
 -- ---- the first entry that is superseded: the answer is that for the entries from i on
 

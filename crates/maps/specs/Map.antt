@@ -8,6 +8,9 @@ use Rattle.octets.specs.Bytes.{pick, _and_, _or_, tabulate, every}
 use Rattle.marks.specs.declared.History.{History}
 use Rattle.marks.specs.History.{incarnationOf, initialHistory, newerOf, isOlder}
 use Rattle.marks.specs.Incarnation.{supersededBy}
+use Rattle.marks.specs.declared.Relation.{Relation}
+use Rattle.marks.specs.declared.Relation.the-variants.{Same}
+use Rattle.marks.specs.Relation.{relationOf, isUnrelated}
 use Rattle.maps.specs.declared.DependenceMap.{DependenceMap}
 use Rattle.maps.specs.declared.Comparison.{Comparison}
 use Rattle.maps.specs.declared.Comparison.the-variants.{Superseded, Current}
@@ -76,3 +79,26 @@ firstSuperseded n a b = firstFrom (supersededAt a b) 0 n
 abbrev pub answerOf : Comparison → Option ℕ
 answerOf (Superseded i) = some i
 answerOf Current = none
+
+-- ---- Document 02, W3: "some take has unrelated marks in the parcel and in the receiver's joined state and creation maps"
+
+-- both are held, and x and y are unrelated
+unfoldable pub unrelatedEntry : Bool → History → Bool → History → Bool
+unrelatedEntry p x q y = p and q and isUnrelated (relationOf (incarnationOf x) (incarnationOf y))
+
+-- both have a mark of take i, and the two are unrelated
+unfoldable pub unrelatedAt : DependenceMap → DependenceMap → ℕ → Bool
+unrelatedAt a b i = unrelatedEntry (heldAt a i) (historyAt a i) (heldAt b i) (historyAt b i)
+
+-- f holds at one of the n numbers from k on
+unfoldable pub anyFrom : (ℕ → Bool) → ℕ → ℕ → Bool
+anyFrom f k zero = false
+anyFrom f k (suc n) = f k or anyFrom f (suc k) n
+
+-- some take has unrelated marks in a and in b
+unfoldable pub anyUnrelated : ℕ → DependenceMap → DependenceMap → Bool
+anyUnrelated n a b = anyFrom (unrelatedAt a b) 0 n
+
+-- what the comparison of two entries says: the same where one is not held
+unfoldable pub relationEntry : Bool → History → Bool → History → Relation
+relationEntry p x q y = pick (p and q) (relationOf (incarnationOf x) (incarnationOf y)) Same

@@ -1,11 +1,12 @@
 // Dependence maps (document 01: maps): at most one history for each transactor, and the packed form.
 use marks::History;
+use marks::Relation;
 ghost use mathlib.Core.Path.{_≡_};
 ghost use Prim.Native.Nat.{_+_, _≤_, _<_};
 ghost use lib.ListN.{length};
 ghost use Rattle.octets.specs.Bytes.{put, part};
 ghost use Rattle.marks.specs.Packed.{width, places, historySize};
-ghost use Rattle.maps.specs.Map.{emptyMap, withEntry, singleton, isEmpty, choosesRight, joinOf, supersededEntry, firstSuperseded, answerOf};
+ghost use Rattle.maps.specs.Map.{emptyMap, withEntry, singleton, isEmpty, choosesRight, joinOf, firstSuperseded, answerOf, anyUnrelated, relationEntry};
 ghost use Rattle.maps.specs.Packed.{entries, mapSize, packEntry, packMap, unpackMap, mapIn, formedEntry, formedMap};
 ghost use Rattle.maps.specs.Internal.Fitting.{Bounded, ExactEntry, Exact, looked, joinedBytes};
 
@@ -26,9 +27,10 @@ pub enum Comparison {
     Current,
 }
 
-// A map and a packed one, compared both ways: the first transactor whose history in the packed one is superseded, and the first
-// whose own is.
+// A packed map and a map, compared both ways: whether some transactor has unrelated histories in the two, the first whose history
+// in the packed one is superseded, and the first whose own is.
 pub struct Comparisons {
+    pub unrelated: bool,
     pub packed: Comparison,
     pub own: Comparison,
 }
@@ -149,12 +151,14 @@ impl DependenceMap {
         }
     }
 
-    // Compared with the map packed from at on, both ways in one pass, from the last entry to the first.
+    // The map packed from at on compared with it: one comparison an entry, from the last entry to the first.
     pub fn compare(self, s: &[u8], at: usize) -> Comparisons
         requires { ⌜ (at + mapSize width places entries ≤ length (now s)) × Bounded places self ⌝ }
-        ensures { λ r. ⌜ (answerOf (r .packed) ≡ firstSuperseded entries (mapIn width places entries (now (s .entry)) at) self)
+        ensures { λ r. ⌜ (r .unrelated ≡ anyUnrelated entries (mapIn width places entries (now (s .entry)) at) self)
+            × (answerOf (r .packed) ≡ firstSuperseded entries (mapIn width places entries (now (s .entry)) at) self)
             × (answerOf (r .own) ≡ firstSuperseded entries self (mapIn width places entries (now (s .entry)) at)) ⌝ }
     {
+        let mut unrelated = false;
         let mut packed = Comparison::Current;
         let mut own = Comparison::Current;
         let mut i: usize = ENTRIES;
@@ -165,14 +169,19 @@ impl DependenceMap {
             let x = self.histories[i];
             let q = History::present(s, from);
             let y = History::load(s, from);
-            if superseded_entry(q, y, p, x) {
-                packed = Comparison::Superseded(i);
-            }
-            if superseded_entry(p, x, q, y) {
-                own = Comparison::Superseded(i);
+            let r = relation_entry(q, y, p, x);
+            match r {
+                Relation::LeftSuperseded => packed = Comparison::Superseded(i),
+                Relation::RightSuperseded => own = Comparison::Superseded(i),
+                Relation::Unrelated => unrelated = true,
+                Relation::Same | Relation::LeftCheckpointed | Relation::RightCheckpointed => {}
             }
         }
-        Comparisons { packed, own }
+        Comparisons {
+            unrelated,
+            packed,
+            own,
+        }
     }
 
     // Writes the packed form from at on.
@@ -257,18 +266,18 @@ fn chooses_right(p: bool, x: History, q: bool, y: History) -> bool
     false
 }
 
-// Whether both are held, and x is superseded by y.
-fn superseded_entry(p: bool, x: History, q: bool, y: History) -> bool
+// What the comparison of two entries says: the same where one is not held.
+fn relation_entry(p: bool, x: History, q: bool, y: History) -> Relation
     requires { ⌜ (x .count ≤ places) × (y .count ≤ places) ⌝ }
-    ensures { λ r. ⌜ r ≡ supersededEntry p x q y ⌝ }
+    ensures { λ r. ⌜ r ≡ relationEntry p x q y ⌝ }
 {
     if !p {
-        return false;
+        return Relation::Same;
     }
     if !q {
-        return false;
+        return Relation::Same;
     }
-    x.superseded_by(y)
+    x.compare(y)
 }
 
 // Joins h, if it is held, as the left one into the entry packed at at: it is stored unless a newer one is there.

@@ -8,10 +8,12 @@ use lib.Dec.{eqb, ltb}
 use lib.ListN.{length, take, getD, length-append, length-take}
 use lib.Seq.{length-take-le, take-take, take-suc, getD-take}
 use borrow.Author.Tests.{lt-ltb, le-ltb, eq-eqb, ne-eqb}
-use Rattle.octets.specs.Bytes.{_and_, _or_}
+use Rattle.octets.specs.Bytes.{pick, _and_, _or_}
 use Rattle.marks.specs.declared.History.{History}
 use Rattle.marks.specs.Incarnation.{sameList, beginsWith, strictPrefix, supersededBy, checkpointedIn, sameIncarnation}
+use Rattle.marks.specs.declared.Relation.the-variants.{Same, LeftCheckpointed, LeftSuperseded, RightSuperseded, Unrelated}
 use Rattle.marks.specs.History.{incarnationOf}
+use Rattle.marks.specs.Relation.{byNumbers, byNextEntry, relationOf}
 use Rattle.marks.proofs.Tests.{same-length}
 
 and-true : (t : Bool) → t and true ≡ t
@@ -25,6 +27,10 @@ and-false false = refl
 or-false : (t : Bool) → t or false ≡ t
 or-false true = refl
 or-false false = refl
+
+pick-none : (t : Bool) → pick t Unrelated Unrelated ≡ Unrelated
+pick-none true = refl
+pick-none false = refl
 
 and-assoc : (s t u : Bool) → s and t and u ≡ (s and t) and u
 and-assoc true t u = refl
@@ -134,3 +140,67 @@ module _ (l : ℕ) (a b : History) (pa : length (a .checkpoints) ≡ l) (pb : le
   pub same-rest : a .count ≡ b .count → a .incarnation ≡ b .incarnation → agree a b ≡ sameIncarnation (incarnationOf a) (incarnationOf b)
   unfolding sameIncarnation
   same-rest e f = rw (eq-eqb (a .incarnation) (b .incarnation) f, e) (sym (and-true (sameList (take (b .count) (a .checkpoints)) (incarnationOf b .checkpoints))))
+
+  -- ---- the comparison
+
+  module _ (h : a .count < b .count) where
+    relation-longer : relationOf (incarnationOf a) (incarnationOf b)
+        ≡ pick (agree a b) (byNextEntry (a .incarnation) (getD (b .checkpoints) (a .count) 0)) Unrelated
+    unfolding relationOf strictPrefix
+    relation-longer = rw (
+      apart (λ e. omega arith),
+      begins-test (omega arith),
+      la,
+      lb,
+      lt-ltb (a .count) (b .count) h,
+      le-ltb (b .count) (a .count) (omega arith),
+      getD-take (b .count) (b .checkpoints) (a .count) 0 h,
+    )
+
+    pub relation-off : getD (b .checkpoints) (a .count) 0 < a .incarnation → Unrelated ≡ relationOf (incarnationOf a) (incarnationOf b)
+    unfolding byNextEntry
+    relation-off k = sym (relation-longer ∙ rw (lt-ltb (getD (b .checkpoints) (a .count) 0) (a .incarnation) k) (pick-none (agree a b)))
+
+    pub relation-apart : agree a b ≡ false → Unrelated ≡ relationOf (incarnationOf a) (incarnationOf b)
+    relation-apart e = sym (relation-longer ∙ rw e)
+
+    pub relation-checkpointed : agree a b ≡ true → a .incarnation ≡ getD (b .checkpoints) (a .count) 0 → LeftCheckpointed ≡ relationOf (incarnationOf a) (incarnationOf b)
+    unfolding byNextEntry
+    relation-checkpointed e k = sym (relation-longer ∙ rw (
+      e,
+      le-ltb (getD (b .checkpoints) (a .count) 0) (a .incarnation) (omega arith),
+      eq-eqb (a .incarnation) (getD (b .checkpoints) (a .count) 0) k,
+    ))
+
+    pub relation-superseded : agree a b ≡ true → a .incarnation ≤ getD (b .checkpoints) (a .count) 0 → (a .incarnation ≡ getD (b .checkpoints) (a .count) 0 → ⊥)
+        → LeftSuperseded ≡ relationOf (incarnationOf a) (incarnationOf b)
+    unfolding byNextEntry
+    relation-superseded e k n = sym (relation-longer ∙ rw (
+      e,
+      le-ltb (getD (b .checkpoints) (a .count) 0) (a .incarnation) k,
+      ne-eqb (a .incarnation) (getD (b .checkpoints) (a .count) 0) n,
+    ))
+
+  module _ (h : a .count ≡ b .count) where
+    relation-even : relationOf (incarnationOf a) (incarnationOf b) ≡ pick (agree a b) (byNumbers (a .incarnation) (b .incarnation)) Unrelated
+    unfolding relationOf strictPrefix
+    relation-even = rw (la, lb, le-ltb (a .count) (b .count) (omega arith), le-ltb (b .count) (a .count) (omega arith), h)
+
+    pub relation-apart-even : agree a b ≡ false → Unrelated ≡ relationOf (incarnationOf a) (incarnationOf b)
+    relation-apart-even e = sym (relation-even ∙ rw e)
+
+    pub relation-left : agree a b ≡ true → a .incarnation < b .incarnation → LeftSuperseded ≡ relationOf (incarnationOf a) (incarnationOf b)
+    unfolding byNumbers
+    relation-left e k = sym (relation-even ∙ rw (e, lt-ltb (a .incarnation) (b .incarnation) k))
+
+    pub relation-right : agree a b ≡ true → b .incarnation < a .incarnation → RightSuperseded ≡ relationOf (incarnationOf a) (incarnationOf b)
+    unfolding byNumbers
+    relation-right e k = sym (relation-even ∙ rw (e, le-ltb (a .incarnation) (b .incarnation) (omega arith), lt-ltb (b .incarnation) (a .incarnation) k))
+
+    pub relation-same : agree a b ≡ true → a .incarnation ≡ b .incarnation → Same ≡ relationOf (incarnationOf a) (incarnationOf b)
+    unfolding byNumbers
+    relation-same e k = sym (relation-even ∙ rw (
+      e,
+      le-ltb (a .incarnation) (b .incarnation) (omega arith),
+      le-ltb (b .incarnation) (a .incarnation) (omega arith),
+    ))

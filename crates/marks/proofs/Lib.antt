@@ -1,6 +1,7 @@
 pub mod Trail
 pub mod Order
 pub mod Tests
+pub mod Related
 mod Compare
 pub mod Histories
 pub mod Packed

@@ -89,14 +89,14 @@ begins-of : (xs r : List ℕ) → beginsWith (xs ++ r) xs ≡ true
 unfolding beginsWith
 begins-of xs r = sameList-test xs (take (length xs) (xs ++ r)) .1 (sym (take-append-seam xs r))
 
-strict-to : (xs ys : List ℕ) → strictPrefix xs ys ≡ true → ys ≡ xs ++ getD ys (length xs) 0 ∷ drop (suc (length xs)) ys
+pub strict-to : (xs ys : List ℕ) → strictPrefix xs ys ≡ true → ys ≡ xs ++ getD ys (length xs) 0 ∷ drop (suc (length xs)) ys
 unfolding strictPrefix beginsWith
 strict-to xs ys e =
     let h = both (ltb (length xs) (length ys)) (beginsWith ys xs) e in
     split-at ys (length xs) 0 (ltb-true (length xs) (length ys) (h .0))
     ∙ ap (λ l. l ++ getD ys (length xs) 0 ∷ drop (suc (length xs)) ys) (sym (same-to xs (take (length xs) ys) (h .1)))
 
-strict-of : (xs : List ℕ) (y : ℕ) (r : List ℕ) → strictPrefix xs (xs ++ y ∷ r) ≡ true
+pub strict-of : (xs : List ℕ) (y : ℕ) (r : List ℕ) → strictPrefix xs (xs ++ y ∷ r) ≡ true
 unfolding strictPrefix
 strict-of xs y r = and-of (ltb (length xs) (length (xs ++ y ∷ r))) (beginsWith (xs ++ y ∷ r) xs)
     (lt-ltb (length xs) (length (xs ++ y ∷ r)) (omega (arith, length-append xs (y ∷ r)))) (begins-of xs (y ∷ r))

@@ -1,4 +1,5 @@
 pub mod Incarnation
+pub mod Relation
 pub mod History
 pub mod Packed
 pub mod Starred

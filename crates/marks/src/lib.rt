@@ -5,6 +5,7 @@ ghost use lib.ListN.{length, take};
 ghost use Rattle.octets.specs.Bytes.{put, part, chunks, tabulate, allZero};
 ghost use Rattle.octets.specs.Numbers.{ofBe, be};
 ghost use Rattle.marks.specs.Incarnation.{sameList, supersededBy, checkpointedIn, sameIncarnation};
+ghost use Rattle.marks.specs.Relation.{turned, relationOf, relationNumber, isLeftSuperseded, isUnrelated};
 ghost use Rattle.marks.specs.History.{incarnationOf, stabilized, rolledBack, checkpointed, isOlder};
 ghost use Rattle.marks.specs.Packed.{width, places, largest, historySize, bit, packNumberAt, packHistory, unpackHistory, loadNumberAt, presentIn, formedHistory};
 
@@ -28,6 +29,84 @@ pub struct History {
     pub count: u8,
     // the list L, then unused places
     pub checkpoints: [u8; 15],
+}
+
+// Document 02, W3: what the comparison of two histories says; of the middle four the named one is the earlier.
+pub enum Relation {
+    // the same life
+    Same,
+    // the earlier one signed
+    LeftCheckpointed,
+    RightCheckpointed,
+    // the earlier one withdrawn
+    LeftSuperseded,
+    RightSuperseded,
+    // marks from two different books
+    Unrelated,
+}
+
+impl Relation {
+    // The answer's number.
+    pub fn number(self) -> u8
+        ensures { λ r. ⌜ r ≡ relationNumber self ⌝ }
+    {
+        match self {
+            Relation::Same => 0,
+            Relation::LeftCheckpointed => 1,
+            Relation::RightCheckpointed => 2,
+            Relation::LeftSuperseded => 3,
+            Relation::RightSuperseded => 4,
+            Relation::Unrelated => 5,
+        }
+    }
+
+    // Whether the left one is superseded by the right one.
+    pub fn left_superseded(self) -> bool
+        ensures { λ r. ⌜ r ≡ isLeftSuperseded self ⌝ }
+    {
+        match self {
+            Relation::Same => false,
+            Relation::LeftCheckpointed => false,
+            Relation::RightCheckpointed => false,
+            Relation::LeftSuperseded => true,
+            Relation::RightSuperseded => false,
+            Relation::Unrelated => false,
+        }
+    }
+
+    // Whether the right one is superseded by the left one.
+    pub fn right_superseded(self) -> bool
+        ensures { λ r. ⌜ r ≡ isLeftSuperseded (turned self) ⌝ }
+    {
+        self.turned().left_superseded()
+    }
+
+    pub fn unrelated(self) -> bool
+        ensures { λ r. ⌜ r ≡ isUnrelated self ⌝ }
+    {
+        match self {
+            Relation::Same => false,
+            Relation::LeftCheckpointed => false,
+            Relation::RightCheckpointed => false,
+            Relation::LeftSuperseded => false,
+            Relation::RightSuperseded => false,
+            Relation::Unrelated => true,
+        }
+    }
+
+    // What the comparison the other way round says.
+    pub fn turned(self) -> Relation
+        ensures { λ r. ⌜ r ≡ turned self ⌝ }
+    {
+        match self {
+            Relation::Same => Relation::Same,
+            Relation::LeftCheckpointed => Relation::RightCheckpointed,
+            Relation::RightCheckpointed => Relation::LeftCheckpointed,
+            Relation::LeftSuperseded => Relation::RightSuperseded,
+            Relation::RightSuperseded => Relation::LeftSuperseded,
+            Relation::Unrelated => Relation::Unrelated,
+        }
+    }
 }
 
 impl History {
@@ -153,6 +232,49 @@ impl History {
             return false;
         }
         self.agrees(other, self.count as usize)
+    }
+
+    // Document 02, W3: the comparison of two marks.
+    pub fn compare(self, other: History) -> Relation
+        requires { ⌜ (self .count ≤ places) × (other .count ≤ places) ⌝ }
+        ensures { λ r. ⌜ r ≡ relationOf (incarnationOf self) (incarnationOf other) ⌝ }
+    {
+        if other.count < self.count {
+            return other.compare_longer(self).turned();
+        }
+        if self.count != other.count {
+            return self.compare_longer(other);
+        }
+        if !self.agrees(other, self.count as usize) {
+            return Relation::Unrelated;
+        }
+        if self.incarnation < other.incarnation {
+            return Relation::LeftSuperseded;
+        }
+        if other.incarnation < self.incarnation {
+            return Relation::RightSuperseded;
+        }
+        Relation::Same
+    }
+
+    // The same where the other one's list is the longer.
+    fn compare_longer(self, other: History) -> Relation
+        requires { ⌜ (self .count < other .count) × (other .count ≤ places) ⌝ }
+        ensures { λ r. ⌜ r ≡ relationOf (incarnationOf self) (incarnationOf other) ⌝ }
+    {
+        let n = self.count as usize;
+        let next = other.checkpoints[n];
+        // the lists last: that is the longer test
+        if next < self.incarnation {
+            return Relation::Unrelated;
+        }
+        if !self.agrees(other, n) {
+            return Relation::Unrelated;
+        }
+        if self.incarnation == next {
+            return Relation::LeftCheckpointed;
+        }
+        Relation::LeftSuperseded
     }
 
     // Writes the packed form from at on.

@@ -23,6 +23,8 @@ pub record Seen : Type 0 where
   pub missing : ℕ → Bool
   pub addressee : ℕ → ℕ
   pub falls : ℕ → Bool
+  -- and whether some take has unrelated marks in the parcel and in what the addressee holds in state and creation
+  pub unrelated : ℕ → Bool
 
 -- f holds at one of 0, 1, .., n of them
 unfoldable pub any : ℕ → (ℕ → Bool) → Bool
@@ -97,6 +99,11 @@ wrongStatus v p =
     (eqb (p .kind) receive and not (eqb (v .status (v .addressee (p .message))) ready))
     or ((leb new (p .kind) and leb (p .kind) fall) and not (eqb (v .status (p .transactor)) busy))
 
+-- 31 (document 02, W3): "a receipt where some take has unrelated marks in the parcel and in the receiver's joined state and
+-- creation maps, after 23 and ahead of the stale test"
+unfoldable pub unrelatedReceipt : Seen → Step → Bool
+unrelatedReceipt v p = eqb (p .kind) receive and v .unrelated (p .message)
+
 -- 25: all takes opened (root, new)
 unfoldable pub allOpened : Limits → Seen → Step → Bool
 allOpened m v p = (eqb (p .kind) root or eqb (p .kind) new) and leb (m .transactors) (v .opened)
@@ -132,8 +139,9 @@ refusalOf m v p =
     (pick (unopened v p) 21
     (pick (isGone v p) 22
     (pick (wrongStatus v p) 23
+    (pick (unrelatedReceipt v p) 31
     (pick (allOpened m v p) 25
     (pick (allWaiting m v p) 26
     (pick (allNumbered v p) 27
     (pick (allCheckpointed m v p) 30
-    (pick (lastRollsBack m v p) 28 0))))))))))
+    (pick (lastRollsBack m v p) 28 0)))))))))))

@@ -9,7 +9,7 @@ use Rattle.marks.specs.declared.History.{History}
 use Rattle.marks.specs.Incarnation.{checkpointedIn, sameIncarnation}
 use Rattle.marks.specs.History.{incarnationOf, initialHistory, stabilized, rolledBack, checkpointed}
 use Rattle.maps.specs.declared.DependenceMap.{DependenceMap}
-use Rattle.maps.specs.Map.{heldAt, historyAt, emptyMap, withEntry, singleton, joinOf, firstSuperseded}
+use Rattle.maps.specs.Map.{heldAt, historyAt, emptyMap, withEntry, singleton, joinOf, firstSuperseded, anyUnrelated}
 use Rattle.rules.specs.Layout.{Layout, Limits}
 use Rattle.rules.specs.Status.{ready, busy, annihilated}
 use Rattle.rules.specs.State.{Transactor, Message, State, bare, transactorAt, messageAt, ownHistory, live, withStatus, withValue, withState, withBehaviour, withTransactor, withOpened, withMessage, withoutMessage, placeOf}
@@ -120,6 +120,10 @@ messageSuperseded y x m = isSome (firstSuperseded (y .transactors) (m .dependenc
 unfoldable pub receiverSuperseded : Layout → Transactor → Message → Bool
 receiverSuperseded y x m = isSome (firstSuperseded (y .transactors) (known y x) (m .dependences))
 
+-- document 02, W3: some take has unrelated marks in the parcel and in the receiver's joined state and creation maps
+unfoldable pub messageUnrelated : Layout → Transactor → Message → Bool
+messageUnrelated y x m = anyUnrelated (y .transactors) (m .dependences) (known y x)
+
 -- at work, and its behaviour map is the parcel's map
 abbrev pub taken : Transactor → Message → Transactor
 taken x m = withBehaviour (withStatus x busy) (m .dependences)
@@ -175,6 +179,12 @@ receiptRollsBack y s n =
     let x : Transactor = transactorAt s (m .addressee) in
     not (messageSuperseded y x m) and receiverSuperseded y x m
 
+-- the parcel with number n and its addressee have unrelated marks of some take
+unfoldable pub receiptUnrelated : Layout → State → ℕ → Bool
+receiptUnrelated y s n =
+    let m : Message = messageAt s (placeOf s n) in
+    messageUnrelated y (transactorAt s (m .addressee)) m
+
 -- what the table of refusals looks at
 unfoldable pub seen : Layout → State → Seen
 seen y s = record {
@@ -188,6 +198,7 @@ seen y s = record {
   missing = λ n. leb (length (s .messages)) (placeOf s n);
   addressee = λ n. messageAt s (placeOf s n) .addressee;
   falls = receiptRollsBack y s;
+  unrelated = receiptUnrelated y s;
 }
 
 unfoldable pub refusal : Layout → Limits → State → Step → ℕ

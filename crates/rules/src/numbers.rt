@@ -104,3 +104,6 @@ pub const EMPTY_GROUP: u8 = 29;
 
 // a named take has all its signings
 pub const ALL_CHECKPOINTED: u8 = 30;
+
+// some take has unrelated marks in the parcel and in what the receiver rests on
+pub const UNRELATED: u8 = 31;

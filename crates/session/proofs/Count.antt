@@ -17,7 +17,7 @@ use Rattle.rules.specs.State.{Transactor, Message, State, ownHistory, transacto
 use Rattle.rules.specs.declared.Step.{Step}
 use Rattle.rules.specs.declared.Reply.{Reply}
 use Rattle.rules.specs.Step.{stepBytes, stepAt, packReply, done, dropped, fallenBack, vanished, root, letter, receive, new, send, lose, sign}
-use Rattle.rules.specs.Refusals.{sends, malformed, notWaiting, emptyGroup, unopened, isGone, wrongStatus, allOpened, allWaiting, allNumbered, allCheckpointed, lastRollsBack, Seen, refusalOf}
+use Rattle.rules.specs.Refusals.{sends, malformed, notWaiting, emptyGroup, unopened, isGone, wrongStatus, unrelatedReceipt, allOpened, allWaiting, allNumbered, allCheckpointed, lastRollsBack, Seen, refusalOf}
 use Rattle.rules.specs.Rules.{Effect, Result, rollback, messageSuperseded, receiverSuperseded, receiveBy, groupReady, checkpointGroup, seen, refusal, opened, applyRoot, applyLetter, applyReceive, applyNew, applySend, applyLocal, applyLose, applySign, apply, stepOf}
 use Rattle.rules.specs.Internal.Well.{WellFormed}
 use Rattle.rules.specs.Pack.{pack, unpack}
@@ -116,11 +116,12 @@ refusal-large m v p =
     (large (unopened v p) 21 _ (omega arith)
     (large (isGone v p) 22 _ (omega arith)
     (large (wrongStatus v p) 23 _ (omega arith)
+    (large (unrelatedReceipt v p) 31 _ (omega arith)
     (large (allOpened m v p) 25 _ (omega arith)
     (large (allWaiting m v p) 26 _ (omega arith)
     (large (allNumbered v p) 27 _ (omega arith)
     (large (allCheckpointed m v p) 30 _ (omega arith)
-    (large (lastRollsBack m v p) 28 0 (omega arith) (λ n. absurd (n refl))))))))))))
+    (large (lastRollsBack m v p) 28 0 (omega arith) (λ n. absurd (n refl)))))))))))))
   where
     large : (c : Bool) (n r : ℕ) → vanished < n → ((r ≡ 0 → ⊥) → vanished < r) → (pick c n r ≡ 0 → ⊥) → vanished < pick c n r
     large true n r h k = λ z. h
@@ -157,7 +158,7 @@ first-packReply r h = rw (be-one (r .outcome) h)
 
 module _ {y : Layout} {m : Limits} (z : Fitting y) (l : Allowed y m) {s : State} (well : WellFormed y s) (steps : List ℕ) (octets : Octets steps) where
   -- the first byte of reply i among the n packed ones
-  reply-byte : (n i : ℕ) → i < n → getD (chunks n (replyAt y m s steps)) (stepBytes * i) 0 ≡ stepOf y m (stateAfter y m s steps i) (stepAt steps i) .reply .outcome
+  pub reply-byte : (n i : ℕ) → i < n → getD (chunks n (replyAt y m s steps)) (stepBytes * i) 0 ≡ stepOf y m (stateAfter y m s steps i) (stepAt steps i) .reply .outcome
   reply-byte n i h =
       let r : Reply = stepOf y m (stateAfter y m s steps i) (stepAt steps i) .reply in
       let all : List ℕ = chunks n (replyAt y m s steps) in

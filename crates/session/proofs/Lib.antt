@@ -11,6 +11,7 @@ pub mod Plays
 pub mod Promises
 pub mod Queries
 pub mod Reached
+pub mod Related
 pub mod Relation
 pub mod Run
 pub mod Seen
@@ -22,6 +23,7 @@ pub mod Tables
 pub mod Traces
 pub mod Tries
 pub mod Unique
+pub mod Unrelated
 pub mod ViewRules
 pub mod ViewSeen
 pub mod ViewState

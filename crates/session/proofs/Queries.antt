@@ -22,7 +22,7 @@ use Rattle.rules.specs.Layout.{Layout, Limits}
 use Rattle.rules.specs.Status.{annihilated}
 use Rattle.rules.specs.State.{State, messageAt}
 use Rattle.rules.specs.Step.{sign, done, notReady}
-use Rattle.rules.specs.Refusals.{Seen, groupBits, named, anyNamed, malformed, notWaiting, emptyGroup, unopened, isGone, wrongStatus, allOpened, allWaiting, allNumbered, allCheckpointed, lastRollsBack, refusalOf}
+use Rattle.rules.specs.Refusals.{Seen, groupBits, named, anyNamed, malformed, notWaiting, emptyGroup, unopened, isGone, wrongStatus, unrelatedReceipt, allOpened, allWaiting, allNumbered, allCheckpointed, lastRollsBack, refusalOf}
 use Rattle.rules.specs.Rules.{Result, seen, refusal, groupReady, applySign, answer, stepOf}
 use Rattle.rules.specs.Pack.{unpack}
 use Rattle.rules.specs.Internal.Well.{WellFormed}
@@ -165,7 +165,7 @@ signing-refusal : (m : Limits) (v : Seen) (g : ℕ) → refusalOf m v (signing g
     (pick (anyNamed g (λ t. leb (v .opened) t)) 21
     (pick (anyNamed g (λ t. eqb (v .status t) annihilated)) 22
     (pick (anyNamed g (λ t. leb (m .checkpoints) (v .checkpoints t))) 30 0)))
-unfolding refusalOf malformed notWaiting emptyGroup unopened isGone wrongStatus allOpened allWaiting allNumbered allCheckpointed lastRollsBack
+unfolding refusalOf malformed notWaiting emptyGroup unopened isGone wrongStatus unrelatedReceipt allOpened allWaiting allNumbered allCheckpointed lastRollsBack
 signing-refusal m v g = refl
 
 -- a volume of fewer takes

@@ -1,7 +1,7 @@
 -- Both sides see the same, so they refuse alike.
 use Prim.Native.Nat.{ℕ}
-use mathlib.Core.Bool.{Bool, not}
-use mathlib.Core.Path.{_≡_, ap, _∙_}
+use mathlib.Core.Bool.{Bool, false, not}
+use mathlib.Core.Path.{_≡_, ap, sym, _∙_}
 use lib.ListN.{length}
 use Rattle.octets.specs.Bytes.{_and_}
 use Rattle.marks.specs.History.{HistoryView}
@@ -12,6 +12,7 @@ use Rattle.session.specs.Provenance.{statusNumber, Provenance, find}
 use Rattle.session.specs.Steps.{isDropped, isRolledBack, provenanceSeen, provenanceRefusal}
 use Rattle.session.proofs.Model.{Ledger, own, findMessage, missingMessage}
 use Rattle.session.proofs.Relation.{present, MessageRel, Rel, own-history, all2-length}
+use Rattle.session.proofs.Related.{receipt-related}
 use Rattle.session.proofs.Messages.{find-rel, missing-same, ReceiptTests, dropped-same, rolledBack-same}
 
 -- what the table of refusals looks at is the same, field by field
@@ -26,6 +27,7 @@ pub record SameSeen (v w : Seen) : Type 0 where
   pub missing : (n : ℕ) → v .missing n ≡ w .missing n
   pub addressee : (n : ℕ) → v .addressee n ≡ w .addressee n
   pub falls : (n : ℕ) → v .falls n ≡ w .falls n
+  pub unrelated : (n : ℕ) → v .unrelated n ≡ w .unrelated n
 
 pub same-seen : {v w : Seen} → SameSeen v w → v ≡ w
 same-seen s = λ i. record {
@@ -39,12 +41,13 @@ same-seen s = λ i. record {
   missing = λ n. s .missing n i;
   addressee = λ n. s .addressee n i;
   falls = λ n. s .falls n i;
+  unrelated = λ n. s .unrelated n i;
 }
 
--- What the ledger shows; d n and e n stand for the two tests at the receipt of parcel n. Of a take that is not live the mark
+-- What the ledger shows; d n, e n and f n stand for the three tests at the receipt of parcel n. Of a take that is not live the mark
 -- shown is the opening one.
-unfoldable pub seenOf : Ledger → (ℕ → Bool) → (ℕ → Bool) → Seen
-seenOf l d e = record {
+unfoldable pub seenOf : Ledger → (ℕ → Bool) → (ℕ → Bool) → (ℕ → Bool) → Seen
+seenOf l d e f = record {
   opened = l .opened;
   next = l .next;
   waiting = length (l .messages);
@@ -55,10 +58,12 @@ seenOf l d e = record {
   missing = λ n. missingMessage n (l .messages);
   addressee = λ n. findMessage n (l .messages) .addressee;
   falls = λ n. not (d n) and e n;
+  unrelated = f;
 }
 
-module _ (l : Ledger) (b : Provenance) (r : Rel l b) (d e : ℕ → Bool)
-    (tests : (n : ℕ) → ReceiptTests (l .nodes (findMessage n (l .messages) .addressee)) (findMessage n (l .messages)) (d n) (e n)) where
+module _ (l : Ledger) (b : Provenance) (r : Rel l b) (d e f : ℕ → Bool)
+    (tests : (n : ℕ) → ReceiptTests (l .nodes (findMessage n (l .messages) .addressee)) (findMessage n (l .messages)) (d n) (e n))
+    (related : (n : ℕ) → f n ≡ false) where
   history-shown : {A : Type 0} (f : HistoryView → A) (t : ℕ) → f (own t (l .nodes t)) ≡ f (b .holders t .history)
   history-shown f t = ap f (own-history (r .holders t))
 
@@ -75,7 +80,7 @@ module _ (l : Ledger) (b : Provenance) (r : Rel l b) (d e : ℕ → Bool)
       rolledBack-same (r .holders (findMessage n (l .messages) .addressee)) (found n) (e n) (tests n .rolls-back)
       ∙ ap (λ t. isRolledBack (b .holders t) (find n (b .messages))) (found n .addressee)
 
-  pub seen-same : SameSeen (seenOf l d e) (provenanceSeen b)
+  pub seen-same : SameSeen (seenOf l d e f) (provenanceSeen b)
   unfolding seenOf provenanceSeen
   seen-same = record {
     opened = r .opened;
@@ -88,8 +93,9 @@ module _ (l : Ledger) (b : Provenance) (r : Rel l b) (d e : ℕ → Bool)
     missing = λ n. missing-same n (r .messages);
     addressee = λ n. found n .addressee;
     falls = λ n i. not (dropped-shown n i) and rolledBack-shown n i;
+    unrelated = λ n. related n ∙ sym (receipt-related l b r n);
   }
 
-  pub refusal-same : (m : Limits) (p : Step) → refusalOf m (seenOf l d e) p ≡ provenanceRefusal m b p
+  pub refusal-same : (m : Limits) (p : Step) → refusalOf m (seenOf l d e f) p ≡ provenanceRefusal m b p
   unfolding provenanceRefusal
   refusal-same m p = ap (λ v. refusalOf m v p) (same-seen seen-same)

@@ -7,14 +7,16 @@ use mathlib.Core.Logic.{_⊎_, inl, inr, ⊎-elim}
 use native.Mathlib.Omega.{arith}
 use lib.ListN.{length, length-append}
 use Rattle.marks.specs.Incarnation.{Incarnation, initialIncarnation, Checkpointed, begins, sameList, beginsWith, strictPrefix, supersededBy}
+use Rattle.marks.specs.Relation.{byNumbers, byNextEntry, relationOf}
 use Rattle.marks.proofs.Order.{checkpointed-irrefl}
 use Rattle.maps.specs.Table.{updated}
 use Rattle.rules.specs.Layout.{standard}
 use Rattle.rules.specs.declared.Step.{Step}
 use Rattle.rules.specs.Step.{read, freeze, finish, fail}
-use Rattle.rules.specs.Refusals.{any, named, anyNamed, malformed, notWaiting, emptyGroup, unopened, isGone, wrongStatus, allOpened, allWaiting, allNumbered, allCheckpointed, atLast, lastRollsBack, refusalOf}
+use Rattle.rules.specs.Refusals.{any, named, anyNamed, malformed, notWaiting, emptyGroup, unopened, isGone, wrongStatus, unrelatedReceipt, allOpened, allWaiting, allNumbered, allCheckpointed, atLast, lastRollsBack, refusalOf}
 use Rattle.session.specs.Provenance.{Incarnations, In, one, Status, ready, busy, annihilated, idle, working, Holder, Provenance, emptyProvenance, remove, find, isMissing, anyEntry, supersededEntry, anySuperseded}
 use Rattle.session.specs.Grounds.{from-start, from-noted, from-list, Ground, in-state, in-creation, RestsOn, ValueRestsOn, Present, CheckpointedNow, SupersededOrAnnihilated, gone, neither, Equal}
+use Rattle.session.specs.Unrelated.{unrelatedEntry, anyUnrelated, isUnrelatedTo}
 use Rattle.session.specs.Steps.{rolledBackHolder, reads, writes, freezes, finishes, rollsBackOrFinishes, rollsBackOrStays, acted, isDropped, isRolledBack, received, signs, checkpointedAt, NotedBy, before, now-checkpointed, opensRoot, opensChild, receives, applied, provenanceSeen, provenanceRefusal, signing, not-ready}
 use Rattle.session.proofs.Accepted.{named-within}
 use Rattle.session.proofs.Plays.{aRoot, aLetter, aReceive, aNew, aSend, aWrite, aStep, aSign, Play, end, then, After, play-on, quiet, played, play-quiet, played-notes, entry-cases, one-case, ground-state, differs, brings-itself, alone-equal, pair-equal, only-3, only-6}
@@ -183,7 +185,7 @@ record Computed : Type 0 where
   one-opener : openerProvenance .holders 1 ≡ child busy true incarnation0 (one 1 incarnation0) (one 0 incarnation0) []
 
 computed : Computed
-unfolding quiet played provenanceRefusal provenanceSeen refusalOf malformed notWaiting emptyGroup unopened isGone wrongStatus allOpened allWaiting allNumbered allCheckpointed atLast lastRollsBack any named anyNamed updated remove find isMissing anyEntry supersededEntry anySuperseded sameList beginsWith strictPrefix supersededBy rolledBackHolder reads writes freezes finishes rollsBackOrFinishes rollsBackOrStays acted isDropped isRolledBack received opensRoot opensChild receives applied checkpointedAt provenance9 provenance11 provenance13 carriedProvenance uncheckpointedProvenance checkpointedProvenance oldProvenance rolledBackProvenance againProvenance toldProvenance unreadProvenance readProvenance childProvenance openerProvenance
+unfolding quiet played provenanceRefusal provenanceSeen refusalOf malformed notWaiting emptyGroup unopened isGone wrongStatus unrelatedReceipt allOpened allWaiting allNumbered allCheckpointed atLast lastRollsBack any named anyNamed updated remove find isMissing anyEntry supersededEntry anySuperseded sameList beginsWith strictPrefix supersededBy rolledBackHolder reads writes freezes finishes rollsBackOrFinishes rollsBackOrStays acted isDropped isRolledBack received opensRoot opensChild receives applied checkpointedAt provenance9 provenance11 provenance13 carriedProvenance uncheckpointedProvenance checkpointedProvenance oldProvenance rolledBackProvenance againProvenance toldProvenance unreadProvenance readProvenance childProvenance openerProvenance isUnrelatedTo unrelatedEntry anyUnrelated relationOf byNumbers byNextEntry
 computed = record {
   quiet-9 = refl;
   zero-9 = refl;

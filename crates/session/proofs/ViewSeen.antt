@@ -7,7 +7,7 @@ use Rattle.marks.specs.History.{incarnationOf, HistoryView}
 use Rattle.marks.proofs.Histories.{roomy-length}
 use Rattle.rules.specs.Layout.{Layout}
 use Rattle.rules.specs.State.{State, transactorAt, ownHistory}
-use Rattle.rules.specs.Rules.{receiptRollsBack, seen}
+use Rattle.rules.specs.Rules.{receiptRollsBack, receiptUnrelated, seen}
 use Rattle.rules.specs.Internal.Well.{WellFormed}
 use Rattle.session.specs.Provenance.{statusNumber}
 use Rattle.session.proofs.Model.{statusOf, viewMessage, view}
@@ -33,7 +33,7 @@ module _ {y : Layout} {s : State} (well : WellFormed y s) where
       (λ t h. sym (roomy-length (own-roomy well t h)))
       (λ t. refl)
 
-  pub view-seen : seen y s ≡ seenOf (view s) (droppedAt y s) (rolledBackAt y s)
+  pub view-seen : seen y s ≡ seenOf (view s) (droppedAt y s) (rolledBackAt y s) (receiptUnrelated y s)
   unfolding seen seenOf view receiptRollsBack droppedAt rolledBackAt
   view-seen = λ i. record {
     opened = s .opened;
@@ -46,4 +46,5 @@ module _ {y : Layout} {s : State} (well : WellFormed y s) where
     missing = λ n. sym (view-missing s n) i;
     addressee = λ n. sym (view-find s n) i .addressee;
     falls = receiptRollsBack y s;
+    unrelated = receiptUnrelated y s;
   }

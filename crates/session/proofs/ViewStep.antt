@@ -17,7 +17,7 @@ use Rattle.rules.specs.State.{Transactor, State, transactorAt, ownHistory, plac
 use Rattle.rules.specs.declared.Step.{Step}
 use Rattle.rules.specs.Step.{root, letter, receive, new, send, fail, lose, sign}
 use Rattle.rules.specs.Refusals.{groupBits, named, acts, refusalOf}
-use Rattle.rules.specs.Rules.{Result, groupReady, seen, refusal, apply, stepOf}
+use Rattle.rules.specs.Rules.{Result, groupReady, receiptUnrelated, seen, refusal, apply, stepOf}
 use Rattle.rules.specs.Internal.Well.{WellFormed}
 use Rattle.session.specs.Provenance.{Provenance}
 use Rattle.session.specs.Steps.{provenanceRefusal}
@@ -31,6 +31,7 @@ use Rattle.rules.proofs.Keep.Accepted.{Accepted, accepted, kind-known, message-
 use Rattle.session.proofs.Accepted.{named-below}
 use Rattle.session.proofs.Kept.{appliedLedger, stepLedger, StepTests, Kept, step-kept}
 use Rattle.session.proofs.ViewState.{no-transactor, own-view}
+use Rattle.session.proofs.Related.{state-related}
 use Rattle.session.proofs.ViewRules.{droppedAt, rolledBackAt, dropped-test, rolledBack-test, view-root, view-letter, view-receive, view-new, view-send, view-acted, view-lose, ready-test, view-sign}
 use Rattle.session.proofs.ViewSeen.{view-seen}
 
@@ -148,7 +149,7 @@ module _ {y : Layout} {m : Limits} {s : State} {p : Step} (well : WellFormed y s
 -- ---- every step
 
 module _ {y : Layout} {s : State} (well : WellFormed y s) (m : Limits) where
-  pub view-refusal : (p : Step) → refusal y m s p ≡ refusalOf m (seenOf (view s) (droppedAt y s) (rolledBackAt y s)) p
+  pub view-refusal : (p : Step) → refusal y m s p ≡ refusalOf m (seenOf (view s) (droppedAt y s) (rolledBackAt y s) (receiptUnrelated y s)) p
   unfolding refusal
   view-refusal p = ap (λ v. refusalOf m v p) (view-seen well)
 
@@ -164,7 +165,7 @@ module _ {y : Layout} {s : State} (well : WellFormed y s) (m : Limits) where
   -- beside a book that is related to the view: refused with the same number, and related again after
   module _ {b : Provenance} (r : Rel (view s) b) where
     pub same-refusal : (p : Step) → refusal y m s p ≡ provenanceRefusal m b p
-    same-refusal p = view-refusal p ∙ refusal-same (view s) b r (droppedAt y s) (rolledBackAt y s) (receipt-tests well) m p
+    same-refusal p = view-refusal p ∙ refusal-same (view s) b r (droppedAt y s) (rolledBackAt y s) (receiptUnrelated y s) (receipt-tests well) (state-related s b r y) m p
 
     pub state-kept : Allowed y m → (p : Step) → p .message < bound 2 → Kept m b p (view (stepOf y m s p .state))
     state-kept allowed p bits = rw (view-step allowed p bits)

@@ -13,6 +13,7 @@ use Rattle.rules.specs.declared.Step.{Step}
 use Rattle.rules.specs.Step.{root, letter, receive, new, send, read, write, freeze, finish, fall, lose, sign}
 use Rattle.rules.specs.Refusals.{Seen, named, refusalOf}
 use Rattle.session.specs.Provenance.{Incarnations, one, ready, busy, annihilated, statusNumber, Holder, WaitingMessage, Provenance, blank, withHolder, withOpened, withWaitingMessage, withoutWaitingMessage, find, isMissing, anySuperseded}
+use Rattle.session.specs.Unrelated.{isUnrelatedTo}
 use Rattle.session.specs.Grounds.{RestsOn, Equal}
 
 -- a take with the mark m: its life in state, the rest empty, idle
@@ -163,6 +164,7 @@ provenanceSeen b = record {
   falls = λ n.
       not (isDropped (b .holders (find n (b .messages) .addressee)) (find n (b .messages)))
       and isRolledBack (b .holders (find n (b .messages) .addressee)) (find n (b .messages));
+  unrelated = λ n. isUnrelatedTo (b .holders (find n (b .messages) .addressee)) (find n (b .messages));
 }
 
 -- "It refuses calls and steps by the table .., judged by what it holds itself."

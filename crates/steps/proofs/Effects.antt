@@ -7,12 +7,12 @@ use lib.Dec.{eqb, leb}
 use borrow.Author.Tests.{ne-eqb}
 use Rattle.octets.specs.Bytes.{pick, _and_, _or_}
 use Rattle.marks.specs.History.{rolledBack}
-use Rattle.maps.specs.Map.{firstSuperseded}
+use Rattle.maps.specs.Map.{firstSuperseded, anyUnrelated}
 use Rattle.rules.specs.Layout.{Layout, Limits}
 use Rattle.rules.specs.Status.{busy, annihilated}
 use Rattle.rules.specs.State.{Transactor, Message, bare, ownHistory}
 use Rattle.rules.specs.Step.{done, dropped, fallenBack, vanished, read, write, freeze, finish, fall, fail}
-use Rattle.rules.specs.Rules.{Effect, isSome, known, unchanged, renewed, rollback, readBy, writeBy, freezeBy, finishBy, fallBy, failBy, localBy, taken, messageSuperseded, receiverSuperseded, receiveBy}
+use Rattle.rules.specs.Rules.{Effect, isSome, known, unchanged, renewed, rollback, readBy, writeBy, freezeBy, finishBy, fallBy, failBy, localBy, taken, messageUnrelated, messageSuperseded, receiverSuperseded, receiveBy}
 use Rattle.rules.specs.Internal.Guards.{isLastIncarnation}
 use Rattle.transactor.specs.Internal.Effects.{rollbackOr28, actBy, takenIn, acceptBy}
 use Rattle.rules.proofs.ByKind.Refused.{localRefusal}
@@ -58,12 +58,6 @@ module _ {r : ℕ} {x : Transactor} {l e : Effect} where
   judged-applied (refused n a b) h = absurd (omega arith)
   judged-applied (applied n a b) h = (a, b)
 
--- where n is the only refusal
-pub judged-other : (c : Bool) (n : ℕ) {x : Transactor} {l e : Effect} → Judged (pick c n 0) x l e → (e .outcome ≡ n → ⊥) → e .outcome < 20
-judged-other true n (refused h a b) q = absurd (q (sym a))
-judged-other false n (refused h a b) q = absurd (omega arith)
-judged-other c n (applied h a b) q = h
-
 pub act-judged : (y : Layout) (m : Limits) (k t v : ℕ) (x : Transactor) → Judged (localRefusal m k t x) x (localBy y k t v x) (actBy y m k t v x)
 unfolding actBy
 act-judged y m k t v x =
@@ -81,15 +75,16 @@ abbrev pub answering : ℕ → Effect → Effect
 answering v e = record { outcome = e .outcome; value = pick (eqb (e .outcome) done) v 0; transactor = e .transactor }
 
 pub receipt-judged : (y : Layout) (m : Limits) (t : ℕ) (x : Transactor) (p : Message)
-    → Judged (pick ((not (messageSuperseded y x p) and receiverSuperseded y x p) and isLastIncarnation m t x) 28 0) x (receiveBy y t x p) (answering (p .value) (acceptBy y m t x (p .dependences)))
-unfolding acceptBy takenIn rollbackOr28 messageSuperseded receiverSuperseded receiveBy
+    → Judged (pick (messageUnrelated y x p) 31 (pick ((not (messageSuperseded y x p) and receiverSuperseded y x p) and isLastIncarnation m t x) 28 0)) x (receiveBy y t x p) (answering (p .value) (acceptBy y m t x (p .dependences)))
+unfolding acceptBy takenIn rollbackOr28 messageUnrelated messageSuperseded receiverSuperseded receiveBy
 receipt-judged y m t x p =
-    go (isSome (firstSuperseded (y .transactors) (p .dependences) (known y x))) (isSome (firstSuperseded (y .transactors) (known y x) (p .dependences))) (isLastIncarnation m t x) (rollback y t x) (fell y t x)
+    go (anyUnrelated (y .transactors) (p .dependences) (known y x)) (isSome (firstSuperseded (y .transactors) (p .dependences) (known y x))) (isSome (firstSuperseded (y .transactors) (known y x) (p .dependences))) (isLastIncarnation m t x) (rollback y t x) (fell y t x)
   where
-    go : (a b c : Bool) (e : Effect) → Fell e
-        → Judged (pick ((not a and b) and c) 28 0) x (pick a (unchanged dropped x) (pick b e (record { outcome = done; value = p .value; transactor = taken x p })))
-        (answering (p .value) (pick a (unchanged dropped x) (pick b (pick c (unchanged 28 x) e) (unchanged done (taken x p)))))
-    go true b c e f = applied (omega arith) refl refl
-    go false true true e f = refused (omega arith) refl refl
-    go false true false e f = applied (f .small) refl (rw (ne-eqb (e .outcome) done (f .some)) (λ i. record { outcome = e .outcome; value = sym (f .silent) i; transactor = e .transactor }))
-    go false false c e f = applied (omega arith) refl refl
+    go : (u a b c : Bool) (e : Effect) → Fell e
+        → Judged (pick u 31 (pick ((not a and b) and c) 28 0)) x (pick a (unchanged dropped x) (pick b e (record { outcome = done; value = p .value; transactor = taken x p })))
+        (answering (p .value) (pick u (unchanged 31 x) (pick a (unchanged dropped x) (pick b (pick c (unchanged 28 x) e) (unchanged done (taken x p))))))
+    go true a b c e f = refused (omega arith) refl refl
+    go false true b c e f = applied (omega arith) refl refl
+    go false false true true e f = refused (omega arith) refl refl
+    go false false true false e f = applied (f .small) refl (rw (ne-eqb (e .outcome) done (f .some)) (λ i. record { outcome = e .outcome; value = sym (f .silent) i; transactor = e .transactor }))
+    go false false false c e f = applied (omega arith) refl refl

@@ -14,7 +14,7 @@ use Rattle.rules.specs.State.{Transactor, Message, State, transactorAt, message
 use Rattle.rules.specs.declared.Step.{Step}
 use Rattle.rules.specs.declared.Reply.{Reply}
 use Rattle.rules.specs.Step.{done, receive}
-use Rattle.rules.specs.Rules.{Effect, receiveBy, messageSuperseded, receiverSuperseded, receiptRollsBack, seen, refusal, answer, applyReceive, apply}
+use Rattle.rules.specs.Rules.{Effect, receiveBy, messageUnrelated, messageSuperseded, receiverSuperseded, receiptRollsBack, receiptUnrelated, seen, refusal, answer, applyReceive, apply}
 use Rattle.rules.specs.Pack.{waitingIn, pack, unpack}
 use Rattle.rules.specs.Internal.Well.{WellFormed}
 use Rattle.rules.specs.Internal.Good.{Good}
@@ -23,7 +23,7 @@ use Rattle.steps.specs.Internal.Stepped.{Stepped, Asked}
 use Rattle.rules.specs.Internal.Guards.{isLastIncarnation}
 use Rattle.transactor.proofs.Accepting.{kept-at}
 use Rattle.rules.proofs.ByKind.Refused.{refuses}
-use Rattle.steps.proofs.Effects.{Judged, judged-refused, judged-applied, judged-other, answering, receipt-judged}
+use Rattle.steps.proofs.Effects.{Judged, judged-refused, judged-applied, answering, receipt-judged}
 use Rattle.rules.proofs.ByKind.Applied.{applies}
 use Rattle.steps.proofs.Stepped.{stepped-refused, stepped-applied}
 use Rattle.rules.proofs.Pack.Sizes.{length-pack}
@@ -47,15 +47,19 @@ lastFalls s k t =
     (not (messageSuperseded base (transactorAt s t) (messageAt s k)) and receiverSuperseded base (transactorAt s t) (messageAt s k))
     and isLastIncarnation standard t (transactorAt s t)
 
+-- why take t, being idle, does not receive it
+abbrev refusalFor : State → ℕ → ℕ → ℕ
+refusalFor s k t = pick (messageUnrelated base (transactorAt s t) (messageAt s k)) 31 (pick (lastFalls s k t) 28 0)
+
 -- why take t does not receive it
 abbrev refusalTo : State → ℕ → ℕ → ℕ
-refusalTo s k t = pick (eqb (transactorAt s t .status) annihilated) 22 (pick (not (eqb (transactorAt s t .status) ready)) 23 (pick (lastFalls s k t) 28 0))
+refusalTo s k t = pick (eqb (transactorAt s t .status) annihilated) 22 (pick (not (eqb (transactorAt s t .status) ready)) 23 (refusalFor s k t))
 
 -- the parcel named stands in place k, or nowhere
 module _ (img : List ℕ) (p : Step) (a : Asked receive img p) (k : ℕ) (place : k ≡ placeOf (unpack base img) (p .message)) where
   receive-refusal : refusal base standard (unpack base img) p
       ≡ pick (leb (length (unpack base img .messages)) k) 24 (refusalTo (unpack base img) k (messageAt (unpack base img) k .addressee))
-  unfolding receiptRollsBack
+  unfolding receiptRollsBack receiptUnrelated
   receive-refusal = rw place (refuses base standard (unpack base img) p (a .formed) .receive (a .kind))
 
   pub receive-missing : (r : Reply) → waitingIn base img ≤ k → r ≡ answer 24 0 0 0 → Stepped img p r img
@@ -105,21 +109,22 @@ module _ {img : List ℕ} {p : Step} {k t : ℕ} (found : Found img p k t) where
 
   -- the addressee is idle
   module _ (idle : x .status ≡ ready) {o v : ℕ} {after : List ℕ} (acts : ActsAt img t taken o v after) where
-    receive-left : refusal base standard s p ≡ pick (lastFalls s k t) 28 0
+    receive-left : refusal base standard s p ≡ refusalFor s k t
     receive-left = found-refusal ∙ rw idle
 
-    judged : Judged (pick (lastFalls s k t) 28 0) x received (answering (parcel .value) taken)
+    judged : Judged (refusalFor s k t) x received (answering (parcel .value) taken)
     judged = receipt-judged base standard t x parcel
 
-    pub receive-refused : (r : Reply) → o ≡ 28 → r ≡ answer 28 0 0 0 → Stepped img p r after
-    receive-refused r e q =
+    -- 31 or 28
+    pub receive-refused : (r : Reply) → 20 ≤ o → r ≡ answer o 0 0 0 → Stepped img p r after
+    receive-refused r h q =
         let j = judged-refused judged (omega (arith, acts .outcome)) in
         let same : after ≡ img = acts .image ∙ ap (λ (z : Transactor). pack base (withTransactor s t z)) (j .1) ∙ sym (kept-at img good t) in
-        rw same (stepped-refused img p r good 28 (receive-left ∙ j .0 ∙ sym (acts .outcome) ∙ e) (λ z. omega arith) q)
+        rw same (stepped-refused img p r good o (receive-left ∙ j .0 ∙ sym (acts .outcome)) (λ z. omega arith) q)
 
-    module _ (goes : o ≡ 28 → ⊥) where
+    module _ (goes : o < 20) where
       small : taken .outcome < 20
-      small = judged-other (lastFalls s k t) 28 judged (λ e. goes (acts .outcome ∙ e))
+      small = omega (arith, acts .outcome)
 
       accepts : refusal base standard s p ≡ 0
       accepts = receive-left ∙ judged-applied judged small .0

@@ -240,8 +240,9 @@ fn receive(image: &mut [u8], p: Step) -> Reply
     let content = messages::content(image, k);
     let a = receipt::accept(image, t, k);
     let outcome = a.outcome;
-    if outcome == numbers::LAST_INCARNATION {
-        return answered(numbers::LAST_INCARNATION);
+    // 28 or 31: the message stays
+    if numbers::MALFORMED <= outcome {
+        return answered(outcome);
     }
     messages::remove(image, k, n);
     let value = if outcome == numbers::DONE { content } else { 0 };

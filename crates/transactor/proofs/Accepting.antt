@@ -1,5 +1,6 @@
 -- A receipt's effect on the bytes of the addressee, in the image where the parcel stands too.
 use Prim.Native.Nat.{ℕ, _+_, _-_, _*_, _≤_, _<_}
+use mathlib.Core.Bool.{Bool, true, false}
 use mathlib.Core.Path.{_≡_, sym, ap, _∙_}
 use mathlib.Core.List.{List}
 use native.Mathlib.Nat.{add-zero}
@@ -13,7 +14,7 @@ use Rattle.octets.proofs.Chunks.{step}
 use Rattle.maps.specs.declared.DependenceMap.{DependenceMap}
 use Rattle.maps.specs.declared.Comparison.{Comparison}
 use Rattle.maps.specs.declared.Comparison.the-variants.{Superseded, Current}
-use Rattle.maps.specs.Map.{firstSuperseded, answerOf}
+use Rattle.maps.specs.Map.{firstSuperseded, answerOf, anyUnrelated}
 use Rattle.maps.proofs.Packed.{length-packMap}
 use Rattle.rules.specs.Layout.{Layout, Limits, base, mapBytes, stateAt, creationAt, behaviourAt, transactorBytes, dependencesAt, messageBytes, transactorAddress, messageAddress, imageBytes}
 use Rattle.rules.specs.Status.{busy}
@@ -100,7 +101,7 @@ module _ (y : Layout) (img : List ℕ) (t : ℕ) (below : t < y .transactors) (k
         let from : at + behaviourAt y + gap ≡ messageAddress y k + dependencesAt = omega (arith, fits) in
         e ∙ rw (from, map-kept, status-put) map-put
 
-  -- ---- the rule by case, f and g being the answers of the comparisons
+  -- ---- the rule by case, u, f and g being the comparison's answers
 
   abbrev packedDeps : DependenceMap
   packedDeps = unpackDependences y (messageAddress y k + dependencesAt) img
@@ -108,25 +109,33 @@ module _ (y : Layout) (img : List ℕ) (t : ℕ) (below : t < y .transactors) (k
   abbrev packedKnown : DependenceMap
   packedKnown = join y (unpackDependences y (transactorAddress y t + stateAt) img) (unpackDependences y (transactorAddress y t + creationAt y) img)
 
-  module _ (m : Limits) (f : Comparison) (e : answerOf f ≡ firstSuperseded (y .transactors) packedDeps packedKnown) where
-    message-superseded : firstSuperseded (y .transactors) deps (known y x) ≡ answerOf f
-    message-superseded = rw (read-dependences y img k waits, read-state y img t below, read-creation y img t below) (sym e)
+  module _ (m : Limits) (u : Bool) (d : u ≡ anyUnrelated (y .transactors) packedDeps packedKnown) where
+    some-unrelated : anyUnrelated (y .transactors) deps (known y x) ≡ u
+    some-unrelated = rw (read-dependences y img k waits, read-state y img t below, read-creation y img t below) (sym d)
 
-    pub accepts-dropped : {i : ℕ} → f ≡ Superseded i → acceptBy y m t x deps ≡ unchanged dropped x
+    pub accepts-unrelated : u ≡ true → acceptBy y m t x deps ≡ unchanged 31 x
     unfolding acceptBy
-    accepts-dropped p = rw (message-superseded, p)
+    accepts-unrelated o = rw (some-unrelated, o)
 
-    module _ (p : f ≡ Current) (g : Comparison) (q : answerOf g ≡ firstSuperseded (y .transactors) packedKnown packedDeps) where
-      receiver-superseded : firstSuperseded (y .transactors) (known y x) deps ≡ answerOf g
-      receiver-superseded = rw (read-dependences y img k waits, read-state y img t below, read-creation y img t below) (sym q)
+    module _ (o : u ≡ false) (f : Comparison) (e : answerOf f ≡ firstSuperseded (y .transactors) packedDeps packedKnown) where
+      message-superseded : firstSuperseded (y .transactors) deps (known y x) ≡ answerOf f
+      message-superseded = rw (read-dependences y img k waits, read-state y img t below, read-creation y img t below) (sym e)
 
-      pub accepts-rollback : {i : ℕ} → g ≡ Superseded i → acceptBy y m t x deps ≡ rollbackOr28 y m t x
+      pub accepts-dropped : {i : ℕ} → f ≡ Superseded i → acceptBy y m t x deps ≡ unchanged dropped x
       unfolding acceptBy
-      accepts-rollback r = rw (message-superseded, p, receiver-superseded, r)
+      accepts-dropped p = rw (some-unrelated, o, message-superseded, p)
 
-      pub accepts-done : g ≡ Current → acceptBy y m t x deps ≡ unchanged done (takenIn x deps)
-      unfolding acceptBy
-      accepts-done r = rw (message-superseded, p, receiver-superseded, r)
+      module _ (p : f ≡ Current) (g : Comparison) (q : answerOf g ≡ firstSuperseded (y .transactors) packedKnown packedDeps) where
+        receiver-superseded : firstSuperseded (y .transactors) (known y x) deps ≡ answerOf g
+        receiver-superseded = rw (read-dependences y img k waits, read-state y img t below, read-creation y img t below) (sym q)
+
+        pub accepts-rollback : {i : ℕ} → g ≡ Superseded i → acceptBy y m t x deps ≡ rollbackOr28 y m t x
+        unfolding acceptBy
+        accepts-rollback r = rw (some-unrelated, o, message-superseded, p, receiver-superseded, r)
+
+        pub accepts-done : g ≡ Current → acceptBy y m t x deps ≡ unchanged done (takenIn x deps)
+        unfolding acceptBy
+        accepts-done r = rw (some-unrelated, o, message-superseded, p, receiver-superseded, r)
 
 -- ---- what a function on an image answers that changes take t alone
 

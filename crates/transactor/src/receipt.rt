@@ -32,7 +32,7 @@ fn take_in(image: &mut [u8], t: usize, k: usize)
     octets::lower(image, to, from - to, maps::SIZE);
 }
 
-// The message in place k, addressed to transactor t: dropped, or a fall, or taken in.
+// The message in place k, addressed to transactor t: refused as of another book, or dropped, or a fall, or taken in.
 pub fn accept(image: &mut [u8], t: usize, k: usize) -> Acted
     requires { ⌜ Good (now image) × (t < base .transactors) × (k < waitingIn base (now image)) ⌝ }
     ensures { λ r. ⌜ ActsAt (now (image .entry)) t
@@ -46,6 +46,9 @@ pub fn accept(image: &mut [u8], t: usize, k: usize) -> Acted
     let m = FIRST_MESSAGE + MESSAGE * k + DEPENDENCES;
     let known = DependenceMap::load(image, state).join_from(image, creation);
     let answers = known.compare(image, m);
+    if answers.unrelated {
+        return crate::outcome_of(numbers::UNRELATED);
+    }
     let message = answers.packed;
     let receiver = answers.own;
     // What let else takes out is the first superseded transactor's number. Which one it is decides nothing: the rules ask whether there

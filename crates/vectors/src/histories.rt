@@ -89,12 +89,26 @@ fn related(op: u8, x: History, y: History) -> bool {
     }
 }
 
+// T: the number of the comparison's answer.
+fn relation(x: History, y: History) -> usize {
+    let n = x.count as usize;
+    let m = y.count as usize;
+    if marks::PLACES < n || marks::PLACES < m {
+        return 99;
+    }
+    x.compare(y).number() as usize
+}
+
 fn pair(op: u8, image: &[u8], a: usize, b: usize) -> u8
     requires { ⌜ (a < 4294967296) × (b < 4294967296) ⌝ }
 {
     let x = load(image, a);
     let y = load(image, b);
-    print::truth(related(op, x, y));
+    if op == b'T' {
+        print::number(relation(x, y));
+    } else {
+        print::truth(related(op, x, y));
+    }
     PRINTED
 }
 

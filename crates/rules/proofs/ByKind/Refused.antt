@@ -11,8 +11,8 @@ use Rattle.rules.specs.Layout.{Layout, Limits}
 use Rattle.rules.specs.Status.{ready, busy, annihilated}
 use Rattle.rules.specs.State.{Transactor, State, ownHistory, transactorAt, messageAt, placeOf}
 use Rattle.rules.specs.Step.{Step, root, letter, receive, new, send, read, fall, fail, lose, sign}
-use Rattle.rules.specs.Refusals.{anyNamed, malformed, notWaiting, emptyGroup, unopened, isGone, wrongStatus, allOpened, allWaiting, allNumbered, allCheckpointed, atLast, lastRollsBack, refusalOf}
-use Rattle.rules.specs.Rules.{receiptRollsBack, seen, refusal}
+use Rattle.rules.specs.Refusals.{anyNamed, malformed, notWaiting, emptyGroup, unopened, isGone, wrongStatus, unrelatedReceipt, allOpened, allWaiting, allNumbered, allCheckpointed, atLast, lastRollsBack, refusalOf}
+use Rattle.rules.specs.Rules.{receiptRollsBack, receiptUnrelated, seen, refusal}
 use Rattle.rules.specs.Internal.Guards.{isLastIncarnation, busyRefusal, crowdedRefusal, blocksAt}
 use Rattle.octets.proofs.Tests.{or-none, or-off}
 use Rattle.rules.proofs.ByKind.Guards.{first, working-first}
@@ -74,7 +74,8 @@ pub record Refuses (y : Layout) (m : Limits) (s : State) (p : Step) : Type 0 whe
       ≡ pick (leb (length (s .messages)) (placeOf s (p .message))) 24
       (pick (eqb (transactorAt s (receiver s (p .message)) .status) annihilated) 22
       (pick (not (eqb (transactorAt s (receiver s (p .message)) .status) ready)) 23
-      (pick (receiptRollsBack y s (p .message) and isLastIncarnation m (receiver s (p .message)) (transactorAt s (receiver s (p .message)))) 28 0)))
+      (pick (receiptUnrelated y s (p .message)) 31
+      (pick (receiptRollsBack y s (p .message) and isLastIncarnation m (receiver s (p .message)) (transactorAt s (receiver s (p .message)))) 28 0))))
   pub new : p .kind ≡ new → refusal y m s p ≡ first (busyRefusal s (p .transactor)) (pick (leb (m .transactors) (s .opened)) 25 0)
   pub send : p .kind ≡ send → refusal y m s p ≡ pick (leb (s .opened) (p .other)) 21 (first (busyRefusal s (p .transactor)) (crowdedRefusal m s))
   pub local : read ≤ p .kind → p .kind ≤ fail → refusal y m s p
@@ -87,7 +88,7 @@ pub record Refuses (y : Layout) (m : Limits) (s : State) (p : Step) : Type 0 whe
       (pick (anyNamed (p .message) (blocksAt m s 30)) 30 0)))
 
 pub refuses : (y : Layout) (m : Limits) (s : State) (p : Step) → malformed p ≡ false → Refuses y m s p
-unfolding refusal refusalOf notWaiting emptyGroup unopened isGone wrongStatus allOpened allWaiting allNumbered allCheckpointed atLast lastRollsBack seen isLastIncarnation crowdedRefusal blocksAt
+unfolding refusal refusalOf notWaiting emptyGroup unopened isGone wrongStatus unrelatedReceipt allOpened allWaiting allNumbered allCheckpointed atLast lastRollsBack seen isLastIncarnation crowdedRefusal blocksAt
 refuses y m s p formed = record {
   root = λ e. rw (formed, e);
   letter = λ e. simp (formed, e, or-none);

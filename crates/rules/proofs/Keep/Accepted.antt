@@ -9,7 +9,7 @@ use Rattle.octets.specs.Bytes.{pick, _and_, _or_}
 use Rattle.rules.specs.Layout.{Limits, lastNumber}
 use Rattle.rules.specs.Status.{ready, busy, annihilated}
 use Rattle.rules.specs.Step.{Step, root, receive, new, send, fall, fail, lose, sign}
-use Rattle.rules.specs.Refusals.{Seen, groupBits, named, anyNamed, acts, usesTransactor, sends, malformed, notWaiting, emptyGroup, unopened, isGone, wrongStatus, allOpened, allWaiting, allNumbered, allCheckpointed, atLast, lastRollsBack, refusalOf}
+use Rattle.rules.specs.Refusals.{Seen, groupBits, named, anyNamed, acts, usesTransactor, sends, malformed, notWaiting, emptyGroup, unopened, isGone, wrongStatus, unrelatedReceipt, allOpened, allWaiting, allNumbered, allCheckpointed, atLast, lastRollsBack, refusalOf}
 use Rattle.octets.proofs.Tests.{pick-zero, or-off, and-off}
 use Rattle.rules.proofs.Any.{any-at}
 
@@ -26,6 +26,7 @@ pub record Accepted (m : Limits) (v : Seen) (p : Step) : Type 0 where
   pub opened : unopened v p ≡ false
   pub there : isGone v p ≡ false
   pub status : wrongStatus v p ≡ false
+  pub related : unrelatedReceipt v p ≡ false
   pub free : allOpened m v p ≡ false
   pub room : allWaiting m v p ≡ false
   pub numbers : allNumbered v p ≡ false
@@ -41,11 +42,12 @@ accepted m v p e0 =
     let e4 = pick-zero (unopened v p) 21 _ (omega arith) (e3 .1) in
     let e5 = pick-zero (isGone v p) 22 _ (omega arith) (e4 .1) in
     let e6 = pick-zero (wrongStatus v p) 23 _ (omega arith) (e5 .1) in
-    let e7 = pick-zero (allOpened m v p) 25 _ (omega arith) (e6 .1) in
-    let e8 = pick-zero (allWaiting m v p) 26 _ (omega arith) (e7 .1) in
-    let e9 = pick-zero (allNumbered v p) 27 _ (omega arith) (e8 .1) in
-    let e10 = pick-zero (allCheckpointed m v p) 30 _ (omega arith) (e9 .1) in
-    let e11 = pick-zero (lastRollsBack m v p) 28 0 (omega arith) (e10 .1) in
+    let e7 = pick-zero (unrelatedReceipt v p) 31 _ (omega arith) (e6 .1) in
+    let e8 = pick-zero (allOpened m v p) 25 _ (omega arith) (e7 .1) in
+    let e9 = pick-zero (allWaiting m v p) 26 _ (omega arith) (e8 .1) in
+    let e10 = pick-zero (allNumbered v p) 27 _ (omega arith) (e9 .1) in
+    let e11 = pick-zero (allCheckpointed m v p) 30 _ (omega arith) (e10 .1) in
+    let e12 = pick-zero (lastRollsBack m v p) 28 0 (omega arith) (e11 .1) in
     record {
       formed = e1 .0;
       waiting = e2 .0;
@@ -53,11 +55,12 @@ accepted m v p e0 =
       opened = e4 .0;
       there = e5 .0;
       status = e6 .0;
-      free = e7 .0;
-      room = e8 .0;
-      numbers = e9 .0;
-      checkpoints = e10 .0;
-      incarnations = e11 .0;
+      related = e7 .0;
+      free = e8 .0;
+      room = e9 .0;
+      numbers = e10 .0;
+      checkpoints = e11 .0;
+      incarnations = e12 .0;
     }
 
 -- ---- what each condition gives, by kind
@@ -171,11 +174,12 @@ refusal-small m v p =
     (small (unopened v p) 21 _ (omega arith)
     (small (isGone v p) 22 _ (omega arith)
     (small (wrongStatus v p) 23 _ (omega arith)
+    (small (unrelatedReceipt v p) 31 _ (omega arith)
     (small (allOpened m v p) 25 _ (omega arith)
     (small (allWaiting m v p) 26 _ (omega arith)
     (small (allNumbered v p) 27 _ (omega arith)
     (small (allCheckpointed m v p) 30 _ (omega arith)
-    (small (lastRollsBack m v p) 28 0 (omega arith) (omega arith)))))))))))
+    (small (lastRollsBack m v p) 28 0 (omega arith) (omega arith))))))))))))
   where
     small : (c : Bool) (n r : ℕ) → n < 256 → r < 256 → pick c n r < 256
     small true n r h k = h

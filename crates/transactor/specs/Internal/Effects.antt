@@ -8,7 +8,7 @@ use Rattle.octets.specs.Bytes.{pick, _and_, _or_, put}
 use Rattle.octets.specs.Numbers.{be}
 use Rattle.marks.specs.History.{initialHistory}
 use Rattle.maps.specs.declared.DependenceMap.{DependenceMap}
-use Rattle.maps.specs.Map.{firstSuperseded}
+use Rattle.maps.specs.Map.{firstSuperseded, anyUnrelated}
 use Rattle.rules.specs.Layout.{Layout, Limits, base, transactorAddress}
 use Rattle.rules.specs.Status.{busy, annihilated}
 use Rattle.rules.specs.State.{Transactor, ownHistory, withTransactor, withBehaviour}
@@ -50,12 +50,13 @@ actBy y m k t v x =
 unfoldable pub takenIn : Transactor → DependenceMap → Transactor
 takenIn x deps = record { status = busy; value = x .value; saved = x .saved; state = x .state; creation = x .creation; behaviour = deps }
 
--- a receipt's effect on the addressee, without the text, or 28
+-- a receipt's effect on the addressee, without the text, or 31, or 28
 unfoldable pub acceptBy : Layout → Limits → ℕ → Transactor → DependenceMap → Effect
 acceptBy y m t x deps =
-    pick (isSome (firstSuperseded (y .transactors) deps (known y x))) (unchanged dropped x)
+    pick (anyUnrelated (y .transactors) deps (known y x)) (unchanged 31 x)
+    (pick (isSome (firstSuperseded (y .transactors) deps (known y x))) (unchanged dropped x)
     (pick (isSome (firstSuperseded (y .transactors) (known y x) deps)) (rollbackOr28 y m t x)
-    (unchanged done (takenIn x deps)))
+    (unchanged done (takenIn x deps))))
 
 -- the bytes of an image with one more take opened, which is the next one, c
 unfoldable pub openBytes : Layout → List ℕ → ℕ → ℕ → DependenceMap → List ℕ

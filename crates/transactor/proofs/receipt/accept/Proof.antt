@@ -1,4 +1,4 @@
--- A message that is dropped leaves the image; a fall is one of the take's bytes.
+-- A message that is refused or dropped leaves the image; a fall is one of the take's bytes.
 use mathlib.Core.Path.{_∙_}
 use native.Mathlib.Omega.{arith}
 use borrow.Author.Needs.{needs}
@@ -7,7 +7,7 @@ use Rattle.rules.specs.Layout.{base, standard}
 use Rattle.transactor.specs.Internal.Effects.{rollbackOr28}
 use Rattle.rules.proofs.Pack.Loads.{waiting-few}
 use Rattle.transactor.proofs.Lent.{good-lent}
-use Rattle.transactor.proofs.Accepting.{accepts-dropped, accepts-rollback, accepts-done, acted-at, kept-at, lent-at}
+use Rattle.transactor.proofs.Accepting.{accepts-unrelated, accepts-dropped, accepts-rollback, accepts-done, acted-at, kept-at, lent-at}
 use Rattle.transactor.proofs.receipt.accept.Statement.{statement}
 use Rattle.transactor.proofs.receipt.accept.Tie as tie
 
@@ -48,6 +48,22 @@ compare-requires c κs =
     let few = waiting-few base (l .before .before .before .args .image .now) in
     (omega (arith, few), rw (j .join-from .ensures, l .load .ensures) (bounded-join _ _ _ _ (bounded-unpack _ _ _ _ (omega arith)) (bounded-unpack _ _ _ _ (omega arith))))
 
+outcome-of-requires : tie.Need-outcome-of-requires
+outcome-of-requires c κs = search needs
+
+same-length : tie.Need-same-length
+same-length c = search needs
+
+returns : tie.Need-returns
+returns c =
+    let asked = c .before .before in
+    let j = asked .before .before in
+    let l = j .before .before in
+    let s = l .before .before .before in
+    acted-at _ _
+    (accepts-unrelated base _ _ (s .pre .1) _ (s .pre .2) standard _ (asked .compare .ensures .0 ∙ rw (j .join-from .ensures, l .load .ensures)) (c .before .if1 .taken))
+    (c .outcome-of .ensures) (kept-at _ (s .pre .0) _)
+
 enum-known-message : tie.Need-enum-known-message
 enum-known-message c = search needs
 
@@ -63,23 +79,24 @@ enum-told-2 c = search needs
 take-in-requires : tie.Need-take-in-requires
 take-in-requires c κs = search needs
 
-outcome-of-requires : tie.Need-outcome-of-requires
-outcome-of-requires c κs = search needs
+outcome-of-requires-2 : tie.Need-outcome-of-requires-2
+outcome-of-requires-2 c κs = search needs
 
-same-length : tie.Need-same-length
-same-length c = search needs
+same-length-2 : tie.Need-same-length-2
+same-length-2 c = search needs
 
-returns : tie.Need-returns
-returns c =
+returns-2 : tie.Need-returns-2
+returns-2 c =
     let taken = c .before .before .before in
     let told = taken .before .before in
-    let asked = told .before .before .before .before in
+    let branch = told .before .before .before .before in
+    let asked = branch .before in
     let j = asked .before .before in
     let l = j .before .before in
     let s = l .before .before .before in
     acted-at _ _
-    (accepts-done base _ _ (s .pre .1) _ (s .pre .2) standard _ (asked .compare .ensures .0 ∙ rw (j .join-from .ensures, l .load .ensures)) (told .before .before .enum-told .given .1) _ (asked .compare .ensures .1 ∙ rw (j .join-from .ensures, l .load .ensures)) (told .enum-told2 .given .1))
-    (c .outcome-of .ensures) (taken .take-in .ensures)
+    (accepts-done base _ _ (s .pre .1) _ (s .pre .2) standard _ (asked .compare .ensures .0 ∙ rw (j .join-from .ensures, l .load .ensures)) (branch .if1 .left) _ (asked .compare .ensures .1 ∙ rw (j .join-from .ensures, l .load .ensures)) (told .before .before .enum-told .given .1) _ (asked .compare .ensures .2 ∙ rw (j .join-from .ensures, l .load .ensures)) (told .enum-told2 .given .1))
+    (c .outcome-of2 .ensures) (taken .take-in .ensures)
 
 sub-roll-back : tie.Need-sub-roll-back
 sub-roll-back c = search needs
@@ -92,40 +109,42 @@ part-roll-back-end c = search needs
 
 roll-back-requires : tie.Need-roll-back-requires
 roll-back-requires c κs =
-    let s = c .before .before .before .before .before .before .before .before .before .before .before .before .before in
+    let s = c .before .before .before .before .before .before .before .before .before .before .before .before .before .before in
     (good-lent _ (s .pre .0) _ (s .pre .1), s .pre .1)
-
-same-length-2 : tie.Need-same-length-2
-same-length-2 c = search needs
-
-returns-2 : tie.Need-returns-2
-returns-2 c =
-    let fell = c .before .before in
-    let told = fell .before .before .before in
-    let asked = told .before .before .before .before in
-    let j = asked .before .before in
-    let l = j .before .before in
-    let s = l .before .before .before in
-    lent-at _ (s .pre .0) _ (s .pre .1) (rollbackOr28 base standard _)
-    (accepts-rollback base _ _ (s .pre .1) _ (s .pre .2) standard _ (asked .compare .ensures .0 ∙ rw (j .join-from .ensures, l .load .ensures)) (told .before .before .enum-told .given .1) _ (asked .compare .ensures .1 ∙ rw (j .join-from .ensures, l .load .ensures)) (told .receiver .given .1))
-    (fell .roll-back .ensures)
-
-outcome-of-requires-2 : tie.Need-outcome-of-requires-2
-outcome-of-requires-2 c κs = search needs
 
 same-length-3 : tie.Need-same-length-3
 same-length-3 c = search needs
 
 returns-3 : tie.Need-returns-3
 returns-3 c =
+    let fell = c .before .before in
+    let told = fell .before .before .before in
+    let branch = told .before .before .before .before in
+    let asked = branch .before in
+    let j = asked .before .before in
+    let l = j .before .before in
+    let s = l .before .before .before in
+    lent-at _ (s .pre .0) _ (s .pre .1) (rollbackOr28 base standard _)
+    (accepts-rollback base _ _ (s .pre .1) _ (s .pre .2) standard _ (asked .compare .ensures .0 ∙ rw (j .join-from .ensures, l .load .ensures)) (branch .if1 .left) _ (asked .compare .ensures .1 ∙ rw (j .join-from .ensures, l .load .ensures)) (told .before .before .enum-told .given .1) _ (asked .compare .ensures .2 ∙ rw (j .join-from .ensures, l .load .ensures)) (told .receiver .given .1))
+    (fell .roll-back .ensures)
+
+outcome-of-requires-3 : tie.Need-outcome-of-requires-3
+outcome-of-requires-3 c κs = search needs
+
+same-length-4 : tie.Need-same-length-4
+same-length-4 c = search needs
+
+returns-4 : tie.Need-returns-4
+returns-4 c =
     let told = c .before .before in
-    let asked = told .before .before in
+    let branch = told .before .before in
+    let asked = branch .before in
     let j = asked .before .before in
     let l = j .before .before in
     let s = l .before .before .before in
     acted-at _ _
-    (accepts-dropped base _ _ (s .pre .1) _ (s .pre .2) standard _ (asked .compare .ensures .0 ∙ rw (j .join-from .ensures, l .load .ensures)) (told .message .given .1))
-    (c .outcome-of2 .ensures) (kept-at _ (s .pre .0) _)
+    (accepts-dropped base _ _ (s .pre .1) _ (s .pre .2) standard _ (asked .compare .ensures .0 ∙ rw (j .join-from .ensures, l .load .ensures)) (branch .if1 .left) _ (asked .compare .ensures .1 ∙ rw (j .join-from .ensures, l .load .ensures)) (told .message .given .1))
+    (c .outcome-of3 .ensures) (kept-at _ (s .pre .0) _)
 
 pub accept-spec : {M : Type 1} → statement M
 accept-spec =
@@ -142,20 +161,23 @@ accept-spec =
     load-requires
     join-from-requires
     compare-requires
+    outcome-of-requires
+    same-length
+    returns
     enum-known-message
     enum-told
     enum-known-receiver
     enum-told-2
     take-in-requires
-    outcome-of-requires
-    same-length
-    returns
+    outcome-of-requires-2
+    same-length-2
+    returns-2
     sub-roll-back
     part-roll-back-start
     part-roll-back-end
     roll-back-requires
-    same-length-2
-    returns-2
-    outcome-of-requires-2
     same-length-3
-    returns-3)
+    returns-3
+    outcome-of-requires-3
+    same-length-4
+    returns-4)
