@@ -1,7 +1,7 @@
 // A checkpoint group (document 01: a volume): which transactors it names, whether it can be signed, and its signing.
+use image::head;
 use image::layout::CREATION;
 use image::layout::HEAD;
-use image::layout::OPENED;
 use image::layout::STATE;
 use image::layout::TRANSACTOR;
 use image::layout::TRANSACTORS;
@@ -19,7 +19,7 @@ ghost use Rattle.rules.specs.Refusals.{named, anyNamed};
 ghost use Rattle.rules.specs.Rules.{groupReady, checkpointGroup};
 ghost use Rattle.rules.specs.Pack.{pack, unpack};
 ghost use Rattle.rules.specs.Internal.Good.{Good};
-ghost use Rattle.rules.specs.Internal.Guards.{blocksAt, Room};
+ghost use Rattle.rules.specs.Internal.Guards.{blocksAt, groupRefusal, Room};
 ghost use Rattle.rules.specs.Internal.Closure.{storedReady, pairReady};
 
 // Whether the group names transactor t.
@@ -44,17 +44,17 @@ fn blocks(image: &[u8], number: u8, t: usize) -> bool
     ensures { λ r. ⌜ r ≡ blocksAt standard (unpack base (now (image .entry))) number t ⌝ }
 {
     if number == numbers::UNOPENED {
-        return (image[OPENED] as usize) <= t;
+        return (head::opened(image) as usize) <= t;
     }
     if number == numbers::GONE {
-        return image[HEAD + TRANSACTOR * t] / 64 == numbers::ANNIHILATED;
+        return head::status(image, t) == numbers::ANNIHILATED;
     }
     let h = own(image, t);
     limits::CHECKPOINTS <= h.count
 }
 
 // Whether a named transactor blocks it so.
-pub fn blocked(image: &[u8], group: u16, number: u8) -> bool
+fn blocked(image: &[u8], group: u16, number: u8) -> bool
     requires { ⌜ Good (now image) ⌝ }
     ensures { λ r. ⌜ r ≡ anyNamed group (blocksAt standard (unpack base (now (image .entry))) number) ⌝ }
 {
@@ -68,12 +68,32 @@ pub fn blocked(image: &[u8], group: u16, number: u8) -> bool
     false
 }
 
+// The refusals of a signing, 29, 21, 22 and 30, or 0.
+pub fn refusal(image: &[u8], group: u16) -> u8
+    requires { ⌜ Good (now image) ⌝ }
+    ensures { λ r. ⌜ r ≡ groupRefusal standard (unpack base (now (image .entry))) group ⌝ }
+{
+    if group == 0 {
+        return numbers::EMPTY_GROUP;
+    }
+    if blocked(image, group, numbers::UNOPENED) {
+        return numbers::UNOPENED;
+    }
+    if blocked(image, group, numbers::GONE) {
+        return numbers::GONE;
+    }
+    if blocked(image, group, numbers::ALL_CHECKPOINTED) {
+        return numbers::ALL_CHECKPOINTED;
+    }
+    0
+}
+
 // Whether transactor u is ready or busy.
 fn is_live(image: &[u8], u: usize) -> bool
     requires { ⌜ Good (now image) × (u < base .transactors) ⌝ }
     ensures { λ r. ⌜ r ≡ live (transactorAt (unpack base (now (image .entry))) u) ⌝ }
 {
-    let status = image[HEAD + TRANSACTOR * u] / 64;
+    let status = head::status(image, u);
     status == numbers::READY || status == numbers::BUSY
 }
 

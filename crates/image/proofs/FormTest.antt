@@ -1,6 +1,6 @@
 -- The code's test of the form is the form.
 use Prim.Native.Nat.{ℕ, zero, suc, _+_, _-_, _/_, _%_, _≤_, _<_}
-use mathlib.Core.Bool.{Bool, true, not}
+use mathlib.Core.Bool.{Bool, true, false, not}
 use mathlib.Core.Path.{_≡_, refl, sym, ap, _∙_}
 use mathlib.Core.List.{List}
 use mathlib.Core.Logic.{⊎-elim, _↔_}
@@ -9,7 +9,7 @@ use native.Mathlib.Omega.{arith}
 use mir.Syntax.{w8}
 use mir.Val.{Fits}
 use lib.Dec.{eqb, ltb, leb}
-use borrow.Author.Tests.{eqb-true, eqb-false, eq-eqb, ne-eqb, lt-ltb, ltb-true, le-leb, lt-leb, leb-true, not-true}
+use borrow.Author.Tests.{eqb-true, eqb-false, eq-eqb, ne-eqb, lt-ltb, ltb-true, le-leb, lt-leb, leb-true, not-true, not-false}
 use lib.ListN.{length, getD, drop, length-drop}
 use lib.Seq.{take-all}
 use Rattle.octets.specs.Bytes.{pick, _and_, _or_, part, every, allZero, Octets}
@@ -282,6 +282,25 @@ formedImage-is y img n o = same-test (formedImage y img) (wellFormed y img) (λ 
       every-all (formedMessageAt y img) (y .messages) (messages-tested y img (f .messages)),
     )
 
--- what the code answers of a slice of bytes
-pub image-tested : (y : Layout) (img : List ℕ) (r : Bool) → length img ≡ imageBytes y → ((i : ℕ) → Fits w8 (getD img i 0)) → r ≡ formedImage y img → r ≡ wellFormed y img
-image-tested y img r n f e = e ∙ formedImage-is y img n (octets-of img f)
+-- what the code answers of a slice of bytes, test by test
+module _ (y : Layout) (img : List ℕ) (long : length img ≡ imageBytes y) (bytes : (i : ℕ) → Fits w8 (getD img i 0)) where
+  tested : {r : Bool} → r ≡ formedImage y img → r ≡ wellFormed y img
+  tested e = e ∙ formedImage-is y img long (octets-of img bytes)
+
+  pub not-blank : (getD img 3 0 ≡ 0 → ⊥) → false ≡ wellFormed y img
+  unfolding formedImage
+  not-blank n = tested (rw (ne-eqb (getD img 3 0) 0 n))
+
+  module _ (blank : getD img 3 0 ≡ 0) where
+    pub too-many : y .transactors < unpack y img .opened → false ≡ wellFormed y img
+    unfolding formedImage
+    too-many h = tested (rw (eq-eqb (getD img 3 0) 0 blank, lt-leb (unpack y img .opened) (y .transactors) h))
+
+    module _ (few : unpack y img .opened ≤ y .transactors) where
+      pub one-ill-formed : not (every (y .transactors) (formedTransactorAt y img)) ≡ true → false ≡ wellFormed y img
+      unfolding formedImage
+      one-ill-formed e = tested (rw (eq-eqb (getD img 3 0) 0 blank, le-leb (unpack y img .opened) (y .transactors) few, not-true (every (y .transactors) (formedTransactorAt y img)) e))
+
+      pub all-formed : not (every (y .transactors) (formedTransactorAt y img)) ≡ false → every (y .messages) (formedMessageAt y img) ≡ wellFormed y img
+      unfolding formedImage
+      all-formed e = tested (rw (eq-eqb (getD img 3 0) 0 blank, le-leb (unpack y img .opened) (y .transactors) few, not-false (every (y .transactors) (formedTransactorAt y img)) e))

@@ -1,4 +1,5 @@
 // Whether an image is well-formed: transactor by transactor, message by message.
+use crate::head;
 use crate::layout::BEHAVIOUR;
 use crate::layout::BLANK;
 use crate::layout::CREATION;
@@ -7,9 +8,7 @@ use crate::layout::FIRST_MESSAGE;
 use crate::layout::HEAD;
 use crate::layout::MESSAGE;
 use crate::layout::MESSAGES;
-use crate::layout::NEXT;
 use crate::layout::NUMBER;
-use crate::layout::OPENED;
 use crate::layout::SAVED;
 use crate::layout::STATE;
 use crate::layout::TRANSACTOR;
@@ -161,12 +160,12 @@ pub fn formed(s: &[u8]) -> bool
     if s[BLANK] != 0 {
         return false;
     }
-    let opened = s[OPENED] as usize;
+    let opened = head::opened(s) as usize;
     if TRANSACTORS < opened {
         return false;
     }
     if !transactors_formed(s, opened) {
         return false;
     }
-    messages_formed(s, messages::waiting(s), opened, octets::load16(s, NEXT))
+    messages_formed(s, messages::waiting(s), opened, head::next(s))
 }

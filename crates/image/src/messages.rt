@@ -1,4 +1,5 @@
 // The messages of an image: waiting ones first, in rising number.
+use crate::head;
 use crate::layout::CONTENT;
 use crate::layout::DEPENDENCES;
 use crate::layout::FIRST_MESSAGE;
@@ -84,7 +85,7 @@ pub fn append(image: &mut [u8], n: usize, to: u8, value: u32, m: DependenceMap)
     requires { ⌜ Good (now image) × (n ≡ waitingIn base (now image)) × (n < base .messages) × (to < 16) × (unpack base (now image) .next < lastNumber) × Bounded (base .places) m ⌝ }
     ensures { λ _. ⌜ now (image .exit) ≡ pack base (withMessage (unpack base (now (image .entry))) to value m) ⌝ }
 {
-    let number = octets::load16(image, NEXT);
+    let number = head::next(image);
     let at = FIRST_MESSAGE + MESSAGE * n;
     image[at] = 128 + to;
     octets::store16(image, at + NUMBER, number);

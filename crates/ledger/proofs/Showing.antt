@@ -1,7 +1,7 @@
 -- Showing a message's map: the refusal, and the part of the image.
 use Prim.Native.Nat.{ℕ, _+_, _-_, _≤_, _<_}
-use mathlib.Core.Bool.{true, false}
-use mathlib.Core.Path.{_≡_, sym, _∙_}
+use mathlib.Core.Bool.{true, false, not}
+use mathlib.Core.Path.{_≡_, sym}
 use mathlib.Core.List.{List, []}
 use native.Mathlib.Omega.{arith}
 use borrow.Author.Tests.{le-leb, lt-leb}
@@ -21,24 +21,22 @@ module _ (y : Layout) (img : List ℕ) (v : ℕ) where
   shown-16 n = (rw (wrong-length y img n), rw (wrong-length y img n))
 
   module _ (long : length img ≡ imageBytes y) where
-    pub shown-19 : wellFormed y img ≡ false → ([] ≡ shown y img v) × (19 ≡ showRefusal y img v)
+    pub shown-19 : not (wellFormed y img) ≡ true → ([] ≡ shown y img v) × (19 ≡ showRefusal y img v)
     unfolding showRefusal shown
     shown-19 e = (rw (right-length y img long, e), rw (right-length y img long, e))
 
-    module _ (formed : wellFormed y img ≡ true) (n k : ℕ) (e : n ≡ waitingIn y img) (f : k ≡ placeOf (unpack y img) v) where
-      many : length (unpack y img .messages) ≡ n
-      many = unpack-waiting y img ∙ sym e
-
-      pub shown-24 : n ≤ k → ([] ≡ shown y img v) × (24 ≡ showRefusal y img v)
+    module _ (formed : not (wellFormed y img) ≡ false) where
+      pub shown-24 : waitingIn y img ≤ placeOf (unpack y img) v → ([] ≡ shown y img v) × (24 ≡ showRefusal y img v)
       unfolding showRefusal shown
       shown-24 h =
-          let p : length (unpack y img .messages) ≤ placeOf (unpack y img) v = omega (arith, many, f) in
+          let p : length (unpack y img .messages) ≤ placeOf (unpack y img) v = omega (arith, unpack-waiting y img) in
           (rw (right-length y img long, formed, le-leb _ _ p), rw (right-length y img long, formed, le-leb _ _ p))
 
-      pub shown-part : k < n → (take (messageAddress y k + dependencesAt + mapBytes y - (messageAddress y k + dependencesAt)) (drop (messageAddress y k + dependencesAt) img) ≡ shown y img v) × (0 ≡ showRefusal y img v)
+      pub shown-part : (k : ℕ) → k ≡ placeOf (unpack y img) v → k < waitingIn y img
+          → (take (messageAddress y k + dependencesAt + mapBytes y - (messageAddress y k + dependencesAt)) (drop (messageAddress y k + dependencesAt) img) ≡ shown y img v) × (0 ≡ showRefusal y img v)
       unfolding showRefusal shown
-      shown-part h =
-          let p : placeOf (unpack y img) v < length (unpack y img .messages) = omega (arith, many, f) in
+      shown-part k f h =
+          let p : placeOf (unpack y img) v < length (unpack y img .messages) = omega (arith, unpack-waiting y img) in
           let s : messageAddress y k + dependencesAt + mapBytes y - (messageAddress y k + dependencesAt) ≡ mapBytes y = omega arith in (
             rw (right-length y img long, formed, lt-leb _ _ p, s, f) (sym (part-def (messageAddress y (placeOf (unpack y img) v) + dependencesAt) (mapBytes y) img)),
             rw (right-length y img long, formed, lt-leb _ _ p),

@@ -1,10 +1,9 @@
 // The smallest group: a transactor, and all that it cannot be checkpointed without.
-use group::blocked;
 use group::is_named;
 use group::pair_ready;
 use group::ready;
+use group::refusal;
 use image::layout::TRANSACTORS;
-use rules::numbers;
 ghost use mathlib.Core.Path.{_≡_};
 ghost use Prim.Native.Nat.{_≤_, _<_};
 ghost use lib.Dec.{eqb};
@@ -66,16 +65,7 @@ pub fn can_checkpoint(image: &[u8], group: u16) -> bool
     requires { ⌜ Good (now image) ⌝ }
     ensures { λ r. ⌜ r ≡ eqb (stepOf base standard (unpack base (now (image .entry))) (signing group) .reply .outcome) done ⌝ }
 {
-    if group == 0 {
-        return false;
-    }
-    if blocked(image, group, numbers::UNOPENED) {
-        return false;
-    }
-    if blocked(image, group, numbers::GONE) {
-        return false;
-    }
-    if blocked(image, group, numbers::ALL_CHECKPOINTED) {
+    if refusal(image, group) != 0 {
         return false;
     }
     ready(image, group)

@@ -2,6 +2,7 @@
 mod closure;
 
 use image::form;
+use image::head;
 use image::layout::DEPENDENCES;
 use image::layout::FIRST_MESSAGE;
 use image::layout::HEAD;
@@ -10,7 +11,6 @@ use image::layout::LONGEST;
 use image::layout::MESSAGE;
 use image::layout::MESSAGES;
 use image::layout::NUMBER;
-use image::layout::OPENED;
 use image::layout::STEP;
 use image::layout::TRANSACTOR;
 use image::layout::TRANSACTORS;
@@ -149,13 +149,7 @@ fn query_refusal(image: &[u8], transactor: usize) -> u8
     if !form::formed(image) {
         return numbers::ILL_FORMED;
     }
-    if (image[OPENED] as usize) <= transactor {
-        return numbers::UNOPENED;
-    }
-    if image[HEAD + TRANSACTOR * transactor] / 64 == numbers::ANNIHILATED {
-        return numbers::GONE;
-    }
-    0
+    head::refusal(image, transactor)
 }
 
 // The waiting message addressed to the transactor with the lowest number: the first, since numbers rise from place to place. Or

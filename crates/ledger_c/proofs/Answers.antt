@@ -27,7 +27,7 @@ use Rattle.octets.proofs.Tests.{never}
 use Rattle.rules.proofs.Places.{Place, place}
 use Rattle.rules.proofs.Pack.Messages.{numbered-so, numbered-not}
 use Rattle.ledger_c.specs.declared.Part.{Part}
-use Rattle.ledger_c.specs.Interface.{noMessage, numberOf, offeredBy, volumeOf, groupOf, shownPart}
+use Rattle.ledger_c.specs.Interface.{noMessage, numberOf, offeredBy, groupBitsOf, groupOf, shownPart}
 
 module _ (img : List ℕ) where
   -- a call that is turned back with neither 16 nor 19 goes on to the refusal n
@@ -69,15 +69,15 @@ module _ (img : List ℕ) where
 
   module _ (t : ℕ) where
     -- a volume with take t is not 0
-    grouped : (a : Option ℕ) → Smallest base standard img t a → Smallest base standard img t (groupOf (volumeOf a))
+    grouped : (a : Option ℕ) → Smallest base standard img t a → Smallest base standard img t (groupOf (groupBitsOf a))
     unfolding groupOf
     grouped none f = f
     grouped (some v) (smallest r c l) =
         let h : v ≡ 0 → ⊥ = λ d. never (sym (c .contains) ∙ rw d (named-zero t)) in
         rw (ne-eqb v 0 h) (smallest r c l)
 
-    pub named : {a b : Grouped} → a ≡ b → Smallest base standard img t (groupNumber a) → Smallest base standard img t (groupOf (volumeOf (groupNumber b)))
-    named {a} e f = subst (λ (b : Grouped). Smallest base standard img t (groupOf (volumeOf (groupNumber b)))) e (grouped (groupNumber a) f)
+    pub named : {a b : Grouped} → a ≡ b → Smallest base standard img t (groupNumber a) → Smallest base standard img t (groupOf (groupBitsOf (groupNumber b)))
+    named {a} e f = subst (λ (b : Grouped). Smallest base standard img t (groupOf (groupBitsOf (groupNumber b)))) e (grouped (groupNumber a) f)
 
   -- ---- show, accepted
 

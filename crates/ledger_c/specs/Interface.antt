@@ -24,9 +24,9 @@ unfoldable pub offeredBy : ℕ → Option ℕ
 offeredBy n = pick (eqb n noMessage) none (some n)
 
 -- The number that stands for an answer of smallest group: the volume, or 0, which names no take, for none.
-abbrev pub volumeOf : Option ℕ → ℕ
-volumeOf (some v) = v
-volumeOf none = 0
+abbrev pub groupBitsOf : Option ℕ → ℕ
+groupBitsOf (some v) = v
+groupBitsOf none = 0
 
 -- The answer that a number stands for.
 unfoldable pub groupOf : ℕ → Option ℕ

@@ -5,7 +5,7 @@ ghost use lib.ListN.{length, take};
 ghost use Rattle.octets.specs.Bytes.{put, part, chunks, tabulate, allZero};
 ghost use Rattle.octets.specs.Numbers.{ofBe, be};
 ghost use Rattle.marks.specs.Incarnation.{sameList, supersededBy, checkpointedIn, sameIncarnation};
-ghost use Rattle.marks.specs.Relation.{turned, relationOf, relationNumber, isLeftSuperseded, isUnrelated};
+ghost use Rattle.marks.specs.Relation.{turned, relationOf, relationNumber};
 ghost use Rattle.marks.specs.History.{incarnationOf, stabilized, rolledBack, checkpointed, isOlder};
 ghost use Rattle.marks.specs.Packed.{width, places, largest, historySize, bit, packNumberAt, packHistory, unpackHistory, loadNumberAt, presentIn, formedHistory};
 
@@ -57,40 +57,6 @@ impl Relation {
             Relation::LeftSuperseded => 3,
             Relation::RightSuperseded => 4,
             Relation::Unrelated => 5,
-        }
-    }
-
-    // Whether the left one is superseded by the right one.
-    pub fn left_superseded(self) -> bool
-        ensures { λ r. ⌜ r ≡ isLeftSuperseded self ⌝ }
-    {
-        match self {
-            Relation::Same => false,
-            Relation::LeftCheckpointed => false,
-            Relation::RightCheckpointed => false,
-            Relation::LeftSuperseded => true,
-            Relation::RightSuperseded => false,
-            Relation::Unrelated => false,
-        }
-    }
-
-    // Whether the right one is superseded by the left one.
-    pub fn right_superseded(self) -> bool
-        ensures { λ r. ⌜ r ≡ isLeftSuperseded (turned self) ⌝ }
-    {
-        self.turned().left_superseded()
-    }
-
-    pub fn unrelated(self) -> bool
-        ensures { λ r. ⌜ r ≡ isUnrelated self ⌝ }
-    {
-        match self {
-            Relation::Same => false,
-            Relation::LeftCheckpointed => false,
-            Relation::RightCheckpointed => false,
-            Relation::LeftSuperseded => false,
-            Relation::RightSuperseded => false,
-            Relation::Unrelated => true,
         }
     }
 

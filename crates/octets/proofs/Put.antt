@@ -215,9 +215,3 @@ octets-drop n l h i = rw getD-drop (h (n + i))
 
 pub octets-part : (at n : ℕ) (l : List ℕ) → Octets l → Octets (part at n l)
 octets-part at n l h = rw part-def (octets-take n (drop at l) (octets-drop at l h))
-
-pub octets-put : (at : ℕ) (bs l : List ℕ) → Octets bs → Octets l → Octets (put at bs l)
-octets-put at bs l b h = rw put-def
-    (octets-append (take at l ++ bs) (drop (at + length bs) l)
-    (octets-append (take at l) bs (octets-take at l h) b)
-    (octets-drop (at + length bs) l h))

@@ -1,6 +1,6 @@
--- Laws of zeros, and of what holds everywhere.
+-- Laws of zeros, and of what holds everywhere or somewhere.
 use Prim.Native.Nat.{ℕ, zero, suc, _+_, _-_, _*_, _≤_, _<_}
-use mathlib.Core.Bool.{Bool, true, false}
+use mathlib.Core.Bool.{Bool, true, false, not}
 use mathlib.Core.Path.{_≡_, refl, sym, ap, _∙_, subst}
 use mathlib.Core.List.{List, [], _∷_, _++_}
 use native.Mathlib.Nat.{zero-add, suc-add, mul-zero, mul-suc}
@@ -12,8 +12,8 @@ use lib.ListN.{length, getD, take, drop, length-drop}
 use mathlib.Core.Logic.{⊎-elim}
 use Rattle.octets.proofs.Chunks.{cases}
 use lib.Seq.{take-at, drop-at, drop-drop}
-use borrow.Author.Tests.{eq-eqb, ne-eqb, eqb-true, eqb-false}
-use Rattle.octets.specs.Bytes.{pick, _and_, part, zeros, allZero, every, chunks, tabulate, Octets}
+use borrow.Author.Tests.{eq-eqb, ne-eqb, eqb-true, eqb-false, not-true, not-false}
+use Rattle.octets.specs.Bytes.{pick, _and_, _or_, part, zeros, allZero, every, any, chunks, tabulate, Octets}
 use Rattle.octets.proofs.Put.{part-def, part-add, part-suc, length-part}
 
 pub both : (t u : Bool) → t and u ≡ true → (t ≡ true) × (u ≡ true)
@@ -166,6 +166,7 @@ module _ (at n : ℕ) (l : List ℕ) (fits : at + n ≤ length l) where
       ∙ part-zeros (at - k) n (length (drop k l)) m
 
 -- ---- every
+
 pub every-none : (f : ℕ → Bool) → every 0 f ≡ true
 unfolding every
 every-none f = refl
@@ -197,3 +198,52 @@ pub every-at : (f : ℕ → Bool) (n i : ℕ) → every n f ≡ true → i < n �
 unfolding every
 every-at f zero i e h = absurd (omega arith)
 every-at f (suc n) i e h = ⊎-elim (λ p. every-at f n i (both (every n f) (f n) e .0) p) (λ p. subst (λ (x : ℕ). f x ≡ true) (sym p) (both (every n f) (f n) e .1)) (cases n i h)
+
+-- a loop over the first n, in which f held at the first k
+pub record Held (f : ℕ → Bool) (n k : ℕ) : Type 0 where
+  pub within : k ≤ n
+  pub all : every k f ≡ true
+
+pub held-none : (f : ℕ → Bool) (n : ℕ) → Held f n 0
+held-none f n = record { within = omega arith; all = every-none f }
+
+module _ {f : ℕ → Bool} {n k : ℕ} (held : Held f n k) where
+  pub held-more : k < n → not (f k) ≡ false → Held f n (k + 1)
+  held-more h e = record { within = omega arith; all = every-more f k (held .all) (not-false (f k) e) }
+
+  pub held-fails : k < n → not (f k) ≡ true → false ≡ every n f
+  held-fails h e = sym (every-off f n k h (not-true (f k) e))
+
+  pub held-all : n ≤ k → true ≡ every n f
+  held-all h =
+      let e : k ≡ n = omega arith in
+      sym (subst (λ (i : ℕ). every i f ≡ true) e (held .all))
+
+-- ---- any: not everywhere not
+
+any-not : (f : ℕ → Bool) (n : ℕ) → any n f ≡ not (every n (λ i. not (f i)))
+unfolding any every
+any-not f zero = refl
+any-not f (suc n) = rw (any-not f n) (go (every n (λ i. not (f i))) (f n))
+  where
+    go : (t u : Bool) → not t or u ≡ not (t and not u)
+    go true true = refl
+    go true false = refl
+    go false u = refl
+
+pub any-none : (f : ℕ → Bool) → any 0 f ≡ false
+unfolding any
+any-none f = refl
+
+pub any-more : (f : ℕ → Bool) (i : ℕ) → any i f ≡ false → f i ≡ false → any (i + 1) f ≡ false
+unfolding any
+any-more f i e p = rw (add-one, e, p)
+
+pub any-on : (f : ℕ → Bool) (n i : ℕ) → i < n → f i ≡ true → any n f ≡ true
+any-on f n i h e = any-not f n ∙ ap not (every-off (λ i. not (f i)) n i h (ap not e))
+
+pub any-off : (f : ℕ → Bool) (n : ℕ) → ((i : ℕ) → i < n → f i ≡ false) → any n f ≡ false
+any-off f n h = any-not f n ∙ ap not (every-all (λ i. not (f i)) n (λ i p. ap not (h i p)))
+
+pub any-at : (f : ℕ → Bool) (n i : ℕ) → any n f ≡ false → i < n → f i ≡ false
+any-at f n i e h = not-true (f i) (every-at (λ i. not (f i)) n i (not-false (every n (λ i. not (f i))) (sym (any-not f n) ∙ e)) h)

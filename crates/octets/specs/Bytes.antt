@@ -50,6 +50,11 @@ unfoldable pub every : ℕ → (ℕ → Bool) → Bool
 every zero f = true
 every (suc n) f = every n f and f n
 
+-- f holds at one of 0, 1, .., n of them
+unfoldable pub any : ℕ → (ℕ → Bool) → Bool
+any zero f = false
+any (suc n) f = any n f or f n
+
 -- every element is a byte
 unfoldable pub Octets : List ℕ → Type 0
 Octets l = (i : ℕ) → getD l i 0 < 256

@@ -1,15 +1,16 @@
 -- The bits of a volume: the volume that has them, and one more take named.
-use Prim.Native.Nat.{ℕ, zero, suc, _+_, _*_, _/_, _%_, _^_, _<_}
+use Prim.Native.Nat.{ℕ, zero, suc, _+_, _*_, _/_, _%_, _^_, _≤_, _<_}
 use mathlib.Core.Bool.{Bool, true, false}
 use mathlib.Core.Path.{_≡_, refl, sym, ap, _∙_}
-use native.Mathlib.Nat.{zero-add, one-mul, pow-zero, pow-succ', zero-div, div-one, mod-eq-of-lt, div-div-eq-div-mul}
+use native.Mathlib.Nat.{zero-add, one-mul, pow-zero, pow-succ', zero-div, div-one, div-eq-of-lt, mod-eq-of-lt, div-div-eq-div-mul}
 use native.Mathlib.Omega.{arith}
 use lib.Dec.{eqb, eqb·suc-suc}
-use lib.Pow.{pow-pos}
+use lib.Pow.{pow-pos, pow-mono}
 use borrow.Author.Tests.{eq-eqb, ne-eqb, eqb-true, eqb-false}
-use Rattle.octets.specs.Bytes.{_or_}
-use Rattle.octets.proofs.Tests.{or-none}
-use Rattle.rules.specs.Refusals.{named}
+use Rattle.octets.specs.Bytes.{_and_, _or_}
+use Rattle.octets.proofs.Tests.{or-none, and-off}
+use Rattle.octets.proofs.Zero.{any-at, any-off}
+use Rattle.rules.specs.Refusals.{groupBits, named, anyNamed}
 
 -- ---- the first bit, and the others
 
@@ -57,6 +58,13 @@ named-add g (suc u) (suc v) e =
     let h : (g + 2 ^ suc u) / 2 ≡ g / 2 + 2 ^ u = omega arith in
     rw (named-half (g + 2 ^ suc u) v, h, named-half g v, eqb·suc-suc u v) (named-add (g / 2) u v (sym (named-half g u) ∙ e))
 
+-- none is named past the bits of the volume
+pub named-past : (g t n : ℕ) → g < 2 ^ n → n ≤ t → named g t ≡ false
+unfolding named
+named-past g t n h b =
+    let e : g / 2 ^ t ≡ 0 = div-eq-of-lt (omega (arith, pow-mono b)) in
+    rw e
+
 -- it stays within n bits
 pub add-fits : (g u n : ℕ) → g < 2 ^ n → u < n → named g u ≡ false → g + 2 ^ u < 2 ^ n
 add-fits g u zero h b e = absurd (omega arith)
@@ -87,3 +95,17 @@ one-fits t n h = omega (arith, add-fits 0 t n (pow-pos n) h (named-zero t))
 -- as it is shifted in a word of n bits
 pub shifted : (t n : ℕ) → t < n → 1 * 2 ^ t % 2 ^ n ≡ 2 ^ t
 shifted t n h = ap (λ (x : ℕ). x % 2 ^ n) (one-mul (2 ^ t)) ∙ mod-eq-of-lt (one-fits t n h)
+
+-- ---- a test that holds of none of the named takes
+
+pub named-at : (g : ℕ) (f : ℕ → Bool) (t : ℕ) → anyNamed g f ≡ false → t < groupBits → named g t ≡ true → f t ≡ false
+unfolding anyNamed
+named-at g f t e h p = and-off (named g t) (f t) (any-at (λ t. named g t and f t) groupBits t e h) p
+
+pub unnamed-all : (g : ℕ) (f : ℕ → Bool) → ((t : ℕ) → t < groupBits → named g t ≡ true → f t ≡ false) → anyNamed g f ≡ false
+unfolding anyNamed
+unnamed-all g f h = any-off (λ t. named g t and f t) groupBits (λ t b. met (named g t) (f t) (h t b))
+  where
+    met : (n v : Bool) → (n ≡ true → v ≡ false) → n and v ≡ false
+    met true v e = e refl
+    met false v e = refl

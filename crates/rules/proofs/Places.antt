@@ -1,7 +1,7 @@
 -- Laws of the search for a place.
 use Prim.Native.Nat.{ℕ, zero, suc, _+_, _-_, _≤_, _<_}
 use mathlib.Core.Bool.{Bool, true, false}
-use mathlib.Core.Path.{_≡_, refl, sym, _∙_, subst}
+use mathlib.Core.Path.{_≡_, refl, sym, ap, _∙_, subst}
 use mathlib.Core.Logic.{⊎-elim}
 use native.Mathlib.Numerals.{add-one}
 use native.Mathlib.Omega.{arith}
@@ -53,25 +53,26 @@ module _ (f : ℕ → Bool) where
         here = λ h. r .here (omega arith);
       }
 
-  -- a loop over the n places from 0 on, at place i: the answer is that for the rest
-  module _ (n i : ℕ) where
-    pub placeFrom-more : i < n → f i ≡ false → placeFrom f i (n - i) ≡ placeFrom f (i + 1) (n - (i + 1))
-    placeFrom-more h e =
-        let a : n - i ≡ suc (n - (i + 1)) = omega arith in
-        rw (a, add-one) (placeFrom-passed i (n - suc i) e)
+-- a loop that looks among the n places from 0 on, and has passed k of them: the answer is that for the rest
+pub record Passed (f : ℕ → Bool) (n k : ℕ) : Type 0 where
+  pub within : k ≤ n
+  pub rest : placeFrom f 0 n ≡ placeFrom f k (n - k)
 
-    pub placeFrom-here : i < n → f i ≡ true → placeFrom f i (n - i) ≡ i
-    placeFrom-here h e =
-        let a : n - i ≡ suc (n - (i + 1)) = omega arith in
-        rw a (placeFrom-found i (n - (i + 1)) e)
+pub passed-none : (f : ℕ → Bool) (n : ℕ) → Passed f n 0
+passed-none f n = record { within = omega arith; rest = ap (placeFrom f 0) (omega arith) }
 
-    pub placeFrom-end : n ≤ i → placeFrom f i (n - i) ≡ i
-    placeFrom-end h =
-        let a : n - i ≡ 0 = omega arith in
-        rw a (placeFrom-none i)
+module _ {f : ℕ → Bool} {n k : ℕ} (passed : Passed f n k) where
+  pub passed-more : k < n → f k ≡ false → Passed f n (k + 1)
+  passed-more h e =
+      let a : n - k ≡ suc (n - (k + 1)) = omega arith in
+      record { within = omega arith; rest = passed .rest ∙ rw (a, add-one) (placeFrom-passed f k (n - suc k) e) }
 
--- two tests that agree give the same place
-pub placeFrom-same : (f g : ℕ → Bool) (k n : ℕ) → ((i : ℕ) → k ≤ i → i < k + n → f i ≡ g i) → placeFrom f k n ≡ placeFrom g k n
-unfolding placeFrom
-placeFrom-same f g k zero h = refl
-placeFrom-same f g k (suc n) h = rw (h k (omega arith) (omega arith), placeFrom-same f g (suc k) n (λ i a b. h i (omega arith) (omega arith)))
+  pub passed-found : k < n → f k ≡ true → (k ≡ placeFrom f 0 n) × (k ≤ n)
+  passed-found h e =
+      let a : n - k ≡ suc (n - (k + 1)) = omega arith in
+      (sym (passed .rest ∙ rw a (placeFrom-found f k (n - (k + 1)) e)), passed .within)
+
+  pub passed-all : n ≤ k → (k ≡ placeFrom f 0 n) × (k ≤ n)
+  passed-all h =
+      let a : n - k ≡ 0 = omega arith in
+      (sym (passed .rest ∙ rw a (placeFrom-none f k)), passed .within)

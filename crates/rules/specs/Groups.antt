@@ -21,13 +21,13 @@ signing v = record { kind = sign; transactor = 0; other = 0; zero = 0; message =
 
 -- volume v contains take t and could be signed now: its signing would reply 0
 pub record Checkpointable (y : Layout) (m : Limits) (s : State) (t v : ℕ) : Type 0 where
-  pub volume : v < bound 2
+  pub bits : v < bound 2
   pub contains : named v t ≡ true
   pub signs : stepOf y m s (signing v) .reply .outcome ≡ done
 
 -- volume v is a "set of takes holding this one, none of them with 15 signings", and "meets the signing rule"
 pub record Meets (y : Layout) (m : Limits) (s : State) (t v : ℕ) : Type 0 where
-  pub volume : v < bound 2
+  pub bits : v < bound 2
   pub contains : named v t ≡ true
   pub room : (u : ℕ) → u < y .transactors → named v u ≡ true → ownHistory u (transactorAt s u) .count < m .checkpoints
   pub ready : groupReady y s v ≡ true

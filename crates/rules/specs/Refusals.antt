@@ -1,9 +1,10 @@
 -- Document 01, "Where each call is turned back": the table's part for a step, as one function of what it looks at. The
 -- ledger and the book of demand 3 both refuse by it, each judged by what it holds itself.
-use Prim.Native.Nat.{ℕ, zero, suc, _/_, _%_, _^_}
-use mathlib.Core.Bool.{Bool, false, not}
+use Prim.Native.Nat.{ℕ, _/_, _%_, _^_}
+use mathlib.Core.Bool.{Bool, not}
 use lib.Dec.{eqb, ltb, leb}
 use Rattle.octets.specs.Bytes.{pick, _and_, _or_}
+unfoldable pub use Rattle.octets.specs.Bytes.{any}
 use Rattle.rules.specs.Layout.{Limits, lastNumber}
 use Rattle.rules.specs.Status.{ready, busy, annihilated}
 use Rattle.rules.specs.Step.{Step, root, letter, receive, new, send, write, fall, fail, lose, sign}
@@ -25,11 +26,6 @@ pub record Seen : Type 0 where
   pub falls : ℕ → Bool
   -- and whether some take has unrelated marks in the parcel and in what the addressee holds in state and creation
   pub unrelated : ℕ → Bool
-
--- f holds at one of 0, 1, .., n of them
-unfoldable pub any : ℕ → (ℕ → Bool) → Bool
-any zero f = false
-any (suc n) f = any n f or f n
 
 -- A volume is a set of takes, in the parcel field of 16 bits, take t counting 2^t.
 abbrev pub groupBits : ℕ

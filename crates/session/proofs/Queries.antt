@@ -30,7 +30,7 @@ use Rattle.rules.specs.Calls.{offerRefusal, WaitsFor, LowestFor, Offers}
 use Rattle.rules.specs.Calls as offering
 use Rattle.rules.specs.Groups.{signing, Checkpointable, Within, Smallest}
 use Rattle.rules.specs.Groups as grouping
-use Rattle.rules.proofs.Any.{any-at, any-off}
+use Rattle.octets.proofs.Zero.{any-at, any-off}
 use Rattle.rules.proofs.Bits.{named-zero, named-add, add-fits}
 use Rattle.rules.proofs.Keep.Accepted.{accepted, named-opened}
 use Rattle.rules.proofs.Keep.Step.{refused-same, applied-same}
@@ -212,13 +212,13 @@ module _ {y : Layout} (m : Limits) {s : State} (well : WellFormed y s) where
         let e3 = pick-zero (anyNamed v (λ t. eqb (seen y s .status t) annihilated)) 22 _ (omega arith) (e2 .1) in
         let e4 = pick-zero (anyNamed v (λ t. leb (m .checkpoints) (seen y s .checkpoints t))) 30 0 (omega arith) (e3 .1) in
         let within : (u : ℕ) → named (meet v w) u ≡ true → named v u ≡ true = λ u n. meet-named v w u n .0 in
-        let there : eqb (meet v w) 0 ≡ false = ne-eqb (meet v w) 0 (λ e. false≢true (sym (named-zero t) ∙ ap (λ g. named g t) (sym e) ∙ named-meet v w t (a .volume) (a .contains) (b .contains))) in
+        let there : eqb (meet v w) 0 ≡ false = ne-eqb (meet v w) 0 (λ e. false≢true (sym (named-zero t) ∙ ap (λ g. named g t) (sym e) ∙ named-meet v w t (a .bits) (a .contains) (b .contains))) in
         signing-refusal m (seen y s) (meet v w) ∙ rw (there, fewer (meet v w) v _ within (e2 .0), fewer (meet v w) v _ within (e3 .0), fewer (meet v w) v _ within (e4 .0))
 
     ready-of : (g : ℕ) → Checkpointable y m s t g → Ready (view s) (named g)
     ready-of g c =
         let k = could-to g (c .signs) in
-        ready-at well g (c .volume) .0 (sym (ready-same well g (c .volume) (among g (c .volume) (k .0))) ∙ k .1)
+        ready-at well g (c .bits) .0 (sym (ready-same well g (c .bits) (among g (c .bits) (k .0))) ∙ k .1)
 
     entry-meet : (u : ℕ) (h : HistoryView) → EntryReady (view s) (named v) u h → EntryReady (view s) (named w) u h → EntryReady (view s) (named (meet v w)) u h
     entry-meet u h p q = record { live = p .live; is = go (p .is) (q .is) }
@@ -228,7 +228,7 @@ module _ {y : Layout} (m : Limits) {s : State} (well : WellFormed y s) where
             → Checkpointed (h .incarnation) (own u (view s .nodes u) .incarnation) ⊎ ((named (meet v w) u ≡ true) × (h .incarnation ≡ own u (view s .nodes u) .incarnation))
         go (inl c) k = inl c
         go (inr i) (inl c) = inl c
-        go (inr i) (inr j) = inr (named-meet v w u (a .volume) (i .0) (j .0), i .1)
+        go (inr i) (inr j) = inr (named-meet v w u (a .bits) (i .0) (j .0), i .1)
 
     meet-ready : groupReady y s (meet v w) ≡ true
     meet-ready =
@@ -243,8 +243,8 @@ module _ {y : Layout} (m : Limits) {s : State} (well : WellFormed y s) where
 
     could-meet : Checkpointable y m s t (meet v w)
     could-meet = record {
-      volume = meet-fits v w;
-      contains = named-meet v w t (a .volume) (a .contains) (b .contains);
+      bits = meet-fits v w;
+      contains = named-meet v w t (a .bits) (a .contains) (b .contains);
       signs = could-of (meet v w) meet-refusal meet-ready;
     }
 
@@ -258,10 +258,10 @@ module _ {y : Layout} (m : Limits) {s : State} (well : WellFormed y s) where
   could t v = go (decLt v (bound 2)) (named v t) refl (ℕ-discrete (stepOf y m s (signing v) .reply .outcome) done)
     where
       go : Dec (v < bound 2) → (c : Bool) → named v t ≡ c → Dec (stepOf y m s (signing v) .reply .outcome ≡ done) → Dec (Checkpointable y m s t v)
-      go (no n) c e d = no (λ k. n (k .volume))
+      go (no n) c e d = no (λ k. n (k .bits))
       go (yes h) false e d = no (λ k. false≢true (sym e ∙ k .contains))
       go (yes h) true e (no n) = no (λ k. n (k .signs))
-      go (yes h) true e (yes d) = yes (record { volume = h; contains = e; signs = d })
+      go (yes h) true e (yes d) = yes (record { bits = h; contains = e; signs = d })
 
   least-among : (t i : ℕ) → Least t i
   least-among t zero = no-group (λ v h. absurd (omega arith))
@@ -278,8 +278,8 @@ pub smallest-exist : {y : Layout} (m : Limits) {img : List ℕ} → WellFormed y
 smallest-exist {y} m {img} well t = go (ℕ-discrete (offerRefusal y img t) 0)
   where
     found : offerRefusal y img t ≡ 0 → Least m well t (bound 2) → (group : Option ℕ) × Smallest y m img t group
-    found e (no-group f) = (none, grouping.nothing e (λ v k. f v (k .volume) k))
-    found e (least v c f) = (some v, grouping.smallest e c (λ w k. f w (k .volume) k))
+    found e (no-group f) = (none, grouping.nothing e (λ v k. f v (k .bits) k))
+    found e (least v c f) = (some v, grouping.smallest e c (λ w k. f w (k .bits) k))
 
     go : Dec (offerRefusal y img t ≡ 0) → (group : Option ℕ) × Smallest y m img t group
     go (no n) = (none, grouping.refused n)

@@ -51,8 +51,7 @@ module _ {y : Layout} {m : Limits} (z : Fitting y) (l : Allowed y m) {b : Proven
 
   -- ---- the two sets of a signing
 
-  -- The first set is that of the "unsigned lives that the named takes rest on, own included": the present life of every live named
-  -- take is in it.
+  -- The first set, the unsigned lives that the named takes rest on, has their own: the present life of every live named take is in it.
   pub own-included : (g t : ℕ) → named g t ≡ true → Live (b .holders t .status) → UncheckpointedGround b g t (b .holders t .history .incarnation)
   own-included g t n live = own-uncheckpointed b g t n (own-has ledger b related t live)
 

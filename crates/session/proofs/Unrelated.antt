@@ -110,6 +110,9 @@ module _ {img : List ℕ} (τ : Trace base standard img) where
   pub never-unrelated-base : AllRelated (unpack base img)
   never-unrelated-base = never-unrelated base standard fitting-base allowed-standard τ
 
+  pub never-unrelated-within-base : (steps : List ℕ) → Octets steps → (i : ℕ) → AllRelated (stateAfter base standard (unpack base img) steps i)
+  never-unrelated-within-base = never-unrelated-within base standard fitting-base allowed-standard τ
+
   pub never-unrelated-sets-base : (b : Provenance) → ProvenanceOf standard (callsOf τ) b → SetsRelated b
   never-unrelated-sets-base = never-unrelated-sets base standard fitting-base allowed-standard τ
 

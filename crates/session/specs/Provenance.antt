@@ -1,4 +1,4 @@
--- Document 01, "The book of demand 3": what it holds. It is fed the calls alone: no definition here or in Grounds, Steps and
+-- Document 01, "The book of demand 3": what it holds. It is fed the calls alone: no definition here or in Grounds, Unrelated, Steps and
 -- Fed mentions an image, a reply or a dependence map.
 use Prim.Native.Nat.{ℕ, _+_}
 use mathlib.Core.Bool.{Bool, true, false}

@@ -1,4 +1,5 @@
 mod Effects
+mod Fields
 mod Images
 mod Locals
 mod Receiving

@@ -1,6 +1,6 @@
 // The steps on an image, kind by kind: each refuses in the table's order, or replies and changes the image.
+use image::head;
 use image::layout::HEAD;
-use image::layout::NEXT;
 use image::layout::OPENED;
 use image::layout::TRANSACTOR;
 use image::limits;
@@ -18,7 +18,6 @@ ghost use lib.Dec.{eqb};
 ghost use Rattle.octets.specs.Bytes.{_or_};
 ghost use Rattle.maps.specs.Internal.Fitting.{Bounded};
 ghost use Rattle.rules.specs.Layout.{base, standard, imageBytes};
-ghost use Rattle.rules.specs.State.{transactorAt};
 ghost use Rattle.rules.specs.Step.{root, letter, receive, new, send, lose, sign};
 ghost use Rattle.rules.specs.Refusals as refusals;
 ghost use Rattle.rules.specs.Rules.{answer};
@@ -26,7 +25,7 @@ ghost use Rattle.rules.specs.Pack.{waitingIn, unpack};
 ghost use Rattle.rules.specs.Internal.Well.{StepOk};
 ghost use Rattle.rules.specs.Internal.Good.{Good};
 ghost use Rattle.steps.specs.Internal.Stepped.{Stepped, Asked};
-ghost use Rattle.rules.specs.Internal.Guards.{actingRefusal, busyRefusal, crowdedRefusal};
+ghost use Rattle.rules.specs.Internal.Guards.{busyRefusal, crowdedRefusal};
 ghost use Rattle.transactor.specs.Internal.Effects.{openBytes};
 
 // A reply that is an outcome or a refusal alone.
@@ -119,35 +118,15 @@ fn malformed(p: Step) -> bool
 
 // ---- 21 to 23, 26, 27
 
-fn status(image: &[u8], t: usize) -> u8
-    requires { ⌜ (length (now image) ≡ imageBytes base) × (t < base .transactors) ⌝ }
-    ensures { λ r. ⌜ r ≡ transactorAt (unpack base (now (image .entry))) t .status ⌝ }
-{
-    image[HEAD + TRANSACTOR * t] / 64
-}
-
-fn acting_refusal(image: &[u8], t: usize) -> u8
-    requires { ⌜ (length (now image) ≡ imageBytes base) × (t < base .transactors) ⌝ }
-    ensures { λ r. ⌜ r ≡ actingRefusal (unpack base (now (image .entry))) t ⌝ }
-{
-    if (image[OPENED] as usize) <= t {
-        return numbers::UNOPENED;
-    }
-    if status(image, t) == numbers::ANNIHILATED {
-        return numbers::GONE;
-    }
-    0
-}
-
 fn busy_refusal(image: &[u8], t: usize) -> u8
-    requires { ⌜ (length (now image) ≡ imageBytes base) × (t < base .transactors) ⌝ }
+    requires { ⌜ Good (now image) × (t < base .transactors) ⌝ }
     ensures { λ r. ⌜ r ≡ busyRefusal (unpack base (now (image .entry))) t ⌝ }
 {
-    let r = acting_refusal(image, t);
+    let r = head::refusal(image, t);
     if r != 0 {
         return r;
     }
-    if status(image, t) != numbers::BUSY {
+    if head::status(image, t) != numbers::BUSY {
         return numbers::WRONG_STATUS;
     }
     0
@@ -160,7 +139,7 @@ fn crowded(image: &[u8], n: usize) -> u8
     if limits::MESSAGES <= n {
         return numbers::ALL_WAITING;
     }
-    if octets::load16(image, NEXT) == limits::LAST_NUMBER {
+    if head::next(image) == limits::LAST_NUMBER {
         return numbers::ALL_NUMBERED;
     }
     0
@@ -184,7 +163,7 @@ fn root(image: &mut [u8], p: Step) -> Reply
     requires { ⌜ Asked root (now image) p ⌝ }
     ensures { λ r. ⌜ Stepped (now (image .entry)) p r (now (image .exit)) ⌝ }
 {
-    let c = image[OPENED];
+    let c = head::opened(image);
     if limits::TRANSACTORS <= c as usize {
         return answered(numbers::ALL_OPENED);
     }
@@ -202,7 +181,7 @@ fn letter(image: &mut [u8], p: Step) -> Reply
     ensures { λ r. ⌜ Stepped (now (image .entry)) p r (now (image .exit)) ⌝ }
 {
     let to = p.transactor;
-    if image[OPENED] <= to {
+    if head::opened(image) <= to {
         return answered(numbers::UNOPENED);
     }
     let n = messages::waiting(image);
@@ -210,7 +189,7 @@ fn letter(image: &mut [u8], p: Step) -> Reply
     if r != 0 {
         return answered(r);
     }
-    let number = octets::load16(image, NEXT);
+    let number = head::next(image);
     messages::append(image, n, to, p.value, DependenceMap::empty());
     Reply {
         outcome: numbers::DONE,
@@ -230,7 +209,7 @@ fn receive(image: &mut [u8], p: Step) -> Reply
         return answered(numbers::NOT_WAITING);
     }
     let t = messages::addressee(image, k);
-    let st = status(image, t);
+    let st = head::status(image, t);
     if st == numbers::ANNIHILATED {
         return answered(numbers::GONE);
     }
@@ -263,7 +242,7 @@ fn new(image: &mut [u8], p: Step) -> Reply
     if r != 0 {
         return answered(r);
     }
-    let c = image[OPENED];
+    let c = head::opened(image);
     if limits::TRANSACTORS <= c as usize {
         return answered(numbers::ALL_OPENED);
     }
@@ -286,7 +265,7 @@ fn send(image: &mut [u8], p: Step) -> Reply
 {
     let t = p.transactor as usize;
     let to = p.other;
-    if image[OPENED] <= to {
+    if head::opened(image) <= to {
         return answered(numbers::UNOPENED);
     }
     let w = busy_refusal(image, t);
@@ -301,7 +280,7 @@ fn send(image: &mut [u8], p: Step) -> Reply
     let at = HEAD + TRANSACTOR * t;
     let end = at + TRANSACTOR;
     let m = transactor::carry(&image[at..end], t);
-    let number = octets::load16(image, NEXT);
+    let number = head::next(image);
     messages::append(image, n, to, p.value, m);
     Reply {
         outcome: numbers::DONE,
@@ -317,7 +296,7 @@ fn local(image: &mut [u8], p: Step) -> Reply
     ensures { λ r. ⌜ Stepped (now (image .entry)) p r (now (image .exit)) ⌝ }
 {
     let t = p.transactor as usize;
-    if (image[OPENED] as usize) <= t {
+    if (head::opened(image) as usize) <= t {
         return answered(numbers::UNOPENED);
     }
     let at = HEAD + TRANSACTOR * t;
@@ -358,17 +337,9 @@ fn sign(image: &mut [u8], p: Step) -> Reply
     ensures { λ r. ⌜ Stepped (now (image .entry)) p r (now (image .exit)) ⌝ }
 {
     let group = p.message;
-    if group == 0 {
-        return answered(numbers::EMPTY_GROUP);
-    }
-    if group::blocked(image, group, numbers::UNOPENED) {
-        return answered(numbers::UNOPENED);
-    }
-    if group::blocked(image, group, numbers::GONE) {
-        return answered(numbers::GONE);
-    }
-    if group::blocked(image, group, numbers::ALL_CHECKPOINTED) {
-        return answered(numbers::ALL_CHECKPOINTED);
+    let r = group::refusal(image, group);
+    if r != 0 {
+        return answered(r);
     }
     if !group::ready(image, group) {
         return answered(numbers::NOT_READY);

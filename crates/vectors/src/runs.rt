@@ -13,10 +13,10 @@ pub const LIST: usize = 8208;
 // The first half of a step: kind, take, other and 16 times the zero bits, parcel.
 fn head(n: &[usize]) -> u32 {
     let kind = script::at(n, 1) % 16;
-    let take = script::at(n, 2) % 16;
+    let transactor = script::at(n, 2) % 16;
     let other = script::at(n, 3);
     let second = other % 16 * 16 + other / 16 % 16;
-    (kind * 268435456 + take * 16777216 + second * 65536 + script::at(n, 4) % 65536) as u32
+    (kind * 268435456 + transactor * 16777216 + second * 65536 + script::at(n, 4) % 65536) as u32
 }
 
 // A step as a list of one.

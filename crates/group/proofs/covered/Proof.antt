@@ -10,9 +10,6 @@ use Rattle.marks.specs.History.{incarnationOf}
 use Rattle.group.proofs.covered.Statement.{statement}
 use Rattle.group.proofs.covered.Tie as tie
 
-same-incarnation-requires : tie.Need-same-incarnation-requires
-same-incarnation-requires c κs = search needs
-
 or-true : (a : Bool) → true ≡ a or true
 or-true true = refl
 or-true false = refl
@@ -22,9 +19,6 @@ returns c =
     let s = c .before .before .before .args in
     rw (← c .before .same-incarnation .ensures, c .before .before .if1 .taken, c .if2 .taken)
     (or-true (checkpointedIn (incarnationOf (s .h)) (incarnationOf (s .own))))
-
-checkpointed-in-requires : tie.Need-checkpointed-in-requires
-checkpointed-in-requires c κs = search needs
 
 -- no member, or not the same
 left-over : {A B : Type 0} (a m s : Bool) {r : Bool} → (A → s ≡ false) → (B → m ≡ false) → A ⊎ B → r ≡ a → r ≡ a or (m and s)
@@ -47,4 +41,4 @@ returns-2 c =
 pub covered-spec : {M : Type 1} → statement M
 covered-spec =
     tie.close
-    (tie.spec same-incarnation-requires returns checkpointed-in-requires returns-2)
+    (tie.spec (λ c κs. search needs) returns (λ c κs. search needs) returns-2)

@@ -5,15 +5,9 @@ use Rattle.rules.specs.Refusals.{named}
 use Rattle.group.proofs.is_named.Statement.{statement}
 use Rattle.group.proofs.is_named.Tie as tie
 
-cast-result : tie.Need-cast-result
-cast-result c = search needs
-
-shr-result : tie.Need-shr-result
-shr-result c = search needs
-
 returns : tie.Need-returns
 unfolding named
 returns c = refl
 
 pub is-named-spec : {M : Type 1} → statement M
-is-named-spec = tie.close (tie.spec cast-result shr-result returns)
+is-named-spec = tie.close (tie.spec (λ c. search needs) (λ c. search needs) returns)

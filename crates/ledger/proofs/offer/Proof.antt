@@ -13,9 +13,6 @@ use Rattle.rules.proofs.Calls.Offer.{offered-refused, offered-none, offered-som
 use Rattle.ledger.proofs.offer.Statement.{statement}
 use Rattle.ledger.proofs.offer.Tie as tie
 
-query-refusal-requires : tie.Need-query-refusal-requires
-query-refusal-requires c κs = search needs
-
 returns : tie.Need-returns
 returns c = offered-refused base _ _ _ (c .before .query-refusal .ensures) (c .if1 .taken)
 
@@ -38,15 +35,6 @@ place-to-requires c κs = (long (c .before), search needs, search needs)
 returns-2 : tie.Need-returns-2
 returns-2 c = offered-none base _ _ _ (c .before .before .before .before .query-refusal .ensures) (c .before .before .before .if1 .left) _ _ (c .before .before .waiting .ensures .0) (c .before .place-to .ensures .0) (omega arith)
 
-mul-load16 : tie.Need-mul-load16
-mul-load16 c = search needs
-
-add-load16 : tie.Need-add-load16
-add-load16 c = search needs
-
-add-load16-2 : tie.Need-add-load16-2
-add-load16-2 c = search needs
-
 load16-requires : tie.Need-load16-requires
 load16-requires c κs = omega (arith, long (c .before .before .before))
 
@@ -57,13 +45,13 @@ pub offer-spec : {M : Type 1} → statement M
 offer-spec =
     tie.close
     (tie.spec
-    query-refusal-requires
+    (λ c κs. search needs)
     returns
     waiting-requires
     place-to-requires
     returns-2
-    mul-load16
-    add-load16
-    add-load16-2
+    (λ c. search needs)
+    (λ c. search needs)
+    (λ c. search needs)
     load16-requires
     returns-3)

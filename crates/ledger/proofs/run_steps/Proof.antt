@@ -25,57 +25,44 @@ Inv-loop image₀ list replies₀ n i₀ image replies i =
 abbrev μ-loop : tie.MeasureT-loop
 μ-loop image₀ list replies₀ n i₀ image replies i = n - i
 
+-- the step of a turn, and the turn's begin
+abbrev step : tie.After-encode Inv-loop μ-loop → tie.After-step Inv-loop μ-loop
+step c = c .before .before .before .before
+
+abbrev turn : tie.After-decode Inv-loop μ-loop → tie.At-loop Inv-loop μ-loop
+turn c = c .before .before
+
+abbrev start : tie.At-loop Inv-loop μ-loop → tie.Start Inv-loop μ-loop
+start c = c .before .before .before .before
+
+bytes : (c : tie.At-loop Inv-loop μ-loop) → Octets (start c .args .list .now)
+bytes c = octets-of _ (c .before .before .shared-slice-known .given)
+
 loop-holds : tie.Need-loop-holds Inv-loop μ-loop
-loop-holds c = let s = c .before .before .before in (search needs, run-none _ _ (s .pre .0), put-none _ _ _, refl, refl)
-
-mul-decode : tie.Need-mul-decode Inv-loop μ-loop
-mul-decode c = search needs
-
-decode-requires : tie.Need-decode-requires Inv-loop μ-loop
-decode-requires c κs = search needs
+loop-holds c = (search needs, run-none _ _ (search needs), put-none _ _ _, refl, refl)
 
 step-requires : tie.Need-step-requires Inv-loop μ-loop
 step-requires c κs =
-    let l = c .before .before .before in
-    let o = octets-of _ (l .before .before .shared-slice-known .given) in
-    (run-good _ _ (l .before .before .before .before .pre .0) o (l .loop .i) _ (l .loop .inv .1), step-fits _ (l .loop .i) _ o (c .before .decode .ensures))
-
-mul-encode : tie.Need-mul-encode Inv-loop μ-loop
-mul-encode c = search needs
-
-encode-requires : tie.Need-encode-requires Inv-loop μ-loop
-encode-requires c κs = search needs
-
-add-i : tie.Need-add-i Inv-loop μ-loop
-add-i c = search needs
-
-loop-less : tie.Need-loop-less Inv-loop μ-loop
-loop-less c = search needs
+    let l = turn (c .before) in
+    (run-good _ _ (start l .pre .0) (bytes l) (l .loop .i) _ (l .loop .inv .1), step-fits _ (l .loop .i) _ (bytes l) (c .before .decode .ensures))
 
 loop-again : tie.Need-loop-again Inv-loop μ-loop
 loop-again c =
-    let l = c .before .before .before .before .before .before .before .before .before .before in
-    let o : Octets (l .before .before .before .before .args .list .now) = octets-of _ (l .before .before .shared-slice-known .given) in
-    let g = l .before .before .before .before .pre .0 in
-    let p = c .before .before .before .before .before .before .before .before .decode in
-    let r = c .before .before .before .before .before .before .step in (
+    let s = step (c .before .before) in
+    let p = s .before .before .decode .ensures in
+    let l = turn (s .before .before) in
+    let g = start l .pre .0 in (
       omega arith,
-      run-more _ _ g o (l .loop .i) _ (l .loop .inv .1) _ _ _ (p .ensures) (r .ensures),
-      replies-more _ _ g o (l .loop .i) _ (l .loop .inv .1) _ _ _ (p .ensures) (r .ensures) _ _ _ (l .loop .inv .2) (c .before .before .encode .ensures) (omega arith),
+      run-more _ _ g (bytes l) (l .loop .i) _ (l .loop .inv .1) _ _ _ p (s .step .ensures),
+      replies-more _ _ g (bytes l) (l .loop .i) _ (l .loop .inv .1) _ _ _ p (s .step .ensures) _ _ _ (l .loop .inv .2) (c .before .before .encode .ensures) (omega arith),
       search needs,
       search needs,
     )
 
-same-length : tie.Need-same-length Inv-loop μ-loop
-same-length c = search needs
-
-same-length-2 : tie.Need-same-length-2 Inv-loop μ-loop
-same-length-2 c = search needs
-
 returns : tie.Need-returns Inv-loop μ-loop
 returns c =
     let l = c .before .loop in
-    let s = c .before .before .before .before .before in
+    let s = start (c .before) in
     (run-all _ _ (s .pre .0) (l .i) _ (l .inv .1) (omega arith), replies-all _ _ (s .pre .0) (l .i) _ _ (l .inv .2) (omega arith) (s .pre .1) (s .pre .2))
 
 pub run-steps-spec : {M : Type 1} → statement M
@@ -85,14 +72,14 @@ run-steps-spec =
     Inv-loop
     μ-loop
     loop-holds
-    mul-decode
-    decode-requires
+    (λ c. search needs)
+    (λ c κs. search needs)
     step-requires
-    mul-encode
-    encode-requires
-    add-i
-    loop-less
+    (λ c. search needs)
+    (λ c κs. search needs)
+    (λ c. search needs)
+    (λ c. search needs)
     loop-again
-    same-length
-    same-length-2
+    (λ c. search needs)
+    (λ c. search needs)
     returns)

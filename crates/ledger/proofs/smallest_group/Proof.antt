@@ -12,9 +12,6 @@ use Rattle.rules.proofs.Groups.Smallest.{grouped-refused, grouped-none, grouped
 use Rattle.ledger.proofs.smallest_group.Statement.{statement}
 use Rattle.ledger.proofs.smallest_group.Tie as tie
 
-query-refusal-requires : tie.Need-query-refusal-requires
-query-refusal-requires c κs = search needs
-
 returns : tie.Need-returns
 returns c = grouped-refused base standard _ _ _ (c .before .query-refusal .ensures) (c .if1 .taken)
 
@@ -45,7 +42,7 @@ pub smallest-group-spec : {M : Type 1} → statement M
 smallest-group-spec =
     tie.close
     (tie.spec
-    query-refusal-requires
+    (λ c κs. search needs)
     returns
     closure-requires
     can-checkpoint-requires

@@ -1,17 +1,9 @@
+-- None is told by 65535, which no message has.
 use borrow.Author.Needs.{needs}
 use Rattle.octets.proofs.Put.{octets-of}
 use Rattle.ledger_c.proofs.Answers.{answered}
 use Rattle.ledger_c.proofs.ledger_offer.Statement.{statement}
 use Rattle.ledger_c.proofs.ledger_offer.Tie as tie
-
-offer-requires : tie.Need-offer-requires
-offer-requires c κs = search needs
-
-enum-known-n : tie.Need-enum-known-n
-enum-known-n c = search needs
-
-enum-told : tie.Need-enum-told
-enum-told c = search needs
 
 returns : tie.Need-returns
 returns c =
@@ -24,4 +16,4 @@ returns-2 c =
     (f .0, answered _ _ (octets-of _ (c .before .before .before .before .before .shared-slice-known .given)) (c .before .n .given .1) (f .1))
 
 pub ledger-offer-spec : {M : Type 1} → statement M
-ledger-offer-spec = tie.close (tie.spec offer-requires enum-known-n enum-told returns returns-2)
+ledger-offer-spec = tie.close (tie.spec (λ c κs. search needs) (λ c. search needs) (λ c. search needs) returns returns-2)

@@ -1,28 +1,14 @@
+-- The part that ledger's show answers, by its offset.
 use mathlib.Core.Path.{sym, _∙_}
 use borrow.Author.Needs.{needs}
 use Rattle.ledger_c.proofs.Answers.{part-shown, part-refused}
 use Rattle.ledger_c.proofs.ledger_show.Statement.{statement}
 use Rattle.ledger_c.proofs.ledger_show.Tie as tie
 
-show-requires : tie.Need-show-requires
-show-requires c κs = search needs
-
 returns : tie.Need-returns
 returns c =
     let f = c .before .before .show .ensures in
     (f .1, part-refused _ _ (λ e. c .if1 .taken (f .1 ∙ e)))
-
-place-requires : tie.Need-place-requires
-place-requires c κs = search needs
-
-mul-offset : tie.Need-mul-offset
-mul-offset c = search needs
-
-add-offset : tie.Need-add-offset
-add-offset c = search needs
-
-add-offset-2 : tie.Need-add-offset-2
-add-offset-2 c = search needs
 
 returns-2 : tie.Need-returns-2
 returns-2 c =
@@ -32,4 +18,4 @@ returns-2 c =
 pub ledger-show-spec : {M : Type 1} → statement M
 ledger-show-spec =
     tie.close
-    (tie.spec show-requires returns place-requires mul-offset add-offset add-offset-2 returns-2)
+    (tie.spec (λ c κs. search needs) returns (λ c κs. search needs) (λ c. search needs) (λ c. search needs) (λ c. search needs) returns-2)

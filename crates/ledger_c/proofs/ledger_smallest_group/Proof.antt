@@ -1,16 +1,8 @@
+-- None is told by 0.
 use borrow.Author.Needs.{needs}
 use Rattle.ledger_c.proofs.Answers.{named}
 use Rattle.ledger_c.proofs.ledger_smallest_group.Statement.{statement}
 use Rattle.ledger_c.proofs.ledger_smallest_group.Tie as tie
-
-smallest-group-requires : tie.Need-smallest-group-requires
-smallest-group-requires c κs = search needs
-
-enum-known-group : tie.Need-enum-known-group
-enum-known-group c = search needs
-
-enum-told : tie.Need-enum-told
-enum-told c = search needs
 
 returns : tie.Need-returns
 returns c =
@@ -24,4 +16,4 @@ returns-2 c =
 
 pub ledger-smallest-group-spec : {M : Type 1} → statement M
 ledger-smallest-group-spec =
-    tie.close (tie.spec smallest-group-requires enum-known-group enum-told returns returns-2)
+    tie.close (tie.spec (λ c κs. search needs) (λ c. search needs) (λ c. search needs) returns returns-2)

@@ -16,18 +16,6 @@ Inv-loop image number k₀ k = k ≤ placeOf (unpack base image) number
 abbrev μ-loop : tie.MeasureT-loop
 μ-loop image number k₀ k = 32 - k
 
-loop-holds : tie.Need-loop-holds Inv-loop μ-loop
-loop-holds c = search needs
-
-mul-load16 : tie.Need-mul-load16 Inv-loop μ-loop
-mul-load16 c = search needs
-
-add-load16 : tie.Need-add-load16 Inv-loop μ-loop
-add-load16 c = search needs
-
-add-load16-2 : tie.Need-add-load16-2 Inv-loop μ-loop
-add-load16-2 c = search needs
-
 load16-requires : tie.Need-load16-requires Inv-loop μ-loop
 load16-requires c κs = omega (arith, shown-length _ _ (c .before .before .before .pre))
 
@@ -36,12 +24,6 @@ returns c =
     let l = c .before .before .before .loop in
     let p = c .before .before .before .before .before .pre in
     (place-here _ _ p _ _ (l .inv) (c .before .load16 .ensures) (c .if1 .taken), search needs)
-
-add-k : tie.Need-add-k Inv-loop μ-loop
-add-k c = search needs
-
-loop-less : tie.Need-loop-less Inv-loop μ-loop
-loop-less c = search needs
 
 loop-again : tie.Need-loop-again Inv-loop μ-loop
 loop-again c =
@@ -60,13 +42,13 @@ place-spec =
     (tie.spec
     Inv-loop
     μ-loop
-    loop-holds
-    mul-load16
-    add-load16
-    add-load16-2
+    (λ c. search needs)
+    (λ c. search needs)
+    (λ c. search needs)
+    (λ c. search needs)
     load16-requires
     returns
-    add-k
-    loop-less
+    (λ c. search needs)
+    (λ c. search needs)
     loop-again
     returns-2)

@@ -5,9 +5,6 @@ use borrow.Author.Needs.{needs}
 use Rattle.maps.proofs.chooses_right.Statement.{statement}
 use Rattle.maps.proofs.chooses_right.Tie as tie
 
-older-requires : tie.Need-older-requires
-older-requires c κs = search needs
-
 returns : tie.Need-returns
 returns c = c .older .ensures ∙ sym (chooses-newer _ _ _ _ (search needs) (search needs))
 
@@ -18,4 +15,4 @@ returns-3 : tie.Need-returns-3
 returns-3 c = sym (chooses-left _ _ _ _ (search needs))
 
 pub chooses-right-spec : {M : Type 1} → statement M
-chooses-right-spec = tie.close (tie.spec older-requires returns returns-2 returns-3)
+chooses-right-spec = tie.close (tie.spec (λ c κs. search needs) returns returns-2 returns-3)

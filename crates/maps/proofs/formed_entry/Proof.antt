@@ -6,17 +6,11 @@ use borrow.Author.Needs.{needs}
 use Rattle.maps.proofs.formed_entry.Statement.{statement}
 use Rattle.maps.proofs.formed_entry.Tie as tie
 
-formed-requires : tie.Need-formed-requires
-formed-requires c κs = search needs
-
 returns : tie.Need-returns
 returns c = c .formed .ensures ∙ entry-known width places _ _ (c .before .if1 .taken)
-
-all-zero-requires : tie.Need-all-zero-requires
-all-zero-requires c κs = search needs
 
 returns-2 : tie.Need-returns-2
 returns-2 c = c .all-zero .ensures ∙ entry-unknown width places _ _ (c .before .if1 .left)
 
 pub formed-entry-spec : {M : Type 1} → statement M
-formed-entry-spec = tie.close (tie.spec formed-requires returns all-zero-requires returns-2)
+formed-entry-spec = tie.close (tie.spec (λ c κs. search needs) returns (λ c κs. search needs) returns-2)

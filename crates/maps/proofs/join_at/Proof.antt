@@ -10,30 +10,12 @@ use Rattle.maps.proofs.join_at.Tie as tie
 returns : tie.Need-returns
 returns c = let p = c .before .before .pre in stays-absent width places _ _ _ _ (p .0) (p .2) (not-true _ (c .if1 .taken))
 
-present-requires : tie.Need-present-requires
-present-requires c κs = search needs
-
-load-requires : tie.Need-load-requires
-load-requires c κs = search needs
-
-chooses-right-requires : tie.Need-chooses-right-requires
-chooses-right-requires c κs = search needs
-
-same-length : tie.Need-same-length
-same-length c = search needs
-
 returns-2 : tie.Need-returns-2
 returns-2 c =
     let b = c .before .before in
     let d = b .before .before in
     let p = d .before .before .before .before .pre in
     stays-right width places _ _ _ _ (p .0) (p .2) _ _ (d .present .ensures) (b .load .ensures) (sym (c .before .chooses-right .ensures) ∙ c .if2 .taken)
-
-store-requires : tie.Need-store-requires
-store-requires c κs = search needs
-
-same-length-2 : tie.Need-same-length-2
-same-length-2 c = search needs
 
 returns-3 : tie.Need-returns-3
 returns-3 c =
@@ -49,11 +31,11 @@ join-at-spec =
     tie.close
     (tie.spec
     returns
-    present-requires
-    load-requires
-    chooses-right-requires
-    same-length
+    (λ c κs. search needs)
+    (λ c κs. search needs)
+    (λ c κs. search needs)
+    (λ c. search needs)
     returns-2
-    store-requires
-    same-length-2
+    (λ c κs. search needs)
+    (λ c. search needs)
     returns-3)

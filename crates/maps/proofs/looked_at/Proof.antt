@@ -8,16 +8,10 @@ use borrow.Author.Needs.{needs}
 use Rattle.maps.proofs.looked_at.Statement.{statement}
 use Rattle.maps.proofs.looked_at.Tie as tie
 
-present-requires : tie.Need-present-requires
-present-requires c κs = search needs
-
 returns : tie.Need-returns
 returns c =
     let p = c .before in
     (sym (looked-held width places entries _ _ (p .before .before .pre) (omega arith) (sym (p .present .ensures) ∙ c .if1 .taken)), search needs)
-
-all-zero-requires : tie.Need-all-zero-requires
-all-zero-requires c κs = search needs
 
 returns-2 : tie.Need-returns-2
 returns-2 c = (sym (looked-none _ _ (sym (c .before .all-zero .ensures) ∙ c .if2 .taken)), search needs)
@@ -26,4 +20,4 @@ returns-3 : tie.Need-returns-3
 returns-3 c = (sym (looked-all _ _ (sym (c .before .all-zero .ensures) ∙ c .if2 .left)), search needs)
 
 pub looked-at-spec : {M : Type 1} → statement M
-looked-at-spec = tie.close (tie.spec present-requires returns all-zero-requires returns-2 returns-3)
+looked-at-spec = tie.close (tie.spec (λ c κs. search needs) returns (λ c κs. search needs) returns-2 returns-3)

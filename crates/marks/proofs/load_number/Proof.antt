@@ -6,11 +6,8 @@ use borrow.Author.Needs.{needs}
 use Rattle.marks.proofs.load_number.Statement.{statement}
 use Rattle.marks.proofs.load_number.Tie as tie
 
-shared-slice-read-result : tie.Need-shared-slice-read-result
-shared-slice-read-result c = search needs
-
 returns : tie.Need-returns
 returns c = ofBe-first _ 1 _ _ (omega arith) refl
 
 pub load-number-spec : {M : Type 1} → statement M
-load-number-spec = tie.close (tie.spec shared-slice-read-result returns)
+load-number-spec = tie.close (tie.spec (λ c. search needs) returns)

@@ -20,24 +20,6 @@ abbrev μ-loop : tie.MeasureT-loop
 loop-holds : tie.Need-loop-holds Inv-loop μ-loop
 loop-holds c = (search needs, fill-none _, search needs)
 
-mul-load-number : tie.Need-mul-load-number Inv-loop μ-loop
-mul-load-number c = search needs
-
-add-load-number : tie.Need-add-load-number Inv-loop μ-loop
-add-load-number c = search needs
-
-load-number-requires : tie.Need-load-number-requires Inv-loop μ-loop
-load-number-requires c κs = search needs
-
-array-write-list : tie.Need-array-write-list Inv-loop μ-loop
-array-write-list c = search needs
-
-add-i : tie.Need-add-i Inv-loop μ-loop
-add-i c = search needs
-
-loop-less : tie.Need-loop-less Inv-loop μ-loop
-loop-less c = search needs
-
 loop-again : tie.Need-loop-again Inv-loop μ-loop
 loop-again c = (search needs, number-filled _ _ _ _ _ _ (c .before .before .loop .inv .1) (c .load-number .ensures) (omega arith), search needs)
 
@@ -51,11 +33,11 @@ load-numbers-spec =
     Inv-loop
     μ-loop
     loop-holds
-    mul-load-number
-    add-load-number
-    load-number-requires
-    array-write-list
-    add-i
-    loop-less
+    (λ c. search needs)
+    (λ c. search needs)
+    (λ c κs. search needs)
+    (λ c. search needs)
+    (λ c. search needs)
+    (λ c. search needs)
     loop-again
     returns)

@@ -6,14 +6,8 @@ use borrow.Author.Needs.{needs}
 use Rattle.marks.proofs.store_number.Statement.{statement}
 use Rattle.marks.proofs.store_number.Tie as tie
 
-slice-write-image : tie.Need-slice-write-image
-slice-write-image c = search needs
-
-same-length : tie.Need-same-length
-same-length c = search needs
-
 returns : tie.Need-returns
 returns c = sym (put-be-one _ _ _ (omega arith) (omega arith))
 
 pub store-number-spec : {M : Type 1} → statement M
-store-number-spec = tie.close (tie.spec slice-write-image same-length returns)
+store-number-spec = tie.close (tie.spec (λ c. search needs) (λ c. search needs) returns)

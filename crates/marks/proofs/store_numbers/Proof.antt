@@ -20,29 +20,8 @@ abbrev μ-loop : tie.MeasureT-loop
 loop-holds : tie.Need-loop-holds Inv-loop μ-loop
 loop-holds c = (search needs, put-none _ _ _, refl)
 
-array-read-n : tie.Need-array-read-n Inv-loop μ-loop
-array-read-n c = search needs
-
-mul-store-number : tie.Need-mul-store-number Inv-loop μ-loop
-mul-store-number c = search needs
-
-add-store-number : tie.Need-add-store-number Inv-loop μ-loop
-add-store-number c = search needs
-
-store-number-requires : tie.Need-store-number-requires Inv-loop μ-loop
-store-number-requires c κs = search needs
-
-add-i : tie.Need-add-i Inv-loop μ-loop
-add-i c = search needs
-
-loop-less : tie.Need-loop-less Inv-loop μ-loop
-loop-less c = search needs
-
 loop-again : tie.Need-loop-again Inv-loop μ-loop
 loop-again c = (search needs, number-put _ _ _ _ _ _ _ (c .before .before .before .before .before .loop .inv .1) (c .before .before .store-number .ensures) (omega arith), search needs)
-
-same-length : tie.Need-same-length Inv-loop μ-loop
-same-length c = search needs
 
 returns : tie.Need-returns Inv-loop μ-loop
 returns c = numbers-put _ _ _ _ _ _ _ (c .before .loop .inv .1) (omega arith)
@@ -54,12 +33,12 @@ store-numbers-spec =
     Inv-loop
     μ-loop
     loop-holds
-    array-read-n
-    mul-store-number
-    add-store-number
-    store-number-requires
-    add-i
-    loop-less
+    (λ c. search needs)
+    (λ c. search needs)
+    (λ c. search needs)
+    (λ c κs. search needs)
+    (λ c. search needs)
+    (λ c. search needs)
     loop-again
-    same-length
+    (λ c. search needs)
     returns)

@@ -18,18 +18,6 @@ abbrev μ-loop : tie.MeasureT-loop
 loop-holds : tie.Need-loop-holds Inv-loop μ-loop
 loop-holds c = (search needs, zero-none _ _)
 
-add-any : tie.Need-add-any Inv-loop μ-loop
-add-any c = search needs
-
-shared-slice-read-any : tie.Need-shared-slice-read-any Inv-loop μ-loop
-shared-slice-read-any c = search needs
-
-add-i : tie.Need-add-i Inv-loop μ-loop
-add-i c = search needs
-
-loop-less : tie.Need-loop-less Inv-loop μ-loop
-loop-less c = search needs
-
 loop-again : tie.Need-loop-again Inv-loop μ-loop
 loop-again c = (search needs, zero-more _ _ (c .before .before .loop .any) _ (c .before .before .loop .inv .1) (omega arith))
 
@@ -43,9 +31,9 @@ all-zero-spec =
     Inv-loop
     μ-loop
     loop-holds
-    add-any
-    shared-slice-read-any
-    add-i
-    loop-less
+    (λ c. search needs)
+    (λ c. search needs)
+    (λ c. search needs)
+    (λ c. search needs)
     loop-again
     returns)

@@ -18,32 +18,8 @@ abbrev μ-loop : tie.MeasureT-loop
 loop-holds : tie.Need-loop-holds Inv-loop μ-loop
 loop-holds c = (search needs, part-none _ _ _ _, refl)
 
-add-image : tie.Need-add-image Inv-loop μ-loop
-add-image c = search needs
-
-add-image-2 : tie.Need-add-image-2 Inv-loop μ-loop
-add-image-2 c = search needs
-
-slice-read-image : tie.Need-slice-read-image Inv-loop μ-loop
-slice-read-image c = search needs
-
-add-image-3 : tie.Need-add-image-3 Inv-loop μ-loop
-add-image-3 c = search needs
-
-slice-write-image : tie.Need-slice-write-image Inv-loop μ-loop
-slice-write-image c = search needs
-
-add-i : tie.Need-add-i Inv-loop μ-loop
-add-i c = search needs
-
-loop-less : tie.Need-loop-less Inv-loop μ-loop
-loop-less c = search needs
-
 loop-again : tie.Need-loop-again Inv-loop μ-loop
 loop-again c = (search needs, lower-more _ _ _ _ _ (c .before .before .loop .inv .1) (omega arith), search needs)
-
-same-length : tie.Need-same-length Inv-loop μ-loop
-same-length c = search needs
 
 returns : tie.Need-returns Inv-loop μ-loop
 returns c = lower-all _ _ _ _ _ _ (c .before .loop .inv .1) (omega arith)
@@ -55,13 +31,13 @@ lower-spec =
     Inv-loop
     μ-loop
     loop-holds
-    add-image
-    add-image-2
-    slice-read-image
-    add-image-3
-    slice-write-image
-    add-i
-    loop-less
+    (λ c. search needs)
+    (λ c. search needs)
+    (λ c. search needs)
+    (λ c. search needs)
+    (λ c. search needs)
+    (λ c. search needs)
+    (λ c. search needs)
     loop-again
-    same-length
+    (λ c. search needs)
     returns)

@@ -22,11 +22,8 @@ few n k h f = go (leb k 20) refl
         let q : 10 ^ (k - 1) ≤ n = f .2 (omega arith) in
         omega arith
 
-decimal-requires : tie.Need-decimal-requires
-decimal-requires c κs = search needs
-
 returns : tie.Need-returns
 returns c = (c .decimal .ensures .0, few _ _ (c .before .before .fits .n .fits) (c .decimal .ensures .1 .0))
 
 pub digits-spec : {M : Type 1} → statement M
-digits-spec = tie.close (tie.spec decimal-requires returns)
+digits-spec = tie.close (tie.spec (λ c κs. search needs) returns)

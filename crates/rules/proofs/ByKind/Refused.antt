@@ -11,9 +11,9 @@ use Rattle.rules.specs.Layout.{Layout, Limits}
 use Rattle.rules.specs.Status.{ready, busy, annihilated}
 use Rattle.rules.specs.State.{Transactor, State, ownHistory, transactorAt, messageAt, placeOf}
 use Rattle.rules.specs.Step.{Step, root, letter, receive, new, send, read, fall, fail, lose, sign}
-use Rattle.rules.specs.Refusals.{anyNamed, malformed, notWaiting, emptyGroup, unopened, isGone, wrongStatus, unrelatedReceipt, allOpened, allWaiting, allNumbered, allCheckpointed, atLast, lastRollsBack, refusalOf}
+use Rattle.rules.specs.Refusals.{malformed, notWaiting, emptyGroup, unopened, isGone, wrongStatus, unrelatedReceipt, allOpened, allWaiting, allNumbered, allCheckpointed, atLast, lastRollsBack, refusalOf}
 use Rattle.rules.specs.Rules.{receiptRollsBack, receiptUnrelated, seen, refusal}
-use Rattle.rules.specs.Internal.Guards.{isLastIncarnation, busyRefusal, crowdedRefusal, blocksAt}
+use Rattle.rules.specs.Internal.Guards.{isLastIncarnation, busyRefusal, crowdedRefusal, groupRefusal, blocksAt}
 use Rattle.octets.proofs.Tests.{or-none, or-off}
 use Rattle.rules.proofs.ByKind.Guards.{first, working-first}
 
@@ -81,14 +81,10 @@ pub record Refuses (y : Layout) (m : Limits) (s : State) (p : Step) : Type 0 whe
   pub local : read ≤ p .kind → p .kind ≤ fail → refusal y m s p
       ≡ pick (leb (s .opened) (p .transactor)) 21 (localRefusal m (p .kind) (p .transactor) (transactorAt s (p .transactor)))
   pub lose : p .kind ≡ lose → refusal y m s p ≡ pick (leb (length (s .messages)) (placeOf s (p .message))) 24 0
-  pub sign : p .kind ≡ sign → refusal y m s p
-      ≡ pick (eqb (p .message) 0) 29
-      (pick (anyNamed (p .message) (blocksAt m s 21)) 21
-      (pick (anyNamed (p .message) (blocksAt m s 22)) 22
-      (pick (anyNamed (p .message) (blocksAt m s 30)) 30 0)))
+  pub sign : p .kind ≡ sign → refusal y m s p ≡ groupRefusal m s (p .message)
 
 pub refuses : (y : Layout) (m : Limits) (s : State) (p : Step) → malformed p ≡ false → Refuses y m s p
-unfolding refusal refusalOf notWaiting emptyGroup unopened isGone wrongStatus unrelatedReceipt allOpened allWaiting allNumbered allCheckpointed atLast lastRollsBack seen isLastIncarnation crowdedRefusal blocksAt
+unfolding refusal refusalOf notWaiting emptyGroup unopened isGone wrongStatus unrelatedReceipt allOpened allWaiting allNumbered allCheckpointed atLast lastRollsBack seen isLastIncarnation crowdedRefusal groupRefusal blocksAt
 refuses y m s p formed = record {
   root = λ e. rw (formed, e);
   letter = λ e. simp (formed, e, or-none);

@@ -1,27 +1,25 @@
 -- The refusals of a query about one take, and what is known when it is not refused.
-use Prim.Native.Nat.{ℕ, _/_, _≤_, _<_}
+use Prim.Native.Nat.{ℕ, _≤_, _<_}
 use mathlib.Core.Bool.{true, false, not}
-use mathlib.Core.Path.{_≡_, sym, _∙_}
+use mathlib.Core.Path.{_≡_}
 use mathlib.Core.List.{List}
 use native.Mathlib.Omega.{arith}
 use lib.Dec.{leb}
-use borrow.Author.Tests.{not-false, le-leb, lt-leb, leb-false, eq-eqb, ne-eqb, eqb-true}
-use lib.ListN.{length, getD}
-use Rattle.rules.specs.Layout.{Layout, transactorAddress, imageBytes}
-use Rattle.rules.specs.Status.{annihilated}
-use Rattle.rules.specs.State.{transactorAt}
+use borrow.Author.Tests.{not-false, leb-false, eqb-true}
+use lib.ListN.{length}
+use Rattle.rules.specs.Layout.{Layout, imageBytes}
 use Rattle.rules.specs.Pack.{unpack}
 use Rattle.rules.specs.Form.{wellFormed}
 use Rattle.rules.specs.Calls.{wrongLength, offerRefusal}
+use Rattle.rules.specs.Internal.Guards.{actingRefusal}
 use Rattle.octets.proofs.Tests.{pick-zero}
-use Rattle.rules.proofs.Pack.Loads.{read-opened, read-status}
 use Rattle.rules.proofs.Form.Clauses.{clauses-of}
 use Rattle.rules.proofs.Calls.Begin.{wrong-length, right-length}
 
 module _ (y : Layout) (img : List ℕ) where
   -- a well-formed image has no more takes opened than there are
-  pub few-opened : wellFormed y img ≡ true → getD img 0 0 ≤ y .transactors
-  few-opened e = omega (arith, clauses-of y img e .opened, read-opened y img)
+  pub few-opened : not (wellFormed y img) ≡ false → unpack y img .opened ≤ y .transactors
+  few-opened e = clauses-of y img (not-false (wellFormed y img) e) .opened
 
   module _ (t : ℕ) where
     pub query-16 : (length img ≡ imageBytes y → ⊥) → 16 ≡ offerRefusal y img t
@@ -29,31 +27,14 @@ module _ (y : Layout) (img : List ℕ) where
     query-16 n = rw (wrong-length y img n)
 
     module _ (long : length img ≡ imageBytes y) where
-      pub query-19 : wellFormed y img ≡ false → 19 ≡ offerRefusal y img t
+      pub query-19 : not (wellFormed y img) ≡ true → 19 ≡ offerRefusal y img t
       unfolding offerRefusal
       query-19 e = rw (right-length y img long, e)
 
-      module _ (formed : wellFormed y img ≡ true) where
-        pub query-21 : getD img 0 0 ≤ t → 21 ≡ offerRefusal y img t
-        unfolding offerRefusal
-        query-21 h =
-            let o : unpack y img .opened ≤ t = omega (arith, read-opened y img) in
-            rw (right-length y img long, formed, le-leb (unpack y img .opened) t o)
-
-        module _ (low : t < getD img 0 0) where
-          opened : t < unpack y img .opened
-          opened = omega (arith, read-opened y img)
-
-          status : transactorAt (unpack y img) t .status ≡ getD img (transactorAddress y t) 0 / 64
-          status = read-status y img t (omega (arith, few-opened formed))
-
-          pub query-22 : getD img (transactorAddress y t) 0 / 64 ≡ annihilated → 22 ≡ offerRefusal y img t
-          unfolding offerRefusal
-          query-22 e = rw (right-length y img long, formed, lt-leb (unpack y img .opened) t opened, eq-eqb (transactorAt (unpack y img) t .status) annihilated (status ∙ e))
-
-          pub query-0 : (getD img (transactorAddress y t) 0 / 64 ≡ annihilated → ⊥) → 0 ≡ offerRefusal y img t
-          unfolding offerRefusal
-          query-0 n = rw (right-length y img long, formed, lt-leb (unpack y img .opened) t opened, ne-eqb (transactorAt (unpack y img) t .status) annihilated (λ (d : transactorAt (unpack y img) t .status ≡ annihilated). n (sym status ∙ d)))
+      -- 21 and 22 are those of an acting take
+      pub query-acting : not (wellFormed y img) ≡ false → actingRefusal (unpack y img) t ≡ offerRefusal y img t
+      unfolding offerRefusal actingRefusal
+      query-acting e = rw (right-length y img long, e)
 
     -- not refused
     pub record Accepted : Type 0 where

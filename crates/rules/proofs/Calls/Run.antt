@@ -1,6 +1,6 @@
 -- Running a list: the part that is run, and the answer.
 use Prim.Native.Nat.{ℕ, _-_, _*_, _/_, _%_, _≤_, _<_}
-use mathlib.Core.Bool.{true, false}
+use mathlib.Core.Bool.{true, false, not}
 use mathlib.Core.Path.{_≡_, sym, _∙_}
 use mathlib.Core.List.{List}
 use native.Mathlib.Omega.{arith}
@@ -76,11 +76,11 @@ module _ (y : Layout) (m : Limits) (img list : List ℕ) (start end : ℕ) (repl
       ran-18 n = refused 18 (rw (right-length y img long, fine, ne-eqb (length replies) (end - start) n)) (λ e. omega arith)
 
       module _ (same : length replies ≡ end - start) where
-        pub ran-19 : wellFormed y img ≡ false → Ran 19 img replies
+        pub ran-19 : not (wellFormed y img) ≡ true → Ran 19 img replies
         unfolding runAnswer
         ran-19 e = refused 19 (rw (right-length y img long, fine, eq-eqb (length replies) (end - start) same, e)) (λ e. omega arith)
 
-        pub ran-0 : (l rs : List ℕ) → wellFormed y img ≡ true → l ≡ ranImage y m img (part start (end - start) list) → rs ≡ ranReplies y m img (part start (end - start) list) → Ran 0 l rs
+        pub ran-0 : (l rs : List ℕ) → not (wellFormed y img) ≡ false → l ≡ ranImage y m img (part start (end - start) list) → rs ≡ ranReplies y m img (part start (end - start) list) → Ran 0 l rs
         unfolding runImage runReplies runAnswer
         ran-0 l rs e f g =
             let a : runAnswer y img list start end replies ≡ 0 = rw (right-length y img long, fine, eq-eqb (length replies) (end - start) same, e) in

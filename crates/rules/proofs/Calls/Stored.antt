@@ -1,7 +1,7 @@
 -- Document 01: an image stored and loaded is the same session. Between two calls nothing but the image is kept, so a list may
 -- be run in parts, each on the image that the last call left, and nobody sees a difference.
 use Prim.Native.Nat.{ℕ, _+_, _-_, _*_, _/_, _%_, _≤_}
-use mathlib.Core.Bool.{true}
+use mathlib.Core.Bool.{true, not}
 use mathlib.Core.Path.{_≡_, refl, sym, ap, _∙_}
 use mathlib.Core.List.{List, _++_}
 use native.Mathlib.Omega.{arith}
@@ -77,7 +77,7 @@ accepted y img list start end replies e =
 -- such a run leaves the image after its steps, and replies to each
 module _ {y : Layout} {img list : List ℕ} {start end : ℕ} {replies : List ℕ} (m : Limits) (a : Accepted y img list start end replies) where
   ran : Ran y m img list start end replies 0 (ranImage y m img (part start (end - start) list)) (ranReplies y m img (part start (end - start) list))
-  ran = ran-0 y m img list start end replies (a .long) (part-fine list start end (a .forth) (a .within) (a .steps) (a .short)) (a .room) _ _ (a .formed) refl refl
+  ran = ran-0 y m img list start end replies (a .long) (part-fine list start end (a .forth) (a .within) (a .steps) (a .short)) (a .room) _ _ (ap not (a .formed)) refl refl
 
 -- ---- i steps and then j, from a well-formed image
 

@@ -10,17 +10,16 @@ use lib.Dec.{eqb}
 use lib.Pow.{pow-pos}
 use Rattle.octets.specs.Bytes.{_and_, _or_}
 use Rattle.octets.proofs.Zero.{every-all, every-at, both}
-use Rattle.octets.proofs.Tests.{never, and-off, implied, implying}
+use Rattle.octets.proofs.Tests.{never, implied, implying}
 use Rattle.rules.specs.Layout.{Layout, historyBytes, stateAt, creationAt, transactorAddress}
 use Rattle.rules.specs.State.{State, transactorAt, ownHistory, placeFrom}
-use Rattle.rules.specs.Refusals.{named, anyNamed, groupBits}
+use Rattle.rules.specs.Refusals.{named, groupBits}
 use Rattle.rules.specs.Rules.{entryReady, transactorReady, groupReady}
 use Rattle.rules.specs.Pack.{unpack}
 use Rattle.rules.specs.Groups.{Within}
 use Rattle.rules.specs.Internal.Closure.{storedReady, pairReady, lacking, missing, Closure}
-use Rattle.rules.proofs.Any.{any-at, any-off}
 use Rattle.rules.proofs.Groups.Ready.{transactor-is}
-use Rattle.rules.proofs.Bits.{named-add, add-fits, named-one, one-fits}
+use Rattle.rules.proofs.Bits.{named-at, unnamed-all, named-add, add-fits, named-one, one-fits}
 use Rattle.rules.proofs.Places.{Place, place}
 
 -- ---- a ready volume, take by take
@@ -66,16 +65,15 @@ module _ (y : Layout) (img : List ℕ) where
   -- a take that is missing in g is one of each ready volume around g
   module _ (wide : groupBits ≤ y .transactors) (g w u : ℕ) (inside : Within g w) (ready : groupReady y s w ≡ true) (below : u < y .transactors) (lack : missing y img g u ≡ true) where
     needed : named w u ≡ true
-    unfolding missing lacking anyNamed Within
+    unfolding missing lacking Within
     needed = go (named w u) refl
       where
-        met : named w u ≡ false → (t : ℕ) → t < groupBits → (n : Bool) → named g t ≡ n → n and not (pairReady y img g t u) ≡ false
-        met e t h false n = refl
-        met e t h true n = rw (pair-named g w t u (unnamed g u lack ∙ sym e), rests w t ready (omega arith) (inside t n) .pairs u below)
+        met : named w u ≡ false → (t : ℕ) → t < groupBits → named g t ≡ true → not (pairReady y img g t u) ≡ false
+        met e t h n = rw (pair-named g w t u (unnamed g u lack ∙ sym e), rests w t ready (omega arith) (inside t n) .pairs u below)
 
         go : (n : Bool) → named w u ≡ n → named w u ≡ true
         go true e = e
-        go false e = never (sym (both (not (named g u)) (lacking y img g u) lack .1) ∙ any-off (λ t. named g t and not (pairReady y img g t u)) groupBits (λ t h. met e t h (named g t) refl))
+        go false e = never (sym (both (not (named g u)) (lacking y img g u) lack .1) ∙ unnamed-all g (λ t. not (pairReady y img g t u)) (met e))
 
     added : Within (g + 2 ^ u) w
     unfolding Within
@@ -87,7 +85,7 @@ module _ (y : Layout) (img : List ℕ) where
 
   -- a volume inside a ready one, in which none is missing, is ready
   pub closed-ready : y .transactors ≤ groupBits → (g w : ℕ) → Within g w → groupReady y s w ≡ true → ((u : ℕ) → u < y .transactors → missing y img g u ≡ false) → groupReady y s g ≡ true
-  unfolding Within missing lacking anyNamed
+  unfolding Within missing lacking
   closed-ready narrow g w inside ready closed = rested g (λ t h n.
       let r = rests w t ready h (inside t n) in
       record { frozen = r .frozen; pairs = λ u b. go t u h n (named g u) refl (closed u b) (r .pairs u b) })
@@ -96,7 +94,7 @@ module _ (y : Layout) (img : List ℕ) where
       go t u h n true e c p = pair-named g w t u (e ∙ sym (inside u e)) ∙ p
       go t u h n false e c p =
           let a : lacking y img g u ≡ false = rw e at c in
-          not-false (pairReady y img g t u) (and-off (named g t) (not (pairReady y img g t u)) (any-at (λ t. named g t and not (pairReady y img g t u)) groupBits t a (omega arith)) n)
+          not-false (pairReady y img g t u) (named-at g (λ t. not (pairReady y img g t u)) t a (omega arith) n)
 
   -- ---- the closure, as it grows
 

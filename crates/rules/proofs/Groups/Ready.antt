@@ -1,14 +1,13 @@
 -- What blocks the signing of a group, and when the group is ready, as the code tests the image.
-use Prim.Native.Nat.{ℕ, zero, suc, _+_, _*_, _/_, _≤_, _<_}
+use Prim.Native.Nat.{ℕ, zero, suc, _+_, _*_, _≤_, _<_}
 use mathlib.Core.Bool.{Bool, true, false, not}
 use mathlib.Core.Path.{_≡_, refl, sym, _∙_}
 use mathlib.Core.List.{List}
 use native.Mathlib.Omega.{arith}
-use borrow.Author.Tests.{eq-eqb, ne-eqb}
+use borrow.Author.Tests.{eq-eqb, ne-eqb, not-true, not-false}
 use lib.Dec.{eqb, leb}
-use lib.ListN.{getD}
-use Rattle.octets.specs.Bytes.{_and_, _or_, part, every}
-use Rattle.octets.proofs.Zero.{every-same, every-off}
+use Rattle.octets.specs.Bytes.{_and_, _or_, part, every, any}
+use Rattle.octets.proofs.Zero.{every-same, every-off, Held, held-all, held-fails, any-none, any-more, any-on}
 use Rattle.marks.specs.declared.History.{History}
 use Rattle.marks.specs.Incarnation.{checkpointedIn, sameIncarnation}
 use Rattle.marks.specs.History.{incarnationOf}
@@ -18,67 +17,58 @@ use Rattle.maps.specs.declared.DependenceMap.{DependenceMap}
 use Rattle.maps.specs.Map.{heldAt, historyAt}
 use Rattle.maps.proofs.Packed.{bounded-at, mapOk-bounded}
 use Rattle.rules.specs.Layout.{Layout, Limits, base, historyBytes, stateAt, creationAt, transactorAddress}
-use Rattle.rules.specs.Status.{ready, busy, annihilated}
+use Rattle.rules.specs.Status.{annihilated}
 use Rattle.rules.specs.State.{State, live, transactorAt, ownHistory}
-use Rattle.rules.specs.Refusals.{any, named, anyNamed, groupBits}
+use Rattle.rules.specs.Refusals.{named, anyNamed, groupBits}
 use Rattle.rules.specs.Rules.{entryReady, mapReady, transactorReady, groupReady}
 use Rattle.rules.specs.Pack.{unpackDependences, unpack}
 use Rattle.rules.specs.Internal.Good.{Good}
 use Rattle.rules.specs.Internal.Guards.{blocksAt}
 use Rattle.rules.specs.Internal.Closure.{storedReady, pairReady, lacking, missing}
-use Rattle.rules.proofs.Pack.Loads.{held-at, history-at, read-opened, read-status, read-state, read-creation}
-use Rattle.rules.proofs.Any.{any-on}
-
--- ---- the status byte of take t
-
-module _ (y : Layout) (img : List ℕ) (t : ℕ) (below : t < y .transactors) where
-  abbrev status : ℕ
-  status = getD img (transactorAddress y t) 0 / 64
-
-  pub live-ready : status ≡ ready → eqb status ready ≡ live (transactorAt (unpack y img) t)
-  live-ready e = rw (read-status y img t below, e)
-
-  pub live-busy : (status ≡ ready → ⊥) → eqb status busy ≡ live (transactorAt (unpack y img) t)
-  live-busy n = rw (read-status y img t below, ne-eqb status ready n)
+use Rattle.rules.proofs.Pack.Loads.{held-at, history-at, read-state, read-creation}
 
 -- ---- what blocks a signing
 
-module _ (y : Layout) (m : Limits) (img : List ℕ) (number t : ℕ) where
-  pub blocks-unopened : number ≡ 21 → leb (getD img 0 0) t ≡ blocksAt m (unpack y img) number t
+module _ (m : Limits) (s : State) (number t : ℕ) where
+  pub blocks-unopened : number ≡ 21 → leb (s .opened) t ≡ blocksAt m s number t
   unfolding blocksAt
-  blocks-unopened e = rw (eq-eqb number 21 e, read-opened y img)
+  blocks-unopened e = rw (eq-eqb number 21 e)
 
-  module _ (opened : number ≡ 21 → ⊥) (below : t < y .transactors) where
-    pub blocks-gone : number ≡ 22 → eqb (getD img (transactorAddress y t) 0 / 64) annihilated ≡ blocksAt m (unpack y img) number t
+  module _ (other : number ≡ 21 → ⊥) where
+    pub blocks-gone : number ≡ 22 → eqb (transactorAt s t .status) annihilated ≡ blocksAt m s number t
     unfolding blocksAt
-    blocks-gone e = rw (ne-eqb number 21 opened, eq-eqb number 22 e, read-status y img t below)
+    blocks-gone e = rw (ne-eqb number 21 other, eq-eqb number 22 e)
 
-    pub blocks-full : (number ≡ 22 → ⊥) → (h : History) → h ≡ ownHistory t (transactorAt (unpack y img) t) → leb (m .checkpoints) (h .count) ≡ blocksAt m (unpack y img) number t
+    pub blocks-full : (number ≡ 22 → ⊥) → (h : History) → h ≡ ownHistory t (transactorAt s t) → leb (m .checkpoints) (h .count) ≡ blocksAt m s number t
     unfolding blocksAt
-    blocks-full n h e = rw (ne-eqb number 21 opened, ne-eqb number 22 n, e)
+    blocks-full n h e = rw (ne-eqb number 21 other, ne-eqb number 22 n, e)
 
--- ---- a test of the named takes, one after the other
+-- ---- a loop over the takes: f holds of none of the first t that g names
 
--- take t is named, and f holds of it
-unfoldable pub namedAnd : ℕ → (ℕ → Bool) → ℕ → Bool
-namedAnd g f t = named g t and f t
+pub record NoneNamed (g : ℕ) (f : ℕ → Bool) (t : ℕ) : Type 0 where
+  pub within : t ≤ groupBits
+  pub none : any t (λ u. named g u and f u) ≡ false
 
-module _ (g : ℕ) (f : ℕ → Bool) (t : ℕ) where
-  pub named-off : (n : Bool) → n ≡ named g t → n ≡ false → namedAnd g f t ≡ false
-  unfolding namedAnd
-  named-off n e o = rw (← e, o)
+pub none-first : (g : ℕ) (f : ℕ → Bool) → NoneNamed g f 0
+none-first g f = record { within = omega arith; none = any-none (λ u. named g u and f u) }
 
-  pub named-on : (n r v : Bool) → n ≡ named g t → n ≡ true → r ≡ f t → r ≡ v → namedAnd g f t ≡ v
-  unfolding namedAnd
-  named-on n r v e o q p = rw (← e, o) (sym q ∙ p)
+module _ {g : ℕ} {f : ℕ → Bool} {t : ℕ} (none : NoneNamed g f t) where
+  pub none-unnamed : t < groupBits → named g t ≡ false → NoneNamed g f (t + 1)
+  none-unnamed h e = record { within = omega arith; none = any-more (λ u. named g u and f u) t (none .none) (rw e) }
 
-  pub anyNamed-found : t < groupBits → namedAnd g f t ≡ true → true ≡ anyNamed g f
-  unfolding anyNamed namedAnd
-  anyNamed-found h e = sym (any-on (λ t. named g t and f t) groupBits t h e)
+  module _ (h : t < groupBits) (e : named g t ≡ true) where
+    pub none-more : f t ≡ false → NoneNamed g f (t + 1)
+    none-more o = record { within = omega arith; none = any-more (λ u. named g u and f u) t (none .none) (rw (e, o)) }
 
-  pub anyNamed-end : t ≡ groupBits → any t (namedAnd g f) ≡ false → false ≡ anyNamed g f
-  unfolding anyNamed namedAnd
-  anyNamed-end h e = sym (rw h at e)
+    pub none-found : f t ≡ true → true ≡ anyNamed g f
+    unfolding anyNamed
+    none-found o = sym (any-on (λ u. named g u and f u) groupBits t h (rw (e, o)))
+
+  pub none-all : groupBits ≤ t → false ≡ anyNamed g f
+  unfolding anyNamed
+  none-all h =
+      let e : t ≡ groupBits = omega arith in
+      sym (rw e at (none .none))
 
 -- ---- one mark
 
@@ -92,29 +82,32 @@ module _ (y : Layout) (img : List ℕ) (g at u : ℕ) where
   abbrev present : Bool
   present = presentIn (part at (historyBytes y) img)
 
-  pub stored-absent : present ≡ false → true ≡ storedReady y img g at u
+  pub stored-absent : not present ≡ true → true ≡ storedReady y img g at u
   unfolding storedReady
   stored-absent e = rw e
 
-  pub stored-dead : present ≡ true → live (transactorAt (unpack y img) u) ≡ false → false ≡ storedReady y img g at u
-  unfolding storedReady entryReady
-  stored-dead e l = rw (e, l)
+  module _ (there : not present ≡ false) where
+    pub stored-dead : not (live (transactorAt (unpack y img) u)) ≡ true → false ≡ storedReady y img g at u
+    unfolding storedReady entryReady
+    stored-dead l = rw (there, not-true (live (transactorAt (unpack y img) u)) l)
 
-  pub stored-live : present ≡ true → live (transactorAt (unpack y img) u) ≡ true
-      → (h own : History) → h ≡ unpackHistory (y .width) (y .places) (part at (historyBytes y) img) → own ≡ ownHistory u (transactorAt (unpack y img) u)
-      → (n r : Bool) → n ≡ named g u → r ≡ checkpointedIn (incarnationOf h) (incarnationOf own) or (n and sameIncarnation (incarnationOf h) (incarnationOf own)) → r ≡ storedReady y img g at u
-  unfolding storedReady entryReady
-  stored-live e l h own p q n r m c = rw (e, l, ← p, ← q, ← m, c)
+    pub stored-live : not (live (transactorAt (unpack y img) u)) ≡ false
+        → (h own : History) → h ≡ unpackHistory (y .width) (y .places) (part at (historyBytes y) img) → own ≡ ownHistory u (transactorAt (unpack y img) u)
+        → (n : Bool) → n ≡ named g u → checkpointedIn (incarnationOf h) (incarnationOf own) or (n and sameIncarnation (incarnationOf h) (incarnationOf own)) ≡ storedReady y img g at u
+    unfolding storedReady entryReady
+    stored-live l h own p q n m = rw (there, not-false (live (transactorAt (unpack y img) u)) l, ← p, ← q, ← m)
 
 module _ (y : Layout) (img : List ℕ) (g t u : ℕ) where
-  pub pair-off : (r : Bool) → r ≡ storedReady y img g (transactorAddress y t + stateAt + historyBytes y * u) u → r ≡ false → false ≡ pairReady y img g t u
-  unfolding pairReady
-  pair-off r e n = rw (← e, n)
+  abbrev state : Bool
+  state = storedReady y img g (transactorAddress y t + stateAt + historyBytes y * u) u
 
-  pub pair-on : (r r' : Bool) → r ≡ storedReady y img g (transactorAddress y t + stateAt + historyBytes y * u) u → r ≡ true
-      → r' ≡ storedReady y img g (transactorAddress y t + creationAt y + historyBytes y * u) u → r' ≡ pairReady y img g t u
+  pub pair-off : not state ≡ true → false ≡ pairReady y img g t u
   unfolding pairReady
-  pair-on r r' e n f = rw (← e, n, f)
+  pair-off e = rw (not-true state e)
+
+  pub pair-on : not state ≡ false → storedReady y img g (transactorAddress y t + creationAt y + historyBytes y * u) u ≡ pairReady y img g t u
+  unfolding pairReady
+  pair-on e = rw (not-false state e)
 
 -- ---- a group, take by take and mark by mark
 
@@ -142,13 +135,13 @@ module _ (y : Layout) (img : List ℕ) (g t : ℕ) where
   abbrev s : State
   s = unpack y img
 
-  pub ready-end : (ok : Bool) → ok ≡ true → every t (namedReady y s g) ≡ true → t ≡ y .transactors → ok ≡ groupReady y s g
+  pub ready-end : {ok : Bool} → ok ≡ true → Held (namedReady y s g) (y .transactors) t → y .transactors ≤ t → ok ≡ groupReady y s g
   unfolding groupReady namedReady
-  ready-end ok o e h = o ∙ sym (rw h at e)
+  ready-end o held h = o ∙ held-all held h
 
-  pub ready-unnamed : (n : Bool) → n ≡ named g t → n ≡ false → namedReady y s g t ≡ true
+  pub ready-unnamed : named g t ≡ false → not (namedReady y s g t) ≡ false
   unfolding namedReady
-  ready-unnamed n e o = rw (← e, o)
+  ready-unnamed o = rw o
 
   module _ (below : t < y .transactors) where
     -- the marks from at on, as they stand in the image
@@ -170,30 +163,35 @@ module _ (y : Layout) (img : List ℕ) (g t : ℕ) where
     unfolding transactorReady
     transactor-is = rw marks-are
 
-    module _ (n : Bool) (name : n ≡ named g t) (on : n ≡ true) (f : Bool) (frozen : f ≡ ownHistory t (transactorAt s t) .stable) where
-      named-is : namedReady y s g t ≡ f and every (y .transactors) (pairReady y img g t)
+    abbrev stable : Bool
+    stable = ownHistory t (transactorAt s t) .stable
+
+    module _ (name : named g t ≡ true) where
+      named-is : namedReady y s g t ≡ stable and every (y .transactors) (pairReady y img g t)
       unfolding namedReady
-      named-is = rw (← name, on, transactor-is, ← frozen)
+      named-is = rw (name, transactor-is)
 
-      pub ready-unstable : f ≡ false → false ≡ groupReady y s g
+      not-ready : namedReady y s g t ≡ false → false ≡ groupReady y s g
       unfolding groupReady namedReady
-      ready-unstable e = sym (every-off (namedReady y s g) (y .transactors) t below (named-is ∙ rw e))
+      not-ready e = sym (every-off (namedReady y s g) (y .transactors) t below e)
 
-      module _ (still : f ≡ true) where
-        pub ready-named : (u : ℕ) → every u (pairReady y img g t) ≡ true → u ≡ y .transactors → namedReady y s g t ≡ true
-        ready-named u e h = let a : every (y .transactors) (pairReady y img g t) ≡ true = rw h at e in named-is ∙ rw (still, a)
+      pub ready-unstable : not stable ≡ true → false ≡ groupReady y s g
+      ready-unstable e = not-ready (named-is ∙ rw (not-true stable e))
 
-        pub ready-unmet : (u : ℕ) → u < y .transactors → (r : Bool) → r ≡ pairReady y img g t u → r ≡ false → false ≡ groupReady y s g
-        unfolding groupReady namedReady
-        ready-unmet u h r e o = sym (every-off (namedReady y s g) (y .transactors) t below (named-is ∙ rw (still, every-off (pairReady y img g t) (y .transactors) u h (sym e ∙ o))))
+      module _ (still : not stable ≡ false) where
+        pub ready-named : {u : ℕ} → Held (pairReady y img g t) (y .transactors) u → y .transactors ≤ u → not (namedReady y s g t) ≡ false
+        ready-named held h = rw (named-is, not-false stable still, ← held-all held h)
+
+        pub ready-unmet : {u : ℕ} → Held (pairReady y img g t) (y .transactors) u → u < y .transactors → not (pairReady y img g t u) ≡ true → false ≡ groupReady y s g
+        ready-unmet held h e = not-ready (named-is ∙ rw (not-false stable still, ← held-fails held h e))
 
 -- ---- a take that the group lacks
 
-module _ (y : Layout) (img : List ℕ) (g u : ℕ) (n : Bool) (name : n ≡ named g u) where
-  pub missing-named : not n ≡ false → missing y img g u ≡ false
+module _ (y : Layout) (img : List ℕ) (g u : ℕ) where
+  pub missing-named : not (named g u) ≡ false → missing y img g u ≡ false
   unfolding missing
-  missing-named o = rw (← name, o)
+  missing-named o = rw o
 
-  pub missing-unnamed : not n ≡ true → (r v : Bool) → r ≡ lacking y img g u → r ≡ v → missing y img g u ≡ v
+  pub missing-unnamed : (v : Bool) → not (named g u) ≡ true → lacking y img g u ≡ v → missing y img g u ≡ v
   unfolding missing
-  missing-unnamed o r v q p = rw (← name, o) (sym q ∙ p)
+  missing-unnamed v o e = rw (o, e)

@@ -7,11 +7,11 @@ use mathlib.Core.List.{List}
 use mathlib.Core.Option.{Option, none, some}
 use mathlib.Core.Logic.{_↔_}
 use native.Mathlib.Omega.{arith}
-use borrow.Author.Tests.{not-true, eq-eqb, ne-eqb, eqb-true, eqb-false, leb-false, lt-leb}
+use borrow.Author.Tests.{eq-eqb, ne-eqb, eqb-true, eqb-false, leb-false, lt-leb}
 use lib.Dec.{eqb, leb}
 use Rattle.octets.specs.Bytes.{_and_, _or_, Octets}
 use Rattle.octets.specs.Numbers.{bound}
-use Rattle.octets.proofs.Tests.{never, and-off, implied, same-test}
+use Rattle.octets.proofs.Tests.{never, pick-zero, implied, same-test}
 use Rattle.octets.proofs.Zero.{both, every-at}
 use Rattle.marks.specs.declared.History.{History}
 use Rattle.maps.proofs.Map.{history-empty}
@@ -25,23 +25,18 @@ use Rattle.rules.specs.Pack.{unpack}
 use Rattle.rules.specs.Calls.{offerRefusal}
 use Rattle.rules.specs.Internal.Well.{Live, idle, working, TransactorFormed, not-opened, gone, alive, WellFormed}
 use Rattle.rules.specs.Groups.{signing, Checkpointable, Meets, Within, Smallest, refused, nothing, smallest}
-use Rattle.rules.specs.Internal.Guards.{blocksAt}
+use Rattle.rules.specs.Internal.Guards.{blocksAt, groupRefusal}
 use Rattle.rules.specs.Internal.Closure.{Closure}
-use Rattle.rules.proofs.Any.{any-at, any-off}
 use Rattle.rules.proofs.Form.State.{formed-state}
-use Rattle.rules.proofs.Bits.{named-same, named-zero}
+use Rattle.rules.proofs.Bits.{named-same, named-zero, named-at, unnamed-all}
 use Rattle.rules.proofs.Groups.Signable.{signing-done}
 use Rattle.rules.proofs.Groups.Closure.{closed-ready}
 use Rattle.rules.proofs.Calls.Query.{query-accepted}
 
 -- none of the takes of w, none of those of v
 anyNamed-within : (v w : ℕ) (f : ℕ → Bool) → Within v w → anyNamed w f ≡ false → anyNamed v f ≡ false
-unfolding anyNamed Within
-anyNamed-within v w f inside e = any-off (λ t. named v t and f t) groupBits (λ t h. go t h (named v t) refl)
-  where
-    go : (t : ℕ) → t < groupBits → (n : Bool) → named v t ≡ n → n and f t ≡ false
-    go t h true n = and-off (named w t) (f t) (any-at (λ t. named w t and f t) groupBits t e h) (inside t n)
-    go t h false n = refl
+unfolding Within
+anyNamed-within v w f inside e = unnamed-all v f (λ t h n. named-at w f t e h (inside t n))
 
 module _ (y : Layout) (m : Limits) (s : State) where
   -- a named take blocks, by its number
@@ -56,14 +51,16 @@ module _ (y : Layout) (m : Limits) (s : State) where
     ready : groupReady y s v ≡ true
 
   signable : (v : ℕ) → stepOf y m s (signing v) .reply .outcome ≡ done → Signable v
+  unfolding groupRefusal
   signable v e =
-      let a = both (not (eqb v 0)) _ (sym (signing-done y m s v) ∙ eq-eqb (stepOf y m s (signing v) .reply .outcome) done e) in
-      let b = both (not (blocked v 21)) _ (a .1) in
-      let c = both (not (blocked v 22)) _ (b .1) in
-      let d = both (not (blocked v 30)) _ (c .1) in
-      record { opened = not-true _ (b .0); there = not-true _ (c .0); room = not-true _ (d .0); ready = d .1 }
+      let a = both (eqb (groupRefusal m s v) 0) (groupReady y s v) (sym (signing-done y m s v) ∙ eq-eqb (stepOf y m s (signing v) .reply .outcome) done e) in
+      let b = pick-zero (eqb v 0) 29 _ (omega arith) (eqb-true (groupRefusal m s v) 0 (a .0)) in
+      let c = pick-zero (blocked v 21) 21 _ (omega arith) (b .1) in
+      let d = pick-zero (blocked v 22) 22 _ (omega arith) (c .1) in
+      record { opened = c .0; there = d .0; room = pick-zero (blocked v 30) 30 0 (omega arith) (d .1) .0; ready = a .1 }
 
   signs : (v : ℕ) → (v ≡ 0 → ⊥) → Signable v → stepOf y m s (signing v) .reply .outcome ≡ done
+  unfolding groupRefusal
   signs v n a = eqb-true (stepOf y m s (signing v) .reply .outcome) done (signing-done y m s v ∙ rw (ne-eqb v 0 n, a .opened, a .there, a .room, a .ready))
 
 -- in a well-formed state: the sets of takes with t, none of them with all its signings, that meet the signing rule
@@ -92,33 +89,26 @@ module _ {y : Layout} (m : Limits) {s : State} (well : WellFormed y s) (size : y
         go (alive h a) e = (lt-leb (s .opened) t h, there (a .status))
 
   pub checkpointable-rule : (t v : ℕ) → Checkpointable y m s t v ↔ Meets y m s t v
-  unfolding anyNamed blocksAt
+  unfolding blocksAt
   checkpointable-rule t v = (
     λ c. let a = signable y m s v (c .signs) in record {
-      volume = c .volume;
+      bits = c .bits;
       contains = c .contains;
       room = λ u h n. leb-false (m .checkpoints) (ownHistory u (transactorAt s u) .count)
-          (and-off (named v u) _ (any-at (λ u. named v u and blocksAt m s 30 u) groupBits u (a .room) (omega arith)) n);
+          (named-at v (blocksAt m s 30) u (a .room) (omega arith) n);
       ready = a .ready;
     },
     λ r. record {
-      volume = r .volume;
+      bits = r .bits;
       contains = r .contains;
       signs = signs y m s v (λ z. never (sym (r .contains) ∙ rw z (named-zero t))) (record {
-        opened = unblocked 21 (λ u h n. stands v (r .ready) u h n .0);
-        there = unblocked 22 (λ u h n. stands v (r .ready) u h n .1);
-        room = unblocked 30 (λ u h n. lt-leb (m .checkpoints) (ownHistory u (transactorAt s u) .count) (r .room u (omega arith) n));
+        opened = unnamed-all v (blocksAt m s 21) (λ u h n. stands v (r .ready) u h n .0);
+        there = unnamed-all v (blocksAt m s 22) (λ u h n. stands v (r .ready) u h n .1);
+        room = unnamed-all v (blocksAt m s 30) (λ u h n. lt-leb (m .checkpoints) (ownHistory u (transactorAt s u) .count) (r .room u (omega arith) n));
         ready = r .ready;
       });
     },
   )
-    where
-      met : (n f : Bool) → (n ≡ true → f ≡ false) → n and f ≡ false
-      met true f e = e refl
-      met false f e = refl
-
-      unblocked : (k : ℕ) → ((u : ℕ) → u < groupBits → named v u ≡ true → blocksAt m s k u ≡ false) → blocked y m s v k ≡ false
-      unblocked k f = any-off (λ u. named v u and blocksAt m s k u) groupBits (λ u h. met (named v u) (blocksAt m s k u) (f u h))
 
 module _ (y : Layout) (m : Limits) (img : List ℕ) (t r : ℕ) (is : r ≡ offerRefusal y img t) where
   abbrev s : State
@@ -148,7 +138,7 @@ module _ (y : Layout) (m : Limits) (img : List ℕ) (t r : ℕ) (is : r ≡ offe
     grouped-some fits e = (
       is,
       smallest (sym is ∙ zero)
-          (record { volume = fits; contains = closure .contains; signs = eqb-true (stepOf y m s (signing g) .reply .outcome) done (sym tested ∙ e) })
+          (record { bits = fits; contains = closure .contains; signs = eqb-true (stepOf y m s (signing g) .reply .outcome) done (sym tested ∙ e) })
           (λ w c. closure .least w (c .contains) (signable y m s w (c .signs) .ready)),
     )
 
@@ -170,7 +160,7 @@ none-exactly-base img t o z = none-exactly base standard img t o refl z
 pub smallest-unique : {y : Layout} {m : Limits} {img : List ℕ} {t : ℕ} {a b : Option ℕ} → Smallest y m img t a → Smallest y m img t b → a ≡ b
 unfolding bound Within
 smallest-unique (smallest {v} z c l) (smallest {v = w} _ d k) =
-    ap some (named-same groupBits v w (c .volume) (d .volume) (λ u h. same-test (named v u) (named w u) (l w d u) (k v c u)))
+    ap some (named-same groupBits v w (c .bits) (d .bits) (λ u h. same-test (named v u) (named w u) (l w d u) (k v c u)))
 smallest-unique (smallest {v} z c l) (nothing _ n) = absurd (n v c)
 smallest-unique (smallest z c l) (refused n) = absurd (n z)
 smallest-unique (nothing z n) (smallest {v = w} _ d k) = absurd (n w d)

@@ -1,7 +1,7 @@
 -- What a step that is not refused may rely on.
 use Prim.Native.Nat.{ℕ, _≤_, _<_}
 use mathlib.Core.Bool.{Bool, true, false, not}
-use mathlib.Core.Path.{_≡_}
+use mathlib.Core.Path.{_≡_, refl}
 use native.Mathlib.Omega.{arith}
 use lib.Dec.{eqb, ltb, leb}
 use borrow.Author.Tests.{leb-false, ltb-false, lt-ltb, eqb-true, eqb-false, not-false}
@@ -11,11 +11,7 @@ use Rattle.rules.specs.Status.{ready, busy, annihilated}
 use Rattle.rules.specs.Step.{Step, root, receive, new, send, fall, fail, lose, sign}
 use Rattle.rules.specs.Refusals.{Seen, groupBits, named, anyNamed, acts, usesTransactor, sends, malformed, notWaiting, emptyGroup, unopened, isGone, wrongStatus, unrelatedReceipt, allOpened, allWaiting, allNumbered, allCheckpointed, atLast, lastRollsBack, refusalOf}
 use Rattle.octets.proofs.Tests.{pick-zero, or-off, and-off}
-use Rattle.rules.proofs.Any.{any-at}
-
-named-at : (g : ℕ) (f : ℕ → Bool) (t : ℕ) → anyNamed g f ≡ false → t < groupBits → named g t ≡ true → f t ≡ false
-unfolding anyNamed
-named-at g f t e h p = and-off (named g t) (f t) (any-at (λ t. named g t and f t) groupBits t e h) p
+use Rattle.rules.proofs.Bits.{named-at}
 
 -- ---- none of the conditions holds
 
@@ -163,24 +159,28 @@ module _ {m : Limits} {v : Seen} {p : Step} (a : Accepted m v p) where
     unfolding allCheckpointed
     named-room = leb-false (m .checkpoints) (v .checkpoints t) (named-at (p .message) (λ t. leb (m .checkpoints) (v .checkpoints t)) t (and-off (eqb (p .kind) sign) _ (a .checkpoints) k) below n)
 
--- ---- the table's numbers fit a byte
+-- ---- the table's numbers
 
-pub refusal-small : (m : Limits) (v : Seen) (p : Step) → refusalOf m v p < 256
+pub record InTable (n : ℕ) : Type 0 where
+  pub low : 20 ≤ n
+  pub high : n ≤ 31
+
+pub refusal-range : (m : Limits) (v : Seen) (p : Step) → (refusalOf m v p ≡ 0 → ⊥) → InTable (refusalOf m v p)
 unfolding refusalOf
-refusal-small m v p =
-    small (malformed p) 20 _ (omega arith)
-    (small (notWaiting v p) 24 _ (omega arith)
-    (small (emptyGroup p) 29 _ (omega arith)
-    (small (unopened v p) 21 _ (omega arith)
-    (small (isGone v p) 22 _ (omega arith)
-    (small (wrongStatus v p) 23 _ (omega arith)
-    (small (unrelatedReceipt v p) 31 _ (omega arith)
-    (small (allOpened m v p) 25 _ (omega arith)
-    (small (allWaiting m v p) 26 _ (omega arith)
-    (small (allNumbered v p) 27 _ (omega arith)
-    (small (allCheckpointed m v p) 30 _ (omega arith)
-    (small (lastRollsBack m v p) 28 0 (omega arith) (omega arith))))))))))))
+refusal-range m v p =
+    one (malformed p) 20 _ (omega arith) (omega arith)
+    (one (notWaiting v p) 24 _ (omega arith) (omega arith)
+    (one (emptyGroup p) 29 _ (omega arith) (omega arith)
+    (one (unopened v p) 21 _ (omega arith) (omega arith)
+    (one (isGone v p) 22 _ (omega arith) (omega arith)
+    (one (wrongStatus v p) 23 _ (omega arith) (omega arith)
+    (one (unrelatedReceipt v p) 31 _ (omega arith) (omega arith)
+    (one (allOpened m v p) 25 _ (omega arith) (omega arith)
+    (one (allWaiting m v p) 26 _ (omega arith) (omega arith)
+    (one (allNumbered v p) 27 _ (omega arith) (omega arith)
+    (one (allCheckpointed m v p) 30 _ (omega arith) (omega arith)
+    (one (lastRollsBack m v p) 28 0 (omega arith) (omega arith) (λ n. absurd (n refl)))))))))))))
   where
-    small : (c : Bool) (n r : ℕ) → n < 256 → r < 256 → pick c n r < 256
-    small true n r h k = h
-    small false n r h k = k
+    one : (c : Bool) (n r : ℕ) → 20 ≤ n → n ≤ 31 → ((r ≡ 0 → ⊥) → InTable r) → (pick c n r ≡ 0 → ⊥) → InTable (pick c n r)
+    one true n r low high f h = record { low = low; high = high }
+    one false n r low high f h = f h

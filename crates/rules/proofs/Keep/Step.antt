@@ -4,7 +4,7 @@ use mathlib.Core.Path.{_≡_}
 use mathlib.Core.List.{List}
 use native.Mathlib.Omega.{arith}
 use lib.Dec.{eqb}
-use borrow.Author.Tests.{eqb-true, eq-eqb, ne-eqb}
+use borrow.Author.Tests.{eqb-true, eqb-false, eq-eqb, ne-eqb}
 use Rattle.octets.specs.Bytes.{Octets}
 use Rattle.octets.specs.Numbers.{bound}
 use Rattle.octets.proofs.Numbers.{bound-pos}
@@ -17,7 +17,7 @@ use Rattle.rules.specs.Calls.{stateAfter}
 use Rattle.rules.proofs.Keep.Run.{stepOk-at}
 use Rattle.octets.proofs.Tests.{pick-view}
 use Rattle.rules.proofs.Keep.Kinds.{ReplyOk, ResultOk, reply-ok, keeps-apply}
-use Rattle.rules.proofs.Keep.Accepted.{refusal-small, accepted}
+use Rattle.rules.proofs.Keep.Accepted.{refusal-range, accepted}
 
 module _ (y : Layout) (m : Limits) (s : State) (p : Step) where
   -- a refused step changes nothing and answers its number
@@ -35,7 +35,7 @@ module _ {y : Layout} {m : Limits} {s : State} {p : Step} (z : Fitting y) (l : A
   unfolding stepOf refusal
   step-ok = pick-view (ResultOk y) (eqb (refusal y m s p) 0) _ _
       (λ e. keeps-apply z l w q (accepted m (seen y s) p (eqb-true (refusal y m s p) 0 e)))
-      (λ e. record { state = w; reply = reply-ok (refusal y m s p) 0 0 0 (refusal-small m (seen y s) p) (omega arith) (bound-pos 2) (bound-pos 4) })
+      (λ e. record { state = w; reply = reply-ok (refusal y m s p) 0 0 0 (omega (arith, refusal-range m (seen y s) p (eqb-false (refusal y m s p) 0 e) .high)) (omega arith) (bound-pos 2) (bound-pos 4) })
 
   pub keeps : WellFormed y (stepOf y m s p .state)
   keeps = step-ok .state

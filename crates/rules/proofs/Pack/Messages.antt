@@ -1,6 +1,6 @@
 -- The messages that wait: their numbers rise; loops that look for one, one more, one less.
 use Prim.Native.Nat.{ℕ, zero, suc, _+_, _-_, _*_, _≤_, _<_}
-use mathlib.Core.Bool.{Bool, true, false}
+use mathlib.Core.Bool.{true, false}
 use mathlib.Core.Path.{_≡_, sym, ap, _∙_}
 use mathlib.Core.List.{List, _++_}
 use mathlib.Core.Logic.{⊎-elim}
@@ -17,8 +17,7 @@ use Rattle.rules.specs.Layout.{Layout, dependencesAt, messageBytes, mess
 use Rattle.rules.specs.State.{State, placeFrom, placeOf, numbered, messageAt, withMessage, withoutMessage, addressedTo}
 use Rattle.rules.specs.Pack.{packDependences, packMessage, vacantAt, waitingIn, pack, unpack}
 use Rattle.rules.specs.Internal.Well.{WellFormed}
-use Rattle.rules.proofs.Places.{placeFrom-here, placeFrom-more, placeFrom-end}
-use Rattle.rules.proofs.Pack.Loads.{unpack-waiting, read-vacant, read-number, read-next}
+use Rattle.rules.proofs.Pack.Loads.{unpack-waiting, read-vacant, read-number}
 use Rattle.rules.proofs.Pack.Stores.{sent, put-packMessage, pack-withMessage, pack-removed}
 
 -- in a well-formed state a later place has a higher number
@@ -31,17 +30,6 @@ numbers-rise {y} {s} w i (suc j) h b =
     (λ (p : i ≡ j). rw p next)
     (cases j i h)
 
--- a loop looks for the place p among n, and is at place i
-module _ (f : ℕ → Bool) (n i p : ℕ) (rest : p ≡ placeFrom f i (n - i)) where
-  pub place-found : i < n → f i ≡ true → i ≡ p
-  place-found h e = sym (rest ∙ placeFrom-here f n i h e)
-
-  pub place-passed : i < n → f i ≡ false → p ≡ placeFrom f (i + 1) (n - (i + 1))
-  place-passed h e = rest ∙ placeFrom-more f n i h e
-
-  pub place-none : n ≤ i → i ≡ p
-  place-none h = sym (rest ∙ placeFrom-end f n i h)
-
 module _ (y : Layout) (img : List ℕ) where
   -- ---- what the head byte of a place says
 
@@ -53,9 +41,9 @@ module _ (y : Layout) (img : List ℕ) where
 
   -- ---- the number in a place, r
 
-  pub placeOf-rest : (n p : ℕ) → n ≡ waitingIn y img → placeOf (unpack y img) p ≡ placeFrom (numbered (unpack y img) p) 0 (n - 0)
+  pub placeOf-among : (n p : ℕ) → n ≡ waitingIn y img → placeFrom (numbered (unpack y img) p) 0 n ≡ placeOf (unpack y img) p
   unfolding placeOf
-  placeOf-rest n p e = ap (placeFrom (numbered (unpack y img) p) 0) (omega (arith, unpack-waiting y img))
+  placeOf-among n p e = ap (placeFrom (numbered (unpack y img) p) 0) (omega (arith, unpack-waiting y img))
 
   module _ (k r p : ℕ) (below : k < waitingIn y img) (e : r ≡ ofBe 2 (part (messageAddress y k + 1) 2 img)) where
     pub numbered-so : r ≡ p → numbered (unpack y img) p k ≡ true
@@ -81,7 +69,7 @@ module _ (y : Layout) (img : List ℕ) where
 
   module _ (whole : length img ≡ imageBytes y) (back : pack y (unpack y img) ≡ img) (n : ℕ) (waits : n ≡ waitingIn y img) where
     -- the fields of one more message, and the next number
-    pub append-image : (to v p : ℕ) (m : DependenceMap) (l1 l2 l3 l4 : List ℕ) → n < y .messages → to < 16 → p ≡ ofBe 2 (part 1 2 img)
+    pub append-image : (to v p : ℕ) (m : DependenceMap) (l1 l2 l3 l4 : List ℕ) → n < y .messages → to < 16 → p ≡ unpack y img .next
         → l1 ≡ put (messageAddress y n + 1) (be 2 p) (set img (messageAddress y n) (128 + to))
         → l2 ≡ put (messageAddress y n + 3) (be 4 v) l1
         → l3 ≡ put (messageAddress y n + dependencesAt) (packDependences y m) l2
@@ -93,9 +81,8 @@ module _ (y : Layout) (img : List ℕ) where
         let fits : a + messageBytes y ≤ length img = omega (arith, step (messageBytes y) n (y .messages) room) in
         let many : length (s .messages) ≡ n = omega (arith, unpack-waiting y img) in
         let head : set img a (128 + to) ≡ put a (be 1 (128 + to)) img = sym (put-be-one a (128 + to) img (omega arith) (omega arith)) in
-        let number : p ≡ s .next = e ∙ sym (read-next y img) in
-        let fields : l3 ≡ put a (packMessage y (sent s to v m)) img = rw (e3, e2, e1, head, number) (put-packMessage y (sent s to v m) a img fits) in
-        rw (e4, fields, number) (rw (back, many) at (pack-withMessage y s to v m (omega arith)))
+        let fields : l3 ≡ put a (packMessage y (sent s to v m)) img = rw (e3, e2, e1, head, e) (put-packMessage y (sent s to v m) a img fits) in
+        rw (e4, fields, e) (rw (back, many) at (pack-withMessage y s to v m (omega arith)))
 
     -- the later ones moved down over the one in place k
     pub remove-image : (k : ℕ) (l : List ℕ) → n ≤ y .messages → k < n

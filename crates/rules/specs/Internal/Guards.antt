@@ -8,7 +8,7 @@ use Rattle.octets.specs.Bytes.{pick, _and_}
 use Rattle.rules.specs.Layout.{Limits, lastNumber}
 use Rattle.rules.specs.Status.{busy, annihilated}
 use Rattle.rules.specs.State.{Transactor, State, ownHistory, transactorAt}
-use Rattle.rules.specs.Refusals.{named}
+use Rattle.rules.specs.Refusals.{named, anyNamed}
 
 -- a signed take at the largest life number
 unfoldable pub isLastIncarnation : Limits → ℕ → Transactor → Bool
@@ -34,6 +34,14 @@ blocksAt m s number t =
     pick (eqb number 21) (leb (s .opened) t)
     (pick (eqb number 22) (eqb (transactorAt s t .status) annihilated)
     (leb (m .checkpoints) (ownHistory t (transactorAt s t) .count)))
+
+-- the refusals of a volume: empty, 29, or the first for which a named take blocks it
+unfoldable pub groupRefusal : Limits → State → ℕ → ℕ
+groupRefusal m s g =
+    pick (eqb g 0) 29
+    (pick (anyNamed g (blocksAt m s 21)) 21
+    (pick (anyNamed g (blocksAt m s 22)) 22
+    (pick (anyNamed g (blocksAt m s 30)) 30 0)))
 
 -- every named take has room for one more signing
 unfoldable pub Room : Limits → State → ℕ → Type 0

@@ -1,3 +1,4 @@
+-- Not waiting, gone, not idle, from the last incarnation, or taken in; the message is gone then.
 use mathlib.Core.Path.{_≡_, sym, _∙_}
 use mathlib.Core.Logic.{⊎-elim}
 use native.Mathlib.Omega.{arith}
@@ -28,62 +29,20 @@ found c =
 idle : (c : tie.Else3) → let d = c .before .before .before .before in transactorAt (unpack base (start (d .before .before .before) .args .image .now)) (d .addressee .result) .status ≡ ready
 idle c = sym (c .before .before .status .ensures) ∙ c .if3 .left
 
-waiting-requires : tie.Need-waiting-requires
-waiting-requires c κs = search needs
-
-place-of-requires : tie.Need-place-of-requires
-place-of-requires c κs = search needs
-
-answered-requires : tie.Need-answered-requires
-answered-requires c κs = search needs
-
-same-length : tie.Need-same-length
-same-length c = search needs
-
 returns : tie.Need-returns
 returns c =
     let d = c .before .before in
     receive-missing _ _ (start d .pre) _ (d .place-of .ensures .0) _ (omega (arith, d .before .before .waiting .ensures .0)) (c .answered .ensures)
-
-addressee-requires : tie.Need-addressee-requires
-addressee-requires c κs = search needs
-
-status-requires : tie.Need-status-requires
-status-requires c κs = search needs
-
-answered-requires-2 : tie.Need-answered-requires-2
-answered-requires-2 c κs = search needs
-
-same-length-2 : tie.Need-same-length-2
-same-length-2 c = search needs
 
 returns-2 : tie.Need-returns-2
 returns-2 c =
     let st = c .before .before in
     receive-gone (found (st .before .before)) _ (sym (st .status .ensures) ∙ c .before .if2 .taken) (c .answered2 .ensures)
 
-answered-requires-3 : tie.Need-answered-requires-3
-answered-requires-3 c κs = search needs
-
-same-length-3 : tie.Need-same-length-3
-same-length-3 c = search needs
-
 returns-3 : tie.Need-returns-3
 returns-3 c =
     let st = c .before .before .before in
     receive-busy (found (st .before .before)) _ (λ z. c .before .before .if2 .left (st .status .ensures ∙ z)) (λ z. c .before .if3 .taken (st .status .ensures ∙ z)) (c .answered3 .ensures)
-
-content-requires : tie.Need-content-requires
-content-requires c κs = search needs
-
-accept-requires : tie.Need-accept-requires
-accept-requires c κs = search needs
-
-answered-requires-4 : tie.Need-answered-requires-4
-answered-requires-4 c κs = search needs
-
-same-length-4 : tie.Need-same-length-4
-same-length-4 c = search needs
 
 returns-4 : tie.Need-returns-4
 returns-4 c =
@@ -100,12 +59,6 @@ remove-requires c κs =
     let g = receive-good (found to) (idle e) (a .accept .ensures) (c .before .if4 .left) in
     (g .long, g .back, n .0 ∙ sym (receive-waiting (found to) (idle e) (a .accept .ensures) (c .before .if4 .left)), n .1, to .before .before .if1 .left)
 
-cast-t28 : tie.Need-cast-t28
-cast-t28 c = search needs
-
-same-length-5 : tie.Need-same-length-5
-same-length-5 c = search needs
-
 returns-5 : tie.Need-returns-5
 returns-5 c =
     let r = c .before .before .before in
@@ -119,25 +72,25 @@ pub receive-spec : {M : Type 1} → statement M
 receive-spec =
     tie.close
     (tie.spec
-    waiting-requires
-    place-of-requires
-    answered-requires
-    same-length
+    (λ c κs. search needs)
+    (λ c κs. search needs)
+    (λ c κs. search needs)
+    (λ c. search needs)
     returns
-    addressee-requires
-    status-requires
-    answered-requires-2
-    same-length-2
+    (λ c κs. search needs)
+    (λ c κs. search needs)
+    (λ c κs. search needs)
+    (λ c. search needs)
     returns-2
-    answered-requires-3
-    same-length-3
+    (λ c κs. search needs)
+    (λ c. search needs)
     returns-3
-    content-requires
-    accept-requires
-    answered-requires-4
-    same-length-4
+    (λ c κs. search needs)
+    (λ c κs. search needs)
+    (λ c κs. search needs)
+    (λ c. search needs)
     returns-4
     remove-requires
-    cast-t28
-    same-length-5
+    (λ c. search needs)
+    (λ c. search needs)
     returns-5)

@@ -1,15 +1,12 @@
+-- Receive, lose or sign.
 use borrow.Author.Tests.{ne-eqb}
 use Rattle.steps.proofs.uses_message.Statement.{statement}
 use Rattle.steps.proofs.uses_message.Tie as tie
 
-returns : tie.Need-returns
-returns c = rw (c .if1 .taken)
-
-returns-2 : tie.Need-returns-2
-returns-2 c = rw (c .if2 .taken)
-
-returns-3 : tie.Need-returns-3
-returns-3 c = rw (ne-eqb _ 2 (c .before .if1 .left), ne-eqb _ 11 (c .if2 .left))
-
 pub uses-message-spec : {M : Type 1} → statement M
-uses-message-spec = tie.close (tie.spec returns returns-2 returns-3)
+uses-message-spec =
+    tie.close
+    (tie.spec
+    (λ c. rw (c .if1 .taken))
+    (λ c. rw (c .if2 .taken))
+    (λ c. rw (ne-eqb _ 2 (c .before .if1 .left), ne-eqb _ 11 (c .if2 .left))))

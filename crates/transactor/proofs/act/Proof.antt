@@ -19,20 +19,11 @@ early : (e : tie.Joined2) {n : ℕ} {f : Effect} → e .before .before .before .
 unfolding unpackTransactor
 early e = act-early base standard _ _ _ _ (e .before .if1 .left) (λ w. w .1 .left) (λ w. w .left) (e .if2 .came)
 
-slice-read-status : tie.Need-slice-read-status
-slice-read-status c = search needs
-
-outcome-of-requires : tie.Need-outcome-of-requires
-outcome-of-requires c κs = search needs
-
 returns : tie.Need-returns
 unfolding unpackTransactor
 returns c =
     let d = c .before in
     acted (act-gone base standard _ _ _ _ (d .if1 .taken)) (c .outcome-of .ensures) (sym (d .before .before .before .pre .0 .back))
-
-outcome-of-requires-2 : tie.Need-outcome-of-requires-2
-outcome-of-requires-2 c κs = search needs
 
 returns-2 : tie.Need-returns-2
 unfolding unpackTransactor
@@ -43,27 +34,6 @@ returns-2 c =
     (act-idle base standard _ _ _ _ (e .before .if1 .left) (e .if2 .taken) (d .if3 .taken)) (c .outcome-of2 .ensures)
     (sym (e .before .before .before .before .pre .0 .back))
 
-read-requires : tie.Need-read-requires
-read-requires c κs = search needs
-
-write-requires : tie.Need-write-requires
-write-requires c κs = search needs
-
-freeze-requires : tie.Need-freeze-requires
-freeze-requires c κs = search needs
-
-become-ready-requires : tie.Need-become-ready-requires
-become-ready-requires c κs = search needs
-
-outcome-of-requires-3 : tie.Need-outcome-of-requires-3
-outcome-of-requires-3 c κs = search needs
-
-roll-back-unless-stable-requires : tie.Need-roll-back-unless-stable-requires
-roll-back-unless-stable-requires c κs = search needs
-
-same-length : tie.Need-same-length
-same-length c = search needs
-
 returns-3 : tie.Need-returns-3
 unfolding unpackTransactor localBy
 returns-3 c =
@@ -71,9 +41,6 @@ returns-3 c =
     acts-as
     (early (d .before) (d .match .keys1) (omega arith) refl)
     (c .before .before .read .ensures)
-
-same-length-2 : tie.Need-same-length-2
-same-length-2 c = search needs
 
 returns-4 : tie.Need-returns-4
 unfolding unpackTransactor localBy
@@ -83,9 +50,6 @@ returns-4 c =
     (early (d .before) (d .match .keys2) (omega arith) refl)
     (c .before .before .write .ensures)
 
-same-length-3 : tie.Need-same-length-3
-same-length-3 c = search needs
-
 returns-5 : tie.Need-returns-5
 unfolding unpackTransactor localBy
 returns-5 c =
@@ -94,9 +58,6 @@ returns-5 c =
     (early (d .before) (d .match .keys3) (omega arith) refl)
     (c .before .before .freeze .ensures)
 
-same-length-4 : tie.Need-same-length-4
-same-length-4 c = search needs
-
 returns-6 : tie.Need-returns-6
 unfolding unpackTransactor localBy finishBy
 returns-6 c =
@@ -104,9 +65,6 @@ returns-6 c =
     acted
     (early (d .before) (d .match .keys4) (omega arith) refl)
     (c .outcome-of3 .ensures) (c .before .before .before .become-ready .ensures)
-
-same-length-5 : tie.Need-same-length-5
-same-length-5 c = search needs
 
 returns-7 : tie.Need-returns-7
 unfolding unpackTransactor
@@ -123,24 +81,24 @@ pub act-spec : {M : Type 1} → statement M
 act-spec =
     tie.close
     (tie.spec
-    slice-read-status
-    outcome-of-requires
+    (λ c. search needs)
+    (λ c κs. search needs)
     returns
-    outcome-of-requires-2
+    (λ c κs. search needs)
     returns-2
-    read-requires
-    write-requires
-    freeze-requires
-    become-ready-requires
-    outcome-of-requires-3
-    roll-back-unless-stable-requires
-    same-length
+    (λ c κs. search needs)
+    (λ c κs. search needs)
+    (λ c κs. search needs)
+    (λ c κs. search needs)
+    (λ c κs. search needs)
+    (λ c κs. search needs)
+    (λ c. search needs)
     returns-3
-    same-length-2
+    (λ c. search needs)
     returns-4
-    same-length-3
+    (λ c. search needs)
     returns-5
-    same-length-4
+    (λ c. search needs)
     returns-6
-    same-length-5
+    (λ c. search needs)
     returns-7)

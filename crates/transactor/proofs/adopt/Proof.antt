@@ -12,23 +12,11 @@ use Rattle.transactor.proofs.Bytes.{stored}
 use Rattle.transactor.proofs.adopt.Statement.{statement}
 use Rattle.transactor.proofs.adopt.Tie as tie
 
-one-requires : tie.Need-one-requires
-one-requires c κs = search needs
-
-load-requires : tie.Need-load-requires
-load-requires c κs = search needs
-
-join-requires : tie.Need-join-requires
-join-requires c κs = search needs
-
 store-requires : tie.Need-store-requires
 store-requires c κs =
     let d = c .before in
     let e = d .before in
     (search needs, rw (d .join .ensures, e .load .ensures, e .before .before .one .ensures) (bounded-join _ _ _ _ (bounded-singleton _ _ _ _ (omega arith)) (bounded-unpack _ _ _ _ (omega arith))))
-
-same-length : tie.Need-same-length
-same-length c = search needs
 
 returns : tie.Need-returns
 unfolding adopts unpackTransactor zeros
@@ -42,4 +30,4 @@ returns c =
 pub adopt-spec : {M : Type 1} → statement M
 adopt-spec =
     tie.close
-    (tie.spec one-requires load-requires join-requires store-requires same-length returns)
+    (tie.spec (λ c κs. search needs) (λ c κs. search needs) (λ c κs. search needs) store-requires (λ c. search needs) returns)

@@ -10,12 +10,6 @@ use Rattle.transactor.proofs.Bytes.{status-stored, behaviour-cleared}
 use Rattle.transactor.proofs.become_ready.Statement.{statement}
 use Rattle.transactor.proofs.become_ready.Tie as tie
 
-mul-part : tie.Need-mul-part
-mul-part c = search needs
-
-slice-write-part : tie.Need-slice-write-part
-slice-write-part c = search needs
-
 clear-requires : tie.Need-clear-requires
 clear-requires c κs = omega (arith, length-set (c .before .before .args .part .now) 0 64)
 
@@ -31,4 +25,4 @@ returns c =
 pub become-ready-spec : {M : Type 1} → statement M
 become-ready-spec =
     tie.close
-    (tie.spec mul-part slice-write-part clear-requires same-length returns)
+    (tie.spec (λ c. search needs) (λ c. search needs) clear-requires same-length returns)

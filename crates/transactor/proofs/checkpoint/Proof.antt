@@ -7,21 +7,12 @@ use Rattle.rules.specs.Pack.{unpackTransactor}
 use Rattle.transactor.proofs.checkpoint.Statement.{statement}
 use Rattle.transactor.proofs.checkpoint.Tie as tie
 
-own-requires : tie.Need-own-requires
-own-requires c κs = search needs
-
 checkpoint-requires : tie.Need-checkpoint-requires
 checkpoint-requires c κs = rw (c .own .ensures) (search needs)
-
-load32-requires : tie.Need-load32-requires
-load32-requires c κs = search needs
 
 renew-requires : tie.Need-renew-requires
 renew-requires c κs =
     let d = c .before .before .before in (search needs, search needs, rw (d .checkpoint .ensures, d .before .own .ensures) (omega arith))
-
-same-length : tie.Need-same-length
-same-length c = search needs
 
 returns : tie.Need-returns
 unfolding checkpointBy unpackTransactor
@@ -33,4 +24,4 @@ returns c =
 pub checkpoint-spec : {M : Type 1} → statement M
 checkpoint-spec =
     tie.close
-    (tie.spec own-requires checkpoint-requires load32-requires renew-requires same-length returns)
+    (tie.spec (λ c κs. search needs) checkpoint-requires (λ c κs. search needs) renew-requires (λ c. search needs) returns)

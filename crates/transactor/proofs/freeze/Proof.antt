@@ -10,26 +10,8 @@ use Rattle.transactor.proofs.Bytes.{history-stored, own-bounded, acted}
 use Rattle.transactor.proofs.freeze.Statement.{statement}
 use Rattle.transactor.proofs.freeze.Tie as tie
 
-own-requires : tie.Need-own-requires
-own-requires c κs = search needs
-
-stabilize-requires : tie.Need-stabilize-requires
-stabilize-requires c κs = search needs
-
-mul-store : tie.Need-mul-store
-mul-store c = search needs
-
-add-store : tie.Need-add-store
-add-store c = search needs
-
 store-requires : tie.Need-store-requires
 store-requires c κs = (search needs, rw (c .before .stabilize .ensures) (own-bounded _ _ (c .before .before .own .ensures)))
-
-outcome-of-requires : tie.Need-outcome-of-requires
-outcome-of-requires c κs = search needs
-
-same-length : tie.Need-same-length
-same-length c = search needs
 
 returns : tie.Need-returns
 unfolding freezeBy unpackTransactor
@@ -45,11 +27,11 @@ pub freeze-spec : {M : Type 1} → statement M
 freeze-spec =
     tie.close
     (tie.spec
-    own-requires
-    stabilize-requires
-    mul-store
-    add-store
+    (λ c κs. search needs)
+    (λ c κs. search needs)
+    (λ c. search needs)
+    (λ c. search needs)
     store-requires
-    outcome-of-requires
-    same-length
+    (λ c κs. search needs)
+    (λ c. search needs)
     returns)

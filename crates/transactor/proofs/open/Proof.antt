@@ -7,19 +7,10 @@ use Rattle.transactor.proofs.Bytes.{stored}
 use Rattle.transactor.proofs.open.Statement.{statement}
 use Rattle.transactor.proofs.open.Tie as tie
 
-renew-requires : tie.Need-renew-requires
-renew-requires c κs = search needs
-
-store-requires : tie.Need-store-requires
-store-requires c κs = search needs
-
-same-length : tie.Need-same-length
-same-length c = search needs
-
 returns : tie.Need-returns
 unfolding zeros
 returns c =
     let d = c .before .before in stored base _ _ _ _ (put-creation base _ _) (d .before .before .before .before .renew .ensures) (d .store .ensures)
 
 pub open-spec : {M : Type 1} → statement M
-open-spec = tie.close (tie.spec renew-requires store-requires same-length returns)
+open-spec = tie.close (tie.spec (λ c κs. search needs) (λ c κs. search needs) (λ c. search needs) returns)

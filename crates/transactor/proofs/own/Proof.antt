@@ -8,18 +8,9 @@ use Rattle.rules.proofs.Pack.Loads.{history-at}
 use Rattle.transactor.proofs.own.Statement.{statement}
 use Rattle.transactor.proofs.own.Tie as tie
 
-mul-load : tie.Need-mul-load
-mul-load c = search needs
-
-add-load : tie.Need-add-load
-add-load c = search needs
-
-load-requires : tie.Need-load-requires
-load-requires c κs = search needs
-
 returns : tie.Need-returns
 unfolding unpackTransactor
 returns c = c .load .ensures ∙ sym (history-at base stateAt _ _ (omega arith))
 
 pub own-spec : {M : Type 1} → statement M
-own-spec = tie.close (tie.spec mul-load add-load load-requires returns)
+own-spec = tie.close (tie.spec (λ c. search needs) (λ c. search needs) (λ c κs. search needs) returns)

@@ -11,9 +11,6 @@ use Rattle.transactor.proofs.Bytes.{stored, map-exact, value-behind}
 use Rattle.transactor.proofs.read.Statement.{statement}
 use Rattle.transactor.proofs.read.Tie as tie
 
-load-requires : tie.Need-load-requires
-load-requires c κs = search needs
-
 join-into-requires : tie.Need-join-into-requires
 unfolding unpackTransactor
 join-into-requires c κs =
@@ -22,12 +19,6 @@ join-into-requires c κs =
       rw (c .before .load .ensures) (bounded-unpack _ _ _ _ (omega arith)),
       map-exact base _ (behaviourAt base) _ (omega arith) (put-behaviour base _ _) (sym (p .back)) refl,
     )
-
-load32-requires : tie.Need-load32-requires
-load32-requires c κs = search needs
-
-same-length : tie.Need-same-length
-same-length c = search needs
 
 returns : tie.Need-returns
 unfolding readBy unpackTransactor
@@ -41,4 +32,4 @@ returns c =
     }
 
 pub read-spec : {M : Type 1} → statement M
-read-spec = tie.close (tie.spec load-requires join-into-requires load32-requires same-length returns)
+read-spec = tie.close (tie.spec (λ c κs. search needs) join-into-requires (λ c κs. search needs) (λ c. search needs) returns)

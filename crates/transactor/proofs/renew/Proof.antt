@@ -12,15 +12,6 @@ use Rattle.transactor.proofs.Bytes.{stored, status-stored, history-stor
 use Rattle.transactor.proofs.renew.Statement.{statement}
 use Rattle.transactor.proofs.renew.Tie as tie
 
-clear-requires : tie.Need-clear-requires
-clear-requires c κs = search needs
-
-mul-part : tie.Need-mul-part
-mul-part c = search needs
-
-slice-write-part : tie.Need-slice-write-part
-slice-write-part c = search needs
-
 store32-requires : tie.Need-store32-requires
 store32-requires c κs = simp length-set (omega arith)
 
@@ -29,12 +20,6 @@ store32-requires-2 c κs =
     let g = c .before .before .before .before .before .before .before in
     let n = cleared-long base 64 _ (g .before .before .before .pre .0) (g .clear .ensures) in
     omega (arith, n)
-
-mul-store : tie.Need-mul-store
-mul-store c = search needs
-
-add-store : tie.Need-add-store
-add-store c = search needs
 
 store-requires : tie.Need-store-requires
 store-requires c κs =
@@ -66,13 +51,13 @@ pub renew-spec : {M : Type 1} → statement M
 renew-spec =
     tie.close
     (tie.spec
-    clear-requires
-    mul-part
-    slice-write-part
+    (λ c κs. search needs)
+    (λ c. search needs)
+    (λ c. search needs)
     store32-requires
     store32-requires-2
-    mul-store
-    add-store
+    (λ c. search needs)
+    (λ c. search needs)
     store-requires
     same-length
     returns)

@@ -10,26 +10,11 @@ use Rattle.transactor.proofs.Bytes.{acted, unstable-loose, unstable-fal
 use Rattle.transactor.proofs.roll_back_unless_stable.Statement.{statement}
 use Rattle.transactor.proofs.roll_back_unless_stable.Tie as tie
 
-own-requires : tie.Need-own-requires
-own-requires c κs = search needs
-
-roll-back-requires : tie.Need-roll-back-requires
-roll-back-requires c κs = search needs
-
-same-length : tie.Need-same-length
-same-length c = search needs
-
 returns : tie.Need-returns
 returns c =
     let d = c .before .before in
     let e = d .before .before in
     acts-as (unstable-loose base standard _ _ (e .before .before .own .ensures) _ (not-true _ (e .if1 .taken))) (d .roll-back .ensures)
-
-become-ready-requires : tie.Need-become-ready-requires
-become-ready-requires c κs = search needs
-
-outcome-of-requires : tie.Need-outcome-of-requires
-outcome-of-requires c κs = search needs
 
 same-length-2 : tie.Need-same-length-2
 same-length-2 c = ⊎-elim (λ w. omega (arith, ap length (w .5))) (λ w. omega (arith, ap length (w .1))) (c .before .if2 .came)
@@ -47,11 +32,11 @@ pub roll-back-unless-stable-spec : {M : Type 1} → statement M
 roll-back-unless-stable-spec =
     tie.close
     (tie.spec
-    own-requires
-    roll-back-requires
-    same-length
+    (λ c κs. search needs)
+    (λ c κs. search needs)
+    (λ c. search needs)
     returns
-    become-ready-requires
-    outcome-of-requires
+    (λ c κs. search needs)
+    (λ c κs. search needs)
     same-length-2
     returns-2)

@@ -9,21 +9,12 @@ use Rattle.transactor.proofs.Bytes.{stripped}
 use Rattle.transactor.proofs.strip.Statement.{statement}
 use Rattle.transactor.proofs.strip.Tie as tie
 
-mul-part : tie.Need-mul-part
-mul-part c = search needs
-
-slice-write-part : tie.Need-slice-write-part
-slice-write-part c = search needs
-
 store32-requires : tie.Need-store32-requires
 store32-requires c κs = simp length-set (omega arith)
 
 store32-requires-2 : tie.Need-store32-requires-2
 store32-requires-2 c κs =
     let s = c .before .before .before .before .before .before in omega (arith, length-set (s .args .part .now) 0 (64 * s .args .status))
-
-empty-requires : tie.Need-empty-requires
-empty-requires c κs = search needs
 
 store-requires : tie.Need-store-requires
 store-requires c κs =
@@ -63,11 +54,11 @@ pub strip-spec : {M : Type 1} → statement M
 strip-spec =
     tie.close
     (tie.spec
-    mul-part
-    slice-write-part
+    (λ c. search needs)
+    (λ c. search needs)
     store32-requires
     store32-requires-2
-    empty-requires
+    (λ c κs. search needs)
     store-requires
     store-requires-2
     store-requires-3

@@ -10,26 +10,11 @@ use Rattle.transactor.proofs.Bytes.{stored, map-exact, map-behind, acte
 use Rattle.transactor.proofs.write.Statement.{statement}
 use Rattle.transactor.proofs.write.Tie as tie
 
-own-requires : tie.Need-own-requires
-own-requires c κs = search needs
-
-outcome-of-requires : tie.Need-outcome-of-requires
-outcome-of-requires c κs = search needs
-
-same-length : tie.Need-same-length
-same-length c = search needs
-
 returns : tie.Need-returns
 returns c =
     let d = c .before in
     let e = d .before in
     acted (write-stable base _ _ (e .own .ensures) _ (d .if1 .taken)) (c .outcome-of .ensures) (sym (e .before .before .before .pre .0 .back))
-
-store32-requires : tie.Need-store32-requires
-store32-requires c κs = search needs
-
-load-requires : tie.Need-load-requires
-load-requires c κs = search needs
 
 join-into-requires : tie.Need-join-into-requires
 unfolding unpackTransactor
@@ -41,12 +26,6 @@ join-into-requires c κs =
       map-exact base _ stateAt _ (omega arith) (put-state base _ _)
           (stored base _ _ _ _ (put-value base _ _) (sym (p .back)) (d .store32 .ensures)) (map-behind base _ _ (p .long) (d .store32 .ensures) stateAt (omega arith)),
     )
-
-outcome-of-requires-2 : tie.Need-outcome-of-requires-2
-outcome-of-requires-2 c κs = search needs
-
-same-length-2 : tie.Need-same-length-2
-same-length-2 c = search needs
 
 returns-2 : tie.Need-returns-2
 unfolding unpackTransactor
@@ -66,13 +45,13 @@ pub write-spec : {M : Type 1} → statement M
 write-spec =
     tie.close
     (tie.spec
-    own-requires
-    outcome-of-requires
-    same-length
+    (λ c κs. search needs)
+    (λ c κs. search needs)
+    (λ c. search needs)
     returns
-    store32-requires
-    load-requires
+    (λ c κs. search needs)
+    (λ c κs. search needs)
     join-into-requires
-    outcome-of-requires-2
-    same-length-2
+    (λ c κs. search needs)
+    (λ c. search needs)
     returns-2)

@@ -12,27 +12,6 @@ returns : tie.Need-returns
 unfolding leastAt
 returns c = search needs
 
-sub-before : tie.Need-sub-before
-sub-before c = search needs
-
-mul-load16 : tie.Need-mul-load16
-mul-load16 c = search needs
-
-add-load16 : tie.Need-add-load16
-add-load16 c = search needs
-
-add-load16-2 : tie.Need-add-load16-2
-add-load16-2 c = search needs
-
-load16-requires : tie.Need-load16-requires
-load16-requires c κs = search needs
-
-cast-result : tie.Need-cast-result
-cast-result c = search needs
-
-add-result : tie.Need-add-result
-add-result c = search needs
-
 returns-2 : tie.Need-returns-2
 returns-2 c = let a = c .before .before .before .args in rw (least-after base _ (a .k) (a .k - 1) (omega arith), c .load16 .ensures)
 
@@ -41,11 +20,11 @@ least-spec =
     tie.close
     (tie.spec
     returns
-    sub-before
-    mul-load16
-    add-load16
-    add-load16-2
-    load16-requires
-    cast-result
-    add-result
+    (λ c. search needs)
+    (λ c. search needs)
+    (λ c. search needs)
+    (λ c. search needs)
+    (λ c κs. search needs)
+    (λ c. search needs)
+    (λ c. search needs)
     returns-2)

@@ -6,28 +6,13 @@ use borrow.Author.Needs.{needs}
 use Rattle.image.proofs.form.message_formed.Statement.{statement}
 use Rattle.image.proofs.form.message_formed.Tie as tie
 
-mul-at : tie.Need-mul-at
-mul-at c = search needs
-
-add-at : tie.Need-add-at
-add-at c = search needs
-
-all-zero-requires : tie.Need-all-zero-requires
-all-zero-requires c κs = search needs
-
 returns : tie.Need-returns
 unfolding formedMessageAt
 returns c = rw (← c .before .before .before .pre .2, le-leb _ _ (c .before .if1 .taken)) (c .all-zero .ensures)
 
-shared-slice-read-head : tie.Need-shared-slice-read-head
-shared-slice-read-head c = search needs
-
 returns-2 : tie.Need-returns-2
 unfolding formedMessageAt
 returns-2 c = rw (← c .before .before .before .before .pre .2, lt-leb _ _ (c .before .before .if1 .left), ne-eqb _ 8 (c .if2 .taken))
-
-cast-to : tie.Need-cast-to
-cast-to c = search needs
 
 returns-3 : tie.Need-returns-3
 unfolding formedMessageAt
@@ -36,24 +21,12 @@ returns-3 c =
     let a = b .before .before in
     rw (← a .pre .2, ← a .pre .3, lt-leb _ _ (b .if1 .left), eq-eqb _ 8 (c .before .if2 .left), le-ltb _ _ (c .if3 .taken))
 
-add-load16 : tie.Need-add-load16
-add-load16 c = search needs
-
-load16-requires : tie.Need-load16-requires
-load16-requires c κs = search needs
-
 returns-4 : tie.Need-returns-4
 unfolding formedMessageAt
 returns-4 c =
     let b = c .before .before .before .before .before in
     let a = b .before .before in
     rw (← a .pre .2, ← a .pre .3, ← a .pre .4, lt-leb _ _ (b .if1 .left), eq-eqb _ 8 (c .before .before .before .if2 .left), lt-ltb _ _ (c .before .before .if3 .left), ← c .before .load16 .ensures, le-ltb _ _ (c .if4 .taken))
-
-cast-if5 : tie.Need-cast-if5
-cast-if5 c = search needs
-
-least-requires : tie.Need-least-requires
-least-requires c κs = search needs
 
 returns-5 : tie.Need-returns-5
 unfolding formedMessageAt
@@ -62,12 +35,6 @@ returns-5 c =
     let b = d .before .before .before .before in
     let a = b .before .before in
     rw (← a .pre .2, ← a .pre .3, ← a .pre .4, lt-leb _ _ (b .if1 .left), eq-eqb _ 8 (d .before .before .if2 .left), lt-ltb _ _ (d .before .if3 .left), ← d .load16 .ensures, lt-ltb _ _ (c .before .before .if4 .left), ← c .before .least .ensures, lt-leb _ _ (c .if5 .taken))
-
-add-formed : tie.Need-add-formed
-add-formed c = search needs
-
-formed-requires : tie.Need-formed-requires
-formed-requires c κs = search needs
 
 returns-6 : tie.Need-returns-6
 unfolding formedMessageAt mapFormed
@@ -81,20 +48,20 @@ pub message-formed-spec : {M : Type 1} → statement M
 message-formed-spec =
     tie.close
     (tie.spec
-    mul-at
-    add-at
-    all-zero-requires
+    (λ c. search needs)
+    (λ c. search needs)
+    (λ c κs. search needs)
     returns
-    shared-slice-read-head
+    (λ c. search needs)
     returns-2
-    cast-to
+    (λ c. search needs)
     returns-3
-    add-load16
-    load16-requires
+    (λ c. search needs)
+    (λ c κs. search needs)
     returns-4
-    cast-if5
-    least-requires
+    (λ c. search needs)
+    (λ c κs. search needs)
     returns-5
-    add-formed
-    formed-requires
+    (λ c. search needs)
+    (λ c κs. search needs)
     returns-6)

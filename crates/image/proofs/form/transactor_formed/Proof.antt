@@ -5,21 +5,9 @@ use borrow.Author.Needs.{needs}
 use Rattle.image.proofs.form.transactor_formed.Statement.{statement}
 use Rattle.image.proofs.form.transactor_formed.Tie as tie
 
-mul-at : tie.Need-mul-at
-mul-at c = search needs
-
-add-at : tie.Need-add-at
-add-at c = search needs
-
-all-zero-requires : tie.Need-all-zero-requires
-all-zero-requires c κs = search needs
-
 returns : tie.Need-returns
 unfolding formedTransactorAt
 returns c = rw (← c .before .before .before .pre .2, le-leb _ _ (c .before .if1 .taken)) (c .all-zero .ensures)
-
-shared-slice-read-head : tie.Need-shared-slice-read-head
-shared-slice-read-head c = search needs
 
 returns-2 : tie.Need-returns-2
 unfolding formedTransactorAt
@@ -31,23 +19,11 @@ returns-3 c =
     let b = c .before .before .before in
     rw (← b .before .before .pre .2, lt-leb _ _ (b .if1 .left), eq-eqb _ 0 (c .before .if2 .left), eq-eqb _ 0 (c .if3 .taken))
 
-add-all-zero : tie.Need-add-all-zero
-add-all-zero c = search needs
-
-sub-all-zero : tie.Need-sub-all-zero
-sub-all-zero c = search needs
-
-all-zero-requires-2 : tie.Need-all-zero-requires-2
-all-zero-requires-2 c κs = search needs
-
 returns-4 : tie.Need-returns-4
 unfolding formedTransactorAt
 returns-4 c =
     let b = c .before .before .before in
     rw (← b .before .before .before .before .pre .2, lt-leb _ _ (b .before .before .if1 .left), eq-eqb _ 0 (b .if2 .left), ne-eqb _ 0 (c .before .before .if3 .left), eq-eqb _ 3 (c .before .if4 .taken)) (c .all-zero2 .ensures)
-
-live-formed-requires : tie.Need-live-formed-requires
-live-formed-requires c κs = search needs
 
 returns-5 : tie.Need-returns-5
 unfolding formedTransactorAt
@@ -59,16 +35,16 @@ pub transactor-formed-spec : {M : Type 1} → statement M
 transactor-formed-spec =
     tie.close
     (tie.spec
-    mul-at
-    add-at
-    all-zero-requires
+    (λ c. search needs)
+    (λ c. search needs)
+    (λ c κs. search needs)
     returns
-    shared-slice-read-head
+    (λ c. search needs)
     returns-2
     returns-3
-    add-all-zero
-    sub-all-zero
-    all-zero-requires-2
+    (λ c. search needs)
+    (λ c. search needs)
+    (λ c κs. search needs)
     returns-4
-    live-formed-requires
+    (λ c κs. search needs)
     returns-5)

@@ -16,29 +16,11 @@ Inv-loop image t group₀ u₀ group u = Growing base image t group u
 abbrev μ-loop : tie.MeasureT-loop
 μ-loop image t group₀ u₀ group u = 2 ^ groupBits - group
 
-cast-group : tie.Need-cast-group Inv-loop μ-loop
-cast-group c = search needs
-
-shl-group : tie.Need-shl-group Inv-loop μ-loop
-shl-group c = search needs
-
-first-missing-requires : tie.Need-first-missing-requires Inv-loop μ-loop
-first-missing-requires c κs = search needs
-
 loop-holds : tie.Need-loop-holds Inv-loop μ-loop
 loop-holds c = growing-first base _ refl _ (search needs) _ _ (shifted _ groupBits (search needs)) (c .first-missing .ensures .0)
 
-cast-group-2 : tie.Need-cast-group-2 Inv-loop μ-loop
-cast-group-2 c = search needs
-
-shl-group-2 : tie.Need-shl-group-2 Inv-loop μ-loop
-shl-group-2 c = search needs
-
 add-group : tie.Need-add-group Inv-loop μ-loop
 add-group c = omega (arith, growing-fits base _ refl _ _ _ (c .before .loop .inv) (search needs) _ (shifted _ groupBits (search needs)))
-
-first-missing-requires-2 : tie.Need-first-missing-requires-2 Inv-loop μ-loop
-first-missing-requires-2 c κs = search needs
 
 loop-less : tie.Need-loop-less Inv-loop μ-loop
 loop-less c = growing-less base _ refl _ _ _ (c .before .before .loop .inv) (search needs) _ (shifted _ groupBits (search needs))
@@ -55,14 +37,14 @@ closure-spec =
     (tie.spec
     Inv-loop
     μ-loop
-    cast-group
-    shl-group
-    first-missing-requires
+    (λ c. search needs)
+    (λ c. search needs)
+    (λ c κs. search needs)
     loop-holds
-    cast-group-2
-    shl-group-2
+    (λ c. search needs)
+    (λ c. search needs)
     add-group
-    first-missing-requires-2
+    (λ c κs. search needs)
     loop-less
     loop-again
     returns)

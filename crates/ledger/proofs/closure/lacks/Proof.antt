@@ -1,55 +1,33 @@
 -- After t turns entry u of every named transactor below t is ready.
-use Prim.Native.Nat.{_≤_, _-_}
-use mathlib.Core.Bool.{false, not}
-use mathlib.Core.Path.{_≡_, ap}
+use Prim.Native.Nat.{_-_}
+use mathlib.Core.Bool.{not}
 use mathlib.Core.Logic.{⊎-elim}
-use native.Mathlib.Omega.{arith}
 use borrow.Author.Needs.{needs}
 use Rattle.rules.specs.Layout.{base}
-use Rattle.rules.specs.Refusals.{any}
 use Rattle.rules.specs.Internal.Closure.{lacking, pairReady}
-use Rattle.rules.proofs.Any.{any-none, any-more}
-use Rattle.rules.proofs.Groups.Ready.{namedAnd, named-off, named-on, anyNamed-found, anyNamed-end}
+use Rattle.rules.proofs.Groups.Ready.{NoneNamed, none-first, none-unnamed, none-more, none-found, none-all}
 use Rattle.ledger.proofs.closure.lacks.Statement.{statement}
 use Rattle.ledger.proofs.closure.lacks.Tie as tie
 
 abbrev Inv-loop : tie.InvT-loop
-Inv-loop image group u t₀ t = (t ≤ base .transactors) × (any t (namedAnd group (λ t. not (pairReady base image group t u))) ≡ false)
+Inv-loop image group u t₀ t = NoneNamed group (λ t. not (pairReady base image group t u)) t
 
 abbrev μ-loop : tie.MeasureT-loop
 μ-loop image group u t₀ t = base .transactors - t
 
-loop-holds : tie.Need-loop-holds Inv-loop μ-loop
-loop-holds c = (search needs, any-none _)
-
-is-named-requires : tie.Need-is-named-requires Inv-loop μ-loop
-is-named-requires c κs = search needs
-
-pair-ready-requires : tie.Need-pair-ready-requires Inv-loop μ-loop
-pair-ready-requires c κs = search needs
-
 returns : tie.Need-returns Inv-loop μ-loop
 unfolding lacking
-returns c = let b = c .before .before in anyNamed-found _ _ _ (search needs) (named-on _ _ _ _ _ _ (b .before .is-named .ensures) (b .if1 .taken) (ap not (c .before .pair-ready .ensures)) (c .if2 .taken))
-
-add-t : tie.Need-add-t Inv-loop μ-loop
-add-t c = search needs
-
-loop-less : tie.Need-loop-less Inv-loop μ-loop
-loop-less c = search needs
+returns c = none-found (c .before .before .before .before .before .loop .inv) (search needs) (cc) (cc)
 
 loop-again : tie.Need-loop-again Inv-loop μ-loop
-loop-again c =
-    let b = c .before .before .before .loop .inv in
-    let n = c .before .is-named .ensures in
-    ⊎-elim
-    (λ w. (omega arith, any-more _ _ (b .1) (named-on _ _ _ _ _ _ n (w .0 .taken) (ap not (w .1 .ensures)) (w .2 .left))))
-    (λ w. (omega arith, any-more _ _ (b .1) (named-off _ _ _ _ n (w .left))))
+loop-again c = ⊎-elim
+    (λ w. none-more (search needs) (search needs) (cc) (cc))
+    (λ w. none-unnamed (search needs) (search needs) (cc))
     (c .if1 .came)
 
 returns-2 : tie.Need-returns-2 Inv-loop μ-loop
 unfolding lacking
-returns-2 c = anyNamed-end _ _ _ (omega arith) (c .before .loop .inv .1)
+returns-2 c = none-all (c .before .loop .inv) (search needs)
 
 pub lacks-spec : {M : Type 1} → statement M
 lacks-spec =
@@ -57,11 +35,11 @@ lacks-spec =
     (tie.spec
     Inv-loop
     μ-loop
-    loop-holds
-    is-named-requires
-    pair-ready-requires
+    (λ c. none-first _ _)
+    (λ c κs. search needs)
+    (λ c κs. search needs)
     returns
-    add-t
-    loop-less
+    (λ c. search needs)
+    (λ c. search needs)
     loop-again
     returns-2)

@@ -30,30 +30,6 @@ abbrev μ-loop : tie.MeasureT-loop
 loop-holds : tie.Need-loop-holds Inv-loop μ-loop
 loop-holds c = (search needs, compared-none _ _ _ _ (search needs))
 
-sub-i : tie.Need-sub-i Inv-loop μ-loop
-sub-i c = search needs
-
-mul-from : tie.Need-mul-from Inv-loop μ-loop
-mul-from c = search needs
-
-add-from : tie.Need-add-from Inv-loop μ-loop
-add-from c = search needs
-
-element-copy-out-p : tie.Need-element-copy-out-p Inv-loop μ-loop
-element-copy-out-p c = search needs
-
-mul-x : tie.Need-mul-x Inv-loop μ-loop
-mul-x c = search needs
-
-element-copy-out-x : tie.Need-element-copy-out-x Inv-loop μ-loop
-element-copy-out-x c = search needs
-
-present-requires : tie.Need-present-requires Inv-loop μ-loop
-present-requires c κs = search needs
-
-load-requires : tie.Need-load-requires Inv-loop μ-loop
-load-requires c κs = search needs
-
 -- what a turn has loaded: entry i - 1
 module _ (c : tie.After-load Inv-loop μ-loop) where
   abbrev a : DependenceMap
@@ -74,33 +50,15 @@ relation-entry-requires c κs = (loaded c, bounded-at places _ (c .before .befor
 own : (m : DependenceMap) (i : ℕ) → Entry m i (heldAt m i) (historyAt m i)
 own m i = record { held = refl; history = refl }
 
-enum-told : tie.Need-enum-told Inv-loop μ-loop
-enum-told c = search needs
-
-loop-less : tie.Need-loop-less Inv-loop μ-loop
-loop-less c = search needs
-
 loop-again : tie.Need-loop-again Inv-loop μ-loop
 loop-again c =
     let b = c .before .before .before in
     (omega arith, compared-left (i b - 1) (i b) (omega arith) (omega arith) (b .before .before .before .before .before .loop .inv .1) (here b) (own _ (i b - 1)) (c .before .before .relation-entry .ensures) (c .enum-told .given .1))
 
-enum-told-2 : tie.Need-enum-told-2 Inv-loop μ-loop
-enum-told-2 c = search needs
-
-loop-less-2 : tie.Need-loop-less-2 Inv-loop μ-loop
-loop-less-2 c = search needs
-
 loop-again-2 : tie.Need-loop-again-2 Inv-loop μ-loop
 loop-again-2 c =
     let b = c .before .before .before in
     (omega arith, compared-right (i b - 1) (i b) (omega arith) (omega arith) (b .before .before .before .before .before .loop .inv .1) (here b) (own _ (i b - 1)) (c .before .before .relation-entry .ensures) (c .enum-told2 .given .1))
-
-enum-told-3 : tie.Need-enum-told-3 Inv-loop μ-loop
-enum-told-3 c = search needs
-
-loop-less-3 : tie.Need-loop-less-3 Inv-loop μ-loop
-loop-less-3 c = search needs
 
 loop-again-3 : tie.Need-loop-again-3 Inv-loop μ-loop
 loop-again-3 c =
@@ -115,9 +73,6 @@ other RightCheckpointed h = record { related = refl; left = refl; right = refl }
 other LeftSuperseded h = absurd (⊎-elim (λ e. omega arith) (⊎-elim (λ e. omega arith) (λ e. omega arith)) h)
 other RightSuperseded h = absurd (⊎-elim (λ e. omega arith) (⊎-elim (λ e. omega arith) (λ e. omega arith)) h)
 other Unrelated h = absurd (⊎-elim (λ e. omega arith) (⊎-elim (λ e. omega arith) (λ e. omega arith)) h)
-
-loop-less-4 : tie.Need-loop-less-4 Inv-loop μ-loop
-loop-less-4 c = search needs
 
 loop-again-4 : tie.Need-loop-again-4 Inv-loop μ-loop
 loop-again-4 c =
@@ -134,24 +89,24 @@ compare-spec =
     Inv-loop
     μ-loop
     loop-holds
-    sub-i
-    mul-from
-    add-from
-    element-copy-out-p
-    mul-x
-    element-copy-out-x
-    present-requires
-    load-requires
+    (λ c. search needs)
+    (λ c. search needs)
+    (λ c. search needs)
+    (λ c. search needs)
+    (λ c. search needs)
+    (λ c. search needs)
+    (λ c κs. search needs)
+    (λ c κs. search needs)
     relation-entry-requires
-    enum-told
-    loop-less
+    (λ c. search needs)
+    (λ c. search needs)
     loop-again
-    enum-told-2
-    loop-less-2
+    (λ c. search needs)
+    (λ c. search needs)
     loop-again-2
-    enum-told-3
-    loop-less-3
+    (λ c. search needs)
+    (λ c. search needs)
     loop-again-3
-    loop-less-4
+    (λ c. search needs)
     loop-again-4
     returns)

@@ -18,31 +18,13 @@ Inv-loop s at opened end i₀ i = (i ≤ end) × (formedMap width places i opene
 abbrev μ-loop : tie.MeasureT-loop
 μ-loop s at opened end i₀ i = end - i
 
-looked-at-requires : tie.Need-looked-at-requires Inv-loop μ-loop
-looked-at-requires c κs = search needs
-
 loop-holds : tie.Need-loop-holds Inv-loop μ-loop
 loop-holds c = (search needs, formed-none width places _ _)
-
-mul-formed-entry : tie.Need-mul-formed-entry Inv-loop μ-loop
-mul-formed-entry c = search needs
-
-add-formed-entry : tie.Need-add-formed-entry Inv-loop μ-loop
-add-formed-entry c = search needs
-
-formed-entry-requires : tie.Need-formed-entry-requires Inv-loop μ-loop
-formed-entry-requires c κs = search needs
 
 returns : tie.Need-returns Inv-loop μ-loop
 returns c =
     let b = c .before .before .before .loop in
     sym (formed-off width places entries _ _ (b .i) (omega arith) _ _ (c .before .formed-entry .ensures) (not-true _ (c .if1 .taken)))
-
-add-i : tie.Need-add-i Inv-loop μ-loop
-add-i c = search needs
-
-loop-less : tie.Need-loop-less Inv-loop μ-loop
-loop-less c = search needs
 
 loop-again : tie.Need-loop-again Inv-loop μ-loop
 loop-again c =
@@ -61,13 +43,13 @@ formed-spec =
     (tie.spec
     Inv-loop
     μ-loop
-    looked-at-requires
+    (λ c κs. search needs)
     loop-holds
-    mul-formed-entry
-    add-formed-entry
-    formed-entry-requires
+    (λ c. search needs)
+    (λ c. search needs)
+    (λ c κs. search needs)
     returns
-    add-i
-    loop-less
+    (λ c. search needs)
+    (λ c. search needs)
     loop-again
     returns-2)

@@ -8,27 +8,6 @@ use borrow.Author.Needs.{needs}
 use Rattle.maps.proofs.DependenceMap.join_entry.Statement.{statement}
 use Rattle.maps.proofs.DependenceMap.join_entry.Tie as tie
 
-element-copy-out-p : tie.Need-element-copy-out-p
-element-copy-out-p c = search needs
-
-mul-x : tie.Need-mul-x
-mul-x c = search needs
-
-element-copy-out-x : tie.Need-element-copy-out-x
-element-copy-out-x c = search needs
-
-chooses-right-requires : tie.Need-chooses-right-requires
-chooses-right-requires c κs = search needs
-
-element-write-self : tie.Need-element-write-self
-element-write-self c = search needs
-
-mul-h : tie.Need-mul-h
-mul-h c = search needs
-
-element-set-from-h : tie.Need-element-set-from-h
-element-set-from-h c = search needs
-
 returns : tie.Need-returns
 unfolding withEntry
 returns c =
@@ -44,12 +23,12 @@ pub join-entry-spec : {M : Type 1} → statement M
 join-entry-spec =
     tie.close
     (tie.spec
-    element-copy-out-p
-    mul-x
-    element-copy-out-x
-    chooses-right-requires
-    element-write-self
-    mul-h
-    element-set-from-h
+    (λ c. search needs)
+    (λ c. search needs)
+    (λ c. search needs)
+    (λ c κs. search needs)
+    (λ c. search needs)
+    (λ c. search needs)
+    (λ c. search needs)
     returns
     returns-2)

@@ -26,21 +26,6 @@ abbrev μ-loop : tie.MeasureT-loop
 loop-holds : tie.Need-loop-holds Inv-loop μ-loop
 loop-holds c = (search needs, put-map-none _ _ _ _ _, refl)
 
-element-copy-out-p : tie.Need-element-copy-out-p Inv-loop μ-loop
-element-copy-out-p c = search needs
-
-mul-h : tie.Need-mul-h Inv-loop μ-loop
-mul-h c = search needs
-
-element-copy-out-h : tie.Need-element-copy-out-h Inv-loop μ-loop
-element-copy-out-h c = search needs
-
-mul-join-at : tie.Need-mul-join-at Inv-loop μ-loop
-mul-join-at c = search needs
-
-add-join-at : tie.Need-add-join-at Inv-loop μ-loop
-add-join-at c = search needs
-
 join-at-requires : tie.Need-join-at-requires Inv-loop μ-loop
 join-at-requires c κs =
     let b = c .before .before .before .before in
@@ -50,12 +35,6 @@ join-at-requires c κs =
       into-exact width places entries _ _ _ (b .loop .i) (omega arith) (a .pre .0) _ (b .loop .inv .1) (a .pre .2),
     )
 
-add-i : tie.Need-add-i Inv-loop μ-loop
-add-i c = search needs
-
-loop-less : tie.Need-loop-less Inv-loop μ-loop
-loop-less c = search needs
-
 loop-again : tie.Need-loop-again Inv-loop μ-loop
 loop-again c =
     let b = c .before .before .before .before .before .before .before in
@@ -64,9 +43,6 @@ loop-again c =
       into-more width places entries _ _ _ (b .loop .i) (omega arith) (a .pre .0) _ (b .loop .inv .1) _ (c .before .before .join-at .ensures),
       search needs,
     )
-
-same-length : tie.Need-same-length Inv-loop μ-loop
-same-length c = search needs
 
 returns : tie.Need-returns Inv-loop μ-loop
 returns c = put-map-all width places _ _ _ _ _ _ (c .before .loop .inv .1) (omega arith)
@@ -78,14 +54,14 @@ join-into-spec =
     Inv-loop
     μ-loop
     loop-holds
-    element-copy-out-p
-    mul-h
-    element-copy-out-h
-    mul-join-at
-    add-join-at
+    (λ c. search needs)
+    (λ c. search needs)
+    (λ c. search needs)
+    (λ c. search needs)
+    (λ c. search needs)
     join-at-requires
-    add-i
-    loop-less
+    (λ c. search needs)
+    (λ c. search needs)
     loop-again
-    same-length
+    (λ c. search needs)
     returns)

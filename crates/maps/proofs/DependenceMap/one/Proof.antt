@@ -5,15 +5,9 @@ use borrow.Author.Needs.{needs}
 use Rattle.maps.proofs.DependenceMap.one.Statement.{statement}
 use Rattle.maps.proofs.DependenceMap.one.Tie as tie
 
-empty-requires : tie.Need-empty-requires
-empty-requires c κs = search needs
-
-with-requires : tie.Need-with-requires
-with-requires c κs = search needs
-
 returns : tie.Need-returns
 unfolding singleton
 returns c = c .with .ensures ∙ rw (c .before .empty .ensures)
 
 pub one-spec : {M : Type 1} → statement M
-one-spec = tie.close (tie.spec empty-requires with-requires returns)
+one-spec = tie.close (tie.spec (λ c κs. search needs) (λ c κs. search needs) returns)

@@ -18,15 +18,6 @@ Inv-loop image₀ at self i₀ image i = (i ≤ entries) × (image ≡ put at (p
 abbrev μ-loop : tie.MeasureT-loop
 μ-loop image₀ at self i₀ image i = entries - i
 
-is-empty-requires : tie.Need-is-empty-requires Inv-loop μ-loop
-is-empty-requires c κs = search needs
-
-clear-requires : tie.Need-clear-requires Inv-loop μ-loop
-clear-requires c κs = search needs
-
-same-length : tie.Need-same-length Inv-loop μ-loop
-same-length c = search needs
-
 returns : tie.Need-returns Inv-loop μ-loop
 returns c =
     let b = c .before .before .before .before in
@@ -35,37 +26,13 @@ returns c =
 loop-holds : tie.Need-loop-holds Inv-loop μ-loop
 loop-holds c = (search needs, put-map-none _ _ _ _ _, refl)
 
-element-copy-out-p : tie.Need-element-copy-out-p Inv-loop μ-loop
-element-copy-out-p c = search needs
-
-mul-h : tie.Need-mul-h Inv-loop μ-loop
-mul-h c = search needs
-
-element-copy-out-h : tie.Need-element-copy-out-h Inv-loop μ-loop
-element-copy-out-h c = search needs
-
-mul-store-entry : tie.Need-mul-store-entry Inv-loop μ-loop
-mul-store-entry c = search needs
-
-add-store-entry : tie.Need-add-store-entry Inv-loop μ-loop
-add-store-entry c = search needs
-
 store-entry-requires : tie.Need-store-entry-requires Inv-loop μ-loop
 store-entry-requires c κs = let s = c .before .before .before .before in (search needs, bounded-at _ _ (s .before .before .before .before .pre .1) (s .loop .i))
-
-add-i : tie.Need-add-i Inv-loop μ-loop
-add-i c = search needs
-
-loop-less : tie.Need-loop-less Inv-loop μ-loop
-loop-less c = search needs
 
 loop-again : tie.Need-loop-again Inv-loop μ-loop
 loop-again c =
     let b = c .before .before .before .before .before .before .before .loop in
     (omega arith, put-map-more width places _ _ (b .i) _ _ _ (b .inv .1) (c .before .before .store-entry .ensures) (omega arith), search needs)
-
-same-length-2 : tie.Need-same-length-2 Inv-loop μ-loop
-same-length-2 c = search needs
 
 returns-2 : tie.Need-returns-2 Inv-loop μ-loop
 returns-2 c = put-map-all width places _ _ _ _ _ _ (c .before .loop .inv .1) (omega arith)
@@ -76,19 +43,19 @@ store-spec =
     (tie.spec
     Inv-loop
     μ-loop
-    is-empty-requires
-    clear-requires
-    same-length
+    (λ c κs. search needs)
+    (λ c κs. search needs)
+    (λ c. search needs)
     returns
     loop-holds
-    element-copy-out-p
-    mul-h
-    element-copy-out-h
-    mul-store-entry
-    add-store-entry
+    (λ c. search needs)
+    (λ c. search needs)
+    (λ c. search needs)
+    (λ c. search needs)
+    (λ c. search needs)
     store-entry-requires
-    add-i
-    loop-less
+    (λ c. search needs)
+    (λ c. search needs)
     loop-again
-    same-length-2
+    (λ c. search needs)
     returns-2)

@@ -7,27 +7,15 @@ use borrow.Author.Needs.{needs}
 use Rattle.marks.proofs.History.checkpointed_in.Statement.{statement}
 use Rattle.marks.proofs.History.checkpointed_in.Tie as tie
 
-cast-n : tie.Need-cast-n
-cast-n c = search needs
-
-cast-m : tie.Need-cast-m
-cast-m c = search needs
-
 returns : tie.Need-returns
 returns c =
     let a = c .before .before .args in
     checkpointed-short places (a .self) (a .t2) (search needs) (search needs) (omega arith) (omega arith) (omega arith)
 
-element-copy-out-if2 : tie.Need-element-copy-out-if2
-element-copy-out-if2 c = search needs
-
 returns-2 : tie.Need-returns-2
 returns-2 c =
     let a = c .before .before .before .before .before .args in
     checkpointed-off places (a .self) (a .t2) (search needs) (search needs) (omega arith) (omega arith) (omega arith) (search needs)
-
-agrees-requires : tie.Need-agrees-requires
-agrees-requires c κs = search needs
 
 returns-3 : tie.Need-returns-3
 returns-3 c =
@@ -37,4 +25,4 @@ returns-3 c =
 pub checkpointed-in-spec : {M : Type 1} → statement M
 checkpointed-in-spec =
     tie.close
-    (tie.spec cast-n cast-m returns element-copy-out-if2 returns-2 agrees-requires returns-3)
+    (tie.spec (λ c. search needs) (λ c. search needs) returns (λ c. search needs) returns-2 (λ c κs. search needs) returns-3)

@@ -10,26 +10,8 @@ use borrow.Author.Needs.{needs}
 use Rattle.marks.proofs.History.compare.Statement.{statement}
 use Rattle.marks.proofs.History.compare.Tie as tie
 
-compare-longer-requires : tie.Need-compare-longer-requires
-compare-longer-requires c κs = search needs
-
-turned-requires : tie.Need-turned-requires
-turned-requires c κs = search needs
-
 returns : tie.Need-returns
 returns c = c .turned .ensures ∙ ap turned (c .before .compare-longer .ensures) ∙ sym (relation-turned _ _)
-
-compare-longer-requires-2 : tie.Need-compare-longer-requires-2
-compare-longer-requires-2 c κs = search needs
-
-returns-2 : tie.Need-returns-2
-returns-2 c = search needs
-
-cast-agrees : tie.Need-cast-agrees
-cast-agrees c = search needs
-
-agrees-requires : tie.Need-agrees-requires
-agrees-requires c κs = search needs
 
 returns-3 : tie.Need-returns-3
 returns-3 c =
@@ -52,13 +34,13 @@ pub compare-spec : {M : Type 1} → statement M
 compare-spec =
     tie.close
     (tie.spec
-    compare-longer-requires
-    turned-requires
+    (λ c κs. search needs)
+    (λ c κs. search needs)
     returns
-    compare-longer-requires-2
-    returns-2
-    cast-agrees
-    agrees-requires
+    (λ c κs. search needs)
+    (λ c. search needs)
+    (λ c. search needs)
+    (λ c κs. search needs)
     returns-3
     returns-4
     returns-5

@@ -8,19 +8,10 @@ use borrow.Author.Needs.{needs}
 use Rattle.marks.proofs.History.compare_longer.Statement.{statement}
 use Rattle.marks.proofs.History.compare_longer.Tie as tie
 
-cast-n : tie.Need-cast-n
-cast-n c = search needs
-
-element-copy-out-next : tie.Need-element-copy-out-next
-element-copy-out-next c = search needs
-
 returns : tie.Need-returns
 returns c =
     let a = c .before .before .before .before .args in
     relation-off places (a .self) (a .t2) (search needs) (search needs) (omega arith) (omega arith) (omega arith) (search needs)
-
-agrees-requires : tie.Need-agrees-requires
-agrees-requires c κs = search needs
 
 returns-2 : tie.Need-returns-2
 returns-2 c =
@@ -43,4 +34,4 @@ returns-4 c =
 pub compare-longer-spec : {M : Type 1} → statement M
 compare-longer-spec =
     tie.close
-    (tie.spec cast-n element-copy-out-next returns agrees-requires returns-2 returns-3 returns-4)
+    (tie.spec (λ c. search needs) (λ c. search needs) returns (λ c κs. search needs) returns-2 returns-3 returns-4)

@@ -7,29 +7,11 @@ use borrow.Author.Needs.{needs}
 use Rattle.marks.proofs.History.formed.Statement.{statement}
 use Rattle.marks.proofs.History.formed.Tie as tie
 
-shared-slice-read-head : tie.Need-shared-slice-read-head
-shared-slice-read-head c = search needs
-
-all-zero-requires : tie.Need-all-zero-requires
-all-zero-requires c κs = search needs
-
 returns : tie.Need-returns
 returns c = c .all-zero .ensures ∙ formed-absent width places _ _ (omega arith) (omega arith)
 
 returns-2 : tie.Need-returns-2
 returns-2 c = formed-bits width places _ _ (omega arith) (omega arith) (c .if2 .taken)
-
-cast-count : tie.Need-cast-count
-cast-count c = search needs
-
-add-unused-zero : tie.Need-add-unused-zero
-add-unused-zero c = search needs
-
-add-unused-zero-2 : tie.Need-add-unused-zero-2
-add-unused-zero-2 c = search needs
-
-unused-zero-requires : tie.Need-unused-zero-requires
-unused-zero-requires c κs = search needs
 
 returns-3 : tie.Need-returns-3
 returns-3 c = c .unused-zero .ensures ∙ formed-list width places _ _ (omega arith) (omega arith) (c .before .if2 .left) (omega arith)
@@ -38,12 +20,12 @@ pub formed-spec : {M : Type 1} → statement M
 formed-spec =
     tie.close
     (tie.spec
-    shared-slice-read-head
-    all-zero-requires
+    (λ c. search needs)
+    (λ c κs. search needs)
     returns
     returns-2
-    cast-count
-    add-unused-zero
-    add-unused-zero-2
-    unused-zero-requires
+    (λ c. search needs)
+    (λ c. search needs)
+    (λ c. search needs)
+    (λ c κs. search needs)
     returns-3)

@@ -6,11 +6,8 @@ use borrow.Author.Needs.{needs}
 use Rattle.marks.proofs.History.present.Statement.{statement}
 use Rattle.marks.proofs.History.present.Tie as tie
 
-shared-slice-read-result : tie.Need-shared-slice-read-result
-shared-slice-read-result c = search needs
-
 returns : tie.Need-returns
 returns c = present-here width places _ _ (omega arith)
 
 pub present-spec : {M : Type 1} → statement M
-present-spec = tie.close (tie.spec shared-slice-read-result returns)
+present-spec = tie.close (tie.spec (λ c. search needs) returns)

@@ -17,12 +17,6 @@ returns-2 c =
     let a = c .before .before .before .before .before .before .args in
     same-number places (a .self) (a .other) (search needs) (search needs) (omega arith) (omega arith) (c .if2 .taken)
 
-cast-agrees : tie.Need-cast-agrees
-cast-agrees c = search needs
-
-agrees-requires : tie.Need-agrees-requires
-agrees-requires c κs = search needs
-
 returns-3 : tie.Need-returns-3
 returns-3 c =
     let a = c .before .before .before .before .before .before .before .before .args in
@@ -30,4 +24,4 @@ returns-3 c =
 
 pub same-incarnation-spec : {M : Type 1} → statement M
 same-incarnation-spec =
-    tie.close (tie.spec returns returns-2 cast-agrees agrees-requires returns-3)
+    tie.close (tie.spec returns returns-2 (λ c. search needs) (λ c κs. search needs) returns-3)

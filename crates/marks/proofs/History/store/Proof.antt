@@ -9,32 +9,8 @@ use borrow.Author.Needs.{needs}
 use Rattle.marks.proofs.History.store.Statement.{statement}
 use Rattle.marks.proofs.History.store.Tie as tie
 
-flag-requires : tie.Need-flag-requires
-flag-requires c κs = search needs
-
-mul-image : tie.Need-mul-image
-mul-image c = search needs
-
-add-image : tie.Need-add-image
-add-image c = search needs
-
-add-image-2 : tie.Need-add-image-2
-add-image-2 c = search needs
-
-slice-write-image : tie.Need-slice-write-image
-slice-write-image c = search needs
-
-add-store-number : tie.Need-add-store-number
-add-store-number c = search needs
-
 store-number-requires : tie.Need-store-number-requires
 store-number-requires c κs = simp length-set (omega arith)
-
-add-store-numbers : tie.Need-add-store-numbers
-add-store-numbers c = search needs
-
-add-store-numbers-2 : tie.Need-add-store-numbers-2
-add-store-numbers-2 c = search needs
 
 store-numbers-requires : tie.Need-store-numbers-requires
 store-numbers-requires c κs = omega (arith, simp length-set at (c .before .before .before .before .store-number .kept .0))
@@ -52,15 +28,15 @@ pub store-spec : {M : Type 1} → statement M
 store-spec =
     tie.close
     (tie.spec
-    flag-requires
-    mul-image
-    add-image
-    add-image-2
-    slice-write-image
-    add-store-number
+    (λ c κs. search needs)
+    (λ c. search needs)
+    (λ c. search needs)
+    (λ c. search needs)
+    (λ c. search needs)
+    (λ c. search needs)
     store-number-requires
-    add-store-numbers
-    add-store-numbers-2
+    (λ c. search needs)
+    (λ c. search needs)
     store-numbers-requires
     same-length
     returns)

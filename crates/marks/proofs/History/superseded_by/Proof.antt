@@ -7,27 +7,15 @@ use borrow.Author.Needs.{needs}
 use Rattle.marks.proofs.History.superseded_by.Statement.{statement}
 use Rattle.marks.proofs.History.superseded_by.Tie as tie
 
-cast-n : tie.Need-cast-n
-cast-n c = search needs
-
-cast-m : tie.Need-cast-m
-cast-m c = search needs
-
 returns : tie.Need-returns
 returns c =
     let a = c .before .before .args in
     superseded-short places (a .self) (a .t2) (search needs) (search needs) (omega arith) (omega arith) (omega arith)
 
-element-copy-out-if3 : tie.Need-element-copy-out-if3
-element-copy-out-if3 c = search needs
-
 returns-2 : tie.Need-returns-2
 returns-2 c =
     let a = c .before .before .before .before .before .before .args in
     superseded-entry-off places (a .self) (a .t2) (search needs) (search needs) (omega arith) (omega arith) (omega arith) (search needs)
-
-agrees-requires : tie.Need-agrees-requires
-agrees-requires c κs = search needs
 
 returns-3 : tie.Need-returns-3
 returns-3 c =
@@ -39,9 +27,6 @@ returns-4 c =
     let a = c .before .before .before .before .before .args in
     superseded-number-off places (a .self) (a .t2) (search needs) (search needs) (omega arith) (omega arith) (omega arith) (omega arith)
 
-agrees-requires-2 : tie.Need-agrees-requires-2
-agrees-requires-2 c κs = search needs
-
 returns-5 : tie.Need-returns-5
 returns-5 c =
     let a = c .before .before .before .before .before .before .args in
@@ -51,13 +36,13 @@ pub superseded-by-spec : {M : Type 1} → statement M
 superseded-by-spec =
     tie.close
     (tie.spec
-    cast-n
-    cast-m
+    (λ c. search needs)
+    (λ c. search needs)
     returns
-    element-copy-out-if3
+    (λ c. search needs)
     returns-2
-    agrees-requires
+    (λ c κs. search needs)
     returns-3
     returns-4
-    agrees-requires-2
+    (λ c κs. search needs)
     returns-5)

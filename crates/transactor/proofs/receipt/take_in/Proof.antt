@@ -9,15 +9,6 @@ use Rattle.transactor.proofs.Accepting.{taken-in}
 use Rattle.transactor.proofs.receipt.take_in.Statement.{statement}
 use Rattle.transactor.proofs.receipt.take_in.Tie as tie
 
-mul-at : tie.Need-mul-at
-mul-at c = search needs
-
-add-at : tie.Need-add-at
-add-at c = search needs
-
-add-to : tie.Need-add-to
-add-to c = search needs
-
 mul-from : tie.Need-mul-from
 mul-from c = omega (arith, waiting-few base (c .before .args .image .now))
 
@@ -26,15 +17,6 @@ add-from c = omega (arith, waiting-few base (c .before .args .image .now))
 
 add-from-2 : tie.Need-add-from-2
 add-from-2 c = omega (arith, waiting-few base (c .before .args .image .now))
-
-mul-image : tie.Need-mul-image
-mul-image c = search needs
-
-slice-write-image : tie.Need-slice-write-image
-slice-write-image c = search needs
-
-sub-lower : tie.Need-sub-lower
-sub-lower c = search needs
 
 lower-requires : tie.Need-lower-requires
 lower-requires c κs = simp length-set (omega (arith, waiting-few base (c .before .before .args .image .now)))
@@ -51,15 +33,15 @@ pub take-in-spec : {M : Type 1} → statement M
 take-in-spec =
     tie.close
     (tie.spec
-    mul-at
-    add-at
-    add-to
+    (λ c. search needs)
+    (λ c. search needs)
+    (λ c. search needs)
     mul-from
     add-from
     add-from-2
-    mul-image
-    slice-write-image
-    sub-lower
+    (λ c. search needs)
+    (λ c. search needs)
+    (λ c. search needs)
     lower-requires
     same-length
     returns)
