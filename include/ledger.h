@@ -60,7 +60,7 @@ enum ledger_outcome {
     LEDGER_WRONG_PART = 17,   /* part not inside the list, not a multiple of 8, over 8,192 bytes */
     LEDGER_WRONG_ROOM = 18,   /* replies not as long as the part */
     LEDGER_ILL_FORMED = 19,   /* image ill-formed */
-    /* steps; 21, 22 also offer and smallest group, 24 also show */
+    /* steps; 21, 22 also offer, smallest group and all heard stable, 24 also show */
     LEDGER_MALFORMED = 20,    /* kind 13 to 15, or an unused field or the zero bits not zero */
     LEDGER_UNOPENED = 21,     /* acting transactor, addressee or named one not opened */
     LEDGER_GONE = 22,         /* acting, receiving or named transactor annihilated */
@@ -98,6 +98,10 @@ uint16_t ledger_offer(const uint8_t *image, size_t image_length, size_t transact
 /* The smallest group with the transactor that could be checkpointed now, as its bits, or 0 exactly if there is none; *refusal is 0.
  * Refused with 16, 19, 21 or 22, which is put in *refusal: 0. */
 uint16_t ledger_smallest_group(const uint8_t *image, size_t image_length, size_t transactor, uint8_t *refusal);
+
+/* 1 exactly if every history in the transactor's state and creation maps but its own is stable, also where there is no other, else 0;
+ * *refusal is 0. Refused with 16, 19, 21 or 22, which is put in *refusal: 0. */
+uint8_t ledger_all_heard_stable(const uint8_t *image, size_t image_length, size_t transactor, uint8_t *refusal);
 
 /* Where the 272 bytes of the image are that hold the map of the waiting message with this number; *refusal is 0.
  * Refused with 16, 19 or 24, which is put in *refusal: offset and length are 0. */

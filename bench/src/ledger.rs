@@ -242,6 +242,16 @@ fn join_left(into: &mut [Mark], left: &[Mark]) {
     }
 }
 
+/// News of a freeze: an unfrozen mark, but the receiver's own, becomes frozen where the parcel shows that its life was.
+fn hear(map: &mut Map, parcel: &Map, own: usize) {
+    for (u, (m, p)) in map.iter_mut().zip(parcel).enumerate() {
+        let news = m.head & (PRESENT | FROZEN) == PRESENT && (p.head & FROZEN != 0 && m.same_life(p) || m.signed(p));
+        if news && u != own {
+            m.head |= FROZEN;
+        }
+    }
+}
+
 impl Take {
     /// Its own mark alone in state, the other maps empty, idle.
     fn bare(&mut self, own: usize, mark: Mark) {
@@ -430,6 +440,8 @@ impl Session<'_> {
                 None => return refuse(28),
             },
             Compared::Fit => {
+                hear(&mut take.state, &parcel.map, t);
+                hear(&mut take.creation, &parcel.map, t);
                 take.status = AT_WORK;
                 take.behaviour = parcel.map;
                 reply(DONE, t, number, u32::from_be_bytes(parcel.text))
@@ -694,6 +706,13 @@ pub fn smallest(image: &[u8], take: usize) -> Result<Option<u16>, u8> {
         }
     }
     Ok(Some(volume))
+}
+
+/// All heard frozen: every mark of the take's two maps but its own.
+pub fn all_heard(image: &[u8], take: usize) -> Result<bool, u8> {
+    let x = &asked(image, take)?.takes[take];
+    let frozen = |map: &Map| map.iter().enumerate().all(|(u, m)| u == take || m.head & (PRESENT | FROZEN) != PRESENT);
+    Ok(frozen(&x.state) && frozen(&x.creation))
 }
 
 pub fn show(image: &[u8], number: u16) -> Result<&[u8], u8> {

@@ -24,6 +24,7 @@ extern "C" {
     ) -> u8;
     fn ledger_offer(image: *const u8, image_length: usize, take: usize, refusal: *mut u8) -> u16;
     fn ledger_smallest_group(image: *const u8, image_length: usize, take: usize, refusal: *mut u8) -> u16;
+    fn ledger_all_heard_stable(image: *const u8, image_length: usize, take: usize, refusal: *mut u8) -> u8;
     fn ledger_show(image: *const u8, image_length: usize, number: u16, refusal: *mut u8) -> Part;
 }
 
@@ -55,6 +56,17 @@ pub fn smallest(image: &[u8], take: usize) -> Result<Option<u16>, u8> {
         return Err(refusal);
     }
     Ok((volume != 0).then_some(volume))
+}
+
+pub fn all_heard(image: &[u8], take: usize) -> Result<bool, u8> {
+    let mut refusal = 255;
+    let yes = unsafe { ledger_all_heard_stable(image.as_ptr(), image.len(), take, &mut refusal) };
+    assert!(yes <= 1, "a query says {yes}");
+    if refusal != 0 {
+        assert_eq!(yes, 0, "a refused query says yes");
+        return Err(refusal);
+    }
+    Ok(yes == 1)
 }
 
 pub fn show(image: &[u8], number: u16) -> Result<&[u8], u8> {

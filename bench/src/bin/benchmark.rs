@@ -18,6 +18,7 @@ struct Calls {
     run: fn(&mut [u8], &[u8], usize, usize, &mut [u8]) -> u8,
     offer: fn(&[u8], usize) -> Result<Option<u16>, u8>,
     smallest: fn(&[u8], usize) -> Result<Option<u16>, u8>,
+    all_heard: fn(&[u8], usize) -> Result<bool, u8>,
     show: for<'a> fn(&'a [u8], u16) -> Result<&'a [u8], u8>,
 }
 
@@ -27,6 +28,7 @@ const LIBRARY: Calls = Calls {
     run: library::run,
     offer: library::offer,
     smallest: library::smallest,
+    all_heard: library::all_heard,
     show: library::show,
 };
 const RUST: Calls = Calls {
@@ -35,6 +37,7 @@ const RUST: Calls = Calls {
     run: ledger::run,
     offer: ledger::offer,
     smallest: ledger::smallest,
+    all_heard: ledger::all_heard,
     show: ledger::show,
 };
 
@@ -46,6 +49,7 @@ enum Call {
     Form,
     Offer(usize),
     Smallest(usize),
+    AllHeard(usize),
     Show(u16),
 }
 
@@ -80,6 +84,7 @@ impl Work {
                 Call::Form => (by.run)(image, &[], 0, 0, &mut []) as u64,
                 Call::Offer(t) => (by.offer)(image, *t).unwrap().map_or(7, |n| n as u64),
                 Call::Smallest(t) => (by.smallest)(image, *t).unwrap().map_or(7, |v| v as u64),
+                Call::AllHeard(t) => (by.all_heard)(image, *t).unwrap() as u64,
                 Call::Show(n) => (by.show)(image, *n).unwrap()[0] as u64,
                 Call::Run(list, n) => {
                     let (mut at, mut sum) = (0, 0);
@@ -284,6 +289,17 @@ fn chain() -> Vec<u8> {
     image
 }
 
+/// The last of sixteen takes on each other, with every mark frozen that it has heard of.
+fn heard() -> Vec<u8> {
+    let mut image = frozen();
+    for i in 0..32 {
+        let head = &mut image[generate::take_at(15) + STATE + MARK * i];
+        *head |= (*head & 0x80) >> 1; // frozen if present
+    }
+    assert_eq!(ledger::all_heard(&image, 15), Ok(true));
+    image
+}
+
 const ALL: u64 = 12 << 60 | 0xffff << 32;
 
 fn rows() -> Vec<Row> {
@@ -322,6 +338,7 @@ fn rows() -> Vec<Row> {
         row("offer, full image", "call", many(&full, Call::Offer(owner(&full, 32)))),
         row("smallest volume, 16 takes on each other", "call", many(&signing, Call::Smallest(15))),
         row("smallest volume, 16 takes in a chain", "call", many(&chain(), Call::Smallest(15))),
+        row("all heard frozen, 16 takes on each other", "call", many(&heard(), Call::AllHeard(15))),
         row("begin", "call", many(&session, Call::Begin)),
     ]
 }

@@ -17,16 +17,17 @@ struct Test {
     /// The image as the Rust ledger leaves it, and as the library does: the same before and after each call.
     ours: Vec<u8>,
     theirs: Vec<u8>,
-    calls: [[u64; 32]; 5],  // begin, run, offer, show, smallest by answer
+    calls: [[u64; 32]; 6],  // begin, run, offer, show, smallest, all heard by answer
     steps: [[u64; 32]; 16], // by kind and outcome or refusal
     offered: u64,
     named: [u64; 17], // smallest volumes by size, 0 for none
     searched: u64,
+    heard: [u64; 2], // all heard frozen: no, yes
     damaged: u64,
     still_formed: u64,
 }
 
-const CALLS: [&str; 5] = ["begin", "run", "offer", "show", "smallest"];
+const CALLS: [&str; 6] = ["begin", "run", "offer", "show", "smallest", "all heard"];
 
 impl Test {
     fn fail(&self, what: &str) -> ! {
@@ -146,6 +147,16 @@ impl Test {
         self.expect(smallest == volume, &format!("smallest volume of {take}: {volume:?}, by search {smallest:?}"));
     }
 
+    fn all_heard(&mut self, take: usize) {
+        let before = self.ours.clone();
+        let (a, b) = (library::all_heard(&self.theirs, take), ledger::all_heard(&self.ours, take));
+        self.expect(a == b, &format!("all heard by {take} frozen: {a:?}, and {b:?} in the Rust ledger"));
+        self.calls[5][a.err().unwrap_or(0) as usize] += 1;
+        self.expect(self.theirs == before, "a query changed the image");
+        let Ok(yes) = a else { return };
+        self.heard[yes as usize] += 1;
+    }
+
     /// A good list of n steps somewhere in a longer one: the list and where the part starts.
     fn list(&mut self, n: usize) -> (Vec<u8>, usize) {
         let mix = generate::MIXES[self.r.below(generate::MIXES.len())];
@@ -173,6 +184,7 @@ impl Test {
         self.run(&list, start, start + STEP * n, STEP * n);
         let take = self.take();
         self.smallest(take);
+        self.all_heard(take);
     }
 
     /// Runs with a bad part, a wrong reply length, or both.
@@ -243,6 +255,7 @@ impl Test {
         let (take, number) = (self.take(), self.r.next() as u16);
         self.offer(take);
         self.smallest(take);
+        self.all_heard(take);
         self.show(number);
         self.set(kept);
     }
@@ -273,6 +286,7 @@ impl Test {
         let (take, number) = (self.take(), self.number());
         self.offer(take);
         self.smallest(take);
+        self.all_heard(take);
         self.show(number);
         if self.r.one_in(4) {
             self.bad_run();
@@ -305,6 +319,7 @@ impl Test {
                     let take = self.take();
                     self.offer(take);
                     self.smallest(take);
+                    self.all_heard(take);
                 }
                 12 | 13 => {
                     let number = self.number();
@@ -331,6 +346,7 @@ impl Test {
         {
             self.expect(n > 0, &format!("no smallest volume was of {what}"));
         }
+        self.expect(self.heard[0] > 0 && self.heard[1] > 0, "all heard frozen was never yes, or never no");
         let outcome = |n: usize| self.steps.iter().map(|kind| kind[n]).sum::<u64>();
         for n in (0..=5).chain(20..=31) {
             self.expect(outcome(n) > 0, &format!("no step had outcome or refusal {n}"));
@@ -339,7 +355,7 @@ impl Test {
             self.expect(self.steps[2][n] > 0, &format!("no receive had outcome or refusal {n}"));
         }
         let query: &[usize] = &[0, 16, 19, 21, 22];
-        let answers: [&[usize]; 5] = [&[0, 16], &[0, 16, 17, 18, 19], query, &[0, 16, 19, 24], query];
+        let answers: [&[usize]; 6] = [&[0, 16], &[0, 16, 17, 18, 19], query, &[0, 16, 19, 24], query, query];
         for (call, wanted) in answers.iter().enumerate() {
             for n in *wanted {
                 self.expect(self.calls[call][*n] > 0, &format!("no {} answered {n}", CALLS[call]));
@@ -357,6 +373,7 @@ impl Test {
             row(name, counts);
         }
         println!("smallest volumes by size {:?}, searched for {}", self.named, self.searched);
+        println!("all heard frozen: no {}, yes {}", self.heard[0], self.heard[1]);
         println!(
             "offers that gave a parcel {}; damaged images {}, still well-formed {}",
             self.offered, self.damaged, self.still_formed
@@ -380,11 +397,12 @@ fn main() {
         r: Random(0),
         ours: Vec::new(),
         theirs: Vec::new(),
-        calls: [[0; 32]; 5],
+        calls: [[0; 32]; 6],
         steps: [[0; 32]; 16],
         offered: 0,
         named: [0; 17],
         searched: 0,
+        heard: [0; 2],
         damaged: 0,
         still_formed: 0,
     };

@@ -3,6 +3,7 @@ mod closure;
 
 use image::form;
 use image::head;
+use image::layout::CREATION;
 use image::layout::DEPENDENCES;
 use image::layout::FIRST_MESSAGE;
 use image::layout::HEAD;
@@ -11,10 +12,12 @@ use image::layout::LONGEST;
 use image::layout::MESSAGE;
 use image::layout::MESSAGES;
 use image::layout::NUMBER;
+use image::layout::STATE;
 use image::layout::STEP;
 use image::layout::TRANSACTOR;
 use image::layout::TRANSACTORS;
 use image::messages;
+use maps::stability;
 use rules::Grouped;
 use rules::Offered;
 use rules::Reply;
@@ -29,8 +32,9 @@ ghost use Rattle.rules.specs.Step.{unpackStep, packReply, stepBytes};
 ghost use Rattle.rules.specs.State.{fresh};
 ghost use Rattle.rules.specs.Pack.{pack};
 ghost use Rattle.rules.specs.Internal.Good.{Good};
-ghost use Rattle.rules.specs.Calls.{beginAnswer, beginImage, runAnswer, runImage, runReplies, ranImage, ranReplies, offerRefusal, offeredNumber, Offers, showRefusal, shown};
+ghost use Rattle.rules.specs.Calls.{beginAnswer, beginImage, runAnswer, runImage, runReplies, ranImage, ranReplies, queryRefusal, offeredNumber, Offers, showRefusal, shown};
 ghost use Rattle.rules.specs.Groups.{groupNumber, Smallest};
+ghost use Rattle.rules.specs.Heard.{heardAnswer};
 
 // ---- begin
 
@@ -137,11 +141,11 @@ pub fn run(image: &mut [u8], list: &[u8], start: usize, end: usize, replies: &mu
     0
 }
 
-// ---- offer, smallest group
+// ---- offer, smallest group, all heard stable
 
 // The refusals of a query about one transactor, 16, 19, 21 and 22, or 0.
 fn query_refusal(image: &[u8], transactor: usize) -> u8
-    ensures { λ r. ⌜ r ≡ offerRefusal base (now (image .entry)) transactor ⌝ }
+    ensures { λ r. ⌜ r ≡ queryRefusal base (now (image .entry)) transactor ⌝ }
 {
     if image.len() != IMAGE {
         return numbers::WRONG_LENGTH;
@@ -155,7 +159,7 @@ fn query_refusal(image: &[u8], transactor: usize) -> u8
 // The waiting message addressed to the transactor with the lowest number: the first, since numbers rise from place to place. Or
 // nothing, exactly if there is none. The lent number takes the refusal, 16, 19, 21 or 22, or 0; refused, nothing.
 pub fn offer(image: &[u8], transactor: usize, refusal: &mut u8) -> Offered
-    ensures { λ r. ⌜ (now (refusal .exit) ≡ offerRefusal base (now (image .entry)) transactor) × Offers base (now (image .entry)) transactor (offeredNumber r) ⌝ }
+    ensures { λ r. ⌜ (now (refusal .exit) ≡ queryRefusal base (now (image .entry)) transactor) × Offers base (now (image .entry)) transactor (offeredNumber r) ⌝ }
 {
     let number = query_refusal(image, transactor);
     *refusal = number;
@@ -173,7 +177,7 @@ pub fn offer(image: &[u8], transactor: usize, refusal: &mut u8) -> Offered
 // The smallest group with the transactor that could be checkpointed now, or none exactly if there is none. The lent number takes
 // the refusal, 16, 19, 21 or 22, or 0; refused, none.
 pub fn smallest_group(image: &[u8], transactor: usize, refusal: &mut u8) -> Grouped
-    ensures { λ r. ⌜ (now (refusal .exit) ≡ offerRefusal base (now (image .entry)) transactor) × Smallest base standard (now (image .entry)) transactor (groupNumber r) ⌝ }
+    ensures { λ r. ⌜ (now (refusal .exit) ≡ queryRefusal base (now (image .entry)) transactor) × Smallest base standard (now (image .entry)) transactor (groupNumber r) ⌝ }
 {
     let number = query_refusal(image, transactor);
     *refusal = number;
@@ -185,6 +189,23 @@ pub fn smallest_group(image: &[u8], transactor: usize, refusal: &mut u8) -> Grou
         return Grouped::Group(group);
     }
     Grouped::NoGroup
+}
+
+// Document 02, W4, "all heard frozen": whether every entry of the transactor's state and creation maps but its own is stable. The
+// lent number takes the refusal, 16, 19, 21 or 22, or 0; refused, no.
+pub fn all_heard_stable(image: &[u8], transactor: usize, refusal: &mut u8) -> bool
+    ensures { λ r. ⌜ (now (refusal .exit) ≡ queryRefusal base (now (image .entry)) transactor) × (r ≡ heardAnswer base (now (image .entry)) transactor) ⌝ }
+{
+    let number = query_refusal(image, transactor);
+    *refusal = number;
+    if number != 0 {
+        return false;
+    }
+    let at = HEAD + TRANSACTOR * transactor;
+    if !stability::others_stable(image, at + STATE, transactor) {
+        return false;
+    }
+    stability::others_stable(image, at + CREATION, transactor)
 }
 
 // ---- show

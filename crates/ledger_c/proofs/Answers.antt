@@ -17,7 +17,7 @@ use Rattle.rules.specs.Layout.{Layout, base, standard, imageBytes, messageAddre
 use Rattle.rules.specs.State.{placeOf, numbered}
 use Rattle.rules.specs.Pack.{waitingIn, unpack}
 use Rattle.rules.specs.Form.{wellFormed}
-use Rattle.rules.specs.Calls.{wrongLength, offerRefusal, offeredNumber, Offers, waiting, showRefusal, shown}
+use Rattle.rules.specs.Calls.{wrongLength, queryRefusal, offeredNumber, Offers, waiting, showRefusal, shown}
 use Rattle.rules.specs.Groups.{groupNumber, Smallest, smallest}
 use Rattle.rules.proofs.Bits.{named-zero}
 use Rattle.rules.proofs.Form.State.{formed-state}
@@ -49,7 +49,7 @@ module _ (img : List ℕ) where
   module _ (t : ℕ) (o : Octets img) where
     -- a parcel's number is below that of the next, which fits two bytes
     offered-below : (n : ℕ) → Offers base img t (some n) → n < noMessage
-    unfolding offerRefusal bound
+    unfolding queryRefusal bound
     offered-below n (waiting r w) =
         let i = entered _ r in
         let s = formed-state base img (i .whole) o (i .formed) in

@@ -1,5 +1,6 @@
--- How the answers of offer, smallest group and show are put in numbers.
+-- How the answers of offer, smallest group, all heard frozen and show are put in numbers.
 use Prim.Native.Nat.{ℕ, _+_}
+use mathlib.Core.Bool.{Bool, true, false}
 use mathlib.Core.List.{List}
 use mathlib.Core.Option.{Option, none, some}
 use lib.Dec.{eqb}
@@ -31,6 +32,11 @@ groupBitsOf none = 0
 -- The answer that a number stands for.
 unfoldable pub groupOf : ℕ → Option ℕ
 groupOf v = pick (eqb v 0) none (some v)
+
+-- The number that stands for yes or no.
+abbrev pub numberFor : Bool → ℕ
+numberFor true = 1
+numberFor false = 0
 
 -- The bytes of the image that hold a waiting parcel's map: where they start, and how many. Refused: an empty part.
 unfoldable pub shownPart : Layout → List ℕ → ℕ → Part

@@ -12,9 +12,10 @@ ghost use Prim.Native.Nat.{_<_};
 ghost use Rattle.rules.specs.Layout.{base, standard};
 ghost use Rattle.rules.specs.State.{placeOf};
 ghost use Rattle.rules.specs.Pack.{unpack};
-ghost use Rattle.rules.specs.Calls.{beginAnswer, beginImage, runAnswer, runImage, runReplies, offerRefusal, Offers, showRefusal};
+ghost use Rattle.rules.specs.Calls.{beginAnswer, beginImage, runAnswer, runImage, runReplies, queryRefusal, Offers, showRefusal};
 ghost use Rattle.rules.specs.Groups.{Smallest};
-ghost use Rattle.ledger_c.specs.Interface.{offeredBy, groupOf, shownPart};
+ghost use Rattle.rules.specs.Heard.{heardAnswer};
+ghost use Rattle.ledger_c.specs.Interface.{offeredBy, groupOf, numberFor, shownPart};
 
 // The number that stands for no message.
 pub const NONE: u16 = 65535;
@@ -54,7 +55,7 @@ pub extern "C" fn ledger_run(
 // the refusal, 16, 19, 21 or 22, or 0; refused, NONE.
 #[no_mangle]
 pub extern "C" fn ledger_offer(image: &[u8], transactor: usize, refusal: &mut u8) -> u16
-    ensures { λ r. ⌜ (now (refusal .exit) ≡ offerRefusal base (now (image .entry)) transactor) × Offers base (now (image .entry)) transactor (offeredBy r) ⌝ }
+    ensures { λ r. ⌜ (now (refusal .exit) ≡ queryRefusal base (now (image .entry)) transactor) × Offers base (now (image .entry)) transactor (offeredBy r) ⌝ }
 {
     let Offered::Message(n) = ledger::offer(image, transactor, refusal) else {
         return NONE;
@@ -66,12 +67,24 @@ pub extern "C" fn ledger_offer(image: &[u8], transactor: usize, refusal: &mut u8
 // the refusal, 16, 19, 21 or 22, or 0; refused, 0.
 #[no_mangle]
 pub extern "C" fn ledger_smallest_group(image: &[u8], transactor: usize, refusal: &mut u8) -> u16
-    ensures { λ r. ⌜ (now (refusal .exit) ≡ offerRefusal base (now (image .entry)) transactor) × Smallest base standard (now (image .entry)) transactor (groupOf r) ⌝ }
+    ensures { λ r. ⌜ (now (refusal .exit) ≡ queryRefusal base (now (image .entry)) transactor) × Smallest base standard (now (image .entry)) transactor (groupOf r) ⌝ }
 {
     let Grouped::Group(group) = ledger::smallest_group(image, transactor, refusal) else {
         return 0;
     };
     group
+}
+
+// 1 exactly if every entry of the transactor's state and creation maps but its own is stable, else 0. The lent number takes the
+// refusal, 16, 19, 21 or 22, or 0; refused, 0.
+#[no_mangle]
+pub extern "C" fn ledger_all_heard_stable(image: &[u8], transactor: usize, refusal: &mut u8) -> u8
+    ensures { λ r. ⌜ (now (refusal .exit) ≡ queryRefusal base (now (image .entry)) transactor) × (r ≡ numberFor (heardAnswer base (now (image .entry)) transactor)) ⌝ }
+{
+    if ledger::all_heard_stable(image, transactor, refusal) {
+        return 1;
+    }
+    0
 }
 
 // The place of the message with this number, which waits.

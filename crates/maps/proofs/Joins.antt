@@ -103,11 +103,15 @@ module _ (w l n : ℕ) (s : List ℕ) (at : ℕ) where
   bytes-at m i below =
       sym (rw (held-join n m (mapIn w l n s at) i below, history-join n m (mapIn w l n s at) i below, held-in w l n at s i below, history-in w l n at s i below) refl)
 
+  pub entry-there : Exact w l n s at → (i : ℕ) → i < n → packEntryAt w l (mapIn w l n s at) i ≡ part (at + historySize w l * i) (historySize w l) s
+  unfolding Exact
+  entry-there exact i below =
+      sym (entry-packMap w l n (mapIn w l n s at) i below) ∙ ap (λ (x : List ℕ). entryBytes w l x i) exact ∙ entry-here w l n at s i below
+
   exact-at : Exact w l n s at → (i : ℕ) → i < n → ExactEntry w l (part (at + historySize w l * i) (historySize w l) s)
-  unfolding Exact ExactEntry packEntryAt
+  unfolding ExactEntry packEntryAt
   exact-at exact i below =
-      let e : packEntryAt w l (mapIn w l n s at) i ≡ part (at + historySize w l * i) (historySize w l) s =
-      sym (entry-packMap w l n (mapIn w l n s at) i below) ∙ ap (λ (x : List ℕ). entryBytes w l x i) exact ∙ entry-here w l n at s i below in
+      let e : packEntryAt w l (mapIn w l n s at) i ≡ part (at + historySize w l * i) (historySize w l) s = entry-there exact i below in
       rw (held-in w l n at s i below, history-in w l n at s i below) at e
 
   -- the first i entries being joined, those from i on are still as they were

@@ -1,7 +1,10 @@
 pub mod Compared
+pub mod Heard
+pub mod Informing
 pub mod Joins
 pub mod Loops
 pub mod Map
+pub mod News
 pub mod Packed
 pub mod Placed
 pub mod Superseded

@@ -1,4 +1,6 @@
+pub mod Heard
 pub mod Internal
 pub mod Map
+pub mod News
 pub mod Packed
 pub mod Table

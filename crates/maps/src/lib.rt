@@ -1,4 +1,6 @@
 // Dependence maps (document 01: maps): at most one history for each transactor, and the packed form.
+pub mod stability;
+
 use marks::History;
 use marks::Relation;
 ghost use mathlib.Core.Path.{_≡_};

@@ -7,3 +7,4 @@ pub mod Histories
 pub mod Packed
 mod Placed
 pub mod Starred
+pub mod News

@@ -224,6 +224,10 @@ absent-is-zero w l b p e = zeros-is b (rw p at e)
 pub unpack-absent : (w l : ℕ) (b : List ℕ) → presentIn b ≡ false → formedHistory w l b ≡ true → unpackHistory w l b ≡ initialHistory l
 unpack-absent w l b p e = ap (unpackHistory w l) (absent-is-zero w l b p e) ∙ unpack-zeros w l (length b)
 
+pub length-unpack : (w l : ℕ) (b : List ℕ) → length (unpackHistory w l b .checkpoints) ≡ l
+unfolding unpackHistory
+length-unpack w l b = length-tabulate (loadNumberAt w b (1 + w)) l
+
 pub roomy-unpack : (w l : ℕ) (b : List ℕ) → formedHistory w l b ≡ true → Roomy l (unpackHistory w l b)
 unfolding unpackHistory loadNumberAt
 roomy-unpack w l b e = go (presentIn b) refl

@@ -1,22 +1,24 @@
 -- Packed histories from a place of a buffer on: what the code that stores, loads and tests them does, over the width w of a
 -- life number and the length l of the list.
 use Prim.Native.Nat.{ℕ, _+_, _-_, _*_, _/_, _%_, _≤_, _<_}
-use mathlib.Core.Bool.{false}
+use mathlib.Core.Bool.{Bool, true, false, not}
 use mathlib.Core.Path.{_≡_, ap, sym, _∙_, subst}
 use mathlib.Core.List.{List, _++_}
+use mathlib.Core.Logic.{⊎-elim}
 use native.Mathlib.Nat.{add-zero, mul-add, mul-le-mul-left}
 use native.Mathlib.Omega.{arith}
-use lib.Dec.{leb}
+use lib.Dec.{leb, ltb}
 use lib.ListN.{length, take, drop, getD, set, length-drop}
 use lib.Seq.{take-all}
 use borrow.Author.Tests.{le-leb, lt-leb, eq-eqb, ne-eqb}
-use Rattle.octets.specs.Bytes.{_and_, put, part, chunks, tabulate, allZero}
+use Rattle.octets.specs.Bytes.{_and_, _or_, put, part, chunks, tabulate, allZero}
 use Rattle.octets.specs.Numbers.{be, ofBe}
 use Rattle.octets.proofs.Put.{put-append, part-part, getD-part, part-def, length-part}
 use Rattle.octets.proofs.Numbers.{length-be, put-be-one}
-use Rattle.octets.proofs.Chunks.{step, tabulate-same, fill-more, fill-all, put-more}
+use Rattle.octets.proofs.Chunks.{step, sides, tabulate-same, fill-more, fill-all, put-more}
 use Rattle.octets.proofs.Zero.{allZero-windows}
 use Rattle.marks.specs.declared.History.{History}
+use Rattle.marks.specs.News.{mayShow}
 use Rattle.marks.proofs.Packed.{headOf, head-fits, front, numbers, length-packNumberAt, length-front, length-numbers}
 use Rattle.marks.specs.Packed.{countBound, historySize, bit, packNumberAt, packHistory, unpackHistory, loadNumberAt, presentIn, formedHistory}
 
@@ -106,3 +108,44 @@ module _ (w l at : ℕ) (s : List ℕ) (h : at + historySize w l ≤ length s) w
       → allZero (part (at + 1 + w + w * (getD s at 0 % 16)) (w * (l - getD s at 0 % 16)) s) ≡ formedHistory w l (part at (historySize w l) s)
   unfolding presentIn formedHistory
   formed-list p q r = rw (first, le-leb 128 (getD s at 0) p, eq-eqb (getD s at 0 / 16 % 4) 0 q, le-leb (getD s at 0 % 16) l r, unused (getD s at 0 % 16) r)
+
+-- ---- the first bytes of two packed histories
+
+unstable-yes : (h : ℕ) → h / 64 ≡ 2 → leb 128 h and not (leb 64 (h % 128)) ≡ true
+unstable-yes h e = rw (le-leb 128 h (omega arith), lt-leb 64 (h % 128) (omega arith))
+
+unstable-no : (h : ℕ) → h < 256 → (h / 64 ≡ 2 → ⊥) → leb 128 h and not (leb 64 (h % 128)) ≡ false
+unstable-no h o n = ⊎-elim
+    (λ (k : h < 128). rw (lt-leb 128 h k))
+    (λ (k : 128 ≤ h). rw (le-leb 128 h k, le-leb 64 (h % 128) (omega arith)))
+    (sides h 128)
+
+stable-yes : (g : ℕ) → g < 256 → 192 ≤ g → leb 128 g and leb 64 (g % 128) ≡ true
+stable-yes g o h = rw (le-leb 128 g (omega arith), le-leb 64 (g % 128) (omega arith))
+
+stable-no : (g : ℕ) → g < 192 → leb 128 g and leb 64 (g % 128) ≡ false
+stable-no g h = ⊎-elim
+    (λ (k : g < 128). rw (lt-leb 128 g k))
+    (λ (k : 128 ≤ g). rw (le-leb 128 g k, lt-leb 64 (g % 128) (omega arith)))
+    (sides g 128)
+
+module _ (w l at from : ℕ) (s : List ℕ) (h : at + historySize w l ≤ length s) (k : from + historySize w l ≤ length s) where
+  abbrev may : Bool
+  may =
+      mayShow (presentIn (part at (historySize w l) s)) (unpackHistory w l (part at (historySize w l) s))
+      (presentIn (part from (historySize w l) s)) (unpackHistory w l (part from (historySize w l) s))
+
+  heads : may
+      ≡ (leb 128 (getD s at 0) and not (leb 64 (getD s at 0 % 128)))
+      and ((leb 128 (getD s from 0) and leb 64 (getD s from 0 % 128)) or ltb (getD s at 0 % 16) (getD s from 0 % 16))
+  unfolding mayShow presentIn unpackHistory
+  heads = rw (first w l at s h, first w l from s k)
+
+  pub may-not : getD s at 0 < 256 → (getD s at 0 / 64 ≡ 2 → ⊥) → false ≡ may
+  may-not o n = sym (heads ∙ rw (unstable-no (getD s at 0) o n))
+
+  pub may-stable : getD s at 0 / 64 ≡ 2 → getD s from 0 < 256 → 192 ≤ getD s from 0 → true ≡ may
+  may-stable e o f = sym (heads ∙ rw (unstable-yes (getD s at 0) e, stable-yes (getD s from 0) o f))
+
+  pub may-count : getD s at 0 / 64 ≡ 2 → getD s from 0 < 192 → ltb (getD s at 0 % 16) (getD s from 0 % 16) ≡ may
+  may-count e f = sym (heads ∙ rw (unstable-yes (getD s at 0) e, stable-no (getD s from 0) f))

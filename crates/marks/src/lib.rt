@@ -6,7 +6,8 @@ ghost use Rattle.octets.specs.Bytes.{put, part, chunks, tabulate, allZero};
 ghost use Rattle.octets.specs.Numbers.{ofBe, be};
 ghost use Rattle.marks.specs.Incarnation.{sameList, supersededBy, checkpointedIn, sameIncarnation};
 ghost use Rattle.marks.specs.Relation.{turned, relationOf, relationNumber};
-ghost use Rattle.marks.specs.History.{incarnationOf, stabilized, rolledBack, checkpointed, isOlder};
+ghost use Rattle.marks.specs.History.{incarnationOf, viewOf, stabilized, rolledBack, checkpointed, isOlder};
+ghost use Rattle.marks.specs.News.{showsStable, mayShow};
 ghost use Rattle.marks.specs.Packed.{width, places, largest, historySize, bit, packNumberAt, packHistory, unpackHistory, loadNumberAt, presentIn, formedHistory};
 
 // Bytes of a life number, places of the list, bytes of a packed history.
@@ -198,6 +199,40 @@ impl History {
             return false;
         }
         self.agrees(other, self.count as usize)
+    }
+
+    // Document 02, W4: whether the other one, of the same transactor, shows that this incarnation was stable. Each test fails at the
+    // counts unless the lists may serve it.
+    pub fn shown_stable(self, other: History) -> bool
+        requires { ⌜ (self .count ≤ places) × (other .count ≤ places) ⌝ }
+        ensures { λ r. ⌜ r ≡ showsStable (incarnationOf self) (viewOf other) ⌝ }
+    {
+        if self.checkpointed_in(other) {
+            return true;
+        }
+        if !other.stable {
+            return false;
+        }
+        self.same_incarnation(other)
+    }
+
+    // Whether the one packed at from can show anything of the one packed at at, by their first bytes alone: that one is not stable yet,
+    // and this one is, or has the longer list.
+    pub fn may_show(s: &[u8], from: usize, at: usize) -> bool
+        requires { ⌜ (from + historySize width places ≤ length (now s)) × (at + historySize width places ≤ length (now s)) ⌝ }
+        ensures { λ r. ⌜ r ≡ mayShow
+            (presentIn (part at (historySize width places) (now (s .entry)))) (unpackHistory width places (part at (historySize width places) (now (s .entry))))
+            (presentIn (part from (historySize width places) (now (s .entry)))) (unpackHistory width places (part from (historySize width places) (now (s .entry)))) ⌝ }
+    {
+        let recorded = s[at];
+        if recorded / 64 != 2 {
+            return false;
+        }
+        let shown = s[from];
+        if 192 <= shown {
+            return true;
+        }
+        recorded % 16 < shown % 16
     }
 
     // Document 02, W3: the comparison of two marks.

@@ -1,5 +1,6 @@
 -- The calls: their answers, and what follows for lists of them.
 pub mod Begin
+pub mod Heard
 pub mod Offer
 pub mod Query
 pub mod Run

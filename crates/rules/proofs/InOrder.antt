@@ -18,7 +18,7 @@ use Rattle.rules.specs.Step.{Step, root, letter, receive, new, send, los
 use Rattle.rules.specs.Rules.{Result, groupReady, checkpointGroup, seen, refusal, opened, applyRoot, applyLetter, applyReceive, applyNew, applySend, applyLocal, applySign, apply, stepOf}
 use Rattle.rules.specs.Internal.Well.{WellFormed}
 use Rattle.rules.specs.Pack.{unpack}
-use Rattle.rules.specs.Calls.{stateAfter, stepsIn, WaitsFor, LowestFor, offerRefusal, Offers, waiting, runAnswer, ranImage, runImage}
+use Rattle.rules.specs.Calls.{stateAfter, stepsIn, WaitsFor, LowestFor, queryRefusal, Offers, waiting, runAnswer, ranImage, runImage}
 use Rattle.rules.specs.InOrder.{Spares, Receives, Sparing, none, one-more, Received, run, Rounds, no-round, round, Rising, empty, single, above}
 use Rattle.rules.proofs.Places.{place}
 use Rattle.rules.proofs.Pack.Messages.{numbers-rise}
@@ -215,8 +215,8 @@ record Holds (y : Layout) (P : State → Type 0) (img : List ℕ) : Type 0 where
   says : P (unpack y img)
 
 -- an offer that is not refused is made of a well-formed state
-well-offered : (y : Layout) (t : ℕ) (img : List ℕ) → Octets img → offerRefusal y img t ≡ 0 → WellFormed y (unpack y img)
-unfolding offerRefusal
+well-offered : (y : Layout) (t : ℕ) (img : List ℕ) → Octets img → queryRefusal y img t ≡ 0 → WellFormed y (unpack y img)
+unfolding queryRefusal
 well-offered y t img o e =
     let a = pick-zero _ 16 _ (omega arith) e in
     let b = pick-zero _ 19 _ (omega arith) (a .1) in

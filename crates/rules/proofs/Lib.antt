@@ -5,6 +5,7 @@ pub mod Form
 pub mod Good
 pub mod Groups
 pub mod InOrder
+pub mod News
 pub mod Keep
 pub mod Pack
 pub mod Places

@@ -75,15 +75,17 @@ unfoldable pub runReplies : Layout → Limits → List ℕ → List ℕ → ℕ 
 runReplies y m img list start end replies =
     pick (eqb (runAnswer y img list start end replies) 0) (ranReplies y m img (part start (end - start) list)) replies
 
--- ---- offer a parcel
+-- ---- queries about a take: offer, and those of document 02
 
 -- 16, 19, 21, 22
-unfoldable pub offerRefusal : Layout → List ℕ → ℕ → ℕ
-offerRefusal y img t =
+unfoldable pub queryRefusal : Layout → List ℕ → ℕ → ℕ
+queryRefusal y img t =
     pick (wrongLength y img) 16
     (pick (not (wellFormed y img)) 19
     (pick (leb (unpack y img .opened) t) 21
     (pick (eqb (transactorAt (unpack y img) t .status) annihilated) 22 0)))
+
+-- ---- offer a parcel
 
 -- the number of the parcel offered, or none
 abbrev pub offeredNumber : Offered → Option ℕ
@@ -104,9 +106,9 @@ pub record LowestFor (s : State) (t n : ℕ) : Type 0 where
 
 -- The waiting parcel addressed to take t with the lowest number (document 02, W2), or none exactly if there is none. Refused: none.
 pub data Offers (y : Layout) (img : List ℕ) (t : ℕ) : Option ℕ → Type 0 where
-  refused : (offerRefusal y img t ≡ 0 → ⊥) → Offers y img t none
-  nothing : offerRefusal y img t ≡ 0 → ((n : ℕ) → WaitsFor (unpack y img) t n → ⊥) → Offers y img t none
-  waiting : {n : ℕ} → offerRefusal y img t ≡ 0 → LowestFor (unpack y img) t n → Offers y img t (some n)
+  refused : (queryRefusal y img t ≡ 0 → ⊥) → Offers y img t none
+  nothing : queryRefusal y img t ≡ 0 → ((n : ℕ) → WaitsFor (unpack y img) t n → ⊥) → Offers y img t none
+  waiting : {n : ℕ} → queryRefusal y img t ≡ 0 → LowestFor (unpack y img) t n → Offers y img t (some n)
 
 -- ---- show a parcel's map
 

@@ -13,7 +13,7 @@ use Rattle.rules.specs.Step.{Step, sign, done}
 use Rattle.rules.specs.Refusals.{named}
 use Rattle.rules.specs.Rules.{groupReady, stepOf}
 use Rattle.rules.specs.Pack.{unpack}
-use Rattle.rules.specs.Calls.{offerRefusal}
+use Rattle.rules.specs.Calls.{queryRefusal}
 
 -- the step that signs volume v
 abbrev pub signing : ℕ → Step
@@ -43,6 +43,6 @@ groupNumber NoGroup = none
 
 -- "the smallest volume containing it that could be signed now, or say that none exists". Refused, as offer is: none.
 pub data Smallest (y : Layout) (m : Limits) (img : List ℕ) (t : ℕ) : Option ℕ → Type 0 where
-  refused : (offerRefusal y img t ≡ 0 → ⊥) → Smallest y m img t none
-  nothing : offerRefusal y img t ≡ 0 → ((v : ℕ) → Checkpointable y m (unpack y img) t v → ⊥) → Smallest y m img t none
-  smallest : {v : ℕ} → offerRefusal y img t ≡ 0 → Checkpointable y m (unpack y img) t v → ((w : ℕ) → Checkpointable y m (unpack y img) t w → Within v w) → Smallest y m img t (some v)
+  refused : (queryRefusal y img t ≡ 0 → ⊥) → Smallest y m img t none
+  nothing : queryRefusal y img t ≡ 0 → ((v : ℕ) → Checkpointable y m (unpack y img) t v → ⊥) → Smallest y m img t none
+  smallest : {v : ℕ} → queryRefusal y img t ≡ 0 → Checkpointable y m (unpack y img) t v → ((w : ℕ) → Checkpointable y m (unpack y img) t w → Within v w) → Smallest y m img t (some v)

@@ -1,6 +1,7 @@
 pub mod Calls
 pub mod Form
 pub mod Groups
+pub mod Heard
 pub mod InOrder
 pub mod Internal
 pub mod Layout

@@ -10,6 +10,7 @@ use Rattle.marks.specs.Incarnation.{checkpointedIn, sameIncarnation}
 use Rattle.marks.specs.History.{incarnationOf, initialHistory, stabilized, rolledBack, checkpointed}
 use Rattle.maps.specs.declared.DependenceMap.{DependenceMap}
 use Rattle.maps.specs.Map.{heldAt, historyAt, emptyMap, withEntry, singleton, joinOf, firstSuperseded, anyUnrelated}
+use Rattle.maps.specs.News.{informedOf}
 use Rattle.rules.specs.Layout.{Layout, Limits}
 use Rattle.rules.specs.Status.{ready, busy, annihilated}
 use Rattle.rules.specs.State.{Transactor, Message, State, bare, transactorAt, messageAt, ownHistory, live, withStatus, withValue, withState, withBehaviour, withTransactor, withOpened, withMessage, withoutMessage, placeOf}
@@ -124,16 +125,27 @@ receiverSuperseded y x m = isSome (firstSuperseded (y .transactors) (known y x) 
 unfoldable pub messageUnrelated : Layout → Transactor → Message → Bool
 messageUnrelated y x m = anyUnrelated (y .transactors) (m .dependences) (known y x)
 
--- at work, and its behaviour map is the parcel's map
-abbrev pub taken : Transactor → Message → Transactor
-taken x m = withBehaviour (withStatus x busy) (m .dependences)
+-- document 02, W4, "News of a freeze", "to be done in state and creation maps": take t after the parcel's map m
+abbrev pub informedBy : Layout → ℕ → Transactor → DependenceMap → Transactor
+informedBy y t x m = record {
+  status = x .status;
+  value = x .value;
+  saved = x .saved;
+  state = informedOf (y .transactors) t (x .state) m;
+  creation = informedOf (y .transactors) t (x .creation) m;
+  behaviour = x .behaviour;
+}
+
+-- at work, and its behaviour map is the parcel's map; with the news, "whenever a receipt has outcome 0 and in no other outcome"
+abbrev pub taken : Layout → ℕ → Transactor → DependenceMap → Transactor
+taken y t x m = withBehaviour (withStatus (informedBy y t x m) busy) m
 
 -- dropped; or the take falls, frozen or not; or the parcel is taken in
 unfoldable pub receiveBy : Layout → ℕ → Transactor → Message → Effect
 receiveBy y t x m =
     pick (messageSuperseded y x m) (unchanged dropped x)
     (pick (receiverSuperseded y x m) (rollback y t x)
-    (record { outcome = done; value = m .value; transactor = taken x m }))
+    (record { outcome = done; value = m .value; transactor = taken y t x (m .dependences) }))
 
 -- ---- sign
 

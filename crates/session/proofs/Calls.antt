@@ -15,7 +15,7 @@ use Rattle.rules.specs.State.{State, transactorAt, placeOf}
 use Rattle.rules.specs.Pack.{pack, unpack}
 use Rattle.rules.specs.Form.{wellFormed}
 use Rattle.rules.specs.Internal.Well.{WellFormed}
-use Rattle.rules.specs.Calls.{wrongLength, beginAnswer, beginImage, stateAfter, stepsIn, runAnswer, replyAt, ranImage, ranReplies, runImage, runReplies, offerRefusal, showRefusal}
+use Rattle.rules.specs.Calls.{wrongLength, beginAnswer, beginImage, stateAfter, stepsIn, runAnswer, replyAt, ranImage, ranReplies, runImage, runReplies, queryRefusal, showRefusal}
 use Rattle.rules.proofs.Pack.Sizes.{length-pack}
 use Rattle.rules.proofs.Pack.RoundTrip.{unpack-pack}
 use Rattle.rules.proofs.Form.Packed.{formed-pack}
@@ -23,8 +23,8 @@ use Rattle.rules.proofs.Pack.Fresh.{pack-fresh}
 use Rattle.rules.proofs.Keep.State.{well-fresh}
 use Rattle.rules.proofs.Keep.Step.{keeps-after}
 use Rattle.session.specs.Provenance.{Provenance, emptyProvenance, statusNumber, isMissing}
-use Rattle.session.specs.Fed.{Call, run, show, queryRefusal, callRefusal, ProvenanceCall, provenance-refuses, provenance-begins, provenance-runs, provenance-offers, provenance-names, provenance-shows}
-use Rattle.session.specs.Trace.{Answer, ran, refusalIn, Performed, beginning, running, offering, naming, showing, Matches, CallStepsRight, run-right, begin-right, offer-right, smallest-right, show-right, CallRight}
+use Rattle.session.specs.Fed.{Call, run, show, provenanceQueryRefusal, callRefusal, ProvenanceCall, provenance-refuses, provenance-begins, provenance-runs, provenance-offers, provenance-names, provenance-hears, provenance-shows}
+use Rattle.session.specs.Trace.{Answer, ran, refusalIn, Performed, beginning, running, offering, naming, hearing, showing, Matches, CallStepsRight, run-right, begin-right, offer-right, smallest-right, heard-right, show-right, CallRight}
 use Rattle.session.proofs.Model.{view}
 use Rattle.session.proofs.Relation.{Rel, fresh-rel}
 use Rattle.session.proofs.Sign.{rel-sound}
@@ -63,12 +63,12 @@ module _ {y : Layout} {img : List ℕ} {b : Provenance} (h : Holds y img b) wher
 
   -- ---- the book's refusals
 
-  run-same : (list : List ℕ) (o : Octets list) (start end : ℕ) (replies : List ℕ) → runAnswer y img list start end replies ≡ callRefusal b (run list o start end replies)
+  pub run-same : (list : List ℕ) (o : Octets list) (start end : ℕ) (replies : List ℕ) → runAnswer y img list start end replies ≡ callRefusal b (run list o start end replies)
   unfolding runAnswer
   run-same list o start end replies = rw (right-length, right-form)
 
-  query-same : (t : ℕ) → offerRefusal y img t ≡ queryRefusal b t
-  unfolding offerRefusal view
+  query-same : (t : ℕ) → queryRefusal y img t ≡ provenanceQueryRefusal b t
+  unfolding queryRefusal view
   query-same t =
       let n : unpack y img .opened ≡ b .opened = h .rel .opened in
       let k : transactorAt (unpack y img) t .status ≡ statusNumber (b .holders t .status) = holds-matches t .status in
@@ -89,7 +89,7 @@ pub record Called (y : Layout) (m : Limits) (img : List ℕ) (b : Provenance) (c
   pub holds : Holds y after provenance
 
 -- a call that changes nothing in the book, refused or not
-kept : {m : Limits} {b : Provenance} {c : Call} → (callRefusal b c ≡ 0 → ProvenanceCall m b c b) → ProvenanceCall m b c b
+pub kept : {m : Limits} {b : Provenance} {c : Call} → (callRefusal b c ≡ 0 → ProvenanceCall m b c b) → ProvenanceCall m b c b
 kept {m} {b} {c} f = go (ℕ-discrete (callRefusal b c) 0)
   where
     go : Dec (callRefusal b c ≡ 0) → ProvenanceCall m b c b
@@ -143,4 +143,5 @@ module _ {y : Layout} {m : Limits} (z : layout.Fitting y) (l : Allowed y m) {img
   call-right (running {list} {o} {start} {end} {replies}) = run-called list o start end replies
   call-right (offering {t} f) = called-as (kept provenance-offers) (query-same h t) offer-right h
   call-right (naming {t} f) = called-as (kept provenance-names) (query-same h t) smallest-right h
+  call-right (hearing {t}) = called-as (kept provenance-hears) (query-same h t) heard-right h
   call-right (showing {n}) = called-as (kept provenance-shows) (show-same h n) show-right h

@@ -44,8 +44,8 @@ module _ {y : Layout} {m : Limits} (z : Fitting y) (l : Allowed y m) where
 
 -- A trace is a session grown from a fresh one: "an accepted begin, then any list of begins, runs, offers and shows on that
 -- image, refused ones included. Each gets the image as the last left it", and with them any that ask which takes to put in the
--- volume (document 02, W1). Its calls are performed by the definitions that the contracts of begin, run, offer, smallest_group
--- and show cite. For every layout whose counts fit their fields, all limits that the layout can hold, and every trace there is a
+-- volume (document 02, W1), or whether all heard is frozen (W4). Its calls are performed by the definitions that the contracts of
+-- begin, run, offer, smallest_group, all_heard_stable and show cite. For every layout whose counts fit their fields, all limits that the layout can hold, and every trace there is a
 -- book, fed the trace's calls alone (ProvenanceOf; no other book is fed them: provenance-unique), such that at every call, and
 -- at every step of every run:
 -- * "It refuses calls and steps by the table .., judged by what it holds itself; 19 never arises": a call answers the book's

@@ -20,8 +20,9 @@ use Rattle.rules.proofs.Keep.Accepted.{kind-known}
 use Rattle.session.specs.Provenance.{Live, Provenance, withHolder, withWaitingMessage, withoutWaitingMessage}
 use Rattle.session.specs.Grounds.{Equal}
 use Rattle.session.specs.Steps.{carried, acted, opensRoot, opensChild, receives, applied, signs, provenanceRefusal, ProvenanceStep, refuses, applies, signing, not-ready}
-use Rattle.session.proofs.Model.{Node, Ledger, withNode, openNode, withMessageView, withoutMessageView, findMessage, anewNode, sentMap, childNode, openerNode, signLedger}
+use Rattle.session.proofs.Model.{News, Node, Ledger, withNode, openNode, withMessageView, withoutMessageView, findMessage, anewNode, sentMap, childNode, openerNode, signLedger}
 use Rattle.session.proofs.Tables.{pick-view, pick-both, and-of}
+use Rattle.session.proofs.News.{NewsLaw}
 use Rattle.session.proofs.Relation.{Rel}
 use Rattle.session.proofs.Locals.{actedNode, step-acted}
 use Rattle.session.proofs.Messages.{ReceiptTests, receiveMessage, step-send, step-letter, step-lose, step-receive}
@@ -33,21 +34,21 @@ use Rattle.session.proofs.Accepted.{provenance-accepted, acting-live, r
 -- ---- a step of the ledger: refused with the number n, or applied
 
 -- d and e stand for the two tests at a receipt, ok for the one at a signing
-unfoldable pub appliedLedger : Bool → Bool → Bool → Ledger → Step → Ledger
-appliedLedger d e ok l p =
+unfoldable pub appliedLedger : News → Bool → Bool → Bool → Ledger → Step → Ledger
+appliedLedger w d e ok l p =
     let t : ℕ = p .transactor in
     let x : Node = l .nodes t in
     pick (eqb (p .kind) root) (openNode l (anewNode (l .opened) initialView))
     (pick (eqb (p .kind) letter) (withMessageView l t emptyView)
-    (pick (eqb (p .kind) receive) (receiveMessage d e l (p .message))
+    (pick (eqb (p .kind) receive) (receiveMessage w d e l (p .message))
     (pick (eqb (p .kind) new) (openNode (withNode l t (openerNode (l .opened) x)) (childNode (l .opened) (sentMap t x)))
     (pick (eqb (p .kind) send) (withMessageView l (p .other) (sentMap t x))
     (pick (eqb (p .kind) lose) (withoutMessageView l (p .message))
     (pick (eqb (p .kind) sign) (pick ok (signLedger l (named (p .message))) l)
     (withNode l t (actedNode (p .kind) t x))))))))
 
-unfoldable pub stepLedger : ℕ → Bool → Bool → Bool → Ledger → Step → Ledger
-stepLedger n d e ok l p = pick (eqb n 0) (appliedLedger d e ok l p) l
+unfoldable pub stepLedger : News → ℕ → Bool → Bool → Bool → Ledger → Step → Ledger
+stepLedger w n d e ok l p = pick (eqb n 0) (appliedLedger w d e ok l p) l
 
 pub record StepTests (l : Ledger) (p : Step) (d e ok : Bool) : Type 0 where
   pub receipt : ReceiptTests (l .nodes (findMessage (p .message) (l .messages) .addressee)) (findMessage (p .message) (l .messages)) d e
@@ -58,8 +59,8 @@ pub record StepTests (l : Ledger) (p : Step) (d e ok : Bool) : Type 0 where
 acts-between : (k : ℕ) → new ≤ k → k ≤ fail → acts k ≡ true
 acts-between k h g = and-of (leb new k) (leb k fail) (le-leb new k h) (le-leb k fail g)
 
-module _ (l : Ledger) (b : Provenance) (r : Rel l b) (m : Limits) (p : Step) (zero : provenanceRefusal m b p ≡ 0) (d e ok : Bool) (tests : StepTests l p d e ok) where
-  applied-rel : (p .kind ≡ sign → ⊥) → Rel (appliedLedger d e ok l p) (applied b p)
+module _ (w : News) (law : NewsLaw w) (l : Ledger) (b : Provenance) (r : Rel l b) (m : Limits) (p : Step) (zero : provenanceRefusal m b p ≡ 0) (d e ok : Bool) (tests : StepTests l p d e ok) where
+  applied-rel : (p .kind ≡ sign → ⊥) → Rel (appliedLedger w d e ok l p) (applied b p)
   unfolding appliedLedger applied
   applied-rel other =
       let t = p .transactor in let k = p .kind in
@@ -69,7 +70,7 @@ module _ (l : Ledger) (b : Provenance) (r : Rel l b) (m : Limits) (p : Step) (ze
       pick-both Rel (eqb k root) (eqb k root) refl _ _ (opensRoot b) _ (λ i. step-root l b r) λ i1.
       pick-both Rel (eqb k letter) (eqb k letter) refl _ _ (withWaitingMessage b t []) _ (λ i. step-letter l b r t) λ i2.
       pick-both Rel (eqb k receive) (eqb k receive) refl _ _ (receives b (p .message)) _
-      (λ i. step-receive l b r (p .message) d e (receiving-live l b r m p zero (eqb-true k receive i)) (tests .receipt)) λ i3.
+      (λ i. step-receive w law l b r (p .message) d e (receiving-live l b r m p zero (eqb-true k receive i)) (tests .receipt)) λ i3.
       pick-both Rel (eqb k new) (eqb k new) refl _ _ (opensChild b t) _
       (λ i. let j = eqb-true k new i in step-new l b r t (live (omega arith) (omega arith))) λ i4.
       pick-both Rel (eqb k send) (eqb k send) refl _ _ (withWaitingMessage b (p .other) (carried t h)) _
@@ -89,11 +90,11 @@ module _ (l : Ledger) (b : Provenance) (r : Rel l b) (m : Limits) (p : Step) (ze
     )
 
     -- both sides sign, or neither
-    checkpointed-rel : ok ≡ true → Rel (appliedLedger d e ok l p) (signs b (p .message))
+    checkpointed-rel : ok ≡ true → Rel (appliedLedger w d e ok l p) (signs b (p .message))
     unfolding appliedLedger
     checkpointed-rel i = rw (k, i) (step-sign l b r (p .message) (tests .ready .0 i))
 
-    uncheckpointed-rel : ok ≡ false → Rel (appliedLedger d e ok l p) b
+    uncheckpointed-rel : ok ≡ false → Rel (appliedLedger w d e ok l p) b
     unfolding appliedLedger
     uncheckpointed-rel i = rw (k, i) r
 
@@ -105,28 +106,28 @@ pub record Kept (m : Limits) (b : Provenance) (p : Step) (l : Ledger) : Type 1 w
   pub step : ProvenanceStep m b p after
   pub rel : Rel l after
 
-module _ (l : Ledger) (b : Provenance) (r : Rel l b) (m : Limits) (p : Step) (bits : p .message < bound 2) (d e ok : Bool) (tests : StepTests l p d e ok) where
-  applied-kept : provenanceRefusal m b p ≡ 0 → Kept m b p (appliedLedger d e ok l p)
+module _ (w : News) (law : NewsLaw w) (l : Ledger) (b : Provenance) (r : Rel l b) (m : Limits) (p : Step) (bits : p .message < bound 2) (d e ok : Bool) (tests : StepTests l p d e ok) where
+  applied-kept : provenanceRefusal m b p ≡ 0 → Kept m b p (appliedLedger w d e ok l p)
   applied-kept zero = go (ℕ-discrete (p .kind) sign) ok refl
     where
-      go : Dec (p .kind ≡ sign) → (t : Bool) → ok ≡ t → Kept m b p (appliedLedger d e ok l p)
-      go (no k) t i = record { after = applied b p; step = applies zero k; rel = applied-rel l b r m p zero d e ok tests k }
+      go : Dec (p .kind ≡ sign) → (t : Bool) → ok ≡ t → Kept m b p (appliedLedger w d e ok l p)
+      go (no k) t i = record { after = applied b p; step = applies zero k; rel = applied-rel w law l b r m p zero d e ok tests k }
       go (yes k) true i = record {
         after = signs b (p .message);
-        step = signing zero k (sign-exact l b r m p zero d e ok tests k bits .0 i);
-        rel = checkpointed-rel l b r m p zero d e ok tests k bits i;
+        step = signing zero k (sign-exact w law l b r m p zero d e ok tests k bits .0 i);
+        rel = checkpointed-rel w law l b r m p zero d e ok tests k bits i;
       }
       go (yes k) false i = record {
         after = b;
-        step = not-ready zero k (λ q. false≢true (sym i ∙ sign-exact l b r m p zero d e ok tests k bits .1 q));
-        rel = uncheckpointed-rel l b r m p zero d e ok tests k bits i;
+        step = not-ready zero k (λ q. false≢true (sym i ∙ sign-exact w law l b r m p zero d e ok tests k bits .1 q));
+        rel = uncheckpointed-rel w law l b r m p zero d e ok tests k bits i;
       }
 
-  pub step-kept : (n : ℕ) → n ≡ provenanceRefusal m b p → Kept m b p (stepLedger n d e ok l p)
+  pub step-kept : (n : ℕ) → n ≡ provenanceRefusal m b p → Kept m b p (stepLedger w n d e ok l p)
   unfolding stepLedger
   step-kept n s = go (ℕ-discrete n 0)
     where
-      go : Dec (n ≡ 0) → Kept m b p (pick (eqb n 0) (appliedLedger d e ok l p) l)
+      go : Dec (n ≡ 0) → Kept m b p (pick (eqb n 0) (appliedLedger w d e ok l p) l)
       go (yes z) = rw (eq-eqb n 0 z) (applied-kept (sym s ∙ z))
       go (no z) = rw (ne-eqb n 0 z) (record { after = b; step = refuses (λ q. z (s ∙ q)); rel = r })
 

@@ -4,8 +4,12 @@ pub mod Count
 pub mod Demand3
 pub mod Kept
 pub mod Locals
+pub mod Log
+pub mod Logged
+pub mod LogTrace
 pub mod Messages
 pub mod Model
+pub mod News
 pub mod Opening
 pub mod Plays
 pub mod Promises
@@ -22,6 +26,7 @@ pub mod Step
 pub mod Tables
 pub mod Traces
 pub mod Tries
+pub mod Unchanged
 pub mod Unique
 pub mod Unrelated
 pub mod ViewRules

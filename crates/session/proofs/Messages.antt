@@ -12,9 +12,10 @@ use Rattle.marks.proofs.Histories.{⊑-refl}
 use Rattle.maps.specs.Internal.View.{MapView, joinView, emptyView, singletonView, SupersededView}
 use Rattle.session.specs.Provenance.{busy, Live, working, Incarnations, In, one, Holder, WaitingMessage, Provenance, withHolder, withWaitingMessage, remove, withoutWaitingMessage, find, isMissing, anySuperseded}
 use Rattle.session.specs.Steps.{carried, rolledBackHolder, isDropped, isRolledBack, received, receives}
-use Rattle.session.proofs.Model.{Node, MessageView, Ledger, own, withNode, withMessageView, removeMessage, withoutMessageView, findMessage, missingMessage, rollbackNode, knownMap, sentMap, busyNode}
+use Rattle.session.proofs.Model.{Node, MessageView, Ledger, own, withNode, withMessageView, removeMessage, withoutMessageView, findMessage, missingMessage, rollbackNode, News, knownMap, sentMap, busyNode}
 use Rattle.session.proofs.Tables.{pick-both, same-test}
 use Rattle.session.proofs.Sets.{SetRel, set-join, none-rel, only-rel, in-one, cell-has, Coherent, Members, coherent-part, SupersededSet, superseded-set, supersededSet-same, supersededSet-test}
+use Rattle.session.proofs.News.{NewsLaw, cell-informed}
 use Rattle.session.proofs.Relation.{present, Whole, in-state, in-creation, in-behaviour, HolderRel, MessageRel, All2, none2, cons2, Rel, own-history}
 use Rattle.session.proofs.Locals.{keep-rel, held-rel, step-rollback, present-is}
 
@@ -112,34 +113,41 @@ module _ {now : ℕ → HistoryView} {t : ℕ} {x : Node} {h : Holder} (r : Hold
   ground-coherent : Coherent (Members ground)
   ground-coherent = coherent-part (Whole h) (Members ground) (λ u a z. ⊎-elim in-state in-creation (List·Memᴰ·append-cases (h .state) z)) (r .coherent)
 
-  -- the ledger's tests, whatever Bools stand for them, give what the book's give
-  pub dropped-same : (d : Bool) → (d ≡ true) ↔ SupersededView (m .dependences) (knownMap x) → d ≡ isDropped h q
+  -- the book's tests say what the ledger's maps do
+  pub dropped-is : (isDropped h q ≡ true) ↔ SupersededView (m .dependences) (knownMap x)
   unfolding isDropped
-  dropped-same d i =
+  dropped-is =
       let k = supersededSet-same now (m .dependences) (knownMap x) (q .incarnations) ground (p .incarnations) ground-rel (p .coherent) in
       let j = supersededSet-test (q .incarnations) ground in
-      same-test d (anySuperseded (q .incarnations) ground) (λ e. j .1 (k .1 (i .0 e))) (λ e. i .1 (k .0 (j .0 e)))
+      (λ e. k .0 (j .0 e), λ s. j .1 (k .1 s))
 
-  pub rolledBack-same : (e : Bool) → (e ≡ true) ↔ SupersededView (knownMap x) (m .dependences) → e ≡ isRolledBack h q
+  pub rolledBack-is : (isRolledBack h q ≡ true) ↔ SupersededView (knownMap x) (m .dependences)
   unfolding isRolledBack
-  rolledBack-same e i =
+  rolledBack-is =
       let k = supersededSet-same now (knownMap x) (m .dependences) ground (q .incarnations) ground-rel (p .incarnations) ground-coherent in
       let j = supersededSet-test ground (q .incarnations) in
-      same-test e (anySuperseded ground (q .incarnations)) (λ e. j .1 (k .1 (i .0 e))) (λ e. i .1 (k .0 (j .0 e)))
+      (λ e. k .0 (j .0 e), λ s. j .1 (k .1 s))
+
+  -- so the ledger's tests, whatever Bools stand for them, give what the book's give
+  pub dropped-same : (d : Bool) → (d ≡ true) ↔ SupersededView (m .dependences) (knownMap x) → d ≡ isDropped h q
+  dropped-same d i = same-test d (isDropped h q) (λ e. dropped-is .1 (i .0 e)) (λ e. i .1 (dropped-is .0 e))
+
+  pub rolledBack-same : (e : Bool) → (e ≡ true) ↔ SupersededView (knownMap x) (m .dependences) → e ≡ isRolledBack h q
+  rolledBack-same e i = same-test e (isRolledBack h q) (λ z. rolledBack-is .1 (i .0 z)) (λ z. i .1 (rolledBack-is .0 z))
 
   abbrev busyHolder : Holder
   busyHolder = record { status = busy; history = h .history; state = h .state; creation = h .creation; behaviour = q .incarnations }
 
   -- C of state, creation and the new behaviour together, because both tests failed
-  busy-rel : Live (h .status) → isDropped h q ≡ false → isRolledBack h q ≡ false → HolderRel now t (busyNode x (m .dependences)) busyHolder
+  busy-rel : (w : News) → NewsLaw w → Live (h .status) → isDropped h q ≡ false → isRolledBack h q ≡ false → HolderRel now t (busyNode w t x (m .dependences)) busyHolder
   unfolding isDropped isRolledBack
-  busy-rel live d e = record {
+  busy-rel w law live d e = record {
     status = refl;
-    state = r .state;
-    creation = r .creation;
+    state = λ u. cell-informed (p .incarnations u) (r .state u) (law .entry t (x .state) (m .dependences) u);
+    creation = λ u. cell-informed (p .incarnations u) (r .creation u) (law .entry t (x .creation) (m .dependences) u);
     behaviour = p .incarnations;
     coherent = coherent;
-    own = λ k. r .own live;
+    own = λ k. law .own t (x .state) (m .dependences) ∙ r .own live;
     gone = λ k. absurd (k working);
     first = r .first;
   }
@@ -167,37 +175,37 @@ pub record ReceiptTests (x : Node) (m : MessageView) (d e : Bool) : Type 0 where
   pub rolls-back : (e ≡ true) ↔ SupersededView (knownMap x) (m .dependences)
 
 -- what a receipt leaves of a node, by the outcomes of the two tests
-abbrev pub receivedNode : Bool → Bool → ℕ → Node → MapView → Node
-receivedNode d e t x M = pick d x (pick e (rollbackNode t x) (busyNode x M))
+abbrev pub receivedNode : News → Bool → Bool → ℕ → Node → MapView → Node
+receivedNode w d e t x M = pick d x (pick e (rollbackNode t x) (busyNode w t x M))
 
 -- the receipt of the mail of number n
-abbrev pub receiveMessage : Bool → Bool → Ledger → ℕ → Ledger
-receiveMessage d e l n =
+abbrev pub receiveMessage : News → Bool → Bool → Ledger → ℕ → Ledger
+receiveMessage w d e l n =
     let m : MessageView = findMessage n (l .messages) in
     let t : ℕ = m .addressee in
-    withNode (withoutMessageView l n) t (receivedNode d e t (l .nodes t) (m .dependences))
+    withNode (withoutMessageView l n) t (receivedNode w d e t (l .nodes t) (m .dependences))
 
-module _ (l : Ledger) (b : Provenance) (r : Rel l b) (n : ℕ) (d e : Bool) where
+module _ (w : News) (law : NewsLaw w) (l : Ledger) (b : Provenance) (r : Rel l b) (n : ℕ) (d e : Bool) where
   -- by whatever take, and whatever parcel
   received-rel : {m : MessageView} {q : WaitingMessage} → MessageRel (present (b .holders)) m q → (t : ℕ) → Live (b .holders t .status) → ReceiptTests (l .nodes t) m d e
-      → Rel (withNode (withoutMessageView l n) t (receivedNode d e t (l .nodes t) (m .dependences))) (withHolder (withoutWaitingMessage b n) t (received t (b .holders t) q))
+      → Rel (withNode (withoutMessageView l n) t (receivedNode w d e t (l .nodes t) (m .dependences))) (withHolder (withoutWaitingMessage b n) t (received t (b .holders t) q))
   unfolding received
   received-rel {m} {q} p t live i =
       let x = l .nodes t in let h = b .holders t in let s = step-lose l b r n in
       let f = dropped-same (r .holders t) p d (i .dropped) in
       let g = rolledBack-same (r .holders t) p e (i .rolls-back) in
       let y = busyHolder (r .holders t) p in
-      pick-both (λ z w. Rel (withNode (withoutMessageView l n) t z) (withHolder (withoutWaitingMessage b n) t w)) d (isDropped h q) f x (pick e (rollbackNode t x) (busyNode x (m .dependences))) h (pick (isRolledBack h q) (rolledBackHolder t h) y)
+      pick-both (λ z v. Rel (withNode (withoutMessageView l n) t z) (withHolder (withoutWaitingMessage b n) t v)) d (isDropped h q) f x (pick e (rollbackNode t x) (busyNode w t x (m .dependences))) h (pick (isRolledBack h q) (rolledBackHolder t h) y)
       (λ k. held-rel (withoutMessageView l n) (withoutWaitingMessage b n) s t live) λ k.
-      pick-both (λ z w. Rel (withNode (withoutMessageView l n) t z) (withHolder (withoutWaitingMessage b n) t w)) e (isRolledBack h q) g (rollbackNode t x) (busyNode x (m .dependences)) (rolledBackHolder t h) y
+      pick-both (λ z v. Rel (withNode (withoutMessageView l n) t z) (withHolder (withoutWaitingMessage b n) t v)) e (isRolledBack h q) g (rollbackNode t x) (busyNode w t x (m .dependences)) (rolledBackHolder t h) y
       (λ j. step-rollback (withoutMessageView l n) (withoutWaitingMessage b n) s t live)
-      (λ j. keep-rel (withoutMessageView l n) (withoutWaitingMessage b n) s t live (busyNode x (m .dependences)) y working refl (busy-rel (r .holders t) p live (sym f ∙ k) (sym g ∙ j)))
+      (λ j. keep-rel (withoutMessageView l n) (withoutWaitingMessage b n) s t live (busyNode w t x (m .dependences)) y working refl (busy-rel (r .holders t) p w law live (sym f ∙ k) (sym g ∙ j)))
 
   pub step-receive : Live (b .holders (find n (b .messages) .addressee) .status)
-      → ReceiptTests (l .nodes (findMessage n (l .messages) .addressee)) (findMessage n (l .messages)) d e → Rel (receiveMessage d e l n) (receives b n)
+      → ReceiptTests (l .nodes (findMessage n (l .messages) .addressee)) (findMessage n (l .messages)) d e → Rel (receiveMessage w d e l n) (receives b n)
   unfolding receives
   step-receive live i =
       let m = findMessage n (l .messages) in
       let p = find-rel n (r .messages) in
-      subst (λ t. ReceiptTests (l .nodes t) m d e → Rel (withNode (withoutMessageView l n) t (receivedNode d e t (l .nodes t) (m .dependences))) (receives b n))
+      subst (λ t. ReceiptTests (l .nodes t) m d e → Rel (withNode (withoutMessageView l n) t (receivedNode w d e t (l .nodes t) (m .dependences))) (receives b n))
       (sym (p .addressee)) (received-rel p (find n (b .messages) .addressee) live) i

@@ -98,8 +98,12 @@ knownMap x = joinView (x .state) (x .creation)
 abbrev pub sentMap : ℕ → Node → MapView
 sentMap t x = joinView (joinView (x .creation) (x .behaviour)) (singletonView t (own t x))
 
-abbrev pub busyNode : Node → MapView → Node
-busyNode x M = record { status = busy; state = x .state; creation = x .creation; behaviour = M }
+-- news t M N: what take t makes of its map M where it receives the map N (document 02, W4)
+abbrev pub News : Type 0
+News = ℕ → MapView → MapView → MapView
+
+abbrev pub busyNode : News → ℕ → Node → MapView → Node
+busyNode w t x M = record { status = busy; state = w t (x .state) M; creation = w t (x .creation) M; behaviour = M }
 
 abbrev pub childNode : ℕ → MapView → Node
 childNode c M = record { status = ready; state = singletonView c initialView; creation = M; behaviour = emptyView }

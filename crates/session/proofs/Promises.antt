@@ -1,18 +1,21 @@
 -- From contract to trace: for each call, what its function's contract promises is the call performed, and nothing else is.
 -- The left side of each law is the `ensures` of the function of that name (crate `ledger`, src/lib.rt): img, after: the image at
 -- entry and exit; replies, given: the replies at entry and exit; r: the answer, or what the lent number takes. What is offered
--- or named is the number in the answer, or none. Offer, smallest_group and show borrow the image to read it, so it stays.
+-- or named is the number in the answer, or none. Offer, smallest_group, all_heard_stable and show borrow the image to read it, so it
+-- stays.
 use Prim.Native.Nat.{ℕ}
+use mathlib.Core.Bool.{Bool}
 use mathlib.Core.Path.{_≡_, refl}
 use mathlib.Core.List.{List}
 use mathlib.Core.Logic.{_↔_}
 use mathlib.Core.Option.{Option}
 use Rattle.octets.specs.Bytes.{Octets}
 use Rattle.rules.specs.Layout.{base, standard}
-use Rattle.rules.specs.Calls.{beginAnswer, beginImage, runAnswer, runImage, runReplies, offerRefusal, Offers, showRefusal, shown}
+use Rattle.rules.specs.Calls.{beginAnswer, beginImage, runAnswer, runImage, runReplies, queryRefusal, Offers, showRefusal, shown}
 use Rattle.rules.specs.Groups.{Smallest}
-use Rattle.session.specs.Fed.{begin, run, offer, smallest, show}
-use Rattle.session.specs.Trace.{begun, ran, offered, grouped, showed, refusalIn, Performed, beginning, running, offering, naming, showing}
+use Rattle.rules.specs.Heard.{heardAnswer}
+use Rattle.session.specs.Fed.{begin, run, offer, smallest, heard, show}
+use Rattle.session.specs.Trace.{begun, ran, offered, grouped, told, showed, refusalIn, Performed, beginning, running, offering, naming, hearing, showing}
 
 -- ---- what a performed call gives
 
@@ -23,12 +26,16 @@ run-gives : {img after list replies given : List ℕ} {o : Octets list} {start e
     → (r ≡ runAnswer base img list start end replies) × (after ≡ runImage base standard img list start end replies) × (given ≡ runReplies base standard img list start end replies)
 run-gives running = (refl, refl, refl)
 
-offer-gives : {img after : List ℕ} {t r : ℕ} {message : Option ℕ} → Performed base standard img (offer t) (offered r message) after → (r ≡ offerRefusal base img t) × Offers base img t message
+offer-gives : {img after : List ℕ} {t r : ℕ} {message : Option ℕ} → Performed base standard img (offer t) (offered r message) after → (r ≡ queryRefusal base img t) × Offers base img t message
 offer-gives (offering f) = (refl, f)
 
 smallest-gives : {img after : List ℕ} {t r : ℕ} {group : Option ℕ} → Performed base standard img (smallest t) (grouped r group) after
-    → (r ≡ offerRefusal base img t) × Smallest base standard img t group
+    → (r ≡ queryRefusal base img t) × Smallest base standard img t group
 smallest-gives (naming f) = (refl, f)
+
+heard-gives : {img after : List ℕ} {t r : ℕ} {stable : Bool} → Performed base standard img (heard t) (told r stable) after
+    → (r ≡ queryRefusal base img t) × (stable ≡ heardAnswer base img t)
+heard-gives hearing = (refl, refl)
 
 show-gives : {img after bytes : List ℕ} {n r : ℕ} → Performed base standard img (show n) (showed r bytes) after → (bytes ≡ shown base img n) × (r ≡ showRefusal base img n)
 show-gives showing = (refl, refl)
@@ -48,14 +55,19 @@ pub run-promises : {img after list replies given : List ℕ} {o : Octets list} {
 run-promises = (λ e. rw (e .0, e .1, e .2) running, run-gives)
 
 pub offer-promises : {img : List ℕ} {t r : ℕ} {message : Option ℕ}
-    → ((r ≡ offerRefusal base img t) × Offers base img t message)
+    → ((r ≡ queryRefusal base img t) × Offers base img t message)
     ↔ Performed base standard img (offer t) (offered r message) img
 offer-promises = (λ e. rw (e .0) (offering (e .1)), offer-gives)
 
 pub smallest-promises : {img : List ℕ} {t r : ℕ} {group : Option ℕ}
-    → ((r ≡ offerRefusal base img t) × Smallest base standard img t group)
+    → ((r ≡ queryRefusal base img t) × Smallest base standard img t group)
     ↔ Performed base standard img (smallest t) (grouped r group) img
 smallest-promises = (λ e. rw (e .0) (naming (e .1)), smallest-gives)
+
+pub heard-promises : {img : List ℕ} {t r : ℕ} {stable : Bool}
+    → ((r ≡ queryRefusal base img t) × (stable ≡ heardAnswer base img t))
+    ↔ Performed base standard img (heard t) (told r stable) img
+heard-promises = (λ e. rw (e .0, e .1) hearing, heard-gives)
 
 pub show-promises : {img bytes : List ℕ} {n r : ℕ}
     → ((bytes ≡ shown base img n) × (r ≡ showRefusal base img n))
@@ -63,6 +75,6 @@ pub show-promises : {img bytes : List ℕ} {n r : ℕ}
 show-promises = (λ e. rw (e .0, e .1) showing, show-gives)
 
 -- the refusal that is claimed to be the book's is the answer itself, or what the lent number takes
-pub refusal-promised : (r : ℕ) (bytes : List ℕ) (n : Option ℕ)
-    → (refusalIn (begun r) ≡ r) × (refusalIn (ran r bytes) ≡ r) × (refusalIn (offered r n) ≡ r) × (refusalIn (grouped r n) ≡ r) × (refusalIn (showed r bytes) ≡ r)
-refusal-promised r bytes n = (refl, refl, refl, refl, refl)
+pub refusal-promised : (r : ℕ) (bytes : List ℕ) (n : Option ℕ) (b : Bool)
+    → (refusalIn (begun r) ≡ r) × (refusalIn (ran r bytes) ≡ r) × (refusalIn (offered r n) ≡ r) × (refusalIn (grouped r n) ≡ r) × (refusalIn (told r b) ≡ r) × (refusalIn (showed r bytes) ≡ r)
+refusal-promised r bytes n b = (refl, refl, refl, refl, refl, refl)

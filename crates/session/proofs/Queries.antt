@@ -26,7 +26,7 @@ use Rattle.rules.specs.Refusals.{Seen, groupBits, named, anyNamed, malformed, n
 use Rattle.rules.specs.Rules.{Result, seen, refusal, groupReady, applySign, answer, stepOf}
 use Rattle.rules.specs.Pack.{unpack}
 use Rattle.rules.specs.Internal.Well.{WellFormed}
-use Rattle.rules.specs.Calls.{offerRefusal, WaitsFor, LowestFor, Offers}
+use Rattle.rules.specs.Calls.{queryRefusal, WaitsFor, LowestFor, Offers}
 use Rattle.rules.specs.Calls as offering
 use Rattle.rules.specs.Groups.{signing, Checkpointable, Within, Smallest}
 use Rattle.rules.specs.Groups as grouping
@@ -70,9 +70,9 @@ lowest-among s t (suc i) = go (lowest-among s t i) (ℕ-discrete (messageAt s i 
         at (no l) = lowest i (omega arith) g (one-more (Above i) (λ k q w. let z = f k q w in omega arith) (λ w. omega arith))
 
 pub offers-exist : (y : Layout) (img : List ℕ) (t : ℕ) → (message : Option ℕ) × Offers y img t message
-offers-exist y img t = go (ℕ-discrete (offerRefusal y img t) 0)
+offers-exist y img t = go (ℕ-discrete (queryRefusal y img t) 0)
   where
-    found : offerRefusal y img t ≡ 0 → Lowest (unpack y img) t (length (unpack y img .messages)) → (message : Option ℕ) × Offers y img t message
+    found : queryRefusal y img t ≡ 0 → Lowest (unpack y img) t (length (unpack y img .messages)) → (message : Option ℕ) × Offers y img t message
     found e (nobody f) = (none, offering.nothing e (λ n w. f (w .place) (w .waits) (w .addressee)))
     found e (lowest p h g f) = (
       some (messageAt (unpack y img) p .number),
@@ -82,7 +82,7 @@ offers-exist y img t = go (ℕ-discrete (offerRefusal y img t) 0)
       }),
     )
 
-    go : Dec (offerRefusal y img t ≡ 0) → (message : Option ℕ) × Offers y img t message
+    go : Dec (queryRefusal y img t ≡ 0) → (message : Option ℕ) × Offers y img t message
     go (no n) = (none, offering.refused n)
     go (yes e) = found e (lowest-among (unpack y img) t (length (unpack y img .messages)))
 
@@ -275,12 +275,12 @@ module _ {y : Layout} (m : Limits) {s : State} (well : WellFormed y s) where
           (one-more (λ w. Checkpointable y m s t w → Within (meet v i) w) (λ w h d. within-left v i w (f w h d)) (λ d. within-right v i))
 
 pub smallest-exist : {y : Layout} (m : Limits) {img : List ℕ} → WellFormed y (unpack y img) → (t : ℕ) → (group : Option ℕ) × Smallest y m img t group
-smallest-exist {y} m {img} well t = go (ℕ-discrete (offerRefusal y img t) 0)
+smallest-exist {y} m {img} well t = go (ℕ-discrete (queryRefusal y img t) 0)
   where
-    found : offerRefusal y img t ≡ 0 → Least m well t (bound 2) → (group : Option ℕ) × Smallest y m img t group
+    found : queryRefusal y img t ≡ 0 → Least m well t (bound 2) → (group : Option ℕ) × Smallest y m img t group
     found e (no-group f) = (none, grouping.nothing e (λ v k. f v (k .bits) k))
     found e (least v c f) = (some v, grouping.smallest e c (λ w k. f w (k .bits) k))
 
-    go : Dec (offerRefusal y img t ≡ 0) → (group : Option ℕ) × Smallest y m img t group
+    go : Dec (queryRefusal y img t ≡ 0) → (group : Option ℕ) × Smallest y m img t group
     go (no n) = (none, grouping.refused n)
     go (yes e) = found e (least-among m well t (bound 2))

@@ -7,6 +7,7 @@ use native.Mathlib.Omega.{arith}
 use lib.Dec.{eqb}
 use borrow.Author.Tests.{eq-eqb}
 use Rattle.marks.specs.History.{HistoryView, viewOf}
+use Rattle.maps.proofs.News.{informedTable}
 use Rattle.maps.proofs.View.{view-some}
 use Rattle.rules.specs.Layout.{Layout, Limits, Allowed}
 use Rattle.rules.specs.Layout as layout
@@ -25,6 +26,7 @@ use Rattle.session.proofs.Tables.{pick-view}
 use Rattle.session.proofs.Relation.{Rel, own-history}
 use Rattle.session.proofs.Sign.{rel-sound}
 use Rattle.rules.proofs.Keep.Accepted.{accepted}
+use Rattle.session.proofs.News.{informed-law}
 use Rattle.session.proofs.Kept.{sign-exact}
 use Rattle.session.proofs.ViewState.{own-view}
 use Rattle.session.proofs.ViewRules.{droppedAt, rolledBackAt}
@@ -128,7 +130,7 @@ module _ {y : Layout} {m : Limits} (z : layout.Fitting y) (l : Allowed y m) {s :
       ready-exact =
           let a = applicable well l (ok .message) (accepted m (seen y s) p (same ∙ zero)) in
           rw (ready-same well (p .message) (ok .message) (a .among (eq-eqb (p .kind) sign k)))
-          (sign-exact (view s) b r m p zero (droppedAt y s (p .message)) (rolledBackAt y s (p .message)) (readyAt y s (p .message)) (step-tests well p (ok .message)) k (ok .message))
+          (sign-exact informedTable informed-law (view s) b r m p zero (droppedAt y s (p .message)) (rolledBackAt y s (p .message)) (readyAt y s (p .message)) (step-tests well p (ok .message)) k (ok .message))
 
       signing-right : SigningRight y m s b p
       unfolding applySign

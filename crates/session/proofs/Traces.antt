@@ -12,8 +12,8 @@ use Rattle.rules.specs.Layout.{Layout, Limits, Fitting, Allowed, base, standard
 use Rattle.rules.specs.Calls.{wrongLength, beginAnswer}
 use Rattle.rules.proofs.Keep.Step.{fitting-base, allowed-standard}
 use Rattle.session.specs.Provenance.{Provenance}
-use Rattle.session.specs.Fed.{Call, begin, run, offer, smallest, show, ProvenanceOf}
-use Rattle.session.specs.Trace.{Answer, Performed, beginning, running, offering, naming, showing, Trace, opened, called, callsOf, Right}
+use Rattle.session.specs.Fed.{Call, begin, run, offer, smallest, heard, show, ProvenanceOf}
+use Rattle.session.specs.Trace.{Answer, Performed, beginning, running, offering, naming, hearing, showing, Trace, opened, called, callsOf, Right}
 use Rattle.session.proofs.Unique.{provenance-unique}
 use Rattle.session.proofs.Calls.{Holds}
 use Rattle.session.proofs.Queries.{offers-exist, smallest-exist}
@@ -27,6 +27,7 @@ performs m h begin = (_, _, beginning)
 performs m h (run list o start end lent) = (_, _, running)
 performs {y} m {img} h (offer t) = (_, _, offering (offers-exist y img t .1))
 performs m h (smallest t) = (_, _, naming (smallest-exist m (h .well) t .1))
+performs m h (heard t) = (_, _, hearing)
 performs m h (show n) = (_, _, showing)
 
 -- ---- every list of calls, the last one first

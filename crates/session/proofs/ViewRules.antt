@@ -21,6 +21,7 @@ use Rattle.maps.specs.declared.DependenceMap.{DependenceMap}
 use Rattle.maps.specs.Map.{heldAt, historyAt}
 use Rattle.maps.specs.Table.{updated}
 use Rattle.maps.specs.Internal.View.{joinEntry, emptyView, singletonView, mapView, SupersededView}
+use Rattle.maps.proofs.News.{informedTable, table-informed}
 use Rattle.maps.proofs.View.{Answers, one, no-one, view-superseded, view-held, view-some, Within, roomy-entry, within-none, within-ok, within-singleton, within-join, view-empty, view-withEntry, view-singleton, view-join}
 use Rattle.rules.specs.Layout.{Layout}
 use Rattle.rules.specs.State.{Transactor, Message, State, transactorAt, messageAt, ownHistory, live, withTransactor, withoutMessage, numbered, placeOf}
@@ -122,11 +123,12 @@ module _ {y : Layout} {x : Transactor} (ok : TransactorOk y x) where
           pick-both Leaves (eqb k fall) (eqb k fall) refl _ _ _ _ (λ e. view-fall) (λ e. view-fail)
 
       pub view-received : (m : Message)
-          → viewNode (receiveBy y t x m .transactor) ≡ receivedNode (messageSuperseded y x m) (receiverSuperseded y x m) t (viewNode x) (mapView (m .dependences))
+          → viewNode (receiveBy y t x m .transactor) ≡ receivedNode informedTable (messageSuperseded y x m) (receiverSuperseded y x m) t (viewNode x) (mapView (m .dependences))
       unfolding receiveBy statusOf
       view-received m =
           pick-both Leaves (messageSuperseded y x m) (messageSuperseded y x m) refl _ _ _ _ (λ e. refl) λ e.
-          pick-both Leaves (receiverSuperseded y x m) (receiverSuperseded y x m) refl _ _ _ _ (λ e. view-rollback) (λ e. refl)
+          pick-both Leaves (receiverSuperseded y x m) (receiverSuperseded y x m) refl _ _ _ _ (λ e. view-rollback)
+          (λ e. node-same refl (table-informed (y .transactors) t (x .state) (m .dependences) (within-ok (ok .state))) (table-informed (y .transactors) t (x .creation) (m .dependences) (within-ok (ok .creation))) (λ u. refl))
 
 -- ---- the tests of a receipt
 
@@ -261,7 +263,7 @@ module _ {y : Layout} {s : State} (well : WellFormed y s) (p : Step) where
     pub addressee-below : messageAt s (placeOf s (p .message)) .addressee < y .transactors
     addressee-below = omega (arith, well .opened, well .addressees (placeOf s (p .message)) waits)
 
-    pub view-receive : view (applyReceive y s p .state) ≡ receiveMessage (droppedAt y s (p .message)) (rolledBackAt y s (p .message)) (view s) (p .message)
+    pub view-receive : view (applyReceive y s p .state) ≡ receiveMessage informedTable (droppedAt y s (p .message)) (rolledBackAt y s (p .message)) (view s) (p .message)
     unfolding applyReceive view droppedAt rolledBackAt
     view-receive =
         let m : Message = messageAt s (placeOf s (p .message)) in

@@ -12,6 +12,7 @@ use Rattle.octets.specs.Numbers.{bound}
 use Rattle.octets.proofs.Chunks.{sides}
 use Rattle.octets.proofs.Zero.{both, every-all, every-at}
 use Rattle.marks.specs.History.{HistoryView}
+use Rattle.maps.proofs.News.{informedTable}
 use Rattle.rules.specs.Layout.{Layout, Limits, Allowed}
 use Rattle.rules.specs.State.{Transactor, State, transactorAt, ownHistory, placeOf}
 use Rattle.rules.specs.declared.Step.{Step}
@@ -29,6 +30,7 @@ use Rattle.session.proofs.Seen.{seenOf, refusal-same}
 use Rattle.session.proofs.Sign.{Ready}
 use Rattle.rules.proofs.Keep.Accepted.{Accepted, accepted, kind-known, message-waits, one-unopened, transactor-opened, named-opened, named-room}
 use Rattle.session.proofs.Accepted.{named-below}
+use Rattle.session.proofs.News.{informed-law}
 use Rattle.session.proofs.Kept.{appliedLedger, stepLedger, StepTests, Kept, step-kept}
 use Rattle.session.proofs.ViewState.{no-transactor, own-view}
 use Rattle.session.proofs.Related.{state-related}
@@ -115,7 +117,7 @@ abbrev Leaves : Result → Ledger → Type 0
 Leaves r l = view (r .state) ≡ l
 
 module _ {y : Layout} {s : State} {p : Step} (well : WellFormed y s) (bits : p .message < bound 2) (a : Applicable y s p) where
-  pub view-apply : view (apply y s p .state) ≡ appliedLedger (droppedAt y s (p .message)) (rolledBackAt y s (p .message)) (readyAt y s (p .message)) (view s) p
+  pub view-apply : view (apply y s p .state) ≡ appliedLedger informedTable (droppedAt y s (p .message)) (rolledBackAt y s (p .message)) (readyAt y s (p .message)) (view s) p
   unfolding apply appliedLedger
   view-apply =
       let k : ℕ = p .kind in
@@ -154,7 +156,7 @@ module _ {y : Layout} {s : State} (well : WellFormed y s) (m : Limits) where
   view-refusal p = ap (λ v. refusalOf m v p) (view-seen well)
 
   pub view-step : Allowed y m → (p : Step) → p .message < bound 2
-      → view (stepOf y m s p .state) ≡ stepLedger (refusal y m s p) (droppedAt y s (p .message)) (rolledBackAt y s (p .message)) (readyAt y s (p .message)) (view s) p
+      → view (stepOf y m s p .state) ≡ stepLedger informedTable (refusal y m s p) (droppedAt y s (p .message)) (rolledBackAt y s (p .message)) (readyAt y s (p .message)) (view s) p
   unfolding stepOf stepLedger refusal
   view-step allowed p bits =
       let n : ℕ = refusal y m s p in
@@ -169,4 +171,4 @@ module _ {y : Layout} {s : State} (well : WellFormed y s) (m : Limits) where
 
     pub state-kept : Allowed y m → (p : Step) → p .message < bound 2 → Kept m b p (view (stepOf y m s p .state))
     state-kept allowed p bits = rw (view-step allowed p bits)
-        (step-kept (view s) b r m p bits (droppedAt y s (p .message)) (rolledBackAt y s (p .message)) (readyAt y s (p .message)) (step-tests well p bits) (refusal y m s p) (same-refusal p))
+        (step-kept informedTable informed-law (view s) b r m p bits (droppedAt y s (p .message)) (rolledBackAt y s (p .message)) (readyAt y s (p .message)) (step-tests well p bits) (refusal y m s p) (same-refusal p))

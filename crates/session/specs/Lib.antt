@@ -3,6 +3,7 @@ pub mod Unrelated
 pub mod Grounds
 pub mod Steps
 pub mod Fed
+pub mod Stabilized
 pub mod Trace
 pub mod Count
 pub mod Related

@@ -1,6 +1,6 @@
 -- Document 01, demand 3: sessions, and what is claimed of each call and each step.
 use Prim.Native.Nat.{ℕ, suc, _-_, _*_, _≤_, _<_}
-use mathlib.Core.Bool.{true}
+use mathlib.Core.Bool.{Bool, true}
 use mathlib.Core.Path.{_≡_}
 use mathlib.Core.List.{List, [], _∷_}
 use mathlib.Core.Option.{Option}
@@ -13,21 +13,23 @@ use Rattle.rules.specs.declared.Step.{Step}
 use Rattle.rules.specs.Step.{stepBytes, stepAt, packReply, sign, done, notReady}
 use Rattle.rules.specs.Rules.{answer, stepOf, checkpointGroup}
 use Rattle.rules.specs.Pack.{unpack}
-use Rattle.rules.specs.Calls.{beginAnswer, beginImage, runAnswer, runImage, runReplies, stateAfter, stepsIn, offerRefusal, Offers, showRefusal, shown}
+use Rattle.rules.specs.Calls.{beginAnswer, beginImage, runAnswer, runImage, runReplies, stateAfter, stepsIn, queryRefusal, Offers, showRefusal, shown}
 use Rattle.rules.specs.Groups.{Smallest}
+use Rattle.rules.specs.Heard.{heardAnswer}
 use Rattle.session.specs.Provenance.{statusNumber, Live, Holder, Provenance, emptyProvenance}
 use Rattle.session.specs.Grounds.{Equal, Sound}
 use Rattle.session.specs.Steps.{provenanceRefusal, ProvenanceStep}
-use Rattle.session.specs.Fed.{Call, begin, run, offer, smallest, show, callRefusal, ProvenanceCall}
+use Rattle.session.specs.Fed.{Call, begin, run, offer, smallest, heard, show, callRefusal, ProvenanceCall}
 
 -- ---- calls performed
 
--- what a call gives back: its answer or refusal, and the replies, the parcel's number, the volume or the part of the image
+-- what a call gives back: its answer or refusal, and the replies, the parcel's number, the volume, yes or no, or the part of the image
 pub data Answer : Type 0 where
   begun : ℕ → Answer
   ran : ℕ → List ℕ → Answer
   offered : ℕ → Option ℕ → Answer
   grouped : ℕ → Option ℕ → Answer
+  told : ℕ → Bool → Answer
   showed : ℕ → List ℕ → Answer
 
 abbrev pub refusalIn : Answer → ℕ
@@ -35,18 +37,20 @@ refusalIn (begun r) = r
 refusalIn (ran r replies) = r
 refusalIn (offered r message) = r
 refusalIn (grouped r group) = r
+refusalIn (told r stable) = r
 refusalIn (showed r bytes) = r
 
 -- A call performed on an image: what it gives back and leaves, by the definitions that the contracts of begin, run, offer,
--- smallest_group and show cite.
+-- smallest_group, all_heard_stable and show cite.
 pub data Performed (y : Layout) (m : Limits) (img : List ℕ) : Call → Answer → List ℕ → Type 0 where
   beginning : Performed y m img begin (begun (beginAnswer y img)) (beginImage y img)
   running : {list : List ℕ} {o : Octets list} {start end : ℕ} {replies : List ℕ}
       → Performed y m img (run list o start end replies)
       (ran (runAnswer y img list start end replies) (runReplies y m img list start end replies))
       (runImage y m img list start end replies)
-  offering : {t : ℕ} {message : Option ℕ} → Offers y img t message → Performed y m img (offer t) (offered (offerRefusal y img t) message) img
-  naming : {t : ℕ} {group : Option ℕ} → Smallest y m img t group → Performed y m img (smallest t) (grouped (offerRefusal y img t) group) img
+  offering : {t : ℕ} {message : Option ℕ} → Offers y img t message → Performed y m img (offer t) (offered (queryRefusal y img t) message) img
+  naming : {t : ℕ} {group : Option ℕ} → Smallest y m img t group → Performed y m img (smallest t) (grouped (queryRefusal y img t) group) img
+  hearing : {t : ℕ} → Performed y m img (heard t) (told (queryRefusal y img t) (heardAnswer y img t)) img
   showing : {n : ℕ} → Performed y m img (show n) (showed (showRefusal y img n) (shown y img n)) img
 
 -- A session grown from a fresh one: an accepted begin, then any list of calls, each on the image that the last one left.
@@ -109,6 +113,7 @@ pub data CallStepsRight (y : Layout) (m : Limits) (img : List ℕ) (b : Provenan
   begin-right : {a : Answer} → CallStepsRight y m img b c begin a
   offer-right : {t : ℕ} {a : Answer} → CallStepsRight y m img b c (offer t) a
   smallest-right : {t : ℕ} {a : Answer} → CallStepsRight y m img b c (smallest t) a
+  heard-right : {t : ℕ} {a : Answer} → CallStepsRight y m img b c (heard t) a
   show-right : {n : ℕ} {a : Answer} → CallStepsRight y m img b c (show n) a
 
 -- One call, from the image and the book b to the image after and the book d.

@@ -81,8 +81,8 @@ receipt-judged y m t x p =
     go (anyUnrelated (y .transactors) (p .dependences) (known y x)) (isSome (firstSuperseded (y .transactors) (p .dependences) (known y x))) (isSome (firstSuperseded (y .transactors) (known y x) (p .dependences))) (isLastIncarnation m t x) (rollback y t x) (fell y t x)
   where
     go : (u a b c : Bool) (e : Effect) → Fell e
-        → Judged (pick u 31 (pick ((not a and b) and c) 28 0)) x (pick a (unchanged dropped x) (pick b e (record { outcome = done; value = p .value; transactor = taken x p })))
-        (answering (p .value) (pick u (unchanged 31 x) (pick a (unchanged dropped x) (pick b (pick c (unchanged 28 x) e) (unchanged done (taken x p))))))
+        → Judged (pick u 31 (pick ((not a and b) and c) 28 0)) x (pick a (unchanged dropped x) (pick b e (record { outcome = done; value = p .value; transactor = taken y t x (p .dependences) })))
+        (answering (p .value) (pick u (unchanged 31 x) (pick a (unchanged dropped x) (pick b (pick c (unchanged 28 x) e) (unchanged done (taken y t x (p .dependences)))))))
     go true a b c e f = refused (omega arith) refl refl
     go false true b c e f = applied (omega arith) refl refl
     go false false true true e f = refused (omega arith) refl refl

@@ -20,7 +20,7 @@ use Rattle.rules.specs.Layout.{Layout, Limits, base, mapBytes, stateAt, creatio
 use Rattle.rules.specs.Status.{busy}
 use Rattle.rules.specs.State.{Transactor, Message, State, transactorAt, messageAt, withStatus, withTransactor}
 use Rattle.rules.specs.Step.{done, dropped}
-use Rattle.rules.specs.Rules.{Effect, join, known, unchanged}
+use Rattle.rules.specs.Rules.{Effect, join, known, informedBy, unchanged}
 use Rattle.rules.specs.Pack.{packDependences, packTransactor, packMessage, unpackDependences, unpackTransactor, messagePart, waitingIn, pack, unpack}
 use Rattle.rules.specs.Internal.Good.{Good}
 use Rattle.transactor.specs.Internal.Effects.{Acts, ActsAt, rollbackOr28, takenIn, acceptBy}
@@ -133,7 +133,7 @@ module _ (y : Layout) (img : List ℕ) (t : ℕ) (below : t < y .transactors) (k
         unfolding acceptBy
         accepts-rollback r = rw (some-unrelated, o, message-superseded, p, receiver-superseded, r)
 
-        pub accepts-done : g ≡ Current → acceptBy y m t x deps ≡ unchanged done (takenIn x deps)
+        pub accepts-done : g ≡ Current → acceptBy y m t x deps ≡ unchanged done (takenIn (informedBy y t x deps) deps)
         unfolding acceptBy
         accepts-done r = rw (some-unrelated, o, message-superseded, p, receiver-superseded, r)
 

@@ -1,3 +1,4 @@
 pub mod Accepting
 mod Bytes
+mod Hearing
 pub mod Lent

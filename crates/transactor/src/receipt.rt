@@ -1,5 +1,6 @@
 // A receipt: what the addressee rests on, by value, is compared with the message's map, which stands packed in the same image.
 use crate::Acted;
+use crate::news;
 use image::layout::BEHAVIOUR;
 use image::layout::CREATION;
 use image::layout::DEPENDENCES;
@@ -32,7 +33,7 @@ fn take_in(image: &mut [u8], t: usize, k: usize)
     octets::lower(image, to, from - to, maps::SIZE);
 }
 
-// The message in place k, addressed to transactor t: refused as of another book, or dropped, or a fall, or taken in.
+// The message in place k, addressed to transactor t: refused as of another book, or dropped, or a fall, or taken in with its news.
 pub fn accept(image: &mut [u8], t: usize, k: usize) -> Acted
     requires { ⌜ Good (now image) × (t < base .transactors) × (k < waitingIn base (now image)) ⌝ }
     ensures { λ r. ⌜ ActsAt (now (image .entry)) t
@@ -55,6 +56,7 @@ pub fn accept(image: &mut [u8], t: usize, k: usize) -> Acted
     // is one, and a reply names the addressee.
     let Comparison::Superseded(first) = message else {
         let Comparison::Superseded(first) = receiver else {
+            news::hear(image, t, k);
             take_in(image, t, k);
             return crate::outcome_of(numbers::DONE);
         };

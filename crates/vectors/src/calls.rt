@@ -1,4 +1,4 @@
-// Begin, offer, smallest group, show, and the form of an image.
+// Begin, offer, smallest group, all heard stable, show, and the form of an image.
 use crate::bytes;
 use crate::print;
 use crate::print::BAD;
@@ -79,6 +79,15 @@ fn smallest(image: &[u8], t: usize) -> u8 {
     }
 }
 
+// a
+fn heard(image: &[u8], t: usize) -> u8 {
+    let mut refusal: u8 = 99;
+    let yes = ledger::all_heard_stable(image, t, &mut refusal);
+    print::number(refusal as usize);
+    print::truth(yes);
+    PRINTED
+}
+
 // w: the refusal, how many bytes are shown, and one of them.
 fn show(image: &[u8], number: usize, at: usize) -> u8 {
     let mut refusal: u8 = 99;
@@ -100,6 +109,7 @@ fn ask(op: u8, image: &[u8], a: usize, b: usize) -> u8 {
         b'z' => zero(image),
         b'o' => offer(image, a),
         b'g' => smallest(image, a),
+        b'a' => heard(image, a),
         b'w' => show(image, a, b),
         _ => BAD,
     }

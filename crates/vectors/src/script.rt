@@ -11,8 +11,8 @@ pub const NUMBERS: usize = 25;
 const WRONG: usize = 60;
 
 // The operations: each letter, the least and the most numbers that it takes, from 0 on, and a space. (B is 18, H is 24.)
-const FORMS: [u8; 124] =
-    *b"n00 i22 b00 z00 p2H v24 x22 f22 s55 r66 c55 l2H u44 o11 g11 w22 H3B Z11 R11 K11 N33 S22 C22 I22 T22 W11 P11 Q11 J33 E11 M33 ";
+const FORMS: [u8; 128] =
+    *b"n00 i22 b00 z00 p2H v24 x22 f22 s55 r66 c55 l2H u44 o11 g11 a11 w22 H3B Z11 R11 K11 N33 S22 C22 I22 T22 W11 P11 Q11 J33 E11 M33 ";
 
 // The end of the line that starts at from.
 pub fn line_end(s: &[u8], from: usize) -> usize

@@ -13,16 +13,16 @@ use Rattle.rules.specs.Layout.{Layout, messageAddress}
 use Rattle.rules.specs.State.{messageAt, placeFrom, addressedTo}
 use Rattle.rules.specs.Pack.{waitingIn, unpack}
 use Rattle.rules.specs.Internal.Well.{WellFormed}
-use Rattle.rules.specs.Calls.{offerRefusal, WaitsFor, Offers, refused, nothing, waiting}
+use Rattle.rules.specs.Calls.{queryRefusal, WaitsFor, Offers, refused, nothing, waiting}
 use Rattle.octets.proofs.Chunks.{sides}
 use Rattle.octets.proofs.Tests.{never}
 use Rattle.rules.proofs.Places.{Place, place}
 use Rattle.rules.proofs.Pack.Messages.{numbers-rise}
 use Rattle.rules.proofs.Pack.Loads.{read-number, unpack-waiting}
 
-module _ (y : Layout) (img : List ℕ) (t r : ℕ) (is : r ≡ offerRefusal y img t) where
-  pub offered-refused : (r ≡ 0 → ⊥) → (r ≡ offerRefusal y img t) × Offers y img t none
-  offered-refused n = (is, refused (λ (f : offerRefusal y img t ≡ 0). n (is ∙ f)))
+module _ (y : Layout) (img : List ℕ) (t r : ℕ) (is : r ≡ queryRefusal y img t) where
+  pub offered-refused : (r ≡ 0 → ⊥) → (r ≡ queryRefusal y img t) × Offers y img t none
+  offered-refused n = (is, refused (λ (f : queryRefusal y img t ≡ 0). n (is ∙ f)))
 
   module _ (zero : r ≡ 0) (n k : ℕ) (e : n ≡ waitingIn y img) (f : k ≡ placeFrom (addressedTo (unpack y img) t) 0 n) where
     many : length (unpack y img .messages) ≡ n
@@ -36,10 +36,10 @@ module _ (y : Layout) (img : List ℕ) (t r : ℕ) (is : r ≡ offerRefusal y im
     unfolding addressedTo
     not-before v w h = never (sym (eq-eqb (messageAt (unpack y img) (w .place) .addressee) t (w .addressee)) ∙ found .before (w .place) (omega arith) (omega arith))
 
-    pub offered-none : n ≤ k → (r ≡ offerRefusal y img t) × Offers y img t none
+    pub offered-none : n ≤ k → (r ≡ queryRefusal y img t) × Offers y img t none
     offered-none h = (is, nothing (sym is ∙ zero) (λ v (w : WaitsFor (unpack y img) t v). not-before v w (omega (arith, many, w .waits))))
 
-    pub offered-some : (v : ℕ) → WellFormed y (unpack y img) → k < n → v ≡ ofBe 2 (part (messageAddress y k + 1) 2 img) → (r ≡ offerRefusal y img t) × Offers y img t (some v)
+    pub offered-some : (v : ℕ) → WellFormed y (unpack y img) → k < n → v ≡ ofBe 2 (part (messageAddress y k + 1) 2 img) → (r ≡ queryRefusal y img t) × Offers y img t (some v)
     unfolding addressedTo
     offered-some v well h q =
         let number : messageAt (unpack y img) k .number ≡ v = read-number y img k (omega arith) ∙ sym q in (

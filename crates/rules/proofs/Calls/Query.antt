@@ -10,7 +10,7 @@ use lib.ListN.{length}
 use Rattle.rules.specs.Layout.{Layout, imageBytes}
 use Rattle.rules.specs.Pack.{unpack}
 use Rattle.rules.specs.Form.{wellFormed}
-use Rattle.rules.specs.Calls.{wrongLength, offerRefusal}
+use Rattle.rules.specs.Calls.{wrongLength, queryRefusal}
 use Rattle.rules.specs.Internal.Guards.{actingRefusal}
 use Rattle.octets.proofs.Tests.{pick-zero}
 use Rattle.rules.proofs.Form.Clauses.{clauses-of}
@@ -22,18 +22,18 @@ module _ (y : Layout) (img : List ℕ) where
   few-opened e = clauses-of y img (not-false (wellFormed y img) e) .opened
 
   module _ (t : ℕ) where
-    pub query-16 : (length img ≡ imageBytes y → ⊥) → 16 ≡ offerRefusal y img t
-    unfolding offerRefusal
+    pub query-16 : (length img ≡ imageBytes y → ⊥) → 16 ≡ queryRefusal y img t
+    unfolding queryRefusal
     query-16 n = rw (wrong-length y img n)
 
     module _ (long : length img ≡ imageBytes y) where
-      pub query-19 : not (wellFormed y img) ≡ true → 19 ≡ offerRefusal y img t
-      unfolding offerRefusal
+      pub query-19 : not (wellFormed y img) ≡ true → 19 ≡ queryRefusal y img t
+      unfolding queryRefusal
       query-19 e = rw (right-length y img long, e)
 
       -- 21 and 22 are those of an acting take
-      pub query-acting : not (wellFormed y img) ≡ false → actingRefusal (unpack y img) t ≡ offerRefusal y img t
-      unfolding offerRefusal actingRefusal
+      pub query-acting : not (wellFormed y img) ≡ false → actingRefusal (unpack y img) t ≡ queryRefusal y img t
+      unfolding queryRefusal actingRefusal
       query-acting e = rw (right-length y img long, e)
 
     -- not refused
@@ -42,8 +42,8 @@ module _ (y : Layout) (img : List ℕ) where
       pub formed : wellFormed y img ≡ true
       pub below : t < y .transactors
 
-    pub query-accepted : offerRefusal y img t ≡ 0 → Accepted
-    unfolding offerRefusal
+    pub query-accepted : queryRefusal y img t ≡ 0 → Accepted
+    unfolding queryRefusal
     query-accepted e =
         let a = pick-zero (wrongLength y img) 16 _ (omega arith) e in
         let b = pick-zero (not (wellFormed y img)) 19 _ (omega arith) (a .1) in

@@ -22,7 +22,7 @@ use Rattle.rules.specs.Step.{done}
 use Rattle.rules.specs.Refusals.{named, anyNamed, groupBits}
 use Rattle.rules.specs.Rules.{transactorReady, groupReady, stepOf}
 use Rattle.rules.specs.Pack.{unpack}
-use Rattle.rules.specs.Calls.{offerRefusal}
+use Rattle.rules.specs.Calls.{queryRefusal}
 use Rattle.rules.specs.Internal.Well.{Live, idle, working, TransactorFormed, not-opened, gone, alive, WellFormed}
 use Rattle.rules.specs.Groups.{signing, Checkpointable, Meets, Within, Smallest, refused, nothing, smallest}
 use Rattle.rules.specs.Internal.Guards.{blocksAt, groupRefusal}
@@ -110,12 +110,12 @@ module _ {y : Layout} (m : Limits) {s : State} (well : WellFormed y s) (size : y
     },
   )
 
-module _ (y : Layout) (m : Limits) (img : List ℕ) (t r : ℕ) (is : r ≡ offerRefusal y img t) where
+module _ (y : Layout) (m : Limits) (img : List ℕ) (t r : ℕ) (is : r ≡ queryRefusal y img t) where
   abbrev s : State
   s = unpack y img
 
-  pub grouped-refused : (r ≡ 0 → ⊥) → (r ≡ offerRefusal y img t) × Smallest y m img t none
-  grouped-refused n = (is, refused (λ (f : offerRefusal y img t ≡ 0). n (is ∙ f)))
+  pub grouped-refused : (r ≡ 0 → ⊥) → (r ≡ queryRefusal y img t) × Smallest y m img t none
+  grouped-refused n = (is, refused (λ (f : queryRefusal y img t ≡ 0). n (is ∙ f)))
 
   module _ (zero : r ≡ 0) (size : y .transactors ≡ groupBits) (g : ℕ) (closure : Closure y img t g)
       (b : Bool) (tested : b ≡ eqb (stepOf y m s (signing g) .reply .outcome) done) where
@@ -131,10 +131,10 @@ module _ (y : Layout) (m : Limits) (img : List ℕ) (t r : ℕ) (is : r ≡ offe
           ready = closed-ready y img (omega arith) g w inside (a .ready) (closure .closed);
         })
 
-    pub grouped-none : b ≡ false → (r ≡ offerRefusal y img t) × Smallest y m img t none
+    pub grouped-none : b ≡ false → (r ≡ queryRefusal y img t) × Smallest y m img t none
     grouped-none e = (is, nothing (sym is ∙ zero) (λ w c. eqb-false (stepOf y m s (signing g) .reply .outcome) done (sym tested ∙ e) (closure-signs w c)))
 
-    pub grouped-some : g < bound 2 → b ≡ true → (r ≡ offerRefusal y img t) × Smallest y m img t (some g)
+    pub grouped-some : g < bound 2 → b ≡ true → (r ≡ queryRefusal y img t) × Smallest y m img t (some g)
     grouped-some fits e = (
       is,
       smallest (sym is ∙ zero)
@@ -142,7 +142,7 @@ module _ (y : Layout) (m : Limits) (img : List ℕ) (t r : ℕ) (is : r ≡ offe
           (λ w c. closure .least w (c .contains) (signable y m s w (c .signs) .ready)),
     )
 
-module _ (y : Layout) (m : Limits) (img : List ℕ) (t : ℕ) (o : Octets img) (size : y .transactors ≡ groupBits) (z : offerRefusal y img t ≡ 0) where
+module _ (y : Layout) (m : Limits) (img : List ℕ) (t : ℕ) (o : Octets img) (size : y .transactors ≡ groupBits) (z : queryRefusal y img t ≡ 0) where
   rule : (v : ℕ) → Checkpointable y m (unpack y img) t v ↔ Meets y m (unpack y img) t v
   rule = let a = query-accepted y img t z in checkpointable-rule m (formed-state y img (a .long) o (a .formed)) size t
 
@@ -152,7 +152,7 @@ module _ (y : Layout) (m : Limits) (img : List ℕ) (t : ℕ) (o : Octets img) (
   none-exactly (nothing _ n) = (λ e v r. n v (rule v .1 r), λ f. refl)
   none-exactly (smallest {v} _ c l) = (λ e. let d : _≡_ {A = ℕ} 0 1 = cc in absurd (omega arith), λ f. absurd (f v (rule v .0 c)))
 
-pub none-exactly-base : (img : List ℕ) (t : ℕ) {a : Option ℕ} → Octets img → offerRefusal base img t ≡ 0
+pub none-exactly-base : (img : List ℕ) (t : ℕ) {a : Option ℕ} → Octets img → queryRefusal base img t ≡ 0
     → Smallest base standard img t a → (a ≡ none) ↔ ((v : ℕ) → Meets base standard (unpack base img) t v → ⊥)
 none-exactly-base img t o z = none-exactly base standard img t o refl z
 

@@ -11,17 +11,18 @@ use Rattle.octets.specs.Bytes.{_or_}
 use Rattle.octets.specs.Numbers.{bound}
 use Rattle.octets.proofs.Numbers.{bound-pos}
 use Rattle.octets.proofs.Zero.{both}
+use Rattle.maps.specs.declared.DependenceMap.{DependenceMap}
 use Rattle.rules.specs.Layout.{Layout, Limits, Allowed, Fitting, lastNumber}
 use Rattle.rules.specs.Status.{ready, busy, annihilated}
 use Rattle.rules.specs.State.{Transactor, State, transactorAt, messageAt, ownHistory, withTransactor, withOpened, placeOf}
 use Rattle.rules.specs.Step.{Step, Reply, done, notReady, root, letter, receive, new, send, read, finish, fall, fail, lose, sign}
 use Rattle.rules.specs.Refusals.{groupBits, named, acts, sends}
-use Rattle.rules.specs.Rules.{Effect, Result, noDependences, carried, receiveBy, localBy, groupReady, checkpointAt, receiptRollsBack, seen, answer, opening, opened, applyRoot, applyLetter, applyReceive, applyNew, applySend, applyLocal, applyLose, applySign, apply}
+use Rattle.rules.specs.Rules.{Effect, Result, noDependences, carried, informedBy, receiveBy, localBy, groupReady, checkpointAt, receiptRollsBack, seen, answer, opening, opened, applyRoot, applyLetter, applyReceive, applyNew, applySend, applyLocal, applyLose, applySign, apply}
 use Rattle.rules.specs.Internal.Well.{TransactorOk, StepOk, Alive, WellFormed}
 use Rattle.octets.proofs.Tests.{pick-view}
 use Rattle.rules.proofs.Keep.Maps.{ok-none, known-none, ok-carried, known-carried, known-more}
 use Rattle.rules.proofs.Keep.State.{alive-more, well-withTransactor, well-opened, well-withMessage, well-withoutMessage, well-checkpointGroup}
-use Rattle.rules.proofs.Keep.Transactor.{TransactorWell, EffectOk, formed-alive, opening-ok, checkpoint-ok, local-ok, receive-ok, grown-ok}
+use Rattle.rules.proofs.Keep.Transactor.{TransactorWell, EffectOk, formed-alive, opening-ok, informed-well, checkpoint-ok, local-ok, receive-ok, grown-ok}
 use Rattle.rules.proofs.Keep.Accepted.{Accepted, kind-known, message-waits, one-unopened, one-place, one-number, transactor-opened, other-opened, transactor-there, transactor-busy, falls-alone, receiver-ready, falls-received, named-opened, named-there, named-room}
 
 -- every field fits its bytes
@@ -254,3 +255,11 @@ module _ {y : Layout} {m : Limits} {s : State} {p : Step} (z : Fitting y) (l : A
     where
       local : read ≤ p .kind → p .kind ≤ fail → ResultOk y (applyLocal y s p)
       local h k = keeps-local (rw (le-leb new (p .kind) (omega arith), le-leb (p .kind) fail k)) h
+
+-- ---- news alone, of whatever take
+
+pub well-informed : {y : Layout} {s : State} → WellFormed y s → (t : ℕ) → t < y .transactors → (b : DependenceMap)
+    → WellFormed y (withTransactor s t (informedBy y t (transactorAt s t) b))
+well-informed w t below b =
+    let k = informed-well below b (w .packable .transactors t below) (w .transactors t below) in
+    well-withTransactor w t below (k .0) (k .1)

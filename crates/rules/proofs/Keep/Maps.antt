@@ -14,8 +14,10 @@ use Rattle.marks.proofs.Histories.{newer-count, roomy-initial, roomy-stabilized
 use Rattle.marks.proofs.Packed.{packable-initial, packable-stabilized, packable-rolledBack, packable-checkpointed}
 use Rattle.maps.specs.declared.DependenceMap.{DependenceMap}
 use Rattle.maps.specs.Map.{heldAt, historyAt, withEntry, joinedHeldAt}
+use Rattle.maps.specs.News.{informedOf}
 use Rattle.maps.specs.Internal.Fitting.{EntryOk}
 use Rattle.maps.proofs.Map.{Joined, held-empty, held-singleton, held-singleton-other, history-singleton, held-withEntry, history-withEntry, held-withEntry-other, sized-join, held-join, held-join-test, join-view}
+use Rattle.maps.proofs.News.{mapOk-informed, held-informed, own-informed}
 use Rattle.maps.proofs.Packed.{mapOk-sized, mapOk-empty, mapOk-withEntry, mapOk-singleton, mapOk-join}
 use Rattle.rules.specs.Layout.{Layout, Fitting}
 use Rattle.rules.specs.State.{Transactor, ownHistory}
@@ -61,6 +63,9 @@ module _ (y : Layout) where
   pub ok-join : {a b : DependenceMap} → DependencesOk y a → DependencesOk y b → DependencesOk y (join y a b)
   ok-join p q = mapOk-join p q
 
+  pub ok-informed : (t : ℕ) {a : DependenceMap} (b : DependenceMap) → DependencesOk y a → DependencesOk y (informedOf (y .transactors) t a b)
+  ok-informed t b p = mapOk-informed t b p
+
   pub ok-entry : {m : DependenceMap} → DependencesOk y m → (t : ℕ) {h : History} → t < y .transactors → HistoryOk y h → DependencesOk y (withEntry m t h)
   ok-entry p t below o = mapOk-withEntry p t below (EntryOk.present (o .roomy) (o .packable))
 
@@ -84,6 +89,10 @@ module _ (y : Layout) (opened : ℕ) where
       List·getD-eq-default (join y a b .held) false {n = i} e)
       (sides i (y .transactors))
 
+  pub known-informed : (t : ℕ) (a b : DependenceMap) → Known opened a → Known opened (informedOf (y .transactors) t a b)
+  unfolding Known
+  known-informed t a b p i h = held-informed (y .transactors) t a b i ∙ p i h
+
   pub known-entry : (m : DependenceMap) (t : ℕ) (h : History) → t < opened → Known opened m → Known opened (withEntry m t h)
   unfolding Known
   known-entry m t h k p i q = held-withEntry-other m t h i (λ e. omega arith) ∙ p i q
@@ -106,6 +115,12 @@ module _ (y : Layout) (t : ℕ) (below : t < y .transactors) where
 
   pub entry-is : {m : DependenceMap} → DependencesOk y m → (h : History) → historyAt (withEntry m t h) t ≡ h
   entry-is o h = history-withEntry (mapOk-sized o) t h below
+
+  pub own-kept : (a b : DependenceMap) → heldAt a t ≡ true → heldAt (informedOf (y .transactors) t a b) t ≡ true
+  own-kept a b e = held-informed (y .transactors) t a b t ∙ e
+
+  pub kept-is : (a b : DependenceMap) → historyAt (informedOf (y .transactors) t a b) t ≡ historyAt a t
+  kept-is a b = own-informed (y .transactors) t a b below
 
   pub own-join : (a b : DependenceMap) → heldAt b t ≡ true → heldAt (join y a b) t ≡ true
   own-join a b e = held-join-test (y .transactors) a b t below .1 (inr e)

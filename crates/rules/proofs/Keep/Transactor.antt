@@ -11,14 +11,16 @@ use Rattle.octets.proofs.Numbers.{bound-pos}
 use Rattle.marks.specs.declared.History.{History}
 use Rattle.marks.specs.History.{initialHistory, stabilized, rolledBack, checkpointed}
 use Rattle.maps.specs.declared.DependenceMap.{DependenceMap}
+use Rattle.maps.specs.News.{informedOf}
+use Rattle.maps.proofs.News.{informed-empty}
 use Rattle.rules.specs.Layout.{Layout, Fitting}
-use Rattle.rules.specs.Status.{ready, busy, annihilated}
-use Rattle.rules.specs.State.{Transactor, Message, ownHistory, withBehaviour}
+use Rattle.rules.specs.Status.{unused, ready, busy, annihilated}
+use Rattle.rules.specs.State.{Transactor, Message, bare, ownHistory, withBehaviour}
 use Rattle.rules.specs.Step.{done, held, dropped, read, write, freeze, finish, fall}
-use Rattle.rules.specs.Rules.{Effect, noDependences, only, join, unchanged, rollback, readBy, writeBy, freezeBy, madeReady, finishBy, fallBy, failBy, localBy, messageSuperseded, receiverSuperseded, receiveBy, checkpointBy, opening, taken}
+use Rattle.rules.specs.Rules.{Effect, noDependences, only, join, unchanged, rollback, readBy, writeBy, freezeBy, madeReady, finishBy, fallBy, failBy, localBy, messageSuperseded, receiverSuperseded, receiveBy, checkpointBy, opening, informedBy, taken}
 use Rattle.rules.specs.Internal.Well.{DependencesOk, TransactorOk, MessageOk, Known, Live, Alive, TransactorFormed}
 use Rattle.octets.proofs.Tests.{pick-view, never}
-use Rattle.rules.proofs.Keep.Maps.{HistoryOk, history-initial, history-stabilized, history-rolledBack, history-checkpointed, ok-none, ok-only, ok-join, ok-entry, known-none, known-only, known-join, known-entry, own-only, only-is, own-entry, entry-is, own-join, join-count, own-history}
+use Rattle.rules.proofs.Keep.Maps.{HistoryOk, history-initial, history-stabilized, history-rolledBack, history-checkpointed, ok-none, ok-only, ok-join, ok-informed, ok-entry, known-none, known-only, known-join, known-informed, known-entry, own-only, only-is, own-entry, entry-is, own-kept, kept-is, own-join, join-count, own-history}
 use Rattle.rules.proofs.Keep.State.{ok-bare}
 
 -- a take that fits its bytes and is well-formed
@@ -66,6 +68,38 @@ module _ (y : Layout) (o t : ℕ) (below : t < y .transactors) (k : t < o) where
 
   pub opening-ok : (v : ℕ) (c : DependenceMap) → v < bound 4 → DependencesOk y c → Known o c → TransactorWell y o t (opening y t v c)
   opening-ok v c p i j = alone-ok v 0 (initialHistory (y .places)) c p (bound-pos 4) (λ e. refl) (history-initial y) i j
+
+-- ---- news of a freeze
+
+informed-alive : {y : Layout} {o t : ℕ} {x : Transactor} → t < y .transactors → (b : DependenceMap) → Alive y o t x → Alive y o t (informedBy y t x b)
+informed-alive {y} {o} {t} {x} below b a = record {
+  status = a .status;
+  state = known-informed y o t (x .state) b (a .state);
+  creation = known-informed y o t (x .creation) b (a .creation);
+  behaviour = a .behaviour;
+  own = own-kept y t below (x .state) b (a .own);
+  saved = λ z. a .saved (sym (ap (λ (g : History). g .count) (kept-is y t below (x .state) b)) ∙ z);
+  behaves = a .behaves;
+}
+
+-- a take that is not live hears nothing
+informed-bare : (y : Layout) (t st : ℕ) (b : DependenceMap) → informedBy y t (bare y st) b ≡ bare y st
+informed-bare y t st b =
+    let e : informedOf (y .transactors) t (noDependences y) b ≡ noDependences y = informed-empty (y .places) (y .transactors) t b in
+    λ i. record { status = st; value = 0; saved = 0; state = e i; creation = e i; behaviour = noDependences y }
+
+-- every take is well-formed after the news
+pub informed-well : {y : Layout} {o t : ℕ} {x : Transactor} → t < y .transactors → (b : DependenceMap) → TransactorOk y x → TransactorFormed y o t x
+    → TransactorOk y (informedBy y t x b) × TransactorFormed y o t (informedBy y t x b)
+informed-well {y} {o} {t} below b p f = (
+  record { status = p .status; value = p .value; saved = p .saved; state = ok-informed y t b (p .state); creation = ok-informed y t b (p .creation); behaviour = p .behaviour },
+  go f,
+)
+  where
+    go : {x : Transactor} → TransactorFormed y o t x → TransactorFormed y o t (informedBy y t x b)
+    go (TransactorFormed.not-opened h) = rw (informed-bare y t unused b) (TransactorFormed.not-opened h)
+    go (TransactorFormed.gone h) = rw (informed-bare y t annihilated b) (TransactorFormed.gone h)
+    go (TransactorFormed.alive h a) = TransactorFormed.alive h (informed-alive below b a)
 
 -- ---- a live take
 
@@ -204,15 +238,31 @@ module _ {y : Layout} {o t : ℕ} {x : Transactor} (below : t < y .transactors) 
 
   -- ---- receive
 
+  taken-ok : (b : DependenceMap) → DependencesOk y b → Known o b → TransactorWell y o t (taken y t x b)
+  taken-ok b i j =
+      let w : Alive y o t (informedBy y t x b) = informed-alive below b a in
+      record {
+        ok = record { status = omega arith; value = p .value; saved = p .saved; state = ok-informed y t b (p .state); creation = ok-informed y t b (p .creation); behaviour = i };
+        formed = TransactorFormed.alive k (record {
+          status = Live.working;
+          state = w .state;
+          creation = w .creation;
+          behaviour = j;
+          own = w .own;
+          saved = w .saved;
+          behaves = λ e. absurd (omega arith);
+        });
+      }
+
   pub receive-ok : (m : Message) → MessageOk y m → Known o (m .dependences)
       → (not (messageSuperseded y x m) and receiverSuperseded y x m ≡ true → 0 < ownHistory t x .count → ownHistory t x .incarnation + 1 < bound (y .width))
       → EffectOk y o t (receiveBy y t x m)
   unfolding receiveBy
   receive-ok m h j room =
-      let in-hand : Effect = record { outcome = done; value = m .value; transactor = taken x m } in
+      let in-hand : Effect = record { outcome = done; value = m .value; transactor = taken y t x (m .dependences) } in
       pick-view (EffectOk y o t) (messageSuperseded y x m) _ _ (λ e. unchanged-ok dropped (omega arith)) λ e.
       pick-view (EffectOk y o t) (receiverSuperseded y x m) (rollback y t x) in-hand (λ f. rollback-ok (room (rw (e, f)))) λ f.
-      record { outcome = omega arith; value = h .value; transactor = behaving-ok (m .dependences) (h .dependences) j }
+      record { outcome = omega arith; value = h .value; transactor = taken-ok (m .dependences) (h .dependences) j }
 
   -- ---- new: the mark of take n joins the behaviour map
 

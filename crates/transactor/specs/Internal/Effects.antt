@@ -13,7 +13,7 @@ use Rattle.rules.specs.Layout.{Layout, Limits, base, transactorAddress}
 use Rattle.rules.specs.Status.{busy, annihilated}
 use Rattle.rules.specs.State.{Transactor, ownHistory, withTransactor, withBehaviour}
 use Rattle.rules.specs.Step.{done, held, dropped, fall, fail}
-use Rattle.rules.specs.Rules.{Effect, isSome, join, only, known, unchanged, madeReady, rollback, localBy, opening}
+use Rattle.rules.specs.Rules.{Effect, isSome, join, only, known, informedBy, unchanged, madeReady, rollback, localBy, opening}
 use Rattle.rules.specs.Pack.{packTransactor, pack, unpack}
 use Rattle.rules.specs.Internal.Guards.{isLastIncarnation}
 
@@ -50,13 +50,13 @@ actBy y m k t v x =
 unfoldable pub takenIn : Transactor → DependenceMap → Transactor
 takenIn x deps = record { status = busy; value = x .value; saved = x .saved; state = x .state; creation = x .creation; behaviour = deps }
 
--- a receipt's effect on the addressee, without the text, or 31, or 28
+-- a receipt's effect on the addressee, without the text, or 31, or 28; taken in, with the news of the parcel's map
 unfoldable pub acceptBy : Layout → Limits → ℕ → Transactor → DependenceMap → Effect
 acceptBy y m t x deps =
     pick (anyUnrelated (y .transactors) deps (known y x)) (unchanged 31 x)
     (pick (isSome (firstSuperseded (y .transactors) deps (known y x))) (unchanged dropped x)
     (pick (isSome (firstSuperseded (y .transactors) (known y x) deps)) (rollbackOr28 y m t x)
-    (unchanged done (takenIn x deps))))
+    (unchanged done (takenIn (informedBy y t x deps) deps))))
 
 -- the bytes of an image with one more take opened, which is the next one, c
 unfoldable pub openBytes : Layout → List ℕ → ℕ → ℕ → DependenceMap → List ℕ

@@ -7,6 +7,7 @@ use Rattle.rules.specs.Layout.{base, standard}
 use Rattle.transactor.specs.Internal.Effects.{rollbackOr28}
 use Rattle.rules.proofs.Pack.Loads.{waiting-few}
 use Rattle.transactor.proofs.Lent.{good-lent}
+use Rattle.transactor.proofs.Hearing.{heard-good, heard-waits, heard-taken}
 use Rattle.transactor.proofs.Accepting.{accepts-unrelated, accepts-dropped, accepts-rollback, accepts-done, acted-at, kept-at, lent-at}
 use Rattle.transactor.proofs.receipt.accept.Statement.{statement}
 use Rattle.transactor.proofs.receipt.accept.Tie as tie
@@ -37,10 +38,18 @@ returns c =
     (accepts-unrelated base _ _ (s .pre .1) _ (s .pre .2) standard _ (asked .compare .ensures .0 ∙ rw (j .join-from .ensures, l .load .ensures)) (c .before .if1 .taken))
     (c .outcome-of .ensures) (kept-at _ (s .pre .0) _)
 
+take-in-requires : tie.Need-take-in-requires
+take-in-requires c κs =
+    let h = c .before .before .before in
+    let l = h .before .before .before .before .before .before .before .before .before .before .before in
+    let s = l .before .before .before in
+    (heard-good _ (s .pre .0) _ (s .pre .1) _ (s .pre .2) _ (h .hear .ensures), s .pre .1, heard-waits _ (s .pre .0) _ (s .pre .1) _ (s .pre .2) _ (h .hear .ensures))
+
 returns-2 : tie.Need-returns-2
 returns-2 c =
     let taken = c .before .before .before in
-    let told = taken .before .before in
+    let h = taken .before .before .before .before in
+    let told = h .before .before in
     let branch = told .before .before .before .before in
     let asked = branch .before in
     let j = asked .before .before in
@@ -48,7 +57,7 @@ returns-2 c =
     let s = l .before .before .before in
     acted-at _ _
     (accepts-done base _ _ (s .pre .1) _ (s .pre .2) standard _ (asked .compare .ensures .0 ∙ rw (j .join-from .ensures, l .load .ensures)) (branch .if1 .left) _ (asked .compare .ensures .1 ∙ rw (j .join-from .ensures, l .load .ensures)) (told .before .before .enum-told .given .1) _ (asked .compare .ensures .2 ∙ rw (j .join-from .ensures, l .load .ensures)) (told .enum-told2 .given .1))
-    (c .outcome-of2 .ensures) (taken .take-in .ensures)
+    (c .outcome-of2 .ensures) (heard-taken _ (s .pre .0) _ (s .pre .1) _ (s .pre .2) _ (h .hear .ensures) _ (taken .take-in .ensures))
 
 roll-back-requires : tie.Need-roll-back-requires
 roll-back-requires c κs =
@@ -103,6 +112,7 @@ accept-spec =
     (λ c. search needs)
     (λ c. search needs)
     (λ c κs. search needs)
+    take-in-requires
     (λ c κs. search needs)
     (λ c. search needs)
     returns-2

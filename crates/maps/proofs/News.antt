@@ -1,0 +1,143 @@
+-- News of a freeze: what stands at each entry of a map after a parcel's.
+use Prim.Native.Nat.{ℕ, _≤_, _<_}
+use mathlib.Core.Bool.{Bool, true, false}
+use mathlib.Core.Path.{_≡_, refl, ap, _∙_}
+use mathlib.Core.Logic.{⊎-elim, _≢_}
+use mathlib.Core.Option.{Option, none, some}
+use native.Mathlib.Omega.{arith}
+use lib.Dec.{eqb}
+use borrow.Author.Tests.{eq-eqb, ne-eqb}
+use Rattle.octets.specs.Bytes.{pick, _and_}
+use Rattle.octets.proofs.Tests.{pick-view}
+use Rattle.octets.proofs.Chunks.{sides, length-tabulate, getD-tabulate}
+use Rattle.marks.specs.declared.History.{History}
+use Rattle.marks.specs.History.{HistoryView, incarnationOf, viewOf}
+use Rattle.marks.specs.News.{informed}
+use Rattle.marks.proofs.News.{informed-incarnation, informed-stable, roomy-informed, packable-informed, informedView, view-informed}
+use Rattle.maps.specs.declared.DependenceMap.{DependenceMap}
+use Rattle.maps.specs.Map.{heldAt, historyAt, emptyMap}
+use Rattle.maps.specs.News.{informedHistory, informedHistoryAt, informedOf}
+use Rattle.maps.specs.Internal.Fitting.{EntryOk, present, absent, MapOk}
+use Rattle.maps.specs.Internal.View.{MapView, mapView}
+use Rattle.maps.proofs.Map.{outside, Sized, same-map, sized-empty, held-empty}
+use Rattle.maps.proofs.View.{Within, view-past, view-absent}
+
+both-same : (c : Bool) (h : History) → pick c h h ≡ h
+both-same true h = refl
+both-same false h = refl
+
+module _ (n t : ℕ) (a b : DependenceMap) where
+  pub held-informed : (u : ℕ) → heldAt (informedOf n t a b) u ≡ heldAt a u
+  unfolding informedOf
+  held-informed u = refl
+
+  module _ (u : ℕ) (below : u < n) where
+    pub history-informed : historyAt (informedOf n t a b) u ≡ informedHistoryAt t a b u
+    unfolding informedOf
+    history-informed = getD-tabulate (informedHistoryAt t a b) n u outside below
+
+    -- what holds of the recorded mark and of what news makes of it holds of the entry
+    informed-entry : (P : History → Type 0) → P (historyAt a u) → P (informed (historyAt a u) (historyAt b u)) → P (historyAt (informedOf n t a b) u)
+    unfolding informedHistoryAt informedHistory
+    informed-entry P k h = rw history-informed
+        (pick-view P (eqb u t) (historyAt a u) _ (λ e. k) (λ e. pick-view P (heldAt a u and heldAt b u) _ (historyAt a u) (λ f. h) (λ f. k)))
+
+    -- "no mark changes its life"
+    pub same-incarnation : incarnationOf (historyAt (informedOf n t a b) u) ≡ incarnationOf (historyAt a u)
+    same-incarnation = informed-entry (λ h. incarnationOf h ≡ incarnationOf (historyAt a u)) refl (informed-incarnation (historyAt a u) (historyAt b u))
+
+    -- nor is a frozen one unfrozen, or changed
+    pub same-stable : historyAt a u .stable ≡ true → historyAt (informedOf n t a b) u ≡ historyAt a u
+    same-stable e = informed-entry (λ h. h ≡ historyAt a u) refl (informed-stable (historyAt a u) (historyAt b u) e)
+
+    -- another take's mark, where both maps have one
+    pub history-shown : u ≢ t → heldAt a u ≡ true → heldAt b u ≡ true → historyAt (informedOf n t a b) u ≡ informed (historyAt a u) (historyAt b u)
+    unfolding informedHistoryAt informedHistory
+    history-shown k e f = history-informed ∙ rw (ne-eqb u t k, e, f)
+
+  -- the receiver's own entry
+  pub own-informed : t < n → historyAt (informedOf n t a b) t ≡ historyAt a t
+  unfolding informedHistoryAt
+  own-informed below = history-informed t below ∙ rw (eq-eqb t t refl)
+
+-- a map that holds nothing hears nothing
+module _ (l n t : ℕ) (b : DependenceMap) where
+  sized-informed : Sized n (informedOf n t (emptyMap l n) b)
+  unfolding informedOf
+  sized-informed = record { helds = sized-empty l n .helds; histories = length-tabulate (informedHistoryAt t (emptyMap l n) b) n }
+
+  empty-entry : (i : ℕ) → i < n → historyAt (informedOf n t (emptyMap l n) b) i ≡ historyAt (emptyMap l n) i
+  unfolding informedHistoryAt informedHistory
+  empty-entry i h = history-informed n t (emptyMap l n) b i h ∙ rw (held-empty l n i) (both-same (eqb i t) (historyAt (emptyMap l n) i))
+
+  pub informed-empty : informedOf n t (emptyMap l n) b ≡ emptyMap l n
+  informed-empty = same-map sized-informed (sized-empty l n) (λ i h. held-informed n t (emptyMap l n) b i) empty-entry
+
+-- ---- form is kept
+
+pub mapOk-informed : {w l n : ℕ} (t : ℕ) {a : DependenceMap} (b : DependenceMap) → MapOk w l n a → MapOk w l n (informedOf n t a b)
+unfolding informedOf informedHistoryAt informedHistory
+mapOk-informed {w} {l} {n} t {a} b k = record {
+  helds = k .helds;
+  histories = length-tabulate (informedHistoryAt t a b) n;
+  each = λ i h. rw (history-informed n t a b i h)
+      (pick-view (EntryOk w l (heldAt a i)) (eqb i t) (historyAt a i) (informedHistory (heldAt a i) (historyAt a i) (heldAt b i) (historyAt b i))
+      (λ e. k .each i h) (λ e. entry (heldAt b i) (historyAt b i) (k .each i h)));
+}
+  where
+    entry : (q : Bool) (y : History) {p : Bool} {x : History} → EntryOk w l p x → EntryOk w l p (pick (p and q) (informed x y) x)
+    entry true y (present r c) = present (roomy-informed y r) (packable-informed y c)
+    entry false y (present r c) = present r c
+    entry q y absent = absent
+
+-- ---- maps as tables
+
+-- the entry e after that of the parcel, o
+unfoldable pub informedEntry : Option HistoryView → Option HistoryView → Option HistoryView
+informedEntry none o = none
+informedEntry (some m) none = some m
+informedEntry (some m) (some p) = some (informedView m p)
+
+-- take t's map M after the parcel's map N
+unfoldable pub informedTable : ℕ → MapView → MapView → MapView
+informedTable t M N u = pick (eqb u t) (M u) (informedEntry (M u) (N u))
+
+module _ (n t : ℕ) (a b : DependenceMap) where
+  table-below : (u : ℕ) → u < n → mapView (informedOf n t a b) u ≡ informedTable t (mapView a) (mapView b) u
+  unfolding mapView informedTable informedOf informedHistoryAt informedHistory informedEntry
+  table-below u below =
+      ap (λ (h : History). pick (heldAt a u) (some (viewOf h)) none) (history-informed n t a b u below) ∙ go (eqb u t) (heldAt a u) (heldAt b u)
+    where
+      x : History
+      x = historyAt a u
+
+      y : History
+      y = historyAt b u
+
+      go : (c p q : Bool)
+          → pick p (some (viewOf (pick c x (pick (p and q) (informed x y) x)))) none
+          ≡ pick c (pick p (some (viewOf x)) none) (informedEntry (pick p (some (viewOf x)) none) (pick q (some (viewOf y)) none))
+      go true true q = refl
+      go true false q = refl
+      go false true true = ap some (view-informed x y)
+      go false true false = refl
+      go false false q = refl
+
+  -- the view of the map after the news is the news on the views
+  pub table-informed : {l : ℕ} → Within l n a → (u : ℕ) → mapView (informedOf n t a b) u ≡ informedTable t (mapView a) (mapView b) u
+  unfolding informedTable informedOf informedEntry
+  table-informed w u = ⊎-elim (λ (h : u < n). table-below u h) (λ (h : n ≤ u). past h) (sides u n)
+    where
+      unheld : n ≤ u → heldAt a u ≡ false
+      unheld h = at (heldAt a u) refl
+        where
+          at : (c : Bool) → heldAt a u ≡ c → heldAt a u ≡ false
+          at true e = absurd (omega (arith, w .below u e))
+          at false e = e
+
+      both-none : (c : Bool) → none ≡ pick c none (informedEntry none (mapView b u))
+      both-none true = refl
+      both-none false = refl
+
+      past : n ≤ u → mapView (informedOf n t a b) u ≡ informedTable t (mapView a) (mapView b) u
+      past h = rw (view-past w u h) (view-absent (informedOf n t a b) u (unheld h) ∙ both-none (eqb u t))

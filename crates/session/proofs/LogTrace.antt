@@ -1,0 +1,246 @@
+-- Document 02, W4: in a session grown from fresh every frozen mark of a map was frozen by an earlier step since the last begin.
+use Prim.Native.Nat.{ℕ, zero, suc, _-_}
+use mathlib.Core.Bool.{Bool, true, false}
+use mathlib.Core.Path.{_≡_, refl, sym, _∙_, subst}
+use mathlib.Core.List.{List, [], _∷_}
+use mathlib.Core.Logic.{_≢_}
+use native.Mathlib.Decide.{ℕ-discrete}
+use native.Mathlib.Omega.{arith}
+use lib.Dec.{eqb}
+use borrow.Author.Tests.{eq-eqb, ne-eqb, eqb-true}
+use Rattle.octets.specs.Bytes.{pick, part, zeros, Octets}
+use Rattle.octets.proofs.Put.{octets-part}
+use Rattle.octets.proofs.Zero.{both}
+use Rattle.marks.specs.Incarnation.{Incarnation}
+use Rattle.marks.specs.History.{HistoryView}
+use Rattle.maps.proofs.News.{informedTable}
+use Rattle.rules.specs.Layout.{Layout, Limits, base, standard, Fitting, Allowed, imageBytes}
+use Rattle.rules.specs.State.{State, transactorAt}
+use Rattle.rules.specs.declared.Step.{Step}
+use Rattle.rules.specs.Step.{stepAt}
+use Rattle.rules.specs.Rules.{refusal, stepOf}
+use Rattle.rules.specs.Pack.{pack, unpack}
+use Rattle.rules.specs.Internal.Well.{StepOk, WellFormed}
+use Rattle.rules.specs.Calls.{wrongLength, beginAnswer, beginImage, stateAfter, stepsIn, runAnswer, ranImage, runImage, queryRefusal}
+use Rattle.rules.specs.Heard.{allHeardStable, heardAnswer, Heard, in-state, in-creation}
+use Rattle.rules.proofs.Calls.Heard.{heard-test}
+use Rattle.rules.proofs.Calls.Query.{query-accepted}
+use Rattle.rules.proofs.Pack.RoundTrip.{unpack-pack}
+use Rattle.rules.proofs.Pack.Fresh.{pack-fresh}
+use Rattle.rules.proofs.Keep.Run.{stepOk-at}
+use Rattle.rules.proofs.Keep.State.{well-fresh}
+use Rattle.rules.proofs.Keep.Step.{keeps-after, fitting-base, allowed-standard}
+use Rattle.session.specs.Provenance.{unused, Provenance, emptyProvenance}
+use Rattle.session.specs.Steps.{ProvenanceStep}
+use Rattle.session.specs.Fed as book
+use Rattle.session.specs.Fed.{Call, begin, run, heard, callRefusal, ProvenanceSteps, ProvenanceCall, provenance-refuses, provenance-begins, provenance-runs, provenance-offers, provenance-names, provenance-hears, provenance-shows, ProvenanceOf, new-provenance, fed}
+use Rattle.session.specs.Trace.{Answer, told, Performed, beginning, running, offering, naming, hearing, showing, Trace, opened, called, callsOf}
+use Rattle.session.specs.Stabilized.{StabilizedBy, at-step, isBegin, StabilizedIn, in-run, in-earlier}
+use Rattle.session.proofs.Model.{view}
+use Rattle.session.proofs.Relation.{freshLedger, Rel, nothing-checkpointed}
+use Rattle.session.proofs.News.{informed-law}
+use Rattle.session.proofs.ViewRules.{droppedAt, rolledBackAt}
+use Rattle.session.proofs.ViewState.{view-fresh}
+use Rattle.session.proofs.ViewStep.{readyAt, view-step, same-refusal, state-kept}
+use Rattle.session.proofs.Calls.{Holds, holds-pack, holds-fresh, right-length, run-same, kept}
+use Rattle.session.proofs.Log.{Log, emptyLog, LogAfter, earlier, just-now, absent, none1, backed-has}
+use Rattle.session.proofs.Logged.{Logged, log-kept}
+
+-- ---- one step
+
+module _ {y : Layout} {m : Limits} (l : Allowed y m) {s : State} (well : WellFormed y s) {b : Provenance} (r : Rel (view s) b) {p : Step} (ok : StepOk p) (f : Log) (k : Logged (view s) b f) where
+  state-logged : {c : Provenance} → ProvenanceStep m b p c → Logged (view (stepOf y m s p .state)) c (LogAfter m b p f)
+  state-logged {c} step = subst (λ z. Logged z c (LogAfter m b p f)) (sym (view-step well m l p (ok .message)))
+      (log-kept (view s) b r m p (ok .message) f k informedTable informed-law (droppedAt y s (p .message)) (rolledBackAt y s (p .message)) (readyAt y s (p .message))
+      (refusal y m s p) (same-refusal well m r p) step)
+
+-- ---- the steps of a part
+
+pub data Since (m : Limits) (b : Provenance) (f : Log) (steps : List ℕ) (i u : ℕ) (a : Incarnation) : Type 1 where
+  old : f u a → Since m b f steps i u a
+  by-step : StabilizedBy m b steps i u a → Since m b f steps i u a
+
+since-more : {m : Limits} {b : Provenance} {f : Log} {steps : List ℕ} {i u : ℕ} {a : Incarnation} → Since m b f steps i u a → Since m b f steps (suc i) u a
+since-more (old h) = old h
+since-more (by-step (at-step j c h s z)) = by-step (at-step j c (omega arith) s z)
+
+pub record RanLog (y : Layout) (m : Limits) (s : State) (b : Provenance) (f : Log) (steps : List ℕ) (i : ℕ) : Type 1 where
+  pub after : Provenance
+  pub steps-of : ProvenanceSteps m b steps i after
+  pub rel : Rel (view (stateAfter y m s steps i)) after
+  pub log : Log
+  pub logged : Logged (view (stateAfter y m s steps i)) after log
+  pub true-log : (u : ℕ) (a : Incarnation) → log u a → Since m b f steps i u a
+
+module _ {y : Layout} {m : Limits} (z : Fitting y) (l : Allowed y m) {s : State} (well : WellFormed y s) {b : Provenance} (r : Rel (view s) b) (f : Log) (k : Logged (view s) b f) (steps : List ℕ) (octets : Octets steps) where
+  one-more : (i : ℕ) → RanLog y m s b f steps i → RanLog y m s b f steps (suc i)
+  unfolding stateAfter
+  one-more i before =
+      let w = keeps-after z l well steps octets i in
+      let ok = stepOk-at steps octets i in
+      let n = state-kept w m (before .rel) l (stepAt steps i) (ok .message) in
+      record {
+        after = n .after;
+        steps-of = book.more (before .steps-of) (n .step);
+        rel = n .rel;
+        log = LogAfter m (before .after) (stepAt steps i) (before .log);
+        logged = state-logged l w (before .rel) ok (before .log) (before .logged) (n .step);
+        true-log = told;
+      }
+    where
+      told : (u : ℕ) (a : Incarnation) → LogAfter m (before .after) (stepAt steps i) (before .log) u a → Since m b f steps (suc i) u a
+      told u a (earlier h) = since-more (before .true-log u a h)
+      told u a (just-now h) = by-step (at-step i (before .after) (omega arith) (before .steps-of) h)
+
+  run-log : (i : ℕ) → RanLog y m s b f steps i
+  unfolding stateAfter
+  run-log zero = record { after = b; steps-of = book.none; rel = r; log = f; logged = k; true-log = λ u a. old }
+  run-log (suc i) = one-more i (run-log i)
+
+-- ---- the calls of a session
+
+pub record GrownLog (y : Layout) (m : Limits) (img : List ℕ) (cs : List Call) : Type 1 where
+  pub provenance : Provenance
+  pub fed-by : ProvenanceOf m cs provenance
+  pub holds : Holds y img provenance
+  pub log : Log
+  pub logged : Logged (view (unpack y img)) provenance log
+  pub true-log : (u : ℕ) (a : Incarnation) → log u a → StabilizedIn m cs u a
+
+fresh-logged : Logged freshLedger emptyProvenance emptyLog
+fresh-logged = record {
+  ledger = record { nodes = λ t. record { state = λ u. absent; creation = λ u. absent; behaviour = λ u. absent }; messages = none1 };
+  signed = λ u a c. nothing-checkpointed unused _ (λ k. elim k [ ]) c;
+}
+
+pack-logged : {y : Layout} {s : State} {b : Provenance} {f : Log} → WellFormed y s → Logged (view s) b f → Logged (view (unpack y (pack y s))) b f
+pack-logged {y} {s} {b} {f} well k = subst (λ z. Logged (view z) b f) (sym (unpack-pack y s (well .packable))) k
+
+zeros-logged : (y : Layout) → Logged (view (unpack y (zeros (imageBytes y)))) emptyProvenance emptyLog
+zeros-logged y = rw (← pack-fresh y) (pack-logged (well-fresh y) (rw (view-fresh y) fresh-logged))
+
+fresh-grown : (y : Layout) (m : Limits) → GrownLog y m (zeros (imageBytes y)) []
+fresh-grown y m = record {
+  provenance = emptyProvenance;
+  fed-by = new-provenance;
+  holds = holds-fresh y;
+  log = emptyLog;
+  logged = zeros-logged y;
+  true-log = λ u a h. absurd h;
+}
+
+module _ {y : Layout} {m : Limits} {img : List ℕ} {cs : List Call} (g : GrownLog y m img cs) where
+  -- a call that only reads
+  reading : (c : Call) → isBegin c ≡ false → (callRefusal (g .provenance) c ≡ 0 → ProvenanceCall m (g .provenance) c (g .provenance)) → GrownLog y m img (c ∷ cs)
+  reading c e f = record {
+    provenance = g .provenance;
+    fed-by = fed (g .fed-by) (kept f);
+    holds = g .holds;
+    log = g .log;
+    logged = g .logged;
+    true-log = λ u a h. in-earlier e (g .true-log u a h);
+  }
+
+  beginning-anew : GrownLog y m (zeros (imageBytes y)) (begin ∷ cs)
+  beginning-anew = record {
+    provenance = emptyProvenance;
+    fed-by = fed (g .fed-by) provenance-begins;
+    holds = holds-fresh y;
+    log = emptyLog;
+    logged = zeros-logged y;
+    true-log = λ u a h. absurd h;
+  }
+
+  module _ (z : Fitting y) (l : Allowed y m) (list : List ℕ) (o : Octets list) (start end : ℕ) (replies : List ℕ) where
+    abbrev part-of : List ℕ
+    part-of = part start (end - start) list
+
+    abbrev the-run : Call
+    the-run = run list o start end replies
+
+    run-grown : GrownLog y m (runImage y m img list start end replies) (run list o start end replies ∷ cs)
+    unfolding runImage ranImage
+    run-grown = go (ℕ-discrete (callRefusal (g .provenance) the-run) 0)
+      where
+        same : runAnswer y img list start end replies ≡ callRefusal (g .provenance) the-run
+        same = run-same (g .holds) list o start end replies
+
+        go : Dec (callRefusal (g .provenance) the-run ≡ 0)
+            → GrownLog y m (pick (eqb (runAnswer y img list start end replies) 0) (pack y (stateAfter y m (unpack y img) part-of (stepsIn part-of))) img) (the-run ∷ cs)
+        go (yes e) =
+            let w = keeps-after z l (g .holds .well) part-of (octets-part start (end - start) list o) (stepsIn part-of) in
+            let k : RanLog y m (unpack y img) (g .provenance) (g .log) part-of (stepsIn part-of) =
+            run-log z l (g .holds .well) (g .holds .rel) (g .log) (g .logged) part-of (octets-part start (end - start) list o) (stepsIn part-of) in
+            rw (eq-eqb (runAnswer y img list start end replies) 0 (same ∙ e))
+            (record {
+              provenance = k .after;
+              fed-by = fed (g .fed-by) (provenance-runs e (k .steps-of));
+              holds = holds-pack w (k .rel);
+              log = k .log;
+              logged = pack-logged w (k .logged);
+              true-log = λ u a h. told u a (k .true-log u a h);
+            })
+          where
+            told : (u : ℕ) (a : Incarnation) → Since m (g .provenance) (g .log) part-of (stepsIn part-of) u a → StabilizedIn m (the-run ∷ cs) u a
+            told u a (old h) = in-earlier refl (g .true-log u a h)
+            told u a (by-step h) = in-run (g .fed-by) e h
+        go (no n) =
+            rw (ne-eqb (runAnswer y img list start end replies) 0 (λ e. n (sym same ∙ e)))
+            (record {
+              provenance = g .provenance;
+              fed-by = fed (g .fed-by) (provenance-refuses n);
+              holds = g .holds;
+              log = g .log;
+              logged = g .logged;
+              true-log = λ u a h. in-earlier refl (g .true-log u a h);
+            })
+
+begun-grown : (y : Layout) (m : Limits) (img : List ℕ) → beginAnswer y img ≡ 0 → GrownLog y m (beginImage y img) []
+unfolding beginAnswer beginImage
+begun-grown y m img e = go (wrongLength y img) e
+  where
+    go : (t : Bool) → _≡_ {A = ℕ} (pick t 16 0) 0 → GrownLog y m (pick t img (zeros (imageBytes y))) []
+    go true e = absurd (omega arith)
+    go false e = fresh-grown y m
+
+module _ {y : Layout} {m : Limits} (z : Fitting y) (l : Allowed y m) where
+  performed-grown : {img after : List ℕ} {cs : List Call} {c : Call} {a : Answer} → GrownLog y m img cs → Performed y m img c a after → GrownLog y m after (c ∷ cs)
+  unfolding beginImage
+  performed-grown g beginning = rw (right-length (g .holds)) (beginning-anew g)
+  performed-grown g (running {list} {o} {start} {end} {replies}) = run-grown g z l list o start end replies
+  performed-grown g (offering {t} f) = reading g (book.offer t) refl provenance-offers
+  performed-grown g (naming {t} f) = reading g (book.smallest t) refl provenance-names
+  performed-grown g (hearing {t}) = reading g (book.heard t) refl provenance-hears
+  performed-grown g (showing {n}) = reading g (book.show n) refl provenance-shows
+
+  pub grown-log : {img : List ℕ} (τ : Trace y m img) → GrownLog y m img (callsOf τ)
+  unfolding callsOf
+  grown-log (opened img e) = begun-grown y m img e
+  grown-log (called τ c a p) = performed-grown (grown-log τ) p
+
+-- ---- "all heard frozen"
+
+module _ {y : Layout} {m : Limits} (z : Fitting y) (l : Allowed y m) {img : List ℕ} (τ : Trace y m img) where
+  -- a frozen mark of a take's two maps was frozen by an earlier step, its own included
+  pub heard-stable : (t u : ℕ) (h : HistoryView) → Heard (unpack y img) t u h → h .stable ≡ true → StabilizedIn m (callsOf τ) u (h .incarnation)
+  unfolding view
+  heard-stable t u h (in-state e) i = let g = grown-log z l τ in g .true-log u (h .incarnation) (backed-has (g .logged .ledger .nodes t .state u) e i)
+  heard-stable t u h (in-creation e) i = let g = grown-log z l τ in g .true-log u (h .incarnation) (backed-has (g .logged .ledger .nodes t .creation u) e i)
+
+  -- "In a session grown from fresh, yes must mean that each such life was frozen at some earlier step": where the query's answer is
+  -- yes, the life of every other entry of the take's two maps was frozen by a step of this session since its last begin.
+  pub yes-means : (t : ℕ) → heardAnswer y img t ≡ true → (u : ℕ) (h : HistoryView) → u ≢ t → Heard (unpack y img) t u h → StabilizedIn m (callsOf τ) u (h .incarnation)
+  unfolding heardAnswer
+  yes-means t yes-is u h n k =
+      let p = both (eqb (queryRefusal y img t) 0) (allHeardStable y t (transactorAt (unpack y img) t)) yes-is in
+      let below = query-accepted y img t (eqb-true (queryRefusal y img t) 0 (p .0)) .below in
+      let ok = grown-log z l τ .holds .well .packable .transactors t below in
+      heard-stable t u h k (heard-test (unpack y img) t ok .0 (p .1) u h n k)
+
+-- The same at document 01's own layout and limits, said of the call: whatever refusal it gives with its yes.
+pub yes-means-base : {img : List ℕ} (τ : Trace base standard img) {t r : ℕ} {after : List ℕ} → Performed base standard img (heard t) (told r true) after
+    → (u : ℕ) (h : HistoryView) → u ≢ t → Heard (unpack base img) t u h → StabilizedIn standard (callsOf τ) u (h .incarnation)
+yes-means-base τ {t} c = yes-means fitting-base allowed-standard τ t (sym (answered c))
+  where
+    answered : {img after : List ℕ} {t r : ℕ} {stable : Bool} → Performed base standard img (heard t) (told r stable) after → stable ≡ heardAnswer base img t
+    answered hearing = refl
