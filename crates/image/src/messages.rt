@@ -40,7 +40,7 @@ pub fn place_of(image: &[u8], n: usize, number: u16) -> usize
 {
     let mut k: usize = 0;
     while k < n {
-        if octets::load16(image, FIRST_MESSAGE + MESSAGE * k + NUMBER) == number {
+        if number_of(image, k) == number {
             return k;
         }
         k += 1;
@@ -70,6 +70,14 @@ pub fn addressee(image: &[u8], k: usize) -> usize
 {
     let head = image[FIRST_MESSAGE + MESSAGE * k] as usize;
     head % 16
+}
+
+// The number of the message in place k.
+pub fn number_of(image: &[u8], k: usize) -> u16
+    requires { ⌜ (length (now image) ≡ imageBytes base) × (k < waitingIn base (now image)) ⌝ }
+    ensures { λ r. ⌜ r ≡ messageAt (unpack base (now (image .entry))) k .number ⌝ }
+{
+    octets::load16(image, FIRST_MESSAGE + MESSAGE * k + NUMBER)
 }
 
 // The value of the message in place k.

@@ -11,7 +11,6 @@ use image::layout::IMAGE;
 use image::layout::LONGEST;
 use image::layout::MESSAGE;
 use image::layout::MESSAGES;
-use image::layout::NUMBER;
 use image::layout::STATE;
 use image::layout::STEP;
 use image::layout::TRANSACTOR;
@@ -171,7 +170,7 @@ pub fn offer(image: &[u8], transactor: usize, refusal: &mut u8) -> Offered
     if n <= k {
         return Offered::Nothing;
     }
-    Offered::Message(octets::load16(image, FIRST_MESSAGE + MESSAGE * k + NUMBER))
+    Offered::Message(messages::number_of(image, k))
 }
 
 // The smallest group with the transactor that could be checkpointed now, or none exactly if there is none. The lent number takes

@@ -1,31 +1,26 @@
 -- What an accepted offer or show says of the image, and the numbers that stand for answers.
-use Prim.Native.Nat.{ℕ, _+_, _≤_, _<_}
+use Prim.Native.Nat.{ℕ, _+_, _<_}
 use mathlib.Core.Bool.{Bool, true, false, not}
 use mathlib.Core.Path.{_≡_, refl, sym, subst, _∙_}
 use mathlib.Core.List.{List, []}
 use mathlib.Core.Option.{Option, none, some}
-use mathlib.Core.Logic.{⊎-elim}
 use native.Mathlib.Omega.{arith}
-use borrow.Author.Tests.{eq-eqb, ne-eqb, eqb-true, leb-false, not-false}
+use borrow.Author.Tests.{eq-eqb, ne-eqb, eqb-true, not-false}
 use lib.ListN.{length}
 use lib.Dec.{eqb, leb}
 use Rattle.octets.specs.Bytes.{pick, part, Octets}
-use Rattle.octets.specs.Numbers.{ofBe, bound}
+use Rattle.octets.specs.Numbers.{bound}
 use Rattle.rules.specs.declared.Offered.{Offered}
 use Rattle.rules.specs.declared.Grouped.{Grouped}
 use Rattle.rules.specs.Layout.{Layout, base, standard, imageBytes, messageAddress, dependencesAt, mapBytes}
-use Rattle.rules.specs.State.{placeOf, numbered}
-use Rattle.rules.specs.Pack.{waitingIn, unpack}
+use Rattle.rules.specs.State.{placeOf}
+use Rattle.rules.specs.Pack.{unpack}
 use Rattle.rules.specs.Form.{wellFormed}
 use Rattle.rules.specs.Calls.{wrongLength, queryRefusal, offeredNumber, Offers, waiting, showRefusal, shown}
 use Rattle.rules.specs.Groups.{groupNumber, Smallest, smallest}
 use Rattle.rules.proofs.Bits.{named-zero}
 use Rattle.rules.proofs.Form.State.{formed-state}
-use Rattle.rules.proofs.Pack.Loads.{unpack-waiting}
-use Rattle.octets.proofs.Chunks.{sides}
 use Rattle.octets.proofs.Tests.{never}
-use Rattle.rules.proofs.Places.{Place, place}
-use Rattle.rules.proofs.Pack.Messages.{numbered-so, numbered-not}
 use Rattle.ledger_c.specs.declared.Part.{Part}
 use Rattle.ledger_c.specs.Interface.{noMessage, numberOf, offeredBy, groupBitsOf, groupOf, shownPart}
 
@@ -88,37 +83,6 @@ module _ (img : List ℕ) where
 
     pub shown-length : length img ≡ imageBytes base
     shown-length = accepted .whole
-
-    -- the parcel's place is one of those that wait
-    pub waits : placeOf (unpack base img) v < waitingIn base img
-    waits = go _ refl (accepted .rest)
-      where
-        go : (b : Bool) → leb (length (unpack base img .messages)) (placeOf (unpack base img) v) ≡ b → _≡_ {A = ℕ} (pick b 24 0) 0 → placeOf (unpack base img) v < waitingIn base img
-        go true f d = absurd (omega arith)
-        go false f d = omega (arith, leb-false (length (unpack base img .messages)) (placeOf (unpack base img) v) f, unpack-waiting base img)
-
-    found : Place (numbered (unpack base img) v) 0 (waitingIn base img) (placeOf (unpack base img) v)
-    unfolding placeOf
-    found = rw (unpack-waiting base img) (place (numbered (unpack base img) v) 0 (waitingIn base img))
-
-    -- a search has come to place k, which has number r
-    module _ (k r : ℕ) (low : k ≤ placeOf (unpack base img) v) (n : r ≡ ofBe 2 (part (messageAddress base k + 1) 2 img)) where
-      below : k < waitingIn base img
-      below = omega (arith, waits)
-
-      pub place-here : r ≡ v → k ≡ placeOf (unpack base img) v
-      place-here d = ⊎-elim
-          (λ (h : k < placeOf (unpack base img) v). never (sym (numbered-so base img k r v below n d) ∙ found .before k (omega arith) h))
-          (λ (h : placeOf (unpack base img) v ≤ k). omega arith)
-          (sides k (placeOf (unpack base img) v))
-
-      pub place-later : (r ≡ v → ⊥) → k + 1 ≤ placeOf (unpack base img) v
-      place-later d = ⊎-elim
-          (λ (h : k < placeOf (unpack base img) v). omega arith)
-          (λ (h : placeOf (unpack base img) v ≤ k).
-          let same : k ≡ placeOf (unpack base img) v = omega arith in
-          never (sym (rw same (found .here (omega (arith, waits)))) ∙ numbered-not base img k r v below n d))
-          (sides k (placeOf (unpack base img) v))
 
     pub part-shown : (k : ℕ) → k ≡ placeOf (unpack base img) v → record { offset = messageAddress base k + dependencesAt; length = mapBytes base } ≡ shownPart base img v
     unfolding shownPart

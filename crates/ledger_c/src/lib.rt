@@ -3,15 +3,11 @@
 use image::layout::DEPENDENCES;
 use image::layout::FIRST_MESSAGE;
 use image::layout::MESSAGE;
-use image::layout::MESSAGES;
-use image::layout::NUMBER;
+use image::messages;
 use rules::Grouped;
 use rules::Offered;
 ghost use mathlib.Core.Path.{_≡_};
-ghost use Prim.Native.Nat.{_<_};
 ghost use Rattle.rules.specs.Layout.{base, standard};
-ghost use Rattle.rules.specs.State.{placeOf};
-ghost use Rattle.rules.specs.Pack.{unpack};
 ghost use Rattle.rules.specs.Calls.{beginAnswer, beginImage, runAnswer, runImage, runReplies, queryRefusal, Offers, showRefusal};
 ghost use Rattle.rules.specs.Groups.{Smallest};
 ghost use Rattle.rules.specs.Heard.{heardAnswer};
@@ -87,21 +83,6 @@ pub extern "C" fn ledger_all_heard_stable(image: &[u8], transactor: usize, refus
     0
 }
 
-// The place of the message with this number, which waits.
-fn place(image: &[u8], number: u16) -> usize
-    requires { ⌜ showRefusal base (now image) number ≡ 0 ⌝ }
-    ensures { λ r. ⌜ (r ≡ placeOf (unpack base (now (image .entry))) number) × (r < base .messages) ⌝ }
-{
-    let mut k: usize = 0;
-    while k < MESSAGES {
-        if octets::load16(image, FIRST_MESSAGE + MESSAGE * k + NUMBER) == number {
-            return k;
-        }
-        k += 1;
-    }
-    k
-}
-
 // The part of the image that holds a waiting message's map. The lent number takes the refusal, 16, 19 or 24, or 0; refused, an
 // empty part.
 #[no_mangle]
@@ -115,7 +96,7 @@ pub extern "C" fn ledger_show(image: &[u8], number: u16, refusal: &mut u8) -> Pa
             length: 0,
         };
     }
-    let k = place(image, number);
+    let k = messages::place_of(image, messages::waiting(image), number);
     let offset = FIRST_MESSAGE + MESSAGE * k + DEPENDENCES;
     Part {
         offset,

@@ -4,4 +4,5 @@ pub mod Heard
 pub mod Offer
 pub mod Query
 pub mod Run
+pub mod Show
 pub mod Stored

@@ -312,3 +312,16 @@ module _ {y : Layout} {m : Limits} (z : Fitting y) (l : Allowed y m) (t : ℕ) {
       let h = holds-sparing z l (Waits t k) (waits-spared t k) (holds-rounds k (record { well = w; says = v }) rs (λ d. other (List·Memᴰ·tail d))) before in
       let not-n : k ≡ n → ⊥ = λ q. other (List·Memᴰ·head q) in
       omega (arith, low .lowest k (h .says), not-n)
+
+-- rising: every number is above all that were received before it
+pub rising-all : {n : ℕ} {ns : List ℕ} → Rising (n ∷ ns) → (k : ℕ) → List·Memᴰ k ns → k < n
+rising-all (above h r) k (List·Memᴰ·head e) = omega (arith, h, e)
+rising-all (above h r) k (List·Memᴰ·tail d) = let l = rising-all r k d in omega (arith, h, l)
+
+-- what spares: a step that is refused, and one of any other kind
+module _ (y : Layout) (m : Limits) (s : State) (b : List ℕ) (i : ℕ) where
+  pub spares-refused : (refusal y m (stateAfter y m s b i) (stepAt b i) ≡ 0 → ⊥) → Spares y m s b i
+  spares-refused n = λ e. absurd (n e)
+
+  pub spares-other : (stepAt b i .kind ≡ receive → ⊥) → (stepAt b i .kind ≡ lose → ⊥) → Spares y m s b i
+  spares-other f g = λ e. (f, g)

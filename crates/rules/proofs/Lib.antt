@@ -9,3 +9,5 @@ pub mod News
 pub mod Keep
 pub mod Pack
 pub mod Places
+pub mod Ranges
+pub mod Tries

@@ -35,11 +35,11 @@ place-to-requires c κs = (long (c .before), search needs, search needs)
 returns-2 : tie.Need-returns-2
 returns-2 c = offered-none base _ _ _ (c .before .before .before .before .query-refusal .ensures) (c .before .before .before .if1 .left) _ _ (c .before .before .waiting .ensures .0) (c .before .place-to .ensures .0) (omega arith)
 
-load16-requires : tie.Need-load16-requires
-load16-requires c κs = omega (arith, long (c .before .before .before))
+number-of-requires : tie.Need-number-of-requires
+number-of-requires c κs = (long (c .before .before .before), search needs)
 
 returns-3 : tie.Need-returns-3
-returns-3 c = offered-some base _ _ _ (c .before .before .before .before .before .query-refusal .ensures) (c .before .before .before .before .if1 .left) _ _ (c .before .before .before .waiting .ensures .0) (c .before .before .place-to .ensures .0) _ (well (c .before .before .before .before)) (omega arith) (c .load16 .ensures)
+returns-3 c = offered-some base _ _ _ (c .before .before .before .before .before .query-refusal .ensures) (c .before .before .before .before .if1 .left) _ _ (c .before .before .before .waiting .ensures .0) (c .before .before .place-to .ensures .0) _ (well (c .before .before .before .before)) (omega arith) (c .number-of .ensures)
 
 pub offer-spec : {M : Type 1} → statement M
 offer-spec =
@@ -50,8 +50,5 @@ offer-spec =
     waiting-requires
     place-to-requires
     returns-2
-    (λ c. search needs)
-    (λ c. search needs)
-    (λ c. search needs)
-    load16-requires
+    number-of-requires
     returns-3)

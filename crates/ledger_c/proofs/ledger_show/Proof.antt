@@ -1,21 +1,25 @@
 -- The part that ledger's show answers, by its offset.
 use mathlib.Core.Path.{sym, _∙_}
 use borrow.Author.Needs.{needs}
-use Rattle.ledger_c.proofs.Answers.{part-shown, part-refused}
+use Rattle.ledger_c.proofs.Answers.{shown-length, part-shown, part-refused}
 use Rattle.ledger_c.proofs.ledger_show.Statement.{statement}
 use Rattle.ledger_c.proofs.ledger_show.Tie as tie
 
-returns : tie.Need-returns
-returns c =
-    let f = c .before .before .show .ensures in
-    (f .1, part-refused _ _ (λ e. c .if1 .taken (f .1 ∙ e)))
+waiting-requires : tie.Need-waiting-requires
+waiting-requires c κs = shown-length _ _ (sym (c .before .before .show .ensures .1) ∙ c .if1 .left)
 
-returns-2 : tie.Need-returns-2
-returns-2 c =
-    let f = c .before .before .before .show .ensures in
-    (f .1, part-shown _ _ (sym (f .1) ∙ c .before .if1 .left) _ (c .place .ensures .0))
+place-of-requires : tie.Need-place-of-requires
+place-of-requires c κs = (shown-length _ _ (sym (c .before .before .before .show .ensures .1) ∙ c .before .if1 .left), search needs, search needs)
 
 pub ledger-show-spec : {M : Type 1} → statement M
 ledger-show-spec =
     tie.close
-    (tie.spec (λ c κs. search needs) returns (λ c κs. search needs) (λ c. search needs) (λ c. search needs) (λ c. search needs) returns-2)
+    (tie.spec
+    (λ c κs. search needs)
+    (λ c. (search needs, part-refused _ _ (search needs)))
+    waiting-requires
+    place-of-requires
+    (λ c. search needs)
+    (λ c. search needs)
+    (λ c. search needs)
+    (λ c. (search needs, part-shown _ _ (search needs) _ (c .place-of .ensures .0))))

@@ -1,5 +1,5 @@
 -- Offering a message, the refusal being r: nothing if refused, else the first that waits, which has the lowest number.
-use Prim.Native.Nat.{ℕ, _+_, _≤_, _<_}
+use Prim.Native.Nat.{ℕ, _≤_, _<_}
 use mathlib.Core.Path.{_≡_, refl, sym, ap, _∙_}
 use mathlib.Core.List.{List}
 use mathlib.Core.Option.{Option, none, some}
@@ -7,9 +7,7 @@ use mathlib.Core.Logic.{⊎-elim}
 use native.Mathlib.Omega.{arith}
 use borrow.Author.Tests.{eq-eqb, eqb-true}
 use lib.ListN.{length}
-use Rattle.octets.specs.Bytes.{part}
-use Rattle.octets.specs.Numbers.{ofBe}
-use Rattle.rules.specs.Layout.{Layout, messageAddress}
+use Rattle.rules.specs.Layout.{Layout}
 use Rattle.rules.specs.State.{messageAt, placeFrom, addressedTo}
 use Rattle.rules.specs.Pack.{waitingIn, unpack}
 use Rattle.rules.specs.Internal.Well.{WellFormed}
@@ -18,7 +16,7 @@ use Rattle.octets.proofs.Chunks.{sides}
 use Rattle.octets.proofs.Tests.{never}
 use Rattle.rules.proofs.Places.{Place, place}
 use Rattle.rules.proofs.Pack.Messages.{numbers-rise}
-use Rattle.rules.proofs.Pack.Loads.{read-number, unpack-waiting}
+use Rattle.rules.proofs.Pack.Loads.{unpack-waiting}
 
 module _ (y : Layout) (img : List ℕ) (t r : ℕ) (is : r ≡ queryRefusal y img t) where
   pub offered-refused : (r ≡ 0 → ⊥) → (r ≡ queryRefusal y img t) × Offers y img t none
@@ -39,26 +37,25 @@ module _ (y : Layout) (img : List ℕ) (t r : ℕ) (is : r ≡ queryRefusal y im
     pub offered-none : n ≤ k → (r ≡ queryRefusal y img t) × Offers y img t none
     offered-none h = (is, nothing (sym is ∙ zero) (λ v (w : WaitsFor (unpack y img) t v). not-before v w (omega (arith, many, w .waits))))
 
-    pub offered-some : (v : ℕ) → WellFormed y (unpack y img) → k < n → v ≡ ofBe 2 (part (messageAddress y k + 1) 2 img) → (r ≡ queryRefusal y img t) × Offers y img t (some v)
+    pub offered-some : (v : ℕ) → WellFormed y (unpack y img) → k < n → v ≡ messageAt (unpack y img) k .number → (r ≡ queryRefusal y img t) × Offers y img t (some v)
     unfolding addressedTo
-    offered-some v well h q =
-        let number : messageAt (unpack y img) k .number ≡ v = read-number y img k (omega arith) ∙ sym q in (
-          is,
-          waiting (sym is ∙ zero) (record {
-            waits = record {
-              place = k;
-              waits = omega (arith, many);
-              addressee = eqb-true (messageAt (unpack y img) k .addressee) t (rw f (found .here (omega arith)));
-              number = number;
-            };
-            lowest = λ u (w : WaitsFor (unpack y img) t u). ⊎-elim
-                (λ (p : k < w .place). omega (arith, numbers-rise well k (w .place) p (w .waits), w .number))
-                (λ (p : w .place ≤ k).
-                let d : k ≡ w .place = omega (arith, not-before u w) in
-                omega (arith, w .number, ap (λ (i : ℕ). messageAt (unpack y img) i .number) d))
-                (sides k (w .place));
-          }),
-        )
+    offered-some v well h q = (
+      is,
+      waiting (sym is ∙ zero) (record {
+        waits = record {
+          place = k;
+          waits = omega (arith, many);
+          addressee = eqb-true (messageAt (unpack y img) k .addressee) t (rw f (found .here (omega arith)));
+          number = sym q;
+        };
+        lowest = λ u (w : WaitsFor (unpack y img) t u). ⊎-elim
+            (λ (p : k < w .place). omega (arith, numbers-rise well k (w .place) p (w .waits), w .number))
+            (λ (p : w .place ≤ k).
+            let d : k ≡ w .place = omega (arith, not-before u w) in
+            omega (arith, w .number, ap (λ (i : ℕ). messageAt (unpack y img) i .number) d))
+            (sides k (w .place));
+      }),
+    )
 
 -- offer is no longer free (document 02, W2): one answer for an image and a take
 pub offers-unique : {y : Layout} {img : List ℕ} {t : ℕ} {a b : Option ℕ} → Offers y img t a → Offers y img t b → a ≡ b

@@ -9,7 +9,7 @@ use native.Mathlib.Omega.{arith}
 use borrow.Author.Tests.{lt-ltb, le-ltb, eq-eqb, ne-eqb}
 use lib.ListN.{length, getD, set}
 use Rattle.octets.specs.Bytes.{put, part, zeros}
-use Rattle.octets.specs.Numbers.{be, ofBe}
+use Rattle.octets.specs.Numbers.{be}
 use Rattle.octets.proofs.Numbers.{put-be-one}
 use Rattle.octets.proofs.Chunks.{cases, step}
 use Rattle.maps.specs.declared.DependenceMap.{DependenceMap}
@@ -17,7 +17,7 @@ use Rattle.rules.specs.Layout.{Layout, dependencesAt, messageBytes, mess
 use Rattle.rules.specs.State.{State, placeFrom, placeOf, numbered, messageAt, withMessage, withoutMessage, addressedTo}
 use Rattle.rules.specs.Pack.{packDependences, packMessage, vacantAt, waitingIn, pack, unpack}
 use Rattle.rules.specs.Internal.Well.{WellFormed}
-use Rattle.rules.proofs.Pack.Loads.{unpack-waiting, read-vacant, read-number}
+use Rattle.rules.proofs.Pack.Loads.{unpack-waiting, read-vacant}
 use Rattle.rules.proofs.Pack.Stores.{sent, put-packMessage, pack-withMessage, pack-removed}
 
 -- in a well-formed state a later place has a higher number
@@ -30,6 +30,24 @@ numbers-rise {y} {s} w i (suc j) h b =
     (λ (p : i ≡ j). rw p next)
     (cases j i h)
 
+-- what the fields of a waiting message say to a search
+module _ (s : State) (k p : ℕ) where
+  pub numbered-so : messageAt s k .number ≡ p → numbered s p k ≡ true
+  unfolding numbered
+  numbered-so = eq-eqb (messageAt s k .number) p
+
+  pub numbered-not : (messageAt s k .number ≡ p → ⊥) → numbered s p k ≡ false
+  unfolding numbered
+  numbered-not = ne-eqb (messageAt s k .number) p
+
+  pub addressed-so : messageAt s k .addressee ≡ p → addressedTo s p k ≡ true
+  unfolding addressedTo
+  addressed-so = eq-eqb (messageAt s k .addressee) p
+
+  pub addressed-not : (messageAt s k .addressee ≡ p → ⊥) → addressedTo s p k ≡ false
+  unfolding addressedTo
+  addressed-not = ne-eqb (messageAt s k .addressee) p
+
 module _ (y : Layout) (img : List ℕ) where
   -- ---- what the head byte of a place says
 
@@ -39,31 +57,9 @@ module _ (y : Layout) (img : List ℕ) where
   pub vacant-high : (k : ℕ) → 128 ≤ getD img (messageAddress y k) 0 → vacantAt y img k ≡ false
   vacant-high k h = read-vacant y img k ∙ le-ltb (getD img (messageAddress y k) 0) 128 h
 
-  -- ---- the number in a place, r
-
   pub placeOf-among : (n p : ℕ) → n ≡ waitingIn y img → placeFrom (numbered (unpack y img) p) 0 n ≡ placeOf (unpack y img) p
   unfolding placeOf
   placeOf-among n p e = ap (placeFrom (numbered (unpack y img) p) 0) (omega (arith, unpack-waiting y img))
-
-  module _ (k r p : ℕ) (below : k < waitingIn y img) (e : r ≡ ofBe 2 (part (messageAddress y k + 1) 2 img)) where
-    pub numbered-so : r ≡ p → numbered (unpack y img) p k ≡ true
-    unfolding numbered
-    numbered-so q = eq-eqb (messageAt (unpack y img) k .number) p (read-number y img k below ∙ sym e ∙ q)
-
-    pub numbered-not : (r ≡ p → ⊥) → numbered (unpack y img) p k ≡ false
-    unfolding numbered
-    numbered-not q = ne-eqb (messageAt (unpack y img) k .number) p (λ (d : messageAt (unpack y img) k .number ≡ p). q (e ∙ sym (read-number y img k below) ∙ d))
-
-  -- ---- the addressee in a place, r
-
-  module _ (k r t : ℕ) (e : r ≡ messageAt (unpack y img) k .addressee) where
-    pub addressed-so : r ≡ t → addressedTo (unpack y img) t k ≡ true
-    unfolding addressedTo
-    addressed-so q = eq-eqb (messageAt (unpack y img) k .addressee) t (sym e ∙ q)
-
-    pub addressed-not : (r ≡ t → ⊥) → addressedTo (unpack y img) t k ≡ false
-    unfolding addressedTo
-    addressed-not q = ne-eqb (messageAt (unpack y img) k .addressee) t (λ (d : messageAt (unpack y img) k .addressee ≡ t). q (e ∙ d))
 
   -- ---- stores, in an image that is the packing of what it says
 

@@ -18,11 +18,11 @@ abbrev μ-loop : tie.MeasureT-loop
 
 returns : tie.Need-returns Inv-loop μ-loop
 returns c =
-    let r = passed-found (c .before .before .before .loop .inv) (search needs) (numbered-so base _ _ _ _ (search needs) (c .before .load16 .ensures) (search needs)) in
+    let r = passed-found (c .before .before .before .loop .inv) (search needs) (numbered-so _ _ _ (search needs)) in
     (r .0 ∙ placeOf-among base _ _ _ (search needs), r .1)
 
 loop-again : tie.Need-loop-again Inv-loop μ-loop
-loop-again c = passed-more (search needs) (search needs) (numbered-not base _ _ _ _ (search needs) (c .before .load16 .ensures) (search needs))
+loop-again c = passed-more (search needs) (search needs) (numbered-not _ _ _ (search needs))
 
 returns-2 : tie.Need-returns-2 Inv-loop μ-loop
 returns-2 c =
@@ -36,9 +36,6 @@ place-of-spec =
     Inv-loop
     μ-loop
     (λ c. passed-none _ _)
-    (λ c. search needs)
-    (λ c. search needs)
-    (λ c. search needs)
     (λ c κs. search needs)
     returns
     (λ c. search needs)

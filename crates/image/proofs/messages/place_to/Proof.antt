@@ -23,8 +23,8 @@ place-to-spec =
     μ-loop
     (λ c. passed-none _ _)
     (λ c κs. search needs)
-    (λ c. passed-found (search needs) (search needs) (addressed-so base _ _ _ _ (c .before .addressee .ensures .0) (search needs)))
+    (λ c. passed-found (search needs) (search needs) (addressed-so _ _ _ (search needs)))
     (λ c. search needs)
     (λ c. search needs)
-    (λ c. passed-more (search needs) (search needs) (addressed-not base _ _ _ _ (c .before .addressee .ensures .0) (search needs)))
+    (λ c. passed-more (search needs) (search needs) (addressed-not _ _ _ (search needs)))
     (λ c. passed-all (search needs) (search needs)))
