@@ -11,16 +11,16 @@ use Rattle.rules.specs.Refusals.{usesTransactor, usesMessage, usesValue, malfor
 
 module _ (p : Step) where
   -- a field that is not used and is not zero
-  abbrev transactor : Bool
+  abbrev pub transactor : Bool
   transactor = not (usesTransactor (p .kind) or eqb (p .transactor) 0)
 
-  abbrev other : Bool
+  abbrev pub other : Bool
   other = not (eqb (p .kind) send or eqb (p .other) 0)
 
-  abbrev message : Bool
+  abbrev pub message : Bool
   message = not (usesMessage (p .kind) or eqb (p .message) 0)
 
-  abbrev value : Bool
+  abbrev pub value : Bool
   value = not (usesValue (p .kind) or eqb (p .value) 0)
 
   pub stray-kind : sign < p .kind → true ≡ malformed p

@@ -1,6 +1,7 @@
 -- After t turns no named transactor below t blocks.
 use Prim.Native.Nat.{_-_}
 use mathlib.Core.Logic.{⊎-elim}
+use mathlib.Core.Path.{sym, _∙_}
 use borrow.Author.Needs.{needs}
 use Rattle.rules.specs.Layout.{base, standard}
 use Rattle.rules.specs.Pack.{unpack}
@@ -15,10 +16,15 @@ Inv-loop image group number t₀ t = NoneNamed group (blocksAt standard (unpack 
 abbrev μ-loop : tie.MeasureT-loop
 μ-loop image group number t₀ t = base .transactors - t
 
+returns : tie.Need-returns Inv-loop μ-loop
+returns c =
+    let n = c .before .before in
+    none-found (n .before .before .before .loop .inv) (search needs) (sym (n .before .is-named .ensures) ∙ n .if1 .taken) (sym (c .before .blocks2 .ensures) ∙ c .if2 .taken)
+
 loop-again : tie.Need-loop-again Inv-loop μ-loop
 loop-again c = ⊎-elim
-    (λ w. none-more (search needs) (search needs) (cc) (cc))
-    (λ w. none-unnamed (search needs) (search needs) (cc))
+    (λ w. none-more (search needs) (search needs) (sym (c .before .is-named .ensures) ∙ w .0 .taken) (sym (w .1 .ensures) ∙ w .2 .left))
+    (λ w. none-unnamed (search needs) (search needs) (sym (c .before .is-named .ensures) ∙ w .left))
     (c .if1 .came)
 
 pub blocked-spec : {M : Type 1} → statement M
@@ -30,7 +36,7 @@ blocked-spec =
     (λ c. none-first _ _)
     (λ c κs. search needs)
     (λ c κs. search needs)
-    (λ c. none-found (c .before .before .before .before .before .loop .inv) (search needs) (cc) (cc))
+    returns
     (λ c. search needs)
     (λ c. search needs)
     loop-again

@@ -1,5 +1,6 @@
 -- The one test, and then the other.
-use mathlib.Core.Path.{_∙_}
+use mathlib.Core.Bool.{not}
+use mathlib.Core.Path.{sym, ap, _∙_}
 use borrow.Author.Needs.{needs}
 use Rattle.rules.specs.Layout.{base}
 use Rattle.rules.proofs.Groups.Ready.{pair-off, pair-on}
@@ -16,9 +17,9 @@ pair-ready-spec =
     (λ c. search needs)
     (λ c. search needs)
     (λ c κs. search needs)
-    (λ c. pair-off base _ _ _ _ (cc))
+    (λ c. pair-off base _ _ _ _ (ap not (sym (c .before .entry-ready .ensures)) ∙ c .if1 .taken))
     (λ c. search needs)
     (λ c. search needs)
     (λ c. search needs)
     (λ c κs. search needs)
-    (λ c. c .entry-ready2 .ensures ∙ pair-on base _ _ _ _ (cc)))
+    (λ c. c .entry-ready2 .ensures ∙ pair-on base _ _ _ _ (ap not (sym (c .before .before .entry-ready .ensures)) ∙ c .before .if1 .left)))

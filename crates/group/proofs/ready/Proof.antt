@@ -1,7 +1,7 @@
 -- After t turns every named transactor below t is ready; within a turn, after u, every entry below u.
 use Prim.Native.Nat.{_-_}
-use mathlib.Core.Bool.{true}
-use mathlib.Core.Path.{_≡_, refl, _∙_}
+use mathlib.Core.Bool.{true, not}
+use mathlib.Core.Path.{_≡_, refl, sym, ap, _∙_}
 use mathlib.Core.Logic.{⊎-elim}
 use borrow.Author.Needs.{needs}
 use Rattle.octets.proofs.Zero.{Held, held-none, held-more}
@@ -26,19 +26,21 @@ abbrev μ-named : tie.MeasureT-named
 
 named-again : tie.Need-named-again Inv-loop μ-loop Inv-named μ-named
 named-again c = ⊎-elim
-    (λ w. (held-more (search needs) (search needs) (ready-named base _ _ _ (search needs) (cc) (cc) (w .3 .inv .0) (search needs)), w .5 ∙ w .3 .inv .1))
-    (λ w. (held-more (search needs) (search needs) (ready-unnamed base _ _ _ (cc)), search needs))
+    (λ w. (held-more (search needs) (search needs) (ready-named base _ _ _ (search needs) (sym (c .before .is-named .ensures) ∙ w .0 .taken) (ap not (sym (w .1 .ensures)) ∙ w .2 .left) (w .3 .inv .0) (search needs)), w .5 ∙ w .3 .inv .1))
+    (λ w. (held-more (search needs) (search needs) (ready-unnamed base _ _ _ (sym (c .before .is-named .ensures) ∙ w .0 .left)), search needs))
     (c .if1 .came)
 
 returns-2 : tie.Need-returns-2 Inv-loop μ-loop Inv-named μ-named
 returns-2 c =
-    let t = c .before .before .before .before .before .named .t in
-    ready-unstable base _ _ t (search needs) (cc) (cc)
+    let n = c .before .before in
+    ready-unstable base _ _ (n .before .before .before .named .t) (search needs) (sym (n .before .is-named .ensures) ∙ n .if1 .taken) (ap not (sym (c .before .is-stable .ensures)) ∙ c .if2 .taken)
 
 returns-3 : tie.Need-returns-3 Inv-loop μ-loop Inv-named μ-named
 returns-3 c =
-    let u = c .before .before .before .loop in
-    ready-unmet base _ _ _ (search needs) (cc) (cc) (u .inv .0) (search needs) (cc)
+    let s = c .before .before .before .before in
+    let n = s .before .before in
+    ready-unmet base _ _ _ (search needs) (sym (n .before .is-named .ensures) ∙ n .if1 .taken) (ap not (sym (s .before .is-stable .ensures)) ∙ s .if2 .left) (c .before .before .before .loop .inv .0) (search needs)
+    (ap not (sym (c .before .pair-ready .ensures)) ∙ c .if3 .taken)
 
 pub ready-spec : {M : Type 1} → statement M
 ready-spec =
@@ -55,7 +57,7 @@ ready-spec =
     (λ c κs. search needs)
     (λ c. search needs)
     (λ c. search needs)
-    (λ c. (held-more (search needs) (search needs) (cc), search needs))
+    (λ c. (held-more (search needs) (search needs) (ap not (sym (c .before .pair-ready .ensures)) ∙ c .if3 .left), search needs))
     (λ c. search needs)
     (λ c. search needs)
     named-again

@@ -12,4 +12,4 @@ begin-spec =
     (λ c. begin-refused base _ (search needs))
     (λ c κs. search needs)
     (λ c. search needs)
-    (λ c. begin-done base _ _ (search needs) (cc)))
+    (λ c. begin-done base _ _ (search needs) (c .before .before .refresh .ensures)))

@@ -13,7 +13,7 @@ act-requires c κs =
 returns-2 : tie.Need-returns-2
 returns-2 c =
     let act = c .before .before .before .before in
-    local-refused _ _ (search needs) (search needs) (search needs) (search needs) (search needs) _ _ _ (act .act .ensures) _ (search needs) (cc)
+    local-refused _ _ (search needs) (search needs) (search needs) (search needs) (search needs) _ _ _ (act .act .ensures) _ (search needs) (c .answered2 .ensures)
 
 returns-3 : tie.Need-returns-3
 returns-3 c =
@@ -29,7 +29,7 @@ local-spec =
     (λ c. search needs)
     (λ c κs. search needs)
     (λ c. search needs)
-    (λ c. local-unopened _ _ (search needs) (search needs) (search needs) (search needs) _ (search needs) (cc))
+    (λ c. local-unopened _ _ (search needs) (search needs) (search needs) (search needs) _ (search needs) (c .answered .ensures))
     (λ c. search needs)
     (λ c. search needs)
     (λ c. search needs)

@@ -1,5 +1,7 @@
 -- After t turns the first t transactors are well-formed.
 use Prim.Native.Nat.{_-_}
+use mathlib.Core.Bool.{not}
+use mathlib.Core.Path.{sym, ap, _∙_}
 use borrow.Author.Needs.{needs}
 use Rattle.octets.proofs.Zero.{Held, held-none, held-more, held-fails, held-all}
 use Rattle.rules.specs.Layout.{base}
@@ -21,8 +23,8 @@ transactors-formed-spec =
     μ-loop
     (λ c. held-none _ _)
     (λ c κs. search needs)
-    (λ c. held-fails (c .before .before .before .loop .inv) (search needs) (cc))
+    (λ c. held-fails (c .before .before .before .loop .inv) (search needs) (ap not (sym (c .before .transactor-formed .ensures)) ∙ c .if1 .taken))
     (λ c. search needs)
     (λ c. search needs)
-    (λ c. held-more (search needs) (search needs) (cc))
+    (λ c. held-more (search needs) (search needs) (ap not (sym (c .before .transactor-formed .ensures)) ∙ c .if1 .left))
     (λ c. held-all (c .before .loop .inv) (search needs)))

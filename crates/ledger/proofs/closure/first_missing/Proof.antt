@@ -1,6 +1,8 @@
 -- Transactors are passed until one is missing.
 use Prim.Native.Nat.{_-_}
+use mathlib.Core.Bool.{not}
 use mathlib.Core.Logic.{⊎-elim}
+use mathlib.Core.Path.{sym, ap, _∙_}
 use borrow.Author.Needs.{needs}
 use Rattle.rules.specs.Layout.{base}
 use Rattle.rules.specs.Internal.Closure.{missing}
@@ -15,10 +17,15 @@ Inv-loop image group u₀ u = Passed (missing base image group) (base .transacto
 abbrev μ-loop : tie.MeasureT-loop
 μ-loop image group u₀ u = base .transactors - u
 
+returns : tie.Need-returns Inv-loop μ-loop
+returns c =
+    let n = c .before .before in
+    passed-found (search needs) (search needs) (missing-unnamed base _ _ _ _ (ap not (sym (n .before .is-named .ensures)) ∙ n .if1 .taken) (sym (c .before .lacks .ensures) ∙ c .if2 .taken))
+
 loop-again : tie.Need-loop-again Inv-loop μ-loop
 loop-again c = ⊎-elim
-    (λ w. passed-more (search needs) (search needs) (missing-unnamed base _ _ _ _ (cc) (cc)))
-    (λ w. passed-more (search needs) (search needs) (missing-named base _ _ _ (cc)))
+    (λ w. passed-more (search needs) (search needs) (missing-unnamed base _ _ _ _ (ap not (sym (c .before .is-named .ensures)) ∙ w .0 .taken) (sym (w .1 .ensures) ∙ w .2 .left)))
+    (λ w. passed-more (search needs) (search needs) (missing-named base _ _ _ (ap not (sym (c .before .is-named .ensures)) ∙ w .left)))
     (c .if1 .came)
 
 pub first-missing-spec : {M : Type 1} → statement M
@@ -30,7 +37,7 @@ first-missing-spec =
     (λ c. passed-none _ _)
     (λ c κs. search needs)
     (λ c κs. search needs)
-    (λ c. passed-found (search needs) (search needs) (missing-unnamed base _ _ _ _ (cc) (cc)))
+    returns
     (λ c. search needs)
     (λ c. search needs)
     loop-again

@@ -2,6 +2,7 @@
 use Prim.Native.Nat.{_-_}
 use mathlib.Core.Bool.{not}
 use mathlib.Core.Logic.{⊎-elim}
+use mathlib.Core.Path.{sym, ap, _∙_}
 use borrow.Author.Needs.{needs}
 use Rattle.rules.specs.Layout.{base}
 use Rattle.rules.specs.Internal.Closure.{lacking, pairReady}
@@ -17,12 +18,14 @@ abbrev μ-loop : tie.MeasureT-loop
 
 returns : tie.Need-returns Inv-loop μ-loop
 unfolding lacking
-returns c = none-found (c .before .before .before .before .before .loop .inv) (search needs) (cc) (cc)
+returns c =
+    let n = c .before .before in
+    none-found (n .before .before .before .loop .inv) (search needs) (sym (n .before .is-named .ensures) ∙ n .if1 .taken) (ap not (sym (c .before .pair-ready .ensures)) ∙ c .if2 .taken)
 
 loop-again : tie.Need-loop-again Inv-loop μ-loop
 loop-again c = ⊎-elim
-    (λ w. none-more (search needs) (search needs) (cc) (cc))
-    (λ w. none-unnamed (search needs) (search needs) (cc))
+    (λ w. none-more (search needs) (search needs) (sym (c .before .is-named .ensures) ∙ w .0 .taken) (ap not (sym (w .1 .ensures)) ∙ w .2 .left))
+    (λ w. none-unnamed (search needs) (search needs) (sym (c .before .is-named .ensures) ∙ w .left))
     (c .if1 .came)
 
 returns-2 : tie.Need-returns-2 Inv-loop μ-loop
