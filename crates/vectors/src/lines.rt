@@ -1,122 +1,87 @@
 // Plays the script line by line.
-use crate::bytes;
-use crate::calls;
-use crate::histories;
-use crate::print;
-use crate::runs;
-use crate::script;
 use image::layout::IMAGE;
+use map_operations::dependences;
+use map_operations::histories;
+use map_operations::raw;
+use script::bytes;
+use script::forms;
+use script::lines;
+use script::numbers;
+use script::print;
 
 // The bytes of an image, and of the longest that a script asks for.
 pub const ROOM: usize = IMAGE + 1;
 
+// The operations: each letter, the least and the most numbers that it takes, from 0 on, its group, and a space. (B is 18, H is 24.)
+const FORMS: [u8; 160] =
+    *b"n00c i22b b00c z00b p2Hb v24b x22b f22c s55r r66r c55r l2Hr u44r o11c g11c a11c w22c H3Bh Z11h R11h K11h N33h S22h C22h I22h T22h W11h P11h Q11h J33m E11m M33m ";
+
+// Plays an operation of a group: bytes, histories, maps, calls, runs.
+fn operation(group: u8, image: &mut [u8], list: &mut [u8], n: &[u8]) -> u8 {
+    match group {
+        b'b' => raw::play(image, n),
+        b'h' => histories::play(image, n),
+        b'm' => dependences::play(image, n),
+        b'c' => call_operations::play(image, n),
+        b'r' => run_operations::play(image, list, n),
+        _ => print::BAD,
+    }
+}
+
+// Plays an operation on the image, and prints what it left to print.
+fn perform(group: u8, image: &mut [u8], list: &mut [u8], n: &[u8], number: usize) {
+    let mut before = [0u8; ROOM];
+    bytes::copy(&mut before, image);
+    let left = operation(group, image, list, n);
+    print::finish(left, bytes::starts_with(&before, image), number);
+}
+
 // The image's length for an operation: n and i give it anew.
-fn image_length(op: u8, given: usize, old: usize) -> usize {
+fn image_length(n: &[u8], old: usize) -> usize {
+    let op = bytes::get(n, 0);
     match op {
         b'n' => IMAGE,
-        b'i' => given,
+        b'i' => numbers::at(n, 1),
         _ => old,
     }
 }
 
-// Plays an operation: small letters are the ledger's, capital letters those of histories and maps.
-fn operation(op: u8, image: &mut [u8], list: &mut [u8], n: &[usize]) -> u8 {
-    match op {
-        b'p' | b'v' | b'x' => bytes::play(op, image, n),
-        b's' | b'r' | b'c' | b'l' | b'u' => runs::play(op, image, list, n),
-        b'A'..=b'Z' => histories::play(op, image, n),
-        _ => calls::play(op, image, n),
-    }
-}
-
-// Prints what is left to print.
-fn finish(left: u8, same: bool, number: usize) {
-    match left {
-        print::SILENT => {}
-        print::PRINTED => print::text(b"\n"),
-        print::COMPARE => print::sameness(same),
-        print::CHANGED => print::sameness(false),
-        _ => print::bad(number),
-    }
-}
-
-// Plays an operation on the image; before is as long, and takes a copy.
-fn played(
-    op: u8,
-    image: &mut [u8],
-    before: &mut [u8],
-    list: &mut [u8],
-    n: &[usize],
-    number: usize,
-) {
-    if before.len() != image.len() {
-        return;
-    }
-    octets::write(before, 0, image);
-    let left = operation(op, image, list, n);
-    finish(left, check::same(image, before), number);
-}
-
-// Plays an operation on an image of so many bytes.
-fn sized(
-    op: u8,
-    space: &mut [u8],
-    before: &mut [u8],
-    length: usize,
-    list: &mut [u8],
-    n: &[usize],
-    number: usize,
-) {
+// Plays the line with this number, given up to its label, and gives the image's length from then on.
+fn numbered(space: &mut [u8], list: &mut [u8], old: usize, n: &[u8], number: usize) -> usize {
+    let length = image_length(n, old);
     if space.len() < length {
         print::bad(number);
-        return;
-    }
-    if before.len() < length {
-        return;
-    }
-    played(
-        op,
-        &mut space[..length],
-        &mut before[..length],
-        list,
-        n,
-        number,
-    );
-}
-
-// Plays the line with this number, and gives the image's length from then on.
-fn line(
-    space: &mut [u8],
-    before: &mut [u8],
-    old: usize,
-    list: &mut [u8],
-    n: &mut [usize],
-    s: &[u8],
-    number: usize,
-) -> usize {
-    let op = bytes::get(s, 0);
-    if op == 0 || op == b'#' {
         return old;
     }
-    print::label(script::label(s));
-    script::numbers(s, n);
-    if !script::known(op, n) {
-        print::bad(number);
-        return old;
-    }
-    let length = image_length(op, script::at(n, 1), old);
-    sized(op, space, before, length, list, n, number);
+    let group = forms::group(&FORMS, n);
+    perform(group, &mut space[..length], list, n, number);
     length
 }
 
+// Whether a line has an operation.
+fn skipped(s: &[u8]) -> bool {
+    let op = bytes::get(s, 0);
+    op == 0 || op == b'#'
+}
+
+// Plays a line, and gives the image's length from then on.
+fn line(space: &mut [u8], list: &mut [u8], old: usize, s: &[u8], number: usize) -> usize {
+    if skipped(s) {
+        return old;
+    }
+    let end = lines::numbers_end(s);
+    print::label(lines::label(s, end));
+    numbered(space, list, old, &s[..end], number)
+}
+
 // Plays all lines, one after the other.
-pub fn play(space: &mut [u8], before: &mut [u8], list: &mut [u8], n: &mut [usize], s: &[u8]) {
+pub fn play(space: &mut [u8], list: &mut [u8], s: &[u8]) {
     let mut old: usize = 0;
     let mut number: usize = 1;
     let mut at: usize = 0;
     while at < s.len() {
-        let end = script::line_end(s, at);
-        old = line(space, before, old, list, n, &s[at..end], number);
+        let end = lines::line_end(s, at);
+        old = line(space, list, old, &s[at..end], number);
         at = end + 1;
         number += 1;
     }

@@ -7,10 +7,10 @@ use Rattle.vectors.proofs.lines.play.Statement.{statement}
 use Rattle.vectors.proofs.lines.play.Tie as tie
 
 abbrev Inv-loop : tie.InvT-loop
-Inv-loop space₀ before₀ list₀ n₀ s old₀ number₀ at₀ space before list n old number at = (number ≤ «at» + 1) × (length space ≡ length space₀) × (length before ≡ length before₀) × (length list ≡ length list₀) × (length n ≡ length n₀)
+Inv-loop space₀ list₀ s old₀ number₀ at₀ space list old number at = (number ≤ «at» + 1) × (length space ≡ length space₀) × (length list ≡ length list₀)
 
 abbrev μ-loop : tie.MeasureT-loop
-μ-loop space₀ before₀ list₀ n₀ s old₀ number₀ at₀ space before list n old number at = length s - «at»
+μ-loop space₀ list₀ s old₀ number₀ at₀ space list old number at = length s - «at»
 
 pub play-spec : {M : Type 1} → statement M
 play-spec =
@@ -24,8 +24,6 @@ play-spec =
     (λ c. search needs)
     (λ c. search needs)
     (λ c κs. search needs)
-    (λ c. search needs)
-    (λ c. search needs)
     (λ c. search needs)
     (λ c. search needs)
     (λ c. search needs)

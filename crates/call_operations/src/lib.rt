@@ -1,0 +1,116 @@
+// Operations that call the ledger: begin, the questions, show, and the form of an image. To add one, give it a function here and its
+// letter to play, and a row to the table of vectors.
+use rules::Grouped;
+use rules::Offered;
+use script::bytes;
+use script::numbers;
+use script::print;
+use script::print::BAD;
+use script::print::COMPARE;
+use script::print::PRINTED;
+use script::print::SILENT;
+
+// n: a fresh session.
+fn fresh(image: &mut [u8]) -> u8 {
+    bytes::fill(image, 0);
+    if ledger::begin(image) != 0 {
+        return BAD;
+    }
+    SILENT
+}
+
+// b: begin on the image as it is.
+fn begin(image: &mut [u8]) -> u8 {
+    let answer = ledger::begin(image);
+    print::number(answer as usize);
+    COMPARE
+}
+
+// What a run of an empty list answers.
+fn form(image: &mut [u8]) -> u8 {
+    let mut none = [0u8; 0];
+    ledger::run(image, &[], 0, 0, &mut none)
+}
+
+// f: the same with one byte changed, which is then changed back.
+fn changed(image: &mut [u8], at: usize, b: usize) -> u8 {
+    let old = bytes::get(image, at) as usize;
+    bytes::set(image, at, b);
+    print::number(form(image) as usize);
+    bytes::set(image, at, old);
+    PRINTED
+}
+
+// A refusal, and a number or none.
+fn found(refusal: u8, n: u16) -> u8 {
+    print::number(refusal as usize);
+    print::number(n as usize);
+    PRINTED
+}
+
+fn none(refusal: u8) -> u8 {
+    print::number(refusal as usize);
+    print::text(b" none");
+    PRINTED
+}
+
+// o
+fn offer(image: &[u8], t: usize) -> u8 {
+    let mut refusal: u8 = 99;
+    let o = ledger::offer(image, t, &mut refusal);
+    match o {
+        Offered::Message(m) => found(refusal, m),
+        Offered::Nothing => none(refusal),
+    }
+}
+
+// g
+fn smallest(image: &[u8], t: usize) -> u8 {
+    let mut refusal: u8 = 99;
+    let g = ledger::smallest_group(image, t, &mut refusal);
+    match g {
+        Grouped::Group(m) => found(refusal, m),
+        Grouped::NoGroup => none(refusal),
+    }
+}
+
+// a
+fn heard(image: &[u8], t: usize) -> u8 {
+    let mut refusal: u8 = 99;
+    let yes = ledger::all_heard_stable(image, t, &mut refusal);
+    print::number(refusal as usize);
+    print::truth(yes);
+    PRINTED
+}
+
+// w: the refusal, how many bytes are shown, and one of them.
+fn show(image: &[u8], number: usize, at: usize) -> u8 {
+    let mut refusal: u8 = 99;
+    let m = ledger::show(image, (number % 65536) as u16, &mut refusal);
+    print::number(refusal as usize);
+    print::number(m.len());
+    print::number(bytes::get(m, at) as usize);
+    PRINTED
+}
+
+// Those that leave the image as it is.
+fn ask(op: u8, image: &[u8], a: usize, b: usize) -> u8 {
+    match op {
+        b'o' => offer(image, a),
+        b'g' => smallest(image, a),
+        b'a' => heard(image, a),
+        _ => show(image, a, b),
+    }
+}
+
+pub fn play(image: &mut [u8], n: &[u8]) -> u8 {
+    let op = bytes::get(n, 0);
+    let a = numbers::at(n, 1);
+    let b = numbers::at(n, 2);
+    match op {
+        b'n' => fresh(image),
+        b'b' => begin(image),
+        b'f' => changed(image, a, b),
+        _ => ask(op, image, a, b),
+    }
+}

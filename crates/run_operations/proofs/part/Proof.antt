@@ -1,0 +1,29 @@
+-- The parts are as long as the numbers say.
+use native.Mathlib.Omega.{arith}
+use lib.ListN.{length-take}
+use borrow.Author.Needs.{needs}
+use Rattle.run_operations.proofs.part.Statement.{statement}
+use Rattle.run_operations.proofs.part.Tie as tie
+
+slice-aggregate-run : tie.Need-slice-aggregate-run
+slice-aggregate-run c = simp length-take (omega arith)
+
+slice-aggregate-run-2 : tie.Need-slice-aggregate-run-2
+slice-aggregate-run-2 c = simp length-take (omega arith)
+
+pub part-spec : {M : Type 1} → statement M
+part-spec =
+    tie.close
+    (tie.spec
+    (λ c κs. search needs)
+    (λ c κs. search needs)
+    (λ c κs. search needs)
+    (λ c κs. search needs)
+    (λ c. search needs)
+    (λ c. search needs)
+    slice-aggregate-run
+    (λ c. search needs)
+    slice-aggregate-run-2
+    (λ c κs. search needs)
+    (λ c. search needs)
+    (λ c. search needs))
