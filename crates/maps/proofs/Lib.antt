@@ -1,8 +1,8 @@
-pub mod Compared
+mod Compared
 pub mod Heard
 pub mod Informing
-pub mod Joins
-pub mod Loops
+mod Joins
+mod Loops
 pub mod Map
 pub mod News
 pub mod Packed

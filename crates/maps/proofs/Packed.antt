@@ -203,14 +203,6 @@ mapOk-empty w l n = record {
   each = λ i h. rw (held-empty l n i, history-empty l n i h) absent;
 }
 
--- a map with no entry is the empty one
-pub isEmpty-is : {w l n : ℕ} {m : DependenceMap} → MapOk w l n m → isEmpty n m ≡ true → m ≡ emptyMap l n
-isEmpty-is {w} {l} {n} {m} k e =
-    let f : (i : ℕ) → i < n → heldAt m i ≡ false = isEmpty-test n m .0 e in
-    same-map (mapOk-sized k) (sized-empty l n)
-    (λ i h. f i h ∙ sym (held-empty l n i))
-    (λ i h. mapOk-absent k i h (f i h) ∙ sym (history-empty l n i h))
-
 pub mapOk-withEntry : {w l n : ℕ} {m : DependenceMap} → MapOk w l n m → (i : ℕ) {h : History} → i < n → EntryOk w l true h → MapOk w l n (withEntry m i h)
 mapOk-withEntry {w} {l} {n} {m} k i {h} below o =
     let s = sized-withEntry (mapOk-sized k) i h in

@@ -1,6 +1,6 @@
 -- Laws of comparing: whether some take has unrelated marks in two maps, and what else one comparison of two marks says.
 use Prim.Native.Nat.{ℕ, zero, suc, _+_, _-_, _≤_, _<_}
-use mathlib.Core.Bool.{Bool, true, false, false≢true}
+use mathlib.Core.Bool.{Bool, true, false}
 use mathlib.Core.Path.{_≡_, refl, sym, ap, _∙_, subst}
 use mathlib.Core.Logic.{⊎-elim, _↔_}
 use native.Mathlib.Omega.{arith}
@@ -100,13 +100,6 @@ module _ (n : ℕ) (a b : DependenceMap) where
   pub unrelated-none : (anyUnrelated n a b ≡ false) ↔ ((i : ℕ) → i < n → unrelatedAt a b i ≡ false)
   unfolding anyUnrelated
   unrelated-none = (λ e i h. any-none (unrelatedAt a b) 0 n e i (omega arith) (omega arith), λ g. none-any (unrelatedAt a b) 0 n (λ j h l. g j (omega arith)))
-
-  pub unrelated-some : (i : ℕ) → i < n → unrelatedAt a b i ≡ true → anyUnrelated n a b ≡ true
-  unrelated-some i h e = go (anyUnrelated n a b) refl
-    where
-      go : (t : Bool) → anyUnrelated n a b ≡ t → t ≡ true
-      go true p = refl
-      go false p = absurd (false≢true (sym (unrelated-none .0 p i h) ∙ e))
 
 -- ---- entry by entry, from the last to the first: the answer for those from i on
 

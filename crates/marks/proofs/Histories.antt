@@ -20,12 +20,6 @@ use Rattle.marks.proofs.Order.{precedes-refl, precedes-trans, precedes-
 
 -- ---- the life of a mark
 
-pub incarnation-initial : (l : ℕ) → incarnationOf (initialHistory l) ≡ initialIncarnation
-incarnation-initial l = refl
-
-pub incarnation-stabilized : (h : History) → incarnationOf (stabilized h) ≡ incarnationOf h
-incarnation-stabilized h = refl
-
 pub incarnation-rolledBack : (h : History) → incarnationOf (rolledBack h) ≡ nextIncarnation (incarnationOf h)
 incarnation-rolledBack h = refl
 

@@ -109,18 +109,6 @@ under-split {a} {b} h = go (places h)
     go (inl e) = inl (λ i. record { checkpoints = (e .0) i; number = (e .1) i })
     go (inr e) = inr (begins (e .1) (rw (e .3) (e .2)))
 
--- a past life that is neither present nor signed is superseded
-pub precedes-superseded : {a b : Incarnation} → Precedes a b → (a ≡ b → ⊥) → (Checkpointed a b → ⊥) → Superseded a b
-precedes-superseded {a} {b} h f g = go (precedes-split h)
-  where
-    none : (a ≡ b) ⊎ Checkpointed a b → Superseded a b
-    none (inl e) = absurd (f e)
-    none (inr k) = absurd (g k)
-
-    go : Under a b ⊎ Superseded a b → Superseded a b
-    go (inl k) = none (under-split k)
-    go (inr k) = k
-
 pub comparable : {a b c : Incarnation} → Precedes a c → Precedes b c → Precedes a b ⊎ Precedes b a
 comparable h k = alike h k
 
@@ -266,6 +254,3 @@ superseded-step s k = superseded-up s (step-precedes k)
 
 pub checkpointed-step : {a b c : Incarnation} → Checkpointed a b → Step b c → Checkpointed a c
 checkpointed-step s k = checkpointed-up s (step-precedes k)
-
-pub precedes-step : {a b c : Incarnation} → Precedes a b → Step b c → Precedes a c
-precedes-step h k = precedes-trans h (step-precedes k)

@@ -19,7 +19,7 @@ use Rattle.octets.proofs.Zero.{getD-zeros, chunks-zeros, tabulate-zeros, allZer
 use Rattle.marks.specs.declared.History.{History}
 use Rattle.marks.specs.History.{initialHistory, stabilized, rolledBack, checkpointed, Roomy}
 use Rattle.marks.specs.Packed.{countBound, historySize, bit, packNumberAt, packHistory, unpackHistory, loadNumberAt, presentIn, formedHistory, Packable}
-use Rattle.marks.proofs.Histories.{roomy-initial, Newer, newer-keeps}
+use Rattle.marks.proofs.Histories.{roomy-initial}
 
 -- ---- the first byte
 
@@ -295,6 +295,3 @@ packable-checkpointed {w} {l} {h} p k = record {
   checkpoints = λ i. set-below (h .checkpoints) (h .count) (h .incarnation) (bound w) i (p .incarnation) (p .checkpoints);
   count = k;
 }
-
-pub packable-newer : {w l : ℕ} {a b m : History} → Packable w l a → Packable w l b → Newer a b m → Packable w l m
-packable-newer {w} {l} = newer-keeps (Packable w l)

@@ -155,11 +155,5 @@ same-test a b = (to, of)
     of : a ≡ b → sameList (a .checkpoints) (b .checkpoints) and eqb (a .number) (b .number) ≡ true
     of e = rw (e, same-refl (b .checkpoints), eq-eqb (b .number) (b .number) refl)
 
-pub decSuperseded : (a b : Incarnation) → Dec (Superseded a b)
-decSuperseded a b = decTest (supersededBy a b) (superseded-test a b)
-
 pub decCheckpointed : (a b : Incarnation) → Dec (Checkpointed a b)
 decCheckpointed a b = decTest (checkpointedIn a b) (checkpointed-test a b)
-
-pub decIncarnation : (a b : Incarnation) → Dec (a ≡ b)
-decIncarnation a b = decTest (sameIncarnation a b) (same-test a b)

@@ -14,14 +14,6 @@ pub pick-view {ℓ} : {A : Type ℓ} (P : A → Type 0) (c : Bool) (x y : A) →
 pick-view P true x y f g = f refl
 pick-view P false x y f g = g refl
 
--- what a decided choice gives
-module _ {A : Type 0} (c : Bool) (x y z : A) where
-  pub pick-on : c ≡ true → z ≡ x → z ≡ pick c x y
-  pick-on e f = rw e f
-
-  pub pick-off : c ≡ false → z ≡ y → z ≡ pick c x y
-  pick-off e f = rw e f
-
 -- 0, which a number before it is not
 pub pick-zero : (c : Bool) (n r : ℕ) → 0 < n → pick c n r ≡ 0 → (c ≡ false) × (r ≡ 0)
 pick-zero true n r h e = absurd (omega arith)

@@ -7,7 +7,7 @@ use mathlib.Core.List.{List, [], _∷_, _++_}
 use mathlib.Core.Option.{some}
 use native.Mathlib.Omega.{arith}
 use lib.ListN.{length}
-use Rattle.octets.specs.Bytes.{put, part, chunks, tabulate, zeros, allZero, every, Octets}
+use Rattle.octets.specs.Bytes.{put, part, chunks, tabulate, zeros, allZero, every, any, Octets}
 use Rattle.octets.specs.Numbers.{be, ofBe}
 use Rattle.octets.proofs.Put.{octets-append}
 use Rattle.octets.proofs.Numbers.{octets-be}
@@ -24,7 +24,7 @@ use Rattle.rules.specs.State.{transactorAt, messageAt, withTransactor, w
 use Rattle.rules.specs.Step.{unpackStep, stepAt, packReply}
 use Rattle.rules.specs.Pack.{packTransactor, packMessage, packTransactorAt, packMessageAt, packHead, pack, unpackTransactor, unpackMessage, transactorPart, messagePart, unpackTransactorAt, unpackMessageAt, vacantAt, waitingIn, unpack}
 use Rattle.rules.specs.Form.{mapFormed, transactorZeros, messageZeros, statusRight, ownHeld, savedRight, readyRight, annihilatedRight, noGap, inOrder, numberRight, addresseeRight, wellFormed}
-use Rattle.rules.specs.Refusals.{any, named, anyNamed, malformed, notWaiting, emptyGroup, unopened, isGone, wrongStatus, unrelatedReceipt, allOpened, allWaiting, allNumbered, allCheckpointed, atLast, lastRollsBack, refusalOf}
+use Rattle.rules.specs.Refusals.{named, anyNamed, malformed, notWaiting, emptyGroup, unopened, isGone, wrongStatus, unrelatedReceipt, allOpened, allWaiting, allNumbered, allCheckpointed, atLast, lastRollsBack, refusalOf}
 use Rattle.rules.specs.Rules.{messageUnrelated, receiptUnrelated, rollback, readBy, writeBy, freezeBy, finishBy, fallBy, failBy, localBy, messageSuperseded, receiverSuperseded, receiveBy, receiptRollsBack, seen, refusal, opened, applyRoot, applyLetter, applyReceive, applyLocal, applyLose, apply, stepOf, carried}
 use Rattle.rules.specs.Calls.{stateAfter, replyAt, wrongPart, runAnswer, ranImage, ranReplies, runImage, runReplies, stepsIn, queryRefusal, WaitsFor, Offers, waiting}
 use Rattle.rules.specs.InOrder.{Spares, Receives, Sparing, none, one-more, Received, run, Rounds, no-round, round}

@@ -3,8 +3,7 @@
 use Prim.Native.Nat.{ℕ, _/_, _%_, _^_}
 use mathlib.Core.Bool.{Bool, not}
 use lib.Dec.{eqb, ltb, leb}
-use Rattle.octets.specs.Bytes.{pick, _and_, _or_}
-unfoldable pub use Rattle.octets.specs.Bytes.{any}
+use Rattle.octets.specs.Bytes.{pick, _and_, _or_, any}
 use Rattle.rules.specs.Layout.{Limits, lastNumber}
 use Rattle.rules.specs.Status.{ready, busy, annihilated}
 use Rattle.rules.specs.Step.{Step, root, letter, receive, new, send, write, fall, fail, lose, sign}

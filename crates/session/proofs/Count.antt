@@ -9,7 +9,7 @@ use lib.Dec.{eqb}
 use lib.ListN.{length, getD, take, drop, length-append, length-drop, length-map}
 use lib.Seq.{length-take-le}
 use borrow.Author.Tests.{eqb-true, eqb-false, ne-eqb, leb-false}
-use Rattle.octets.specs.Bytes.{pick, _and_, _or_, part, chunks, Octets}
+use Rattle.octets.specs.Bytes.{_and_, _or_, part, chunks, Octets}
 use Rattle.octets.proofs.Put.{getD-part, octets-part}
 use Rattle.octets.proofs.Numbers.{be-one}
 use Rattle.rules.specs.Layout.{Layout, Limits, base, standard, Allowed, Fitting}
@@ -17,7 +17,7 @@ use Rattle.rules.specs.State.{Transactor, Message, State, ownHistory, transacto
 use Rattle.rules.specs.declared.Step.{Step}
 use Rattle.rules.specs.declared.Reply.{Reply}
 use Rattle.rules.specs.Step.{stepBytes, stepAt, packReply, done, dropped, fallenBack, vanished, root, letter, receive, new, send, lose, sign}
-use Rattle.rules.specs.Refusals.{sends, malformed, notWaiting, emptyGroup, unopened, isGone, wrongStatus, unrelatedReceipt, allOpened, allWaiting, allNumbered, allCheckpointed, lastRollsBack, Seen, refusalOf}
+use Rattle.rules.specs.Refusals.{sends}
 use Rattle.rules.specs.Rules.{Effect, Result, rollback, messageSuperseded, receiverSuperseded, receiveBy, groupReady, checkpointGroup, seen, refusal, opened, applyRoot, applyLetter, applyReceive, applyNew, applySend, applyLocal, applyLose, applySign, apply, stepOf}
 use Rattle.rules.specs.Internal.Well.{WellFormed}
 use Rattle.rules.specs.Pack.{pack, unpack}
@@ -35,7 +35,7 @@ use Rattle.session.proofs.Run.{reply-part}
 use Rattle.session.proofs.Calls.{Holds, holds-fresh, right-length}
 use Rattle.session.proofs.Demand3.{begun-fresh, grown}
 use Rattle.session.proofs.Tables.{pick-view}
-use Rattle.rules.proofs.Keep.Accepted.{Accepted, accepted, message-waits}
+use Rattle.rules.proofs.Keep.Accepted.{Accepted, accepted, message-waits, refusal-range}
 
 -- ---- a step that is not refused
 
@@ -106,27 +106,6 @@ module _ (y : Layout) (m : Limits) (s : State) (p : Step) (ok : Accepted m (seen
 
 -- ---- a refused step
 
--- the table's numbers are no outcomes
-refusal-large : (m : Limits) (v : Seen) (p : Step) → (refusalOf m v p ≡ 0 → ⊥) → vanished < refusalOf m v p
-unfolding refusalOf
-refusal-large m v p =
-    large (malformed p) 20 _ (omega arith)
-    (large (notWaiting v p) 24 _ (omega arith)
-    (large (emptyGroup p) 29 _ (omega arith)
-    (large (unopened v p) 21 _ (omega arith)
-    (large (isGone v p) 22 _ (omega arith)
-    (large (wrongStatus v p) 23 _ (omega arith)
-    (large (unrelatedReceipt v p) 31 _ (omega arith)
-    (large (allOpened m v p) 25 _ (omega arith)
-    (large (allWaiting m v p) 26 _ (omega arith)
-    (large (allNumbered v p) 27 _ (omega arith)
-    (large (allCheckpointed m v p) 30 _ (omega arith)
-    (large (lastRollsBack m v p) 28 0 (omega arith) (λ n. absurd (n refl)))))))))))))
-  where
-    large : (c : Bool) (n r : ℕ) → vanished < n → ((r ≡ 0 → ⊥) → vanished < r) → (pick c n r ≡ 0 → ⊥) → vanished < pick c n r
-    large true n r h k = λ z. h
-    large false n r h k = k
-
 and-last : (t : Bool) → t and false ≡ false
 and-last true = refl
 and-last false = refl
@@ -148,7 +127,7 @@ step-balanced y m s p =
     let n : ℕ = refusal y m s p in
     pick-view (Balanced (p .kind) s) (eqb n 0) _ _
     (λ e. apply-balanced y m s p (accepted m (seen y s) p (eqb-true n 0 e)))
-    (λ e. refused-balanced (p .kind) s _ (refusal-large m (seen y s) p (eqb-false n 0 e)) refl)
+    (λ e. refused-balanced (p .kind) s _ (omega (arith, refusal-range m (seen y s) p (eqb-false n 0 e) .low)) refl)
 
 -- ---- the steps of a run
 

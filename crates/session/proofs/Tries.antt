@@ -10,10 +10,11 @@ use Rattle.marks.specs.Incarnation.{Incarnation, initialIncarnation, Checkpoint
 use Rattle.marks.specs.Relation.{byNumbers, byNextEntry, relationOf}
 use Rattle.marks.proofs.Order.{checkpointed-irrefl}
 use Rattle.maps.specs.Table.{updated}
+use Rattle.octets.specs.Bytes.{any}
 use Rattle.rules.specs.Layout.{standard}
 use Rattle.rules.specs.declared.Step.{Step}
 use Rattle.rules.specs.Step.{read, freeze, finish, fail}
-use Rattle.rules.specs.Refusals.{any, named, anyNamed, malformed, notWaiting, emptyGroup, unopened, isGone, wrongStatus, unrelatedReceipt, allOpened, allWaiting, allNumbered, allCheckpointed, atLast, lastRollsBack, refusalOf}
+use Rattle.rules.specs.Refusals.{named, anyNamed, malformed, notWaiting, emptyGroup, unopened, isGone, wrongStatus, unrelatedReceipt, allOpened, allWaiting, allNumbered, allCheckpointed, atLast, lastRollsBack, refusalOf}
 use Rattle.session.specs.Provenance.{Incarnations, In, one, Status, ready, busy, annihilated, idle, working, Holder, Provenance, emptyProvenance, remove, find, isMissing, anyEntry, supersededEntry, anySuperseded}
 use Rattle.session.specs.Grounds.{from-start, from-noted, from-list, Ground, in-state, in-creation, RestsOn, ValueRestsOn, Present, CheckpointedNow, SupersededOrAnnihilated, gone, neither, Equal}
 use Rattle.session.specs.Unrelated.{unrelatedEntry, anyUnrelated, isUnrelatedTo}
@@ -163,7 +164,6 @@ record Computed : Type 0 where
   one-old : oldProvenance .holders 1 ≡ holder busy false incarnation0 (one 0 incarnation2 ++ one 1 incarnation0) (one 0 incarnation0)
   quiet-rolledBack : quiet checkpointedProvenance thenRolledBack ≡ true
   zero-rolledBack : rolledBackProvenance .holders 0 ≡ holder busy true incarnation2 (one 0 incarnation2) []
-  one-rolledBack : rolledBackProvenance .holders 1 ≡ holder busy true incarnation0 (one 0 incarnation1 ++ one 1 incarnation0) (one 0 incarnation1)
   sign-rolledBack : provenanceRefusal standard rolledBackProvenance (aSign 1) ≡ 0
   zero-again : againProvenance .holders 0 ≡ holder ready false incarnation3 (one 0 incarnation3) []
   one-again : againProvenance .holders 1 ≡ holder busy true incarnation0 (one 0 incarnation1 ++ one 1 incarnation0) (one 0 incarnation1)
@@ -210,7 +210,6 @@ computed = record {
   one-old = refl;
   quiet-rolledBack = refl;
   zero-rolledBack = refl;
-  one-rolledBack = refl;
   sign-rolledBack = refl;
   zero-again = refl;
   one-again = refl;

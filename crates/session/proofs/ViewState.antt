@@ -106,10 +106,6 @@ view-own {w} {l} {n} {m} ok t = ⊎-elim
     entry (present r k) = refl
     entry absent = refl
 
-pub view-node : (s : State) (t : ℕ) → view s .nodes t ≡ viewNode (transactorAt s t)
-unfolding view
-view-node s t = refl
-
 module _ {y : Layout} {s : State} (well : WellFormed y s) where
   -- past the last take
   pub no-transactor : (t : ℕ) → y .transactors ≤ t → transactorAt s t ≡ noTransactor
