@@ -20,11 +20,11 @@ extern "C" {
 #endif
 
 enum {
-    LEDGER_IMAGE = 22132,  /* bytes of an image */
+    LEDGER_IMAGE = 42612,  /* bytes of an image */
     LEDGER_STEP = 8,       /* bytes of a step, and of a reply */
     LEDGER_LONGEST = 8192, /* bytes of a run's longest part */
-    LEDGER_MAP = 272,      /* bytes of a map */
-    LEDGER_HISTORY = 17,   /* bytes of a history */
+    LEDGER_MAP = 528,      /* bytes of a map */
+    LEDGER_HISTORY = 33,   /* bytes of a history */
     LEDGER_TRANSACTORS = 16,
     LEDGER_MESSAGES = 32,
     LEDGER_NONE = 65535    /* stands for no message: numbers run 0 to 65,534 */
@@ -56,7 +56,7 @@ enum ledger_outcome {
     LEDGER_VANISHED = 4,
     LEDGER_NOT_READY = 5,
     /* calls */
-    LEDGER_WRONG_LENGTH = 16, /* image not 22,132 bytes */
+    LEDGER_WRONG_LENGTH = 16, /* image not of LEDGER_IMAGE bytes */
     LEDGER_WRONG_PART = 17,   /* part not inside the list, not a multiple of 8, over 8,192 bytes */
     LEDGER_WRONG_ROOM = 18,   /* replies not as long as the part */
     LEDGER_ILL_FORMED = 19,   /* image ill-formed */
@@ -69,7 +69,7 @@ enum ledger_outcome {
     LEDGER_ALL_OPENED = 25,   /* sixteen transactors opened */
     LEDGER_ALL_WAITING = 26,  /* 32 messages waiting */
     LEDGER_ALL_NUMBERED = 27, /* next message number is 65,535 */
-    LEDGER_LAST_INCARNATION = 28, /* a checkpointed transactor would fall from incarnation 255 */
+    LEDGER_LAST_INCARNATION = 28, /* a checkpointed transactor would fall from incarnation 65,535 */
     LEDGER_EMPTY_GROUP = 29,  /* group empty */
     LEDGER_ALL_CHECKPOINTED = 30, /* a named transactor has 15 checkpoints */
     LEDGER_UNRELATED = 31     /* receive: histories of one transactor from two different sessions */
@@ -103,7 +103,7 @@ uint16_t ledger_smallest_group(const uint8_t *image, size_t image_length, size_t
  * *refusal is 0. Refused with 16, 19, 21 or 22, which is put in *refusal: 0. */
 uint8_t ledger_all_heard_stable(const uint8_t *image, size_t image_length, size_t transactor, uint8_t *refusal);
 
-/* Where the 272 bytes of the image are that hold the map of the waiting message with this number; *refusal is 0.
+/* Where the LEDGER_MAP bytes of the image are that hold the map of the waiting message with this number; *refusal is 0.
  * Refused with 16, 19 or 24, which is put in *refusal: offset and length are 0. */
 struct ledger_part ledger_show(const uint8_t *image, size_t image_length, uint16_t number, uint8_t *refusal);
 

@@ -34,10 +34,10 @@ impl Random {
 
 // ---- where things stand in an image
 
-pub const TAKE: usize = 825;
+pub const TAKE: usize = 1593;
 pub const FIRST_PARCEL: usize = 4 + TAKE * TAKES;
-pub const PARCEL: usize = 279;
-pub const MARK: usize = 17;
+pub const PARCEL: usize = 535;
+pub const MARK: usize = 33;
 pub const STATE: usize = 9;
 pub const MAP: usize = ledger::MAP;
 
@@ -92,7 +92,7 @@ pub const SIGNING: Mix = Mix { kinds: [2, 10, 16, 1, 4, 3, 4, 16, 2, 1, 1, 1, 16
 pub const FALLING: Mix = Mix { kinds: [1, 6, 24, 2, 24, 8, 20, 1, 6, 3, 6, 1, 3], spoilt: 5 };
 pub const CROWDED: Mix = Mix { kinds: [8, 24, 8, 4, 24, 4, 4, 1, 1, 1, 1, 2, 1], spoilt: 10 };
 pub const SPOILT: Mix = Mix { kinds: [4, 8, 8, 4, 8, 8, 8, 8, 8, 8, 8, 8, 8], spoilt: 500 };
-/// Signed takes that fail again and again: to the largest life number.
+/// Signed takes that fail again and again.
 pub const FAILING: Mix = Mix { kinds: [1, 4, 6, 0, 1, 0, 1, 6, 0, 0, 80, 1, 6], spoilt: 2 };
 pub const MIXES: [Mix; 6] = [MIXED, SIGNING, FALLING, CROWDED, SPOILT, FAILING];
 
@@ -214,8 +214,9 @@ pub fn step(r: &mut Random, mix: &Mix, image: &[u8]) -> u64 {
     }
 }
 
-/// Opens some takes and signs each of them up to twice, so that a fall leaves them live.
-pub fn prelude(r: &mut Random, image: &mut [u8]) -> Vec<u8> {
+/// Opens some takes and signs each of them up to twice, so that a fall leaves them live; the first is withdrawn `falls` times between
+/// its signings.
+pub fn prelude(r: &mut Random, image: &mut [u8], falls: usize) -> Vec<u8> {
     let mut list = Vec::new();
     let mut add = |s: u64| {
         ledger::step_unchecked(image, s);
@@ -224,7 +225,10 @@ pub fn prelude(r: &mut Random, image: &mut [u8]) -> Vec<u8> {
     };
     for t in 0..1 + r.below(TAKES) {
         add(packed(0, 0, 0, 0, r.next() as u32));
-        for _ in 0..r.below(3) {
+        for signed in 0..r.below(3) {
+            for _ in 0..if (t, signed) == (0, 1) { falls } else { 0 } {
+                add(packed(10, t, 0, 0, 0));
+            }
             let next = add(packed(1, t, 0, 0, 5));
             add(packed(2, 0, 0, next - 1, 0));
             add(packed(7, t, 0, 0, 0));
@@ -247,16 +251,27 @@ pub fn steps(r: &mut Random, mix: &Mix, image: &mut [u8], n: usize) -> Vec<u8> {
 
 // ---- images that no session grows
 
-const LIVES: [u8; 8] = [0, 0, 0, 1, 1, 2, 254, 255];
+// Small ones, around the low byte's end, with a low byte of zero, and the last two.
+const LIVES: [u16; 16] = [0, 0, 0, 0, 1, 1, 1, 2, 254, 255, 256, 257, 512, 65_280, 65_534, 65_535];
 
 type Mark = [u8; MARK];
 
-fn life(r: &mut Random) -> u8 {
-    r.pick(&LIVES).unwrap()
+fn life(r: &mut Random) -> [u8; 2] {
+    r.pick(&LIVES).unwrap().to_be_bytes()
+}
+
+/// Where the number i of a mark stands: n, then the list.
+fn number_at(i: usize) -> usize {
+    1 + 2 * i
+}
+
+/// Puts some life for the number i of a mark.
+fn put_life(r: &mut Random, mark: &mut [u8], i: usize) {
+    mark[number_at(i)..number_at(i + 1)].copy_from_slice(&life(r));
 }
 
 /// A present mark whose list is mostly a beginning of `base`, so that lists often agree.
-fn mark(r: &mut Random, base: &[u8; 15]) -> Mark {
+fn mark(r: &mut Random, base: &[[u8; 2]; 15]) -> Mark {
     let mut m = [0; MARK];
     let count = match r.below(4) {
         0 => r.below(16),
@@ -264,12 +279,27 @@ fn mark(r: &mut Random, base: &[u8; 15]) -> Mark {
         _ => r.below(4),
     };
     m[0] = 0x80 | (r.one_in(3) as u8) << 6 | count as u8;
-    m[1] = life(r);
-    m[2..2 + count].copy_from_slice(&base[..count]);
+    put_life(r, &mut m, 0);
+    m[number_at(1)..number_at(1 + count)].copy_from_slice(base[..count].as_flattened());
     if count > 0 && r.one_in(4) {
-        m[2 + r.below(count)] = life(r);
+        let at = r.below(count);
+        put_life(r, &mut m, 1 + at);
     }
     m
+}
+
+/// Whether some mark of the image has a life number over 255, and whether one has such an entry in its list.
+pub fn long_lives(image: &[u8]) -> [bool; 2] {
+    let maps = (0..TAKES).flat_map(|t| (0..3).map(move |m| take_at(t) + STATE + MAP * m));
+    let maps = maps.chain((0..PARCELS).map(|k| parcel_at(k) + 7));
+    let mut seen = [false; 2];
+    for map in maps {
+        for mark in image[map..map + MAP].chunks(MARK) {
+            seen[0] |= mark[1] != 0;
+            seen[1] |= mark[number_at(1)..].iter().step_by(2).any(|high| *high != 0);
+        }
+    }
+    seen
 }
 
 /// A mark of the life of `own`, of one signed before it, or of one that is almost either.
@@ -279,17 +309,20 @@ fn related(r: &mut Random, own: &Mark) -> Mark {
     if count > 0 && r.one_in(3) {
         let at = r.below(count);
         m[0] = 0x80 | at as u8;
-        m[1] = own[2 + at];
-        m[2 + at..].fill(0);
+        m.copy_within(number_at(1 + at)..number_at(2 + at), number_at(0));
+        m[number_at(1 + at)..].fill(0);
     }
     if r.one_in(40) {
         let count = (m[0] & 15) as usize;
         match r.below(4) {
-            0 => m[1] = life(r),
-            1 if count > 0 => m[1 + r.below(count)] = life(r),
+            0 => put_life(r, &mut m, 0),
+            1 if count > 0 => {
+                let at = r.below(count);
+                put_life(r, &mut m, at);
+            }
             2 if count > 0 => {
                 m[0] -= 1;
-                m[1 + count] = 0;
+                m[number_at(count)..number_at(count + 1)].fill(0);
             }
             _ if count < 15 => m[0] += 1,
             _ => {}
@@ -300,7 +333,7 @@ fn related(r: &mut Random, own: &Mark) -> Mark {
 
 /// What maps are drawn from: for each opened take a list and its own mark.
 struct Ground {
-    lists: Vec<[u8; 15]>,
+    lists: Vec<[[u8; 2]; 15]>,
     own: Vec<Mark>,
     related: bool,
     percent: usize,
@@ -378,7 +411,7 @@ fn image_of(r: &mut Random, opened: usize, percent: usize, parcels: usize, statu
 
 /// Marks of another hearing pasted over some of those that stand in maps, a take's own apart: the image stays well-formed.
 pub fn paste(r: &mut Random, image: &mut [u8]) {
-    let list: [u8; 15] = std::array::from_fn(|_| life(r));
+    let list: [[u8; 2]; 15] = std::array::from_fn(|_| life(r));
     for _ in 0..1 + r.below(12) {
         let u = r.below(TAKES);
         let t = r.below(TAKES);
@@ -404,7 +437,7 @@ fn edge(r: &mut Random, image: &mut [u8]) {
     if r.one_in(2) {
         maps = parcel + 7 + MARK * r.below(TAKES);
     }
-    let past = maps + 2 + (image[maps] & 15) as usize;
+    let past = maps + number_at(1 + (image[maps] & 15) as usize) + r.below(2);
     let n = waiting(image);
     match r.below(12) {
         0 if n > 0 => {
@@ -428,7 +461,7 @@ fn edge(r: &mut Random, image: &mut [u8]) {
         8 => image[take + 5 + r.below(4)] = r.below(3) as u8,
         9 => image[maps] ^= 1 << r.below(8),
         10 => image[maps] = image[maps].wrapping_sub(1),
-        _ => image[maps + 1] = life(r),
+        _ => put_life(r, &mut image[maps..], 0),
     }
 }
 

@@ -1,19 +1,19 @@
 //! A ledger written from documents 01 and 02 alone, for speed: the yardstick of the differential test and of the benchmark.
 //! Names are document 01's. It works in place on the caller's bytes.
 
-pub const IMAGE: usize = 22_132;
+pub const IMAGE: usize = 42_612;
 pub const TAKES: usize = 16;
 pub const PARCELS: usize = 32;
 pub const STEP: usize = 8;
 pub const LONGEST: usize = 8_192;
-pub const MAP: usize = 272;
+pub const MAP: usize = 528;
 
 // The packed forms as structs of bytes: each has alignment 1, so that an image is a cast away.
 #[derive(Clone, Copy)]
 #[repr(C)]
 struct Mark {
-    head: u8,       // present 1, frozen 1, zero 2, count of L 4
-    rest: [u8; 16], // n, then L, oldest first
+    head: u8,            // present 1, frozen 1, zero 2, count of L 4
+    rest: [[u8; 2]; 16], // n, then L, oldest first, each most significant byte first
 }
 
 type Map = [Mark; TAKES];
@@ -47,7 +47,7 @@ struct Image {
     parcels: [Parcel; PARCELS],
 }
 
-const _: () = assert!(size_of::<Mark>() == 17 && size_of::<Map>() == MAP);
+const _: () = assert!(size_of::<Mark>() == 33 && size_of::<Map>() == MAP);
 const _: () = assert!(size_of::<Image>() == IMAGE && align_of::<Image>() == 1);
 
 const PRESENT: u8 = 0x80;
@@ -59,8 +59,8 @@ const IDLE: u8 = 1 << 6;
 const AT_WORK: u8 = 2 << 6;
 const VANISHED: u8 = 3 << 6;
 
-const ABSENT: Mark = Mark { head: 0, rest: [0; 16] };
-const OPENING: Mark = Mark { head: PRESENT, rest: [0; 16] };
+const ABSENT: Mark = Mark { head: 0, rest: [[0; 2]; 16] };
+const OPENING: Mark = Mark { head: PRESENT, rest: [[0; 2]; 16] };
 const EMPTY: Map = [ABSENT; TAKES];
 const UNUSED: Take = Take { status: 0, text: [0; 4], saved: [0; 4], state: EMPTY, creation: EMPTY, behaviour: EMPTY };
 const FREE: Parcel = Parcel { head: 0, number: [0; 2], text: [0; 4], map: EMPTY };
@@ -72,12 +72,20 @@ const FALLEN_BACK: u64 = 3;
 const GONE: u64 = 4;
 const NOT_READY: u64 = 5;
 
-// What must be zero past n and so many entries of L, with n in the lowest byte.
-const PAST: [u128; 16] = {
-    let mut past = [0; 16];
+/// The numbers of a mark as they stand, n in the lowest bytes of the first half.
+type Rest = [u128; 2];
+
+const N: u128 = 0xffff;
+
+// What must be zero past n and so many entries of L.
+const PAST: [Rest; 16] = {
+    let mut past = [[0; 2]; 16];
     let mut count = 0;
     while count < 15 {
-        past[count] = u128::MAX << (8 * count + 8);
+        past[count] = match count {
+            0..=6 => [u128::MAX << (16 * count + 16), u128::MAX],
+            _ => [0, u128::MAX << (16 * (count - 7))],
+        };
         count += 1;
     }
     past
@@ -88,7 +96,7 @@ impl Mark {
     #[inline(always)]
     fn key(&self) -> u32 {
         let head = self.head as u32;
-        (head & 0x8f) << 9 | (self.rest[0] as u32) << 1 | (head >> 6 & 1)
+        (head & 0x8f) << 17 | (self.n() as u32) << 1 | (head >> 6 & 1)
     }
 
     #[inline(always)]
@@ -96,16 +104,28 @@ impl Mark {
         (self.head & COUNT) as usize
     }
 
-    /// n in the lowest byte, then L, oldest first.
     #[inline(always)]
-    fn rest(&self) -> u128 {
-        u128::from_le_bytes(self.rest)
+    fn n(&self) -> u16 {
+        u16::from_be_bytes(self.rest[0])
+    }
+
+    /// Entry `at` of L.
+    #[inline(always)]
+    fn entry(&self, at: usize) -> u16 {
+        u16::from_be_bytes(self.rest[1 + at])
+    }
+
+    #[inline(always)]
+    fn rest(&self) -> Rest {
+        let (halves, _) = self.rest.as_flattened().as_chunks();
+        [u128::from_le_bytes(halves[0]), u128::from_le_bytes(halves[1])]
     }
 
     /// Whether the first `count` entries of both lists are the same.
     #[inline(always)]
     fn agrees(&self, other: &Mark, count: usize) -> bool {
-        (self.rest() ^ other.rest()) & !PAST[count] & !0xff == 0
+        let (a, b, past) = (self.rest(), other.rest(), PAST[count]);
+        (a[0] ^ b[0]) & !past[0] & !N | (a[1] ^ b[1]) & !past[1] == 0
     }
 
     /// The life of this mark is signed, where the take's present mark is `present`.
@@ -122,14 +142,14 @@ impl Mark {
 
     fn next(&self) -> Mark {
         let mut rest = self.rest;
-        rest[0] += 1;
+        rest[0] = (self.n() + 1).to_be_bytes();
         Mark { head: self.head & !FROZEN, rest }
     }
 
     fn signed_now(&self) -> Mark {
         let mut rest = self.rest;
         rest[1 + self.count()] = rest[0];
-        rest[0] = 0;
+        rest[0] = [0; 2];
         Mark { head: (self.head & !FROZEN) + 1, rest }
     }
 
@@ -137,9 +157,10 @@ impl Mark {
     #[inline(always)]
     fn formed(&self) -> bool {
         if self.head & PRESENT == 0 {
-            return self.head == 0 && self.rest() == 0;
+            return self.head == 0 && self.rest() == [0; 2];
         }
-        self.head & 0x30 == 0 && self.rest() & PAST[self.count()] == 0
+        let (rest, past) = (self.rest(), PAST[self.count()]);
+        self.head & 0x30 == 0 && rest[0] & past[0] | rest[1] & past[1] == 0
     }
 }
 
@@ -262,7 +283,7 @@ impl Take {
         self.behaviour = EMPTY;
     }
 
-    /// The outcome of a fall, or nothing from life 255.
+    /// The outcome of a fall, or nothing from life 65,535.
     fn fall(&mut self, own: usize) -> Option<u64> {
         let mark = self.state[own];
         if mark.count() == 0 {
@@ -270,7 +291,7 @@ impl Take {
             self.status = VANISHED;
             return Some(GONE);
         }
-        if mark.rest[0] == 255 {
+        if mark.n() == 65_535 {
             return None;
         }
         self.text = self.saved;
@@ -313,12 +334,18 @@ fn compare(parcel: &Map, take: &Take, opened: usize) -> Compared {
             continue;
         }
         let (a, b) = (p.count(), t.count());
-        let early = if a < b || a == b && p.rest[0] < t.rest[0] { p } else { t };
-        let next = if a == b { p.rest[0].max(t.rest[0]) } else if a < b { t.rest[1 + a] } else { p.rest[1 + b] };
-        if next < early.rest[0] || !p.agrees(t, a.min(b)) {
+        let early = if a < b || a == b && p.n() < t.n() { p } else { t };
+        let next = if a == b {
+            p.n().max(t.n())
+        } else if a < b {
+            t.entry(a)
+        } else {
+            p.entry(b)
+        };
+        if next < early.n() || !p.agrees(t, a.min(b)) {
             return Compared::Unrelated;
         }
-        let stale = early.rest[0] < next;
+        let stale = early.n() < next;
         dropped |= stale && std::ptr::eq(early, p);
         fallen |= stale && std::ptr::eq(early, t);
     }

@@ -21,7 +21,7 @@ fn main() {
         step(4, 0, 1, 0, 9), step(2, 0, 0, 1, 0), step(6, 1, 0, 0, 10), step(7, 1, 0, 0, 0), step(12, 0, 0, 2, 0),
         step(7, 0, 0, 0, 0), step(12, 0, 0, 3, 0), step(10, 0, 0, 0, 0),
     ].concat();
-    let (mut image, mut replies) = (vec![0; 22_132], vec![0; list.len()]);
+    let (mut image, mut replies) = (vec![0; 42_612], vec![0; list.len()]);
     let begun = unsafe { ledger_begin(image.as_mut_ptr(), image.len()) };
     let (r, n) = (replies.as_mut_ptr(), replies.len());
     let ran = unsafe { ledger_run(image.as_mut_ptr(), image.len(), list.as_ptr(), list.len(), 0, list.len(), r, n) };

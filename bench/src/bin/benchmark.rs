@@ -214,7 +214,7 @@ fn bytes(list: &[u64]) -> Vec<u8> {
 fn mixed(seed: u64, old: usize, n: usize) -> (Vec<u8>, Vec<u8>) {
     let mut r = Random(seed);
     let mut image = vec![0; IMAGE];
-    generate::prelude(&mut r, &mut image);
+    generate::prelude(&mut r, &mut image, 0);
     generate::steps(&mut r, &generate::MIXED, &mut image, old);
     let list = generate::steps(&mut r, &generate::MIXED, &mut image.clone(), n);
     (image, list)

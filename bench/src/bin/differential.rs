@@ -25,6 +25,10 @@ struct Test {
     heard: [u64; 2], // all heard frozen: no, yes
     damaged: u64,
     still_formed: u64,
+    /// Whether the image was grown from a begun one; runs that left a life number over 255, and an entry over 255: on other images, and
+    /// on grown ones.
+    grown: bool,
+    long: [[u64; 2]; 2],
 }
 
 const CALLS: [&str; 6] = ["begin", "run", "offer", "show", "smallest", "all heard"];
@@ -63,6 +67,7 @@ impl Test {
             self.images("begin");
         }
         self.expect(a == 0 || self.theirs == before, "a refused begin changed the image");
+        self.grown |= a == 0;
     }
 
     fn run(&mut self, list: &[u8], start: usize, end: usize, length: usize) {
@@ -182,6 +187,8 @@ impl Test {
         };
         let (list, start) = self.list(n);
         self.run(&list, start, start + STEP * n, STEP * n);
+        let seen = generate::long_lives(&self.ours);
+        (0..2).for_each(|i| self.long[self.grown as usize][i] += seen[i] as u64);
         let take = self.take();
         self.smallest(take);
         self.all_heard(take);
@@ -304,13 +311,15 @@ impl Test {
             self.set(bytes);
             self.begin();
             if self.r.one_in(2) {
-                let list = generate::prelude(&mut self.r, &mut self.ours.clone());
+                let falls = if self.r.one_in(4) { 250 + self.r.below(20) } else { 0 };
+                let list = generate::prelude(&mut self.r, &mut self.ours.clone(), falls);
                 self.run(&list, 0, list.len(), list.len());
             }
         } else {
             let image = generate::image(&mut self.r);
             self.expect(ledger::offer(&image, 0) != Err(19), "a generated image is ill-formed");
             self.set(image);
+            self.grown = false;
         }
         for _ in 0..1 + self.r.below(10) {
             match self.r.below(20) {
@@ -342,6 +351,7 @@ impl Test {
     /// Every answer that the documents have must have been seen.
     fn covered(&self) {
         self.expect(self.offered > 0, "no offer gave a parcel");
+        self.expect(self.long.iter().flatten().all(|n| *n > 0), "no life number, or no entry, was over 255");
         for (what, n) in [("none", self.named[0]), ("one take", self.named[1]), ("more", self.named[2..].iter().sum())]
         {
             self.expect(n > 0, &format!("no smallest volume was of {what}"));
@@ -378,6 +388,9 @@ impl Test {
             "offers that gave a parcel {}; damaged images {}, still well-formed {}",
             self.offered, self.damaged, self.still_formed
         );
+        let [other, grown] = self.long;
+        println!("runs with a life number over 255: {} and {} from begun images", other[0], grown[0]);
+        println!("runs with an entry over 255: {} and {} from begun images", other[1], grown[1]);
         let mut all = [0; 32];
         for (kind, counts) in self.steps.iter().enumerate() {
             row(&format!("kind {kind}"), counts);
@@ -405,6 +418,8 @@ fn main() {
         heard: [0; 2],
         damaged: 0,
         still_formed: 0,
+        grown: false,
+        long: [[0; 2]; 2],
     };
     let round = |test: &mut Test, n: u64| {
         test.round = n;

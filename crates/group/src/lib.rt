@@ -7,12 +7,15 @@ use image::layout::TRANSACTOR;
 use image::layout::TRANSACTORS;
 use image::limits;
 use marks::History;
+use marks::in_place;
 use rules::numbers;
 ghost use mathlib.Core.Path.{_≡_};
 ghost use Prim.Native.Nat.{_+_, _≤_, _<_};
+ghost use lib.ListN.{length};
 ghost use Rattle.octets.specs.Bytes.{_and_, _or_};
 ghost use Rattle.marks.specs.Incarnation.{checkpointedIn, sameIncarnation};
 ghost use Rattle.marks.specs.History.{incarnationOf};
+ghost use Rattle.marks.specs.Packed.{width, places, historyIn};
 ghost use Rattle.rules.specs.Layout.{base, standard, historyBytes, imageBytes};
 ghost use Rattle.rules.specs.State.{live, ownHistory, transactorAt};
 ghost use Rattle.rules.specs.Refusals.{named, anyNamed};
@@ -97,18 +100,20 @@ fn is_live(image: &[u8], u: usize) -> bool
     status == numbers::READY || status == numbers::BUSY
 }
 
-// Whether h, of a transactor whose own history is own, is checkpointed, or of the present incarnation of a member.
-fn covered(h: History, own: History, member: bool) -> bool
-    requires { ⌜ (h .count ≤ base .places) × (own .count ≤ base .places) ⌝ }
-    ensures { λ r. ⌜ r ≡ checkpointedIn (incarnationOf h) (incarnationOf own) or (member and sameIncarnation (incarnationOf h) (incarnationOf own)) ⌝ }
+// Whether the history at at, of a transactor whose own stands at own, is checkpointed, or of the present incarnation of a member. They
+// are compared where they stand, and no list is loaded.
+fn covered(image: &[u8], at: usize, own: usize, member: bool) -> bool
+    requires { ⌜ (at + historyBytes base ≤ length (now image)) × (own + historyBytes base ≤ length (now image)) ⌝ }
+    ensures { λ r. ⌜ r ≡ checkpointedIn (incarnationOf (historyIn width places (now (image .entry)) at)) (incarnationOf (historyIn width places (now (image .entry)) own))
+        or (member and sameIncarnation (incarnationOf (historyIn width places (now (image .entry)) at)) (incarnationOf (historyIn width places (now (image .entry)) own))) ⌝ }
 {
     // In either order the same; docs/notes/speed.md, change 6.
     if member {
-        if h.same_incarnation(own) {
+        if in_place::same_incarnation(image, at, own) {
             return true;
         }
     }
-    h.checkpointed_in(own)
+    in_place::checkpointed_in(image, at, own)
 }
 
 // Whether the history at at, if there is one, of transactor u, is checkpointed, or of the present incarnation of a named one.
@@ -119,13 +124,11 @@ fn entry_ready(image: &[u8], group: u16, at: usize, u: usize) -> bool
     if !History::present(image, at) {
         return true;
     }
-    // Loaded before the test; docs/notes/speed.md, change 6.
-    let h = History::load(image, at);
-    let o = own(image, u);
     if !is_live(image, u) {
         return false;
     }
-    covered(h, o, is_named(group, u))
+    let own = HEAD + TRANSACTOR * u + STATE + marks::SIZE * u;
+    covered(image, at, own, is_named(group, u))
 }
 
 // The entries u of the state and creation maps of transactor t.

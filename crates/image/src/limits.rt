@@ -11,7 +11,7 @@ pub const MESSAGES: usize = layout::MESSAGES;
 pub const LAST_NUMBER: u16 = 65535;
 
 // 28: the largest incarnation number.
-pub const LAST: u8 = 255;
+pub const LAST: u16 = 65535;
 
 // 30: checkpoints of one transactor.
 pub const CHECKPOINTS: u8 = 15;

@@ -1,4 +1,4 @@
-// The take ledger: a session lives in a lent image of 22,132 bytes, which each call takes as the last one left it.
+// The take ledger: a session lives in a lent image of IMAGE bytes, which each call takes as the last one left it.
 mod closure;
 
 use image::form;

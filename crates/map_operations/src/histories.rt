@@ -13,11 +13,11 @@ ghost use Prim.Native.Nat.{_<_};
 fn history(n: &[u8]) -> History {
     let mut h = History::INITIAL;
     h.stable = numbers::at(n, 2) != 0;
-    h.incarnation = (numbers::at(n, 3) % 256) as u8;
+    h.incarnation = (numbers::at(n, 3) % 65536) as u16;
     h.count = ((numbers::count(n) + 13) % 16) as u8;
     let mut k: usize = 0;
     while k < marks::PLACES {
-        h.checkpoints[k] = (numbers::at(n, k + 4) % 256) as u8;
+        h.checkpoints[k] = (numbers::at(n, k + 4) % 65536) as u16;
         k += 1;
     }
     h

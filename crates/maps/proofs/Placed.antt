@@ -62,6 +62,13 @@ module _ (w l at : ℕ) (m : DependenceMap) where
   pub put-map-all : (i n : ℕ) (b b' : List ℕ) → b' ≡ put at (packMap w l i m) b → i ≡ n → b' ≡ put at (packMap w l n m) b
   put-map-all i n b b' e h = e ∙ ap (λ (k : ℕ). put at (packMap w l k m) b) h
 
+-- the empty map's, which are not held
+pub put-empty-more : (w l at n i : ℕ) (h : History) (b b' b'' : List ℕ) → b' ≡ put at (packMap w l i (emptyMap l n)) b
+    → b'' ≡ put (at + historySize w l * i) (packEntry w l false h) b' → at + historySize w l * i + historySize w l ≤ length b
+    → b'' ≡ put at (packMap w l (i + 1) (emptyMap l n)) b
+unfolding packEntry
+put-empty-more w l at n i h b b' b'' e f k = put-map-more w l at (emptyMap l n) i b b' b'' e (rw (held-empty l n i) f) k
+
 -- one history is stored in a packed map
 module _ (w l n : ℕ) {m : DependenceMap} (s : Sized n m) (i : ℕ) (h : History) (below : i < n) where
   stored-here : packEntryAt w l (withEntry m i h) i ≡ packHistory w l h

@@ -7,7 +7,7 @@ ghost use mathlib.Core.Path.{_≡_};
 ghost use Prim.Native.Nat.{_+_, _≤_, _<_};
 ghost use lib.ListN.{length};
 ghost use Rattle.octets.specs.Bytes.{put, part};
-ghost use Rattle.marks.specs.Packed.{width, places, historySize};
+ghost use Rattle.marks.specs.Packed.{width, places, historySize, historyIn, presentIn};
 ghost use Rattle.maps.specs.Map.{emptyMap, withEntry, singleton, isEmpty, choosesRight, joinOf, firstSuperseded, answerOf, anyUnrelated, relationEntry};
 ghost use Rattle.maps.specs.Packed.{entries, mapSize, packEntry, packMap, unpackMap, mapIn, formedEntry, formedMap};
 ghost use Rattle.maps.specs.Internal.Fitting.{Bounded, ExactEntry, Exact, looked, joinedBytes};
@@ -169,9 +169,7 @@ impl DependenceMap {
             let from = at + marks::SIZE * i;
             let p = self.held[i];
             let x = self.histories[i];
-            let q = History::present(s, from);
-            let y = History::load(s, from);
-            let r = relation_entry(q, y, p, x);
+            let r = relation_at(s, from, p, x);
             match r {
                 Relation::LeftSuperseded => packed = Comparison::Superseded(i),
                 Relation::RightSuperseded => own = Comparison::Superseded(i),
@@ -201,6 +199,18 @@ impl DependenceMap {
             let p = self.held[i];
             let h = self.histories[i];
             store_entry(image, at + marks::SIZE * i, p, h);
+            i += 1;
+        }
+    }
+
+    // Writes the packed form of the empty map from at on: the initial history in no entry.
+    pub fn store_empty(image: &mut [u8], at: usize)
+        requires { ⌜ at + mapSize width places entries ≤ length (now image) ⌝ }
+        ensures { λ _. ⌜ now (image .exit) ≡ put at (packMap width places entries (emptyMap places entries)) (now (image .entry)) ⌝ }
+    {
+        let mut i: usize = 0;
+        while i < ENTRIES {
+            store_entry(image, at + marks::SIZE * i, false, History::INITIAL);
             i += 1;
         }
     }
@@ -268,18 +278,20 @@ fn chooses_right(p: bool, x: History, q: bool, y: History) -> bool
     false
 }
 
-// What the comparison of two entries says: the same where one is not held.
-fn relation_entry(p: bool, x: History, q: bool, y: History) -> Relation
-    requires { ⌜ (x .count ≤ places) × (y .count ≤ places) ⌝ }
-    ensures { λ r. ⌜ r ≡ relationEntry p x q y ⌝ }
+// What the comparison of the entry packed at at with x, if it is held, says: the same where one is not held. It is loaded only to be
+// compared.
+fn relation_at(s: &[u8], at: usize, p: bool, x: History) -> Relation
+    requires { ⌜ (at + historySize width places ≤ length (now s)) × (x .count ≤ places) ⌝ }
+    ensures { λ r. ⌜ r ≡ relationEntry (presentIn (part at (historySize width places) (now (s .entry)))) (historyIn width places (now (s .entry)) at) p x ⌝ }
 {
+    if !History::present(s, at) {
+        return Relation::Same;
+    }
     if !p {
         return Relation::Same;
     }
-    if !q {
-        return Relation::Same;
-    }
-    x.compare(y)
+    let y = History::load(s, at);
+    y.compare(x)
 }
 
 // Joins h, if it is held, as the left one into the entry packed at at: it is stored unless a newer one is there.

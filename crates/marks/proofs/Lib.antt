@@ -6,5 +6,6 @@ mod Compare
 pub mod Histories
 pub mod Packed
 mod Placed
+mod Unpacked
 pub mod Starred
 pub mod News

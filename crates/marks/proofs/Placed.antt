@@ -15,12 +15,12 @@ use Rattle.octets.specs.Bytes.{_and_, _or_, put, part, chunks, tabulate, allZer
 use Rattle.octets.specs.Numbers.{be, ofBe}
 use Rattle.octets.proofs.Put.{put-append, part-part, getD-part, part-def, length-part}
 use Rattle.octets.proofs.Numbers.{length-be, put-be-one}
-use Rattle.octets.proofs.Chunks.{step, sides, tabulate-same, fill-more, fill-all, put-more}
+use Rattle.octets.proofs.Chunks.{step, sides, tabulate-same, getD-tabulate, fill-more, fill-all, put-more}
 use Rattle.octets.proofs.Zero.{allZero-windows}
 use Rattle.marks.specs.declared.History.{History}
 use Rattle.marks.specs.News.{mayShow}
 use Rattle.marks.proofs.Packed.{headOf, head-fits, front, numbers, length-packNumberAt, length-front, length-numbers}
-use Rattle.marks.specs.Packed.{countBound, historySize, bit, packNumberAt, packHistory, unpackHistory, loadNumberAt, presentIn, formedHistory}
+use Rattle.marks.specs.Packed.{countBound, historySize, bit, packNumberAt, packHistory, unpackHistory, loadNumberAt, historyIn, presentIn, formedHistory}
 
 -- ---- the places of a list
 
@@ -80,6 +80,21 @@ module _ (w l at : ℕ) (s : List ℕ) (h : at + historySize w l ≤ length s) w
       tabulate-same l (loadNumberAt w (part at (historySize w l) s) (1 + w)) (loadNumberAt w s (at + 1 + w)) λ i p.
       ap (ofBe w) (part-part (1 + w + w * i) w at (historySize w l) s (omega (arith, step w i l p)) ∙ ap (λ (k : ℕ). part k w s) (omega arith)) in
       rw (first, a, b, e, f)
+
+  pub count-here : getD s at 0 % 16 ≡ historyIn w l s at .count
+  unfolding unpackHistory
+  count-here = rw first
+
+  pub number-here : ofBe w (part (at + 1) w s) ≡ historyIn w l s at .incarnation
+  unfolding unpackHistory
+  number-here = ap (ofBe w) (sym (part-part 1 w at (historySize w l) s (omega arith)))
+
+  pub place-here : (i : ℕ) → i < l → ofBe w (part (at + 1 + w + w * i) w s) ≡ getD (historyIn w l s at .checkpoints) i 0
+  unfolding unpackHistory loadNumberAt
+  place-here i p =
+      let e : part (1 + w + w * i) w (part at (historySize w l) s) ≡ part (at + 1 + w + w * i) w s =
+      part-part (1 + w + w * i) w at (historySize w l) s (omega (arith, step w i l p)) ∙ ap (λ (k : ℕ). part k w s) (omega arith) in
+      ap (ofBe w) (sym e) ∙ sym (getD-tabulate (loadNumberAt w (part at (historySize w l) s) (1 + w)) l i 0 p)
 
   pub present-here : leb 128 (getD s at 0) ≡ presentIn (part at (historySize w l) s)
   unfolding presentIn

@@ -8,16 +8,17 @@ use Rattle.octets.specs.Bytes.{pick, _and_, part, chunks, tabulate, allZero}
 use Rattle.octets.specs.Numbers.{be, ofBe, bound}
 use Rattle.marks.specs.declared.History.{History}
 
--- What document 01 fixes: a life number has one byte, the list fifteen places.
+-- Document 02, W5: "Life numbers and list entries grow to 16 bits. A mark is then 33 bytes (present 1, frozen 1, zero 2, count 4, n 16,
+-- list 15 times 16)". So a number has two bytes; the list has fifteen places, as in document 01.
 abbrev pub width : ℕ
-width = 1
+width = 2
 
 abbrev pub places : ℕ
 places = 15
 
--- the largest life number that a byte holds: from it there is no fall
+-- the largest life number that these bytes hold: from it there is no fall (28)
 abbrev pub largest : ℕ
-largest = 255
+largest = 65535
 
 -- what the four bits of the count hold is below this
 abbrev pub countBound : ℕ
@@ -50,6 +51,10 @@ unpackHistory w l b = record {
   count = getD b 0 0 % 16;
   checkpoints = tabulate l (loadNumberAt w b (1 + w));
 }
+
+-- the mark packed in s from at on
+abbrev pub historyIn : ℕ → ℕ → List ℕ → ℕ → History
+historyIn w l s at = unpackHistory w l (part at (historySize w l) s)
 
 -- the present bit
 unfoldable pub presentIn : List ℕ → Bool

@@ -1,4 +1,6 @@
 // Histories (document 01: marks): what a transactor's past looks like, and its packed form.
+pub mod in_place;
+
 ghost use mathlib.Core.Path.{_≡_};
 ghost use Prim.Native.Nat.{_+_, _-_, _*_, _≤_, _<_};
 ghost use lib.ListN.{length, take};
@@ -11,7 +13,7 @@ ghost use Rattle.marks.specs.News.{showsStable, mayShow};
 ghost use Rattle.marks.specs.Packed.{width, places, largest, historySize, bit, packNumberAt, packHistory, unpackHistory, loadNumberAt, presentIn, formedHistory};
 
 // Bytes of a life number, places of the list, bytes of a packed history.
-pub const WIDTH: usize = 1;
+pub const WIDTH: usize = 2;
 
 pub const PLACES: usize = 15;
 
@@ -24,12 +26,12 @@ pub const SIZE: usize = 1 + WIDTH + WIDTH * PLACES;
 pub struct History {
     // frozen
     pub stable: bool,
-    // the life number n
-    pub incarnation: u8,
     // how many places of the list are used
     pub count: u8,
+    // the life number n
+    pub incarnation: u16,
     // the list L, then unused places
-    pub checkpoints: [u8; 15],
+    pub checkpoints: [u16; 15],
 }
 
 // Document 02, W3: what the comparison of two histories says; of the middle four the named one is the earlier.
@@ -80,8 +82,8 @@ impl History {
     // Document 01: the opening mark.
     pub const INITIAL: History = History {
         stable: false,
-        incarnation: 0,
         count: 0,
+        incarnation: 0,
         checkpoints: [0; 15],
     };
 
@@ -299,8 +301,8 @@ impl History {
         let list = load_numbers(s, at + 1 + WIDTH);
         History {
             stable: 64 <= head % 128,
-            incarnation: n,
             count: head % 16,
+            incarnation: n,
             checkpoints: list,
         }
     }
@@ -352,15 +354,15 @@ fn flag(b: bool) -> u8
 }
 
 // Writes a life number from at on.
-fn store_number(image: &mut [u8], at: usize, n: u8)
+fn store_number(image: &mut [u8], at: usize, n: u16)
     requires { ⌜ at + width ≤ length (now image) ⌝ }
     ensures { λ _. ⌜ now (image .exit) ≡ put at (be width n) (now (image .entry)) ⌝ }
 {
-    image[at] = n;
+    octets::store16(image, at, n);
 }
 
 // Writes the places of a list from at on.
-fn store_numbers(image: &mut [u8], at: usize, list: [u8; 15])
+fn store_numbers(image: &mut [u8], at: usize, list: [u16; 15])
     requires { ⌜ at + width * places ≤ length (now image) ⌝ }
     ensures { λ _. ⌜ now (image .exit) ≡ put at (chunks places (packNumberAt width list)) (now (image .entry)) ⌝ }
 {
@@ -373,19 +375,19 @@ fn store_numbers(image: &mut [u8], at: usize, list: [u8; 15])
 }
 
 // The life number from at on.
-fn load_number(s: &[u8], at: usize) -> u8
+fn load_number(s: &[u8], at: usize) -> u16
     requires { ⌜ at + width ≤ length (now s) ⌝ }
     ensures { λ r. ⌜ r ≡ ofBe width (part at width (now (s .entry))) ⌝ }
 {
-    s[at]
+    octets::load16(s, at)
 }
 
 // The places of a list from at on.
-fn load_numbers(s: &[u8], at: usize) -> [u8; 15]
+fn load_numbers(s: &[u8], at: usize) -> [u16; 15]
     requires { ⌜ at + width * places ≤ length (now s) ⌝ }
     ensures { λ r. ⌜ r ≡ tabulate places (loadNumberAt width (now (s .entry)) at) ⌝ }
 {
-    let mut list = [0u8; 15];
+    let mut list = [0u16; 15];
     let mut i: usize = 0;
     while i < PLACES {
         let n = load_number(s, at + WIDTH * i);

@@ -1,8 +1,8 @@
 // Bytes in a lent buffer: stores, moves, tests and numbers, each at an offset.
 ghost use mathlib.Core.Path.{_≡_};
-ghost use Prim.Native.Nat.{_+_, _<_, _≤_};
+ghost use Prim.Native.Nat.{_+_, _*_, _<_, _≤_};
 ghost use mathlib.Core.List.{_++_};
-ghost use lib.ListN.{length};
+ghost use lib.ListN.{length, getD};
 ghost use Rattle.octets.specs.Bytes.{put, part, zeros, allZero};
 ghost use Rattle.octets.specs.Numbers.{be, ofBe};
 
@@ -72,12 +72,21 @@ fn wide(x: u8) -> u32
     x as u32
 }
 
-// The number in the 2 bytes from at on.
+// The 2 bytes from at on with the first as the lower one: the order of the machine, which reads them at once.
+fn little16(s: &[u8], at: usize) -> u16
+    requires { ⌜ at + 2 ≤ length (now s) ⌝ }
+    ensures { λ r. ⌜ r ≡ getD (now (s .entry)) (at + 1) 0 * 256 + getD (now (s .entry)) at 0 ⌝ }
+{
+    (wide(s[at + 1]) * 256 + wide(s[at])) as u16
+}
+
+// The number in the 2 bytes from at on. Read at once and then turned round, so that a run of numbers is read and turned as one.
 pub fn load16(s: &[u8], at: usize) -> u16
     requires { ⌜ at + 2 ≤ length (now s) ⌝ }
     ensures { λ r. ⌜ r ≡ ofBe 2 (part at 2 (now (s .entry))) ⌝ }
 {
-    (wide(s[at]) * 256 + wide(s[at + 1])) as u16
+    let x = little16(s, at);
+    x % 256 * 256 + x / 256
 }
 
 // The number in the 4 bytes from at on.

@@ -1,4 +1,4 @@
--- Which limits document 01's layout can hold.
+-- Which limits the ledger's layout can hold.
 use Prim.Native.Nat.{ℕ, _≤_}
 use mathlib.Core.Path.{_≡_, refl}
 use mathlib.Core.Logic.{_↔_}
@@ -6,12 +6,12 @@ use native.Mathlib.Omega.{arith}
 use Rattle.octets.specs.Numbers.{bound}
 use Rattle.rules.specs.Layout.{Limits, Allowed, base}
 
--- takes 1 to 16, parcels waiting 1 to 32, signings 1 to 15 (document 02, W7); a life number of one byte
+-- takes 1 to 16, parcels waiting 1 to 32, signings 1 to 15 (document 02, W7); a life number of two bytes (W5)
 pub record InRange (m : Limits) : Type 0 where
   pub transactors : (1 ≤ m .transactors) × (m .transactors ≤ 16)
   pub messages : (1 ≤ m .messages) × (m .messages ≤ 32)
   pub checkpoints : (1 ≤ m .checkpoints) × (m .checkpoints ≤ 15)
-  pub incarnation : m .incarnation ≤ 255
+  pub incarnation : m .incarnation ≤ 65535
 
 pub allowed-exactly : (m : Limits) → Allowed base m ↔ InRange m
 unfolding bound

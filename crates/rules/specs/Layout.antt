@@ -30,13 +30,21 @@ pub record Limits : Type 0 where
 abbrev pub lastNumber : ℕ
 lastNumber = 65535
 
--- Document 01's layout: 22,132 bytes.
+-- The ledger's layout (document 02, W5): an image of 42,612 bytes.
 abbrev pub base : Layout
-base = record { width = 1; places = 15; transactors = 16; messages = 32 }
+base = record { width = 2; places = 15; transactors = 16; messages = 32 }
+
+-- Its limits: "Refusal 28 moves from 255 to 65,535".
+abbrev pub standard : Limits
+standard = record { transactors = 16; messages = 32; checkpoints = 15; incarnation = 65535 }
+
+-- Document 01's layout, in which closed hearings are stored: an image of 22,132 bytes.
+abbrev pub narrow : Layout
+narrow = record { width = 1; places = 15; transactors = 16; messages = 32 }
 
 -- Document 01's limits.
-abbrev pub standard : Limits
-standard = record { transactors = 16; messages = 32; checkpoints = 15; incarnation = 255 }
+abbrev pub narrowLimits : Limits
+narrowLimits = record { transactors = 16; messages = 32; checkpoints = 15; incarnation = 255 }
 
 -- Limits that a layout can hold: each at least 1 but for the life number, whose largest fits its bytes.
 pub record Allowed (y : Layout) (m : Limits) : Type 0 where

@@ -32,7 +32,7 @@ fn hex(b: u8) {
 pub fn row(s: &[u8], at: usize, count: usize) {
     let mut k: usize = 0;
     while k < count {
-        hex(bytes::get(s, at % 4294967296 + k % 32));
+        hex(bytes::get(s, at % 4294967296 + k % 65536));
         k += 1;
     }
 }

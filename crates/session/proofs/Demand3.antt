@@ -62,6 +62,6 @@ pub demand3 : (y : Layout) (m : Limits) → Fitting y → Allowed y m → {img :
     → (b : Provenance) × ProvenanceOf m (callsOf τ) b × Right y m img τ b
 demand3 y m z l τ = let k = grown z l τ in (k .provenance, right-provenance (k .right), k .right)
 
--- The same at document 01's own layout and limits: no hypothesis but the trace.
+-- The same at the ledger's own layout and limits: no hypothesis but the trace.
 pub demand3-base : {img : List ℕ} (τ : Trace base standard img) → (b : Provenance) × ProvenanceOf standard (callsOf τ) b × Right base standard img τ b
 demand3-base τ = demand3 base standard fitting-base allowed-standard τ

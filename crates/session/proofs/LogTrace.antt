@@ -237,7 +237,7 @@ module _ {y : Layout} {m : Limits} (z : Fitting y) (l : Allowed y m) {img : List
       let ok = grown-log z l τ .holds .well .packable .transactors t below in
       heard-stable t u h k (heard-test (unpack y img) t ok .0 (p .1) u h n k)
 
--- The same at document 01's own layout and limits, said of the call: whatever refusal it gives with its yes.
+-- The same at the ledger's own layout and limits, said of the call: whatever refusal it gives with its yes.
 pub yes-means-base : {img : List ℕ} (τ : Trace base standard img) {t r : ℕ} {after : List ℕ} → Performed base standard img (heard t) (told r true) after
     → (u : ℕ) (h : HistoryView) → u ≢ t → Heard (unpack base img) t u h → StabilizedIn standard (callsOf τ) u (h .incarnation)
 yes-means-base τ {t} c = yes-means fitting-base allowed-standard τ t (sym (answered c))

@@ -46,7 +46,7 @@ every-list {y} {m} z l img e (c ∷ cs) =
     let p = performs m (grown z l (k .trace) .holds) c in
     record { image = p .1; trace = called (k .trace) c (p .0) (p .2); calls = ap (λ xs. c ∷ xs) (k .calls) }
 
--- the same at document 01's own layout and limits
+-- the same at the ledger's own layout and limits
 pub every-list-base : (img : List ℕ) → beginAnswer base img ≡ 0 → (cs : List Call) → Traced base standard cs
 every-list-base = every-list fitting-base allowed-standard
 

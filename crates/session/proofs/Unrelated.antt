@@ -105,7 +105,7 @@ module _ (y : Layout) (m : Limits) (z : Fitting y) (l : Allowed y m) {img : List
       rw (eq-eqb (runAnswer y img list start end lent) 0 e, reply-byte z l (k .holds .well) steps octets (stepsIn steps) i h)
       (step-31 y m (stateAfter y m (unpack y img) steps i) (stepAt steps i) (state-related (stateAfter y m (unpack y img) steps i) (r .after) (r .rel) y))
 
--- At document 01's own layout and limits: no hypothesis but the trace.
+-- At the ledger's own layout and limits: no hypothesis but the trace.
 module _ {img : List ℕ} (τ : Trace base standard img) where
   pub never-unrelated-base : AllRelated (unpack base img)
   never-unrelated-base = never-unrelated base standard fitting-base allowed-standard τ

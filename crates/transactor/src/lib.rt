@@ -52,10 +52,9 @@ pub fn strip(part: &mut [u8], status: u8)
     part[0] = 64 * status;
     octets::store32(part, VALUE, 0);
     octets::store32(part, SAVED, 0);
-    let none = DependenceMap::empty();
-    none.store(part, STATE);
-    none.store(part, CREATION);
-    none.store(part, BEHAVIOUR);
+    DependenceMap::store_empty(part, STATE);
+    DependenceMap::store_empty(part, CREATION);
+    DependenceMap::store_empty(part, BEHAVIOUR);
 }
 
 // Ready, with h alone in the state map and the other maps empty.

@@ -1,4 +1,5 @@
 -- The second test is asked first.
+use denote.Ref.{now}
 use mathlib.Core.Bool.{Bool, true, false}
 use mathlib.Core.Path.{_≡_, refl, sym, ap, _∙_}
 use mathlib.Core.Logic.{_⊎_, inl, inr}
@@ -7,6 +8,7 @@ use Rattle.octets.specs.Bytes.{_and_, _or_}
 use Rattle.octets.proofs.Tests.{or-none}
 use Rattle.marks.specs.Incarnation.{checkpointedIn, sameIncarnation}
 use Rattle.marks.specs.History.{incarnationOf}
+use Rattle.marks.specs.Packed.{width, places, historyIn}
 use Rattle.group.proofs.covered.Statement.{statement}
 use Rattle.group.proofs.covered.Tie as tie
 
@@ -16,9 +18,9 @@ or-true false = refl
 
 returns : tie.Need-returns
 returns c =
-    let s = c .before .before .before .args in
+    let s = c .before .before .before .before .args in
     rw (← c .before .same-incarnation .ensures, c .before .before .if1 .taken, c .if2 .taken)
-    (or-true (checkpointedIn (incarnationOf (s .h)) (incarnationOf (s .own))))
+    (or-true (checkpointedIn (incarnationOf (historyIn width places (now (s .image)) (s .at))) (incarnationOf (historyIn width places (now (s .image)) (s .own)))))
 
 -- no member, or not the same
 left-over : {A B : Type 0} (a m s : Bool) {r : Bool} → (A → s ≡ false) → (B → m ≡ false) → A ⊎ B → r ≡ a → r ≡ a or (m and s)
@@ -32,8 +34,9 @@ left-over a m s f g (inr w) e = e ∙ sym (or-none a) ∙ ap (λ (z : Bool). a o
 
 returns-2 : tie.Need-returns-2
 returns-2 c =
-    let s = c .before .before .args in
-    left-over (checkpointedIn (incarnationOf (s .h)) (incarnationOf (s .own))) (s .member) (sameIncarnation (incarnationOf (s .h)) (incarnationOf (s .own)))
+    let s = c .before .before .before .args in
+    left-over (checkpointedIn (incarnationOf (historyIn width places (now (s .image)) (s .at))) (incarnationOf (historyIn width places (now (s .image)) (s .own)))) (s .member)
+    (sameIncarnation (incarnationOf (historyIn width places (now (s .image)) (s .at))) (incarnationOf (historyIn width places (now (s .image)) (s .own))))
     (λ w. sym (w .1 .ensures) ∙ w .2 .left)
     (λ w. w .left)
     (c .before .if1 .came) (c .checkpointed-in .ensures)

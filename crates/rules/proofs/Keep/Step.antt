@@ -8,7 +8,7 @@ use borrow.Author.Tests.{eqb-true, eqb-false, eq-eqb, ne-eqb}
 use Rattle.octets.specs.Bytes.{Octets}
 use Rattle.octets.specs.Numbers.{bound}
 use Rattle.octets.proofs.Numbers.{bound-pos}
-use Rattle.rules.specs.Layout.{Layout, Limits, base, standard, Allowed, Fitting}
+use Rattle.rules.specs.Layout.{Layout, Limits, base, standard, narrow, narrowLimits, Allowed, Fitting}
 use Rattle.rules.specs.State.{State}
 use Rattle.rules.specs.Step.{Step, stepAt}
 use Rattle.rules.specs.Rules.{seen, refusal, answer, apply, stepOf}
@@ -52,10 +52,18 @@ module _ {y : Layout} {m : Limits} {s : State} (z : Fitting y) (l : Allowed y m)
   pub replies-fit : (i : ℕ) → ReplyOk (stepOf y m (stateAfter y m s b i) (stepAt b i) .reply)
   replies-fit i = reply-fits z l (keeps-after i) (stepOk-at b o i)
 
--- document 01's layout and limits are such
+-- the ledger's layout and limits are such
 pub fitting-base : Fitting base
 fitting-base = omega arith
 
 pub allowed-standard : Allowed base standard
 unfolding bound
 allowed-standard = omega arith
+
+-- and so are document 01's
+pub fitting-narrow : Fitting narrow
+fitting-narrow = omega arith
+
+pub allowed-narrow : Allowed narrow narrowLimits
+unfolding bound
+allowed-narrow = omega arith

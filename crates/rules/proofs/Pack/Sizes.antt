@@ -13,13 +13,17 @@ use Rattle.octets.proofs.Zero.{length-zeros, octets-zeros}
 use Rattle.octets.proofs.Chunks.{length-chunks, octets-chunks}
 use Rattle.maps.specs.declared.DependenceMap.{DependenceMap}
 use Rattle.maps.proofs.Packed.{length-packMap, octets-packMap}
-use Rattle.rules.specs.Layout.{Layout, base, historyBytes, mapBytes, transactorBytes, messageBytes, headBytes, imageBytes}
+use Rattle.rules.specs.Layout.{Layout, base, narrow, historyBytes, mapBytes, transactorBytes, messageBytes, headBytes, imageBytes}
 use Rattle.rules.specs.State.{Transactor, Message, State, transactorAt, messageAt}
 use Rattle.rules.specs.Pack.{packDependences, packTransactor, packMessage, packTransactorAt, packMessageAt, packHead, pack}
 
--- what document 01 says
-pub sizes-base : (historyBytes base ≡ 17) × (mapBytes base ≡ 272) × (transactorBytes base ≡ 825) × (messageBytes base ≡ 279) × (imageBytes base ≡ 22132)
+-- what document 02 says (W5)
+pub sizes-base : (historyBytes base ≡ 33) × (mapBytes base ≡ 528) × (transactorBytes base ≡ 1593) × (messageBytes base ≡ 535) × (imageBytes base ≡ 42612)
 sizes-base = (refl, refl, refl, refl, refl)
+
+-- what document 01 says
+pub sizes-narrow : (historyBytes narrow ≡ 17) × (mapBytes narrow ≡ 272) × (transactorBytes narrow ≡ 825) × (messageBytes narrow ≡ 279) × (imageBytes narrow ≡ 22132)
+sizes-narrow = (refl, refl, refl, refl, refl)
 
 pub length-packHead : (s : State) → length (packHead s) ≡ headBytes
 unfolding packHead

@@ -25,4 +25,12 @@ returns-3 c =
 pub checkpointed-in-spec : {M : Type 1} → statement M
 checkpointed-in-spec =
     tie.close
-    (tie.spec (λ c. search needs) (λ c. search needs) returns (λ c. search needs) returns-2 (λ c κs. search needs) returns-3)
+    (tie.spec
+    (λ c. search needs)
+    (λ c. search needs)
+    returns
+    (λ c. search needs)
+    (λ c. search needs)
+    returns-2
+    (λ c κs. search needs)
+    returns-3)

@@ -40,6 +40,7 @@ superseded-by-spec =
     (λ c. search needs)
     returns
     (λ c. search needs)
+    (λ c. search needs)
     returns-2
     (λ c κs. search needs)
     returns-3
