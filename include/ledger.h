@@ -7,7 +7,7 @@
  *
  * A buffer is a pointer and its length in bytes. The caller owes, for each call: pointers that are not null (also for a
  * length of 0), as many bytes behind each as its length says, readable, and writable where the pointer is not to const; and
- * that what is written (image or replies, refusal) overlaps no other buffer of the call. Every other input is allowed, and
+ * that what is written (image, replies or target, refusal) overlaps no other buffer of the call. Every other input is allowed, and
  * refused where the documents refuse it. */
 #ifndef LEDGER_H
 #define LEDGER_H
@@ -21,6 +21,7 @@ extern "C" {
 
 enum {
     LEDGER_IMAGE = 42612,  /* bytes of an image */
+    LEDGER_OLD_IMAGE = 22132, /* bytes of an image of the old form, with incarnation numbers of one byte */
     LEDGER_STEP = 8,       /* bytes of a step, and of a reply */
     LEDGER_LONGEST = 8192, /* bytes of a run's longest part */
     LEDGER_MAP = 528,      /* bytes of a map */
@@ -72,7 +73,9 @@ enum ledger_outcome {
     LEDGER_LAST_INCARNATION = 28, /* a checkpointed transactor would fall from incarnation 65,535 */
     LEDGER_EMPTY_GROUP = 29,  /* group empty */
     LEDGER_ALL_CHECKPOINTED = 30, /* a named transactor has 15 checkpoints */
-    LEDGER_UNRELATED = 31     /* receive: histories of one transactor from two different sessions */
+    LEDGER_UNRELATED = 31,    /* receive: histories of one transactor from two different sessions */
+    /* conversion back */
+    LEDGER_TOO_WIDE = 32      /* an incarnation number or an entry of a list is over 255 */
 };
 
 /* A part of the image: the length bytes from image + offset on. */
@@ -106,6 +109,15 @@ uint8_t ledger_all_heard_stable(const uint8_t *image, size_t image_length, size_
 /* Where the LEDGER_MAP bytes of the image are that hold the map of the waiting message with this number; *refusal is 0.
  * Refused with 16, 19 or 24, which is put in *refusal: offset and length are 0. */
 struct ledger_part ledger_show(const uint8_t *image, size_t image_length, uint16_t number, uint8_t *refusal);
+
+/* Writes source, an image of the old form, in target as one that the other calls take, and answers 0.
+ * Refused with 16 (source not LEDGER_OLD_IMAGE bytes, or target not LEDGER_IMAGE) or 19 (source ill-formed): no byte is changed.
+ * Needs some 43 kilobytes of stack. */
+uint8_t ledger_forward(const uint8_t *source, size_t source_length, uint8_t *target, size_t target_length);
+
+/* Writes source, an image, in target in the old form, and answers 0: ledger_forward gives source again. Refused with 16 (source not
+ * LEDGER_IMAGE bytes, or target not LEDGER_OLD_IMAGE), 19 (source ill-formed) or 32: no byte is changed. */
+uint8_t ledger_back(const uint8_t *source, size_t source_length, uint8_t *target, size_t target_length);
 
 #ifdef __cplusplus
 }

@@ -49,6 +49,13 @@ pub fn parcel_at(k: usize) -> usize {
     FIRST_PARCEL + PARCEL * k
 }
 
+/// Where the marks stand: of the takes, then of the parcels.
+pub fn marks() -> impl Iterator<Item = usize> {
+    let takes = (0..TAKES).flat_map(|t| (0..3 * TAKES).map(move |i| take_at(t) + STATE + MARK * i));
+    let parcels = (0..PARCELS).flat_map(|k| (0..TAKES).map(move |i| parcel_at(k) + PARCEL - MAP + MARK * i));
+    takes.chain(parcels)
+}
+
 pub fn opened(image: &[u8]) -> usize {
     (image[0] as usize).min(TAKES)
 }

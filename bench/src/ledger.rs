@@ -755,6 +755,11 @@ pub fn show(image: &[u8], number: u16) -> Result<&[u8], u8> {
     found.map(|p| bytes(&p.map)).ok_or(24)
 }
 
+/// Whether an image of the right length is well-formed.
+pub fn formed(image: &[u8]) -> bool {
+    Image::of(image).formed()
+}
+
 /// One step on an image known to be well-formed: for the generator of step lists.
 pub fn step_unchecked(image: &mut [u8], step: u64) -> u64 {
     let image = Image::of_mut(image);

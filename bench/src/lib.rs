@@ -1,5 +1,6 @@
 //! Differential test and benchmark of the proved ledger against one written in Rust.
 
+pub mod convert;
 pub mod generate;
 pub mod ledger;
 pub mod library;

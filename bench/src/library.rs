@@ -25,6 +25,8 @@ extern "C" {
     fn ledger_offer(image: *const u8, image_length: usize, take: usize, refusal: *mut u8) -> u16;
     fn ledger_smallest_group(image: *const u8, image_length: usize, take: usize, refusal: *mut u8) -> u16;
     fn ledger_all_heard_stable(image: *const u8, image_length: usize, take: usize, refusal: *mut u8) -> u8;
+    fn ledger_forward(source: *const u8, source_length: usize, target: *mut u8, target_length: usize) -> u8;
+    fn ledger_back(source: *const u8, source_length: usize, target: *mut u8, target_length: usize) -> u8;
     fn ledger_show(image: *const u8, image_length: usize, number: u16, refusal: *mut u8) -> Part;
 }
 
@@ -77,4 +79,12 @@ pub fn show(image: &[u8], number: u16) -> Result<&[u8], u8> {
         return Err(refusal);
     }
     Ok(&image[part.offset..part.offset + part.length])
+}
+
+pub fn forward(source: &[u8], target: &mut [u8]) -> u8 {
+    unsafe { ledger_forward(source.as_ptr(), source.len(), target.as_mut_ptr(), target.len()) }
+}
+
+pub fn back(source: &[u8], target: &mut [u8]) -> u8 {
+    unsafe { ledger_back(source.as_ptr(), source.len(), target.as_mut_ptr(), target.len()) }
 }

@@ -6,6 +6,7 @@
 //!
 //! Before each pass, and outside the time measured, the image is set back and the replies are cleared.
 
+use bench::convert::{self, OLD_IMAGE};
 use bench::generate::{self, packed, Random, MAP, MARK, STATE};
 use bench::ledger::{self, IMAGE, STEP};
 use bench::library;
@@ -20,6 +21,8 @@ struct Calls {
     smallest: fn(&[u8], usize) -> Result<Option<u16>, u8>,
     all_heard: fn(&[u8], usize) -> Result<bool, u8>,
     show: for<'a> fn(&'a [u8], u16) -> Result<&'a [u8], u8>,
+    forward: fn(&[u8], &mut [u8]) -> u8,
+    back: fn(&[u8], &mut [u8]) -> u8,
 }
 
 const LIBRARY: Calls = Calls {
@@ -30,6 +33,8 @@ const LIBRARY: Calls = Calls {
     smallest: library::smallest,
     all_heard: library::all_heard,
     show: library::show,
+    forward: library::forward,
+    back: library::back,
 };
 const RUST: Calls = Calls {
     name: "rust",
@@ -39,6 +44,8 @@ const RUST: Calls = Calls {
     smallest: ledger::smallest,
     all_heard: ledger::all_heard,
     show: ledger::show,
+    forward: convert::forward,
+    back: convert::back,
 };
 
 enum Call {
@@ -51,6 +58,9 @@ enum Call {
     Smallest(usize),
     AllHeard(usize),
     Show(u16),
+    /// Conversions: the image is the source, the replies are the destination.
+    Forward,
+    Back,
 }
 
 /// A call, repeated on an image.
@@ -86,6 +96,8 @@ impl Work {
                 Call::Smallest(t) => (by.smallest)(image, *t).unwrap().map_or(7, |v| v as u64),
                 Call::AllHeard(t) => (by.all_heard)(image, *t).unwrap() as u64,
                 Call::Show(n) => (by.show)(image, *n).unwrap()[0] as u64,
+                Call::Forward => (by.forward)(image, replies) as u64,
+                Call::Back => (by.back)(image, replies) as u64,
                 Call::Run(list, n) => {
                     let (mut at, mut sum) = (0, 0);
                     while at < list.len() {
@@ -103,6 +115,8 @@ impl Work {
     fn replies(&self) -> Vec<u8> {
         match &self.call {
             Call::Run(list, _) => vec![0; list.len()],
+            Call::Forward => vec![0; IMAGE],
+            Call::Back => vec![0; OLD_IMAGE],
             _ => Vec::new(),
         }
     }
@@ -136,13 +150,13 @@ impl Row {
     fn sample(&self, sides: &[&Calls], passes: usize) -> Vec<f64> {
         let mut room = vec![0; IMAGE + 63];
         let at = room.as_ptr().align_offset(64);
-        let image = &mut room[at..at + IMAGE];
         let mut least = vec![vec![Duration::MAX; self.works.len()]; sides.len()];
         for i in 0..passes {
             for (k, w) in self.works.iter().enumerate() {
                 let mut replies = w.replies();
                 for side in 0..sides.len() {
                     let side = (side + i) % sides.len();
+                    let image = &mut room[at..at + w.image.len()];
                     let spent = w.pass(sides[side], image, &mut replies);
                     least[side][k] = least[side][k].min(spent);
                 }
@@ -317,6 +331,16 @@ fn rows() -> Vec<Row> {
     let (session, _) = mixed(3, 512, 1);
     let waiting = generate::waiting(&session);
     let full = generate::full_image(&mut Random(2));
+    // The same with every number in one byte, and in the old form.
+    let lower = |image: &[u8]| {
+        let mut low = image.to_vec();
+        generate::marks().for_each(|at| (0..16).for_each(|i| low[at + 1 + 2 * i] = 0));
+        let mut old = vec![0; OLD_IMAGE];
+        assert_eq!(convert::back(&low, &mut old), 0);
+        (low, old)
+    };
+    let (low, old) = lower(&full);
+    let (_, session_old) = lower(&session);
     let newest = |image: &[u8], n: usize| generate::number(image, n - 1);
     let owner = |image: &[u8], n: usize| generate::addressee(image, n - 1);
     vec![
@@ -339,6 +363,10 @@ fn rows() -> Vec<Row> {
         row("smallest volume, 16 takes on each other", "call", many(&signing, Call::Smallest(15))),
         row("smallest volume, 16 takes in a chain", "call", many(&chain(), Call::Smallest(15))),
         row("all heard frozen, 16 takes on each other", "call", many(&heard(), Call::AllHeard(15))),
+        row("forward, session", "call", many(&session_old, Call::Forward)),
+        row("forward, full image", "call", many(&old, Call::Forward)),
+        row("back, session", "call", many(&session, Call::Back)),
+        row("back, full image", "call", many(&low, Call::Back)),
         row("begin", "call", many(&session, Call::Begin)),
     ]
 }

@@ -11,6 +11,7 @@ ghost use Rattle.rules.specs.Layout.{base, standard};
 ghost use Rattle.rules.specs.Calls.{beginAnswer, beginImage, runAnswer, runImage, runReplies, queryRefusal, Offers, showRefusal};
 ghost use Rattle.rules.specs.Groups.{Smallest};
 ghost use Rattle.rules.specs.Heard.{heardAnswer};
+ghost use Rattle.rules.specs.Convert.{forwardAnswer, forwardImage, backAnswer, backImage};
 ghost use Rattle.ledger_c.specs.Interface.{offeredBy, groupOf, numberFor, shownPart};
 
 // The number that stands for no message.
@@ -102,4 +103,22 @@ pub extern "C" fn ledger_show(image: &[u8], number: u16, refusal: &mut u8) -> Pa
         offset,
         length: maps::SIZE,
     }
+}
+
+// Writes an image of the old form, 22,132 bytes, in the ledger's: 0, or 16, 19 with no byte changed.
+#[no_mangle]
+pub extern "C" fn ledger_forward(source: &[u8], target: &mut [u8]) -> u8
+    ensures { λ r. ⌜ (r ≡ forwardAnswer (now (source .entry)) (now (target .entry)))
+        × (now (target .exit) ≡ forwardImage (now (source .entry)) (now (target .entry))) ⌝ }
+{
+    convert::forward(source, target)
+}
+
+// Writes an image in the old form, 22,132 bytes: 0, or 16, 19, 32 with no byte changed.
+#[no_mangle]
+pub extern "C" fn ledger_back(source: &[u8], target: &mut [u8]) -> u8
+    ensures { λ r. ⌜ (r ≡ backAnswer (now (source .entry)) (now (target .entry)))
+        × (now (target .exit) ≡ backImage (now (source .entry)) (now (target .entry))) ⌝ }
+{
+    convert::back(source, target)
 }

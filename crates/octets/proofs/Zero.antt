@@ -108,7 +108,7 @@ allZero-windows at at' n h l p q e =
     overlap false u v = refl
 
 -- an or is zero exactly if both are
-or-zero : (a b : ℕ) → eqb (bitOr a b) 0 ≡ eqb a 0 and eqb b 0
+pub or-zero : (a b : ℕ) → eqb (bitOr a b) 0 ≡ eqb a 0 and eqb b 0
 or-zero a b = go (eqb a 0) refl (eqb b 0) refl
   where
     off : (bitOr a b ≡ 0 → ⊥) → eqb (bitOr a b) 0 ≡ false

@@ -1,6 +1,7 @@
 pub mod Bits
 pub mod ByKind
 pub mod Calls
+pub mod Convert
 pub mod Form
 pub mod Good
 pub mod Groups

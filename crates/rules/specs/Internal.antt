@@ -2,4 +2,7 @@
 pub mod Closure
 pub mod Good
 pub mod Guards
+pub mod HighBytes
+pub mod Recast
 pub mod Well
+pub mod Widths

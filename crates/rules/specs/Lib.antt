@@ -1,4 +1,5 @@
 pub mod Calls
+pub mod Convert
 pub mod Form
 pub mod Groups
 pub mod Heard

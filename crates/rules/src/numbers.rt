@@ -107,3 +107,6 @@ pub const ALL_CHECKPOINTED: u8 = 30;
 
 // some take has unrelated marks in the parcel and in what the receiver rests on
 pub const UNRELATED: u8 = 31;
+
+// conversion back: a life number or list entry over 255
+pub const TOO_WIDE: u8 = 32;

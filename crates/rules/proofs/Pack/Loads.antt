@@ -16,7 +16,7 @@ use Rattle.maps.specs.declared.DependenceMap.{DependenceMap}
 use Rattle.maps.specs.Map.{heldAt, historyAt}
 use Rattle.maps.specs.Packed.{unpackMap, entryBytes}
 use Rattle.maps.proofs.Packed.{held-unpack, history-unpack}
-use Rattle.rules.specs.Layout.{Layout, historyBytes, mapBytes, savedAt, stateAt, creationAt, transactorBytes, dependencesAt, messageBytes, transactorAddress, messageAddress, imageBytes}
+use Rattle.rules.specs.Layout.{Layout, historyBytes, mapBytes, savedAt, stateAt, creationAt, behaviourAt, transactorBytes, dependencesAt, messageBytes, transactorAddress, messageAddress, imageBytes}
 use Rattle.rules.specs.State.{Transactor, Message, noTransactor, noMessage, transactorAt, messageAt}
 use Rattle.rules.specs.Pack.{unpackDependences, unpackTransactor, unpackMessage, transactorPart, messagePart, unpackTransactorAt, unpackMessageAt, vacantAt, waitingIn, unpack}
 use Rattle.rules.proofs.Places.{place}
@@ -101,6 +101,10 @@ module _ (y : Layout) (img : List ℕ) where
     pub read-creation : transactorAt (unpack y img) t .creation ≡ unpackDependences y (transactorAddress y t + creationAt y) img
     unfolding unpackTransactorAt unpackTransactor
     read-creation = ap (λ (x : Transactor). x .creation) read-transactor ∙ ap (unpackMap (y .width) (y .places) (y .transactors)) (part-transactor t (creationAt y) (mapBytes y) (omega arith))
+
+    pub read-behaviour : transactorAt (unpack y img) t .behaviour ≡ unpackDependences y (transactorAddress y t + behaviourAt y) img
+    unfolding unpackTransactorAt unpackTransactor
+    read-behaviour = ap (λ (x : Transactor). x .behaviour) read-transactor ∙ ap (unpackMap (y .width) (y .places) (y .transactors)) (part-transactor t (behaviourAt y) (mapBytes y) (omega arith))
 
     -- mark i of its state map
     module _ (i : ℕ) (within : i < y .transactors) where

@@ -1,0 +1,4 @@
+mod Answers
+mod Stores
+mod Turns
+mod Within

@@ -1,0 +1,230 @@
+-- The loops over histories, transactors and messages: what they have put after i turns, and the whole image.
+use Prim.Native.Nat.{ℕ, zero, suc, _+_, _-_, _*_, _≤_, _<_}
+use mathlib.Core.Bool.{true}
+use mathlib.Core.Path.{_≡_, refl, ap, sym, _∙_, subst}
+use mathlib.Core.List.{List, _++_, append-assoc}
+use native.Mathlib.Nat.{zero-add}
+use native.Mathlib.Omega.{arith}
+use lib.ListN.{length, drop, replicate, length-append}
+use Rattle.octets.specs.Bytes.{put, part, chunks, allZero}
+use Rattle.octets.proofs.Put.{put-behind, put-whole, part-part, length-part, length-put}
+use Rattle.octets.proofs.Chunks.{step, chunks-same, chunks-add, put-none}
+use Rattle.octets.proofs.Runs.{lengths, put-next, zero-behind}
+use Rattle.marks.specs.Packed.{historySize}
+use Rattle.maps.specs.Packed.{entryBytes}
+use Rattle.rules.specs.Layout.{Layout, mapBytes, stateAt, creationAt, behaviourAt, dependencesAt, transactorBytes, messageBytes, headBytes, transactorAddress, messageAddress, imageBytes}
+use Rattle.rules.specs.Pack.{transactorPart, messagePart}
+use Rattle.rules.specs.Internal.Widths.{resized}
+use Rattle.rules.specs.Internal.Recast.{recastHistory, recastEntryAt, recastMap, recastPart, recastTransactor, recastMessage, recastTransactorAt, recastMessageAt, recast}
+use Rattle.rules.proofs.Pack.Loads.{length-transactorPart, length-messagePart}
+use Rattle.rules.proofs.Convert.RecastMap.{length-recast}
+use Rattle.rules.proofs.Convert.RecastParts.{length-recastTransactor, length-recastMessage}
+
+-- the first i of n chunks are put into a list that is zero from there on
+pub zero-after : (at w n : ℕ) (f : ℕ → List ℕ) → ((i : ℕ) → i < n → length (f i) ≡ w) → (i : ℕ) → i ≤ n → (l l' : List ℕ) → l' ≡ put at (chunks i f) l → at + w * i ≤ length l → allZero (drop at l) ≡ true
+    → allZero (drop (at + w * i) l') ≡ true
+zero-after at w n f sized i k l l' e h z =
+    let m : length (chunks i f) ≡ w * i = lengths w i f (λ j p. sized j (omega arith)) in
+    subst (λ (j : ℕ). allZero (drop (at + j) l') ≡ true) m (rw e (zero-behind at l z (chunks i f) (omega arith)))
+
+pub put-end : (at i n : ℕ) (f : ℕ → List ℕ) (l l' : List ℕ) → l' ≡ put at (chunks i f) l → i ≡ n → l' ≡ put at (chunks n f) l
+put-end at i n f l l' e h = e ∙ ap (λ (k : ℕ). put at (chunks k f) l) h
+
+-- a fresh buffer
+pub zero-buffer : (n : ℕ) → allZero (replicate n 0) ≡ true
+unfolding allZero
+zero-buffer zero = refl
+zero-buffer (suc n) = zero-buffer n
+
+-- two stores, one behind the other
+pub put-both : (at n : ℕ) (b c l l' l'' : List ℕ) → length b ≡ n → at + n + length c ≤ length l → l' ≡ put at b l → l'' ≡ put (at + n) c l' → l'' ≡ put at (b ++ c) l
+put-both at n b c l l' l'' k h e f = f ∙ put-behind at n b c l l' k h e
+
+-- a run of records, each of a front of k bytes and a rest; i of them are put
+module _ (at w n : ℕ) (f : ℕ → List ℕ) (sized : (i : ℕ) → i < n → length (f i) ≡ w) (i k : ℕ) (h : i < n) (b c : List ℕ) (is : f i ≡ b ++ c) (short : length b ≡ k)
+    (l l' l'' : List ℕ) (room : at + w * n ≤ length l) (e : l' ≡ put at (chunks i f) l) (g : l'' ≡ put (at + w * i) b l') where
+  rest : k + length c ≡ w
+  rest = omega (arith, sized i h, ap length is, length-append b c)
+
+  long : length l' ≡ length l
+  long = ap length e ∙ length-put at (chunks i f) l (omega (arith, step w i n h, lengths w i f (λ j p. sized j (omega arith))))
+
+  pub records-more : (r : List ℕ) → r ≡ put (at + w * i + k) c l'' → r ≡ put at (chunks (i + 1) f) l
+  records-more r q =
+      let both : r ≡ put (at + w * i) (f i) l' = put-both (at + w * i) k b c l' l'' r short (omega (arith, rest, long, step w i n h)) g q ∙ ap (λ (x : List ℕ). put (at + w * i) x l') (sym is) in
+      put-next at w n f sized i h l l' r e both (omega (arith, step w i n h))
+
+  -- behind the front of a record all is zero still
+  pub records-zero : allZero (drop at l) ≡ true → allZero (drop (at + w * i + k) l'') ≡ true
+  records-zero z =
+      let a : allZero (drop (at + w * i) l') ≡ true = zero-after at w n f sized i (omega arith) l l' e (omega (arith, step w i n h)) z in
+      subst (λ (j : ℕ). allZero (drop (at + w * i + j) l'') ≡ true) short (rw g (zero-behind (at + w * i) l' a b (omega (arith, rest, long, step w i n h))))
+
+-- the k bytes from a on, as source[a..a + k] lends them
+lent : (a k : ℕ) (s : List ℕ) → part a (a + k - a) s ≡ part a k s
+lent a k s = ap (λ (n : ℕ). part a n s) (omega arith)
+
+-- ---- histories
+
+-- history i of those from a place of s on
+unfoldable pub entryAt : ℕ → ℕ → ℕ → ℕ → List ℕ → ℕ → List ℕ
+entryAt v w m from s i = recastHistory v w m (part (from + historySize v m * i) (historySize v m) s)
+
+module _ (v w m from n : ℕ) (s : List ℕ) (fits : from + historySize v m * n ≤ length s) where
+  abbrev entry : ℕ → List ℕ
+  entry = entryAt v w m from s
+
+  entry-wide : (i : ℕ) → i < n → length (entry i) ≡ historySize w m
+  unfolding entryAt
+  entry-wide i h = length-recast v w m (part (from + historySize v m * i) (historySize v m) s) (length-part (from + historySize v m * i) (historySize v m) s (omega (arith, step (historySize v m) i n h)))
+
+  entries-are : recastMap v w m n (part from (historySize v m * n) s) ≡ chunks n entry
+  unfolding recastMap recastEntryAt entryBytes entryAt
+  entries-are = chunks-same n (recastEntryAt v w m (part from (historySize v m * n) s)) entry
+      (λ i h. ap (recastHistory v w m) (part-part (historySize v m * i) (historySize v m) from (historySize v m * n) s (step (historySize v m) i n h)))
+
+  module _ (to i : ℕ) (l l' : List ℕ) (e : l' ≡ put to (chunks i entry) l) where
+    pub histories-more : i < n → (l'' : List ℕ) → l'' ≡ put (to + historySize w m * i) (recastHistory v w m (part (from + historySize v m * i) (historySize v m) s)) l' → to + historySize w m * n ≤ length l → l'' ≡ put to (chunks (i + 1) entry) l
+    unfolding entryAt
+    histories-more h l'' f k = put-next to (historySize w m) n entry entry-wide i h l l' l'' e f (omega (arith, step (historySize w m) i n h))
+
+    pub histories-all : i ≡ n → l' ≡ put to (recastMap v w m n (part from (historySize v m * n) s)) l
+    histories-all h = e ∙ ap (λ (x : List ℕ). put to x l) (ap (λ (k : ℕ). chunks k entry) h ∙ sym entries-are)
+
+    pub histories-zero : i < n → to + historySize w m * n ≤ length l → allZero (drop to l) ≡ true → allZero (drop (to + historySize w m * i) l') ≡ true
+    histories-zero h k z = zero-after to (historySize w m) n entry entry-wide i (omega arith) l l' e (omega (arith, step (historySize w m) i n h)) z
+
+-- two runs, one behind the other
+entries-add : (v w m from a b : ℕ) (s : List ℕ) → from + historySize v m * (a + b) ≤ length s
+    → recastMap v w m (a + b) (part from (historySize v m * (a + b)) s)
+    ≡ recastMap v w m a (part from (historySize v m * a) s) ++ recastMap v w m b (part (from + historySize v m * a) (historySize v m * b) s)
+unfolding entryAt
+entries-add v w m from a b s h =
+    let k : ℕ = historySize v m in
+    entries-are v w m from (a + b) s h
+    ∙ chunks-add a b (entryAt v w m from s)
+    ∙ ap (λ (x : List ℕ). chunks a (entryAt v w m from s) ++ x) (chunks-same b (λ i. entryAt v w m from s (a + i)) (entryAt v w m (from + k * a) s) (λ i p. ap (λ (j : ℕ). recastHistory v w m (part j k s)) (omega arith)))
+    ∙ rw (entries-are v w m from a s (omega arith), entries-are v w m (from + k * a) b s (omega arith))
+
+-- ---- transactors and messages
+
+module _ (y : Layout) (v w : ℕ) (img : List ℕ) (whole : length img ≡ imageBytes (resized y v)) where
+  abbrev s : Layout
+  s = resized y v
+
+  abbrev d : Layout
+  d = resized y w
+
+  abbrev size : ℕ
+  size = historySize v (y .places)
+
+  abbrev count : ℕ
+  count = y .transactors
+
+  -- a map, where it stands in the image
+  piece : (a n at : ℕ) → at + mapBytes s ≤ n → recastPart s w at (part a n img) ≡ recastMap v w (y .places) count (part (a + at) (mapBytes s) img)
+  unfolding recastPart
+  piece a n at h = ap (recastMap v w (y .places) count) (part-part at (mapBytes s) a n img h)
+
+  front : (a n k : ℕ) → k ≤ n → part 0 k (part a n img) ≡ part a k img
+  front a n k h = part-part 0 k a n img (omega arith) ∙ ap (λ (j : ℕ). part j k img) (omega arith)
+
+  transactor-wide : (t : ℕ) → t < count → length (recastTransactorAt s w img t) ≡ transactorBytes d
+  unfolding recastTransactorAt
+  transactor-wide t h = length-recastTransactor y v w (transactorPart s img t) (length-transactorPart s img whole t h)
+
+  message-wide : (k : ℕ) → k < y .messages → length (recastMessageAt s w img k) ≡ messageBytes d
+  unfolding recastMessageAt
+  message-wide k h = length-recastMessage y v w (messagePart s img k) (length-messagePart s img whole k h)
+
+  module _ (t : ℕ) (h : t < count) where
+    abbrev a : ℕ
+    a = transactorAddress s t
+
+    -- the fields in front, then all histories of the three maps
+    transactor-bytes : recastTransactorAt s w img t ≡ part a stateAt img ++ recastMap v w (y .places) (count + count + count) (part (a + stateAt) (size * (count + count + count)) img)
+    unfolding recastTransactorAt recastTransactor transactorPart
+    transactor-bytes =
+        let n : ℕ = transactorBytes s in
+        let room : transactorBytes s * t + transactorBytes s ≤ transactorBytes s * count = step (transactorBytes s) t count h in
+        let m : ℕ → List ℕ = λ at. recastMap v w (y .places) count (part at (mapBytes s) img) in
+        let all : recastMap v w (y .places) (count + count + count) (part (a + stateAt) (size * (count + count + count)) img) ≡ m (a + stateAt) ++ m (a + creationAt s) ++ m (a + behaviourAt s) =
+        entries-add v w (y .places) (a + stateAt) (count + count) count img (omega arith)
+        ∙ ap (λ (x : List ℕ). x ++ recastMap v w (y .places) count (part (a + stateAt + size * (count + count)) (size * count) img)) (entries-add v w (y .places) (a + stateAt) count count img (omega arith))
+        ∙ ap (λ (k : ℕ). m (a + stateAt) ++ m (a + stateAt + size * count) ++ m k) (omega arith)
+        ∙ ap (λ (k : ℕ). m (a + stateAt) ++ m k ++ m (a + behaviourAt s)) (omega arith) in
+        rw (front a n stateAt (omega arith), piece a n stateAt (omega arith), piece a n (creationAt s) (omega arith), piece a n (behaviourAt s) (omega arith), all)
+        (ap (λ (x : List ℕ). x ++ m (a + behaviourAt s)) (append-assoc (part a stateAt img) (m (a + stateAt)) (m (a + creationAt s)))
+        ∙ append-assoc (part a stateAt img) (m (a + stateAt) ++ m (a + creationAt s)) (m (a + behaviourAt s)))
+
+    abbrev pub transactor-front : List ℕ
+    transactor-front = part a stateAt img
+
+    abbrev pub transactor-maps : List ℕ
+    transactor-maps = recastMap v w (y .places) (count + count + count) (part (a + stateAt) (size * (count + count + count)) img)
+
+    -- a turn: the fields in front, then the histories
+    module _ (l l' l'' : List ℕ) (long : length l ≡ imageBytes d) (e : l' ≡ put headBytes (chunks t (recastTransactorAt s w img)) l) (g : l'' ≡ put (transactorAddress d t) (part a (a + stateAt - a) img) l') where
+      short : length transactor-front ≡ stateAt
+      short = length-part a stateAt img (omega (arith, step (transactorBytes s) t count h))
+
+      pub transactors-more : (r : List ℕ) → r ≡ put (transactorAddress d t + stateAt) transactor-maps l'' → r ≡ put headBytes (chunks (t + 1) (recastTransactorAt s w img)) l
+      transactors-more = records-more headBytes (transactorBytes d) count (recastTransactorAt s w img) transactor-wide t stateAt h transactor-front transactor-maps transactor-bytes short l l' l'' (omega arith) e (g ∙ ap (λ (x : List ℕ). put (transactorAddress d t) x l') (lent a stateAt img))
+
+      pub transactors-zero : allZero (drop headBytes l) ≡ true → allZero (drop (transactorAddress d t + stateAt) l'') ≡ true
+      transactors-zero = records-zero headBytes (transactorBytes d) count (recastTransactorAt s w img) transactor-wide t stateAt h transactor-front transactor-maps transactor-bytes short l l' l'' (omega arith) e (g ∙ ap (λ (x : List ℕ). put (transactorAddress d t) x l') (lent a stateAt img))
+
+  module _ (k : ℕ) (h : k < y .messages) where
+    abbrev c : ℕ
+    c = messageAddress s k
+
+    abbrev pub message-front : List ℕ
+    message-front = part c dependencesAt img
+
+    abbrev pub message-map : List ℕ
+    message-map = recastMap v w (y .places) count (part (c + dependencesAt) (mapBytes s) img)
+
+    message-bytes : recastMessageAt s w img k ≡ message-front ++ message-map
+    unfolding recastMessageAt recastMessage messagePart
+    message-bytes = rw (front c (messageBytes s) dependencesAt (omega arith), piece c (messageBytes s) dependencesAt (omega arith))
+
+    module _ (l l' l'' : List ℕ) (long : length l ≡ imageBytes d) (e : l' ≡ put (transactorAddress d count) (chunks k (recastMessageAt s w img)) l) (g : l'' ≡ put (messageAddress d k) (part c (c + dependencesAt - c) img) l') where
+      narrow : length message-front ≡ dependencesAt
+      narrow = length-part c dependencesAt img (omega (arith, step (messageBytes s) k (y .messages) h))
+
+      pub messages-more : (r : List ℕ) → r ≡ put (messageAddress d k + dependencesAt) message-map l'' → r ≡ put (transactorAddress d count) (chunks (k + 1) (recastMessageAt s w img)) l
+      messages-more = records-more (transactorAddress d count) (messageBytes d) (y .messages) (recastMessageAt s w img) message-wide k dependencesAt h message-front message-map message-bytes narrow l l' l'' (omega arith) e (g ∙ ap (λ (x : List ℕ). put (messageAddress d k) x l') (lent c dependencesAt img))
+
+      pub messages-zero : allZero (drop (transactorAddress d count) l) ≡ true → allZero (drop (messageAddress d k + dependencesAt) l'') ≡ true
+      messages-zero = records-zero (transactorAddress d count) (messageBytes d) (y .messages) (recastMessageAt s w img) message-wide k dependencesAt h message-front message-map message-bytes narrow l l' l'' (omega arith) e (g ∙ ap (λ (x : List ℕ). put (messageAddress d k) x l') (lent c dependencesAt img))
+
+  -- ---- the whole image: head, transactors, messages
+
+  module _ (l l1 : List ℕ) (room : length l ≡ imageBytes d) (e : l1 ≡ put 0 (part 0 headBytes img) l) where
+    head-short : length (part 0 headBytes img) ≡ headBytes
+    head-short = length-part 0 headBytes img (omega arith)
+
+    pub head-zero : allZero l ≡ true → allZero (drop headBytes l1) ≡ true
+    head-zero z = subst (λ (j : ℕ). allZero (drop j l1) ≡ true) (zero-add (length (part 0 headBytes img)) ∙ head-short) (rw e (zero-behind 0 l z (part 0 headBytes img) (omega (arith, head-short))))
+
+    run : length (chunks count (recastTransactorAt s w img)) ≡ transactorBytes d * count
+    run = lengths (transactorBytes d) count (recastTransactorAt s w img) transactor-wide
+
+    module _ (l2 : List ℕ) (g : l2 ≡ put headBytes (chunks count (recastTransactorAt s w img)) l1) where
+      long1 : length l1 ≡ length l
+      long1 = ap length e ∙ length-put 0 (part 0 headBytes img) l (omega (arith, head-short))
+
+      pub transactors-done : allZero l ≡ true → allZero (drop (transactorAddress d count) l2) ≡ true
+      transactors-done z = zero-after headBytes (transactorBytes d) count (recastTransactorAt s w img) transactor-wide count (omega arith) l1 l2 g (omega (arith, long1)) (head-zero z)
+
+      pub image-done : (r : List ℕ) → r ≡ put (transactorAddress d count) (chunks (y .messages) (recastMessageAt s w img)) l2 → r ≡ recast s w img
+      unfolding recast
+      image-done r q =
+          let last : length (chunks (y .messages) (recastMessageAt s w img)) ≡ messageBytes d * y .messages = lengths (messageBytes d) (y .messages) (recastMessageAt s w img) message-wide in
+          let head : List ℕ = part 0 headBytes img in
+          let some : List ℕ = chunks count (recastTransactorAt s w img) in
+          let more : List ℕ = chunks (y .messages) (recastMessageAt s w img) in
+          let two : l2 ≡ put 0 (head ++ some) l = put-both 0 headBytes head some l l1 l2 head-short (omega (arith, run)) e g in
+          let half : length (head ++ some) ≡ transactorAddress d count = rw (length-append, head-short, run) in
+          let three : r ≡ put 0 (head ++ some ++ more) l = put-both 0 (transactorAddress d count) (head ++ some) more l l2 r half (omega (arith, last)) two (q ∙ ap (λ (k : ℕ). put k more l2) (sym (zero-add (transactorAddress d count)))) in
+          three ∙ put-whole (head ++ some ++ more) l (rw (length-append, half, last) (sym room))

@@ -1,0 +1,65 @@
+-- 32, history by history: the loop over its first bytes, and what the answers say of the image.
+use Prim.Native.Nat.{ℕ, _+_, _*_, _≤_, _<_}
+use mathlib.Core.Bool.{Bool, true, false, not}
+use mathlib.Core.Path.{_≡_, refl, ap, sym, _∙_}
+use mathlib.Core.List.{List}
+use native.Mathlib.Omega.{arith}
+use native.Mathlib.Numerals.{add-one}
+use lib.Bits.{bitOr}
+use lib.Dec.{eqb, leb}
+use lib.ListN.{length, getD}
+use borrow.Author.Tests.{le-leb, lt-leb}
+use Rattle.octets.specs.Bytes.{_and_, _or_, part, every, Octets}
+use Rattle.octets.proofs.Put.{getD-part, octets-part}
+use Rattle.octets.proofs.Zero.{or-zero}
+use Rattle.marks.specs.Packed.{presentIn}
+use Rattle.rules.specs.Layout.{Layout, base, stateAt, dependencesAt, transactorAddress, messageAddress}
+use Rattle.rules.specs.Pack.{waitingIn, unpack}
+use Rattle.rules.specs.Convert.{largestNarrow, stateWithin, tooWide}
+use Rattle.rules.specs.Internal.HighBytes.{entryWithin, entriesWithin}
+use Rattle.rules.proofs.Convert.HighBytes.{firstZero, history-high, state-entries}
+
+module _ (at : ℕ) (s : List ℕ) where
+  first-byte : (i : ℕ) → i < 16 → firstZero (part at 33 s) i ≡ eqb (getD s (at + 1 + 2 * i) 0) 0
+  first-byte i h = ap (λ (x : ℕ). eqb x 0) (getD-part at 33 s (1 + 2 * i) (omega arith) ∙ ap (λ (k : ℕ). getD s k 0) (omega arith))
+
+  pub first-more : (i any : ℕ) → i < 16 → eqb any 0 ≡ every i (firstZero (part at 33 s)) → eqb (bitOr any (getD s (at + 1 + 2 * i) 0)) 0 ≡ every (i + 1) (firstZero (part at 33 s))
+  unfolding every
+  first-more i any h e =
+      let f : ℕ → Bool = firstZero (part at 33 s) in
+      let x : ℕ = getD s (at + 1 + 2 * i) 0 in
+      or-zero any x ∙ ap (λ (t : Bool). t and eqb x 0) e ∙ ap (λ (t : Bool). every i f and t) (sym (first-byte i h)) ∙ ap (λ (k : ℕ). every k f) (sym (add-one i))
+
+  present-is : presentIn (part at 33 s) ≡ leb 128 (getD s at 0)
+  unfolding presentIn
+  present-is = ap (leb 128) (getD-part at 33 s 0 (omega arith) ∙ ap (λ (k : ℕ). getD s k 0) (omega arith))
+
+  pub absent-within : getD s at 0 < 128 → true ≡ entryWithin largestNarrow base (part at 33 s)
+  unfolding entryWithin
+  absent-within h = rw (present-is, lt-leb 128 (getD s at 0) h)
+
+  pub present-within : Octets s → 128 ≤ getD s at 0 → (i any : ℕ) → eqb any 0 ≡ every i (firstZero (part at 33 s)) → i ≡ 16 → eqb any 0 ≡ entryWithin largestNarrow base (part at 33 s)
+  unfolding entryWithin
+  present-within o h i any e k = rw (present-is, le-leb 128 (getD s at 0) h, history-high (part at 33 s) (octets-part at 33 s o), e, k)
+
+-- all of them, and then the messages
+module _ (s : List ℕ) where
+  abbrev transactors : ℕ → Bool
+  transactors t = entriesWithin largestNarrow base s (transactorAddress base t + stateAt) 48
+
+  abbrev messages : ℕ → Bool
+  messages k = entriesWithin largestNarrow base s (messageAddress base k + dependencesAt) 16
+
+  image-within : not (tooWide s) ≡ every 16 transactors and every (waitingIn base s) messages
+  unfolding tooWide
+  image-within = twice (stateWithin largestNarrow base (unpack base s)) ∙ state-entries largestNarrow base s
+    where
+      twice : (t : Bool) → not (not t) ≡ t
+      twice true = refl
+      twice false = refl
+
+  pub transactors-over : every 16 transactors ≡ false → false ≡ not (tooWide s)
+  transactors-over e = sym (image-within ∙ rw e)
+
+  pub messages-left : (n : ℕ) → every 16 transactors ≡ true → n ≡ waitingIn base s → (r : Bool) → r ≡ every n messages → r ≡ not (tooWide s)
+  messages-left n e h r q = q ∙ ap (λ (k : ℕ). every k messages) h ∙ sym (image-within ∙ rw e)

@@ -1,0 +1,221 @@
+-- W6 of images: both conversions keep what an image says, and each undoes the other.
+use Prim.Native.Nat.{ℕ, _+_, _≤_, _<_}
+use mathlib.Core.Bool.{Bool, true, false, not}
+use mathlib.Core.Path.{_≡_, refl, ap, sym, _∙_, subst}
+use mathlib.Core.List.{List}
+use native.Mathlib.Omega.{arith}
+use lib.Dec.{eqb}
+use lib.ListN.{length}
+use borrow.Author.Tests.{not-true, not-false, eq-eqb, eqb-true}
+use Rattle.octets.specs.Bytes.{pick, Octets}
+use Rattle.octets.specs.Numbers.{bound}
+use Rattle.octets.proofs.Tests.{pick-zero, never}
+use Rattle.rules.specs.Layout.{Layout, Fitting, Allowed, historyBytes, mapBytes, transactorBytes, messageBytes, imageBytes, narrow, narrowLimits, base, standard}
+use Rattle.rules.specs.State.{State}
+use Rattle.rules.specs.Pack.{pack, unpack}
+use Rattle.rules.specs.Form.{wellFormed}
+use Rattle.rules.specs.Internal.Well.{WellFormed}
+use Rattle.rules.proofs.Pack.Sizes.{length-pack, octets-pack}
+use Rattle.rules.proofs.Pack.RoundTrip.{unpack-pack}
+use Rattle.rules.proofs.Pack.RoundTrip.{pack-unpack-formed}
+use Rattle.rules.proofs.Form.State.{formed-state}
+use Rattle.rules.proofs.Form.Packed.{formed-pack}
+use Rattle.rules.specs.Convert.{largestNarrow, stateWithin, tooWide, forward, back, forwardAnswer, forwardImage, backAnswer, backImage}
+use Rattle.rules.specs.Internal.Widths.{resized, rewritten}
+use Rattle.rules.proofs.Convert.Resized.{LowState, low-state, state-resized, state-low, low-stateWithin}
+
+bound-one : bound 1 ≡ largestNarrow + 1
+unfolding bound
+bound-one = refl
+
+pub bounds : bound 1 ≤ bound 2
+unfolding bound
+bounds = omega arith
+
+-- ---- states
+
+pub formed-wide : {s : State} → WellFormed narrow s → WellFormed base s
+formed-wide f = state-resized 1 2 narrow f (low-state 1 2 bounds narrow f)
+
+pub formed-narrow : {s : State} → WellFormed base s → stateWithin largestNarrow base s ≡ true → WellFormed narrow s
+formed-narrow {s} f e = state-resized 2 1 narrow f (subst (λ (b : ℕ). LowState b 16 s) (sym bound-one) (state-low largestNarrow base 2 f e))
+
+-- what the old form holds is within its bounds
+pub narrow-within : {s : State} → WellFormed narrow s → stateWithin largestNarrow base s ≡ true
+narrow-within {s} f = low-stateWithin largestNarrow base s (subst (λ (b : ℕ). LowState b 16 s) bound-one (low-state 1 1 (omega arith) narrow f))
+
+-- ---- an image of layout y rewritten to layout z, which holds its state
+
+module _ (y z : Layout) (img : List ℕ) where
+  length-rewritten : length (rewritten y z img) ≡ imageBytes z
+  unfolding rewritten
+  length-rewritten = length-pack z (unpack y img)
+
+  octets-rewritten : Octets (rewritten y z img)
+  unfolding rewritten
+  octets-rewritten = octets-pack z (unpack y img)
+
+  module _ (f : WellFormed z (unpack y img)) where
+    rewritten-state : unpack z (rewritten y z img) ≡ unpack y img
+    unfolding rewritten
+    rewritten-state = unpack-pack z (unpack y img) (f .packable)
+
+    rewritten-formed : wellFormed z (rewritten y z img) ≡ true
+    unfolding rewritten
+    rewritten-formed = formed-pack z (unpack y img) f
+
+    rewritten-back : length img ≡ imageBytes y → Octets img → wellFormed y img ≡ true → rewritten z y (rewritten y z img) ≡ img
+    unfolding rewritten
+    rewritten-back n o e = ap (pack y) rewritten-state ∙ pack-unpack-formed y img n o e
+
+-- ---- forward
+
+module _ (img : List ℕ) where
+  pub length-forward : length (forward img) ≡ imageBytes base
+  unfolding forward rewritten
+  length-forward = length-rewritten narrow base img
+
+  pub octets-forward : Octets (forward img)
+  unfolding forward rewritten
+  octets-forward = octets-rewritten narrow base img
+
+  module _ (n : length img ≡ imageBytes narrow) (o : Octets img) (e : wellFormed narrow img ≡ true) where
+    forward-well : WellFormed base (unpack narrow img)
+    forward-well = formed-wide (formed-state narrow img n o e)
+
+    -- each field keeps its value
+    pub forward-state : unpack base (forward img) ≡ unpack narrow img
+    unfolding forward rewritten
+    forward-state = rewritten-state narrow base img forward-well
+
+    pub forward-formed : wellFormed base (forward img) ≡ true
+    unfolding forward rewritten
+    forward-formed = rewritten-formed narrow base img forward-well
+
+    -- the way back never answers 32
+    pub forward-fits : tooWide (forward img) ≡ false
+    unfolding tooWide
+    forward-fits = rw (forward-state, narrow-within (formed-state narrow img n o e))
+
+    -- old to new to old
+    pub back-forward : back (forward img) ≡ img
+    unfolding forward back rewritten
+    back-forward = rewritten-back narrow base img forward-well n o e
+
+-- ---- back
+
+module _ (img : List ℕ) where
+  pub length-back : length (back img) ≡ imageBytes narrow
+  unfolding back rewritten
+  length-back = length-rewritten base narrow img
+
+  pub octets-back : Octets (back img)
+  unfolding back rewritten
+  octets-back = octets-rewritten base narrow img
+
+  module _ (n : length img ≡ imageBytes base) (o : Octets img) (e : wellFormed base img ≡ true) where
+    module _ (t : tooWide img ≡ false) where
+      back-well : WellFormed narrow (unpack base img)
+      unfolding tooWide
+      back-well = formed-narrow (formed-state base img n o e) (not-false (stateWithin largestNarrow base (unpack base img)) t)
+
+      pub back-state : unpack narrow (back img) ≡ unpack base img
+      unfolding back rewritten
+      back-state = rewritten-state base narrow img back-well
+
+      pub back-formed : wellFormed narrow (back img) ≡ true
+      unfolding back rewritten
+      back-formed = rewritten-formed base narrow img back-well
+
+      -- new to old to new
+      pub forward-back : forward (back img) ≡ img
+      unfolding forward back rewritten
+      forward-back = rewritten-back base narrow img back-well n o e
+
+    -- 32 is answered only where no old image says the same
+    pub no-way-back : tooWide img ≡ true → (old : List ℕ) → length old ≡ imageBytes narrow → Octets old → wellFormed narrow old ≡ true → unpack narrow old ≡ unpack base img → ⊥
+    unfolding tooWide
+    no-way-back t old p q f same =
+        let a : stateWithin largestNarrow base (unpack base img) ≡ true = ap (stateWithin largestNarrow base) (sym same) ∙ narrow-within (formed-state narrow old p q f) in
+        let b : stateWithin largestNarrow base (unpack base img) ≡ false = not-true (stateWithin largestNarrow base (unpack base img)) t in
+        never (sym a ∙ b)
+
+-- ---- the calls
+
+-- where a test n before the others is not answered
+passed : (c : Bool) (n r : ℕ) → 0 < n → pick (not c) n r ≡ 0 → (c ≡ true) × (r ≡ 0)
+passed c n r h e = let z = pick-zero (not c) n r h e in (not-false c (z .0), z .1)
+
+module _ (old new : List ℕ) where
+  pub record Forwards : Type 0 where
+    pub source : length old ≡ imageBytes narrow
+    pub target : length new ≡ imageBytes base
+    pub formed : wellFormed narrow old ≡ true
+
+  pub forwards : forwardAnswer old new ≡ 0 → Forwards
+  unfolding forwardAnswer
+  forwards e =
+      let a = passed (eqb (length old) (imageBytes narrow)) 16 _ (omega arith) e in
+      let b = passed (eqb (length new) (imageBytes base)) 16 _ (omega arith) (a .1) in
+      let c = passed (wellFormed narrow old) 19 0 (omega arith) (b .1) in
+      record { source = eqb-true (length old) (imageBytes narrow) (a .0); target = eqb-true (length new) (imageBytes base) (b .0); formed = c .0 }
+
+  pub record Backs : Type 0 where
+    pub source : length new ≡ imageBytes base
+    pub target : length old ≡ imageBytes narrow
+    pub formed : wellFormed base new ≡ true
+    pub fits : tooWide new ≡ false
+
+  pub backs : backAnswer new old ≡ 0 → Backs
+  unfolding backAnswer
+  backs e =
+      let a = passed (eqb (length new) (imageBytes base)) 16 _ (omega arith) e in
+      let b = passed (eqb (length old) (imageBytes narrow)) 16 _ (omega arith) (a .1) in
+      let c = passed (wellFormed base new) 19 _ (omega arith) (b .1) in
+      let d = pick-zero (tooWide new) 32 0 (omega arith) (c .1) in
+      record { source = eqb-true (length new) (imageBytes base) (a .0); target = eqb-true (length old) (imageBytes narrow) (b .0); formed = c .0; fits = d .0 }
+
+-- Old to new to old by the calls: forward taken, back succeeds and gives the first bytes, whatever of the right length is lent.
+module _ (old new other : List ℕ) (o : Octets old) (e : forwardAnswer old new ≡ 0) (n : length other ≡ imageBytes narrow) where
+  f : Forwards old new
+  f = forwards old new e
+
+  there : forwardImage old new ≡ forward old
+  unfolding forwardImage
+  there = rw (eq-eqb (forwardAnswer old new) 0 e)
+
+  pub calls-there-answer : backAnswer (forwardImage old new) other ≡ 0
+  unfolding backAnswer
+  calls-there-answer = rw (
+    there,
+    eq-eqb (length (forward old)) (imageBytes base) (length-forward old),
+    eq-eqb (length other) (imageBytes narrow) n,
+    forward-formed old (f .source) o (f .formed),
+    forward-fits old (f .source) o (f .formed),
+  )
+
+  pub calls-there-back : backImage (forwardImage old new) other ≡ old
+  unfolding backImage
+  calls-there-back = rw (eq-eqb (backAnswer (forwardImage old new) other) 0 calls-there-answer, there) (back-forward old (f .source) o (f .formed))
+
+-- New to old to new, where the way back succeeds.
+module _ (new old other : List ℕ) (o : Octets new) (e : backAnswer new old ≡ 0) (n : length other ≡ imageBytes base) where
+  g : Backs old new
+  g = backs old new e
+
+  here : backImage new old ≡ back new
+  unfolding backImage
+  here = rw (eq-eqb (backAnswer new old) 0 e)
+
+  pub calls-back-answer : forwardAnswer (backImage new old) other ≡ 0
+  unfolding forwardAnswer
+  calls-back-answer = rw (
+    here,
+    eq-eqb (length (back new)) (imageBytes narrow) (length-back new),
+    eq-eqb (length other) (imageBytes base) n,
+    back-formed new (g .source) o (g .formed) (g .fits),
+  )
+
+  pub calls-back-there : forwardImage (backImage new old) other ≡ new
+  unfolding forwardImage
+  calls-back-there = rw (eq-eqb (forwardAnswer (backImage new old) other) 0 calls-back-answer, here) (forward-back new (g .source) o (g .formed) (g .fits))

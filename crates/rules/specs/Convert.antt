@@ -1,0 +1,79 @@
+-- Document 02, W6, "Old images to new ones and back": the old form is that of layout narrow, 22,132 bytes.
+use Prim.Native.Nat.{ℕ}
+use mathlib.Core.Bool.{Bool, not}
+use mathlib.Core.List.{List}
+use lib.ListN.{length, getD}
+use lib.Dec.{eqb, leb}
+use Rattle.octets.specs.Bytes.{pick, _and_, _or_, every}
+use Rattle.marks.specs.declared.History.{History}
+use Rattle.maps.specs.declared.DependenceMap.{DependenceMap}
+use Rattle.maps.specs.Map.{heldAt, historyAt}
+use Rattle.rules.specs.Layout.{Layout, narrow, base}
+use Rattle.rules.specs.State.{Transactor, Message, State, transactorAt, messageAt}
+use Rattle.rules.specs.Pack.{pack, unpack}
+use Rattle.rules.specs.Form.{wellFormed}
+use Rattle.rules.specs.Calls.{wrongLength}
+
+-- ---- the conversions: "each field of the old form keeps its value both ways"
+
+-- an image of the old form in the new one
+unfoldable pub forward : List ℕ → List ℕ
+forward img = pack base (unpack narrow img)
+
+-- an image of the new form in the old one
+unfoldable pub back : List ℕ → List ℕ
+back img = pack narrow (unpack base img)
+
+-- ---- 32: "a new image in which some life number or list entry is over 255"
+
+abbrev pub largestNarrow : ℕ
+largestNarrow = 255
+
+-- the life number and every list entry of a mark are at most n
+unfoldable pub historyWithin : ℕ → ℕ → History → Bool
+historyWithin n l h = leb (h .incarnation) n and every l (λ i. leb (getD (h .checkpoints) i 0) n)
+
+-- of every mark of a map
+unfoldable pub mapWithin : ℕ → Layout → DependenceMap → Bool
+mapWithin n y m = every (y .transactors) (λ u. not (heldAt m u) or historyWithin n (y .places) (historyAt m u))
+
+-- of a take
+unfoldable pub transactorWithin : ℕ → Layout → Transactor → Bool
+transactorWithin n y x = mapWithin n y (x .state) and mapWithin n y (x .creation) and mapWithin n y (x .behaviour)
+
+-- of a parcel
+unfoldable pub messageWithin : ℕ → Layout → Message → Bool
+messageWithin n y m = mapWithin n y (m .dependences)
+
+-- of all takes and all waiting parcels
+unfoldable pub stateWithin : ℕ → Layout → State → Bool
+stateWithin n y s =
+    every (y .transactors) (λ t. transactorWithin n y (transactorAt s t))
+    and every (length (s .messages)) (λ k. messageWithin n y (messageAt s k))
+
+unfoldable pub tooWide : List ℕ → Bool
+tooWide img = not (stateWithin largestNarrow base (unpack base img))
+
+-- ---- the calls: "source and destination lengths come under 16 and form under 19"; 32 "checked last and leaving the
+-- destination untouched", as every refusal does
+
+unfoldable pub forwardAnswer : List ℕ → List ℕ → ℕ
+forwardAnswer old new =
+    pick (wrongLength narrow old) 16
+    (pick (wrongLength base new) 16
+    (pick (not (wellFormed narrow old)) 19 0))
+
+-- what the destination new then holds
+unfoldable pub forwardImage : List ℕ → List ℕ → List ℕ
+forwardImage old new = pick (eqb (forwardAnswer old new) 0) (forward old) new
+
+unfoldable pub backAnswer : List ℕ → List ℕ → ℕ
+backAnswer new old =
+    pick (wrongLength base new) 16
+    (pick (wrongLength narrow old) 16
+    (pick (not (wellFormed base new)) 19
+    (pick (tooWide new) 32 0)))
+
+-- what the destination old then holds
+unfoldable pub backImage : List ℕ → List ℕ → List ℕ
+backImage new old = pick (eqb (backAnswer new old) 0) (back new) old
