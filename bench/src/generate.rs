@@ -221,6 +221,31 @@ pub fn step(r: &mut Random, mix: &Mix, image: &[u8]) -> u64 {
     }
 }
 
+/// Kinds 5 to 10 alone.
+const EDITS: Mix = Mix { kinds: [0, 0, 0, 0, 0, 4, 4, 2, 2, 2, 2, 0, 0], spoilt: 100 };
+
+/// A step of kind 5 to 10, refused or not.
+fn edit(r: &mut Random, image: &[u8]) -> u64 {
+    loop {
+        let s = step(r, &EDITS, image);
+        if (5..=10).contains(&(s >> 60)) {
+            return s;
+        }
+    }
+}
+
+/// Two steps of kinds 5 to 10 on different takes.
+pub fn edits_apart(r: &mut Random, image: &[u8]) -> [u64; 2] {
+    let p = edit(r, image);
+    for _ in 0..8 {
+        let q = edit(r, image);
+        if (p ^ q) >> 56 & 15 != 0 {
+            return [p, q];
+        }
+    }
+    [p, p ^ (1 + r.below(15) as u64) << 56]
+}
+
 /// Opens some takes and signs each of them up to twice, so that a fall leaves them live; the first is withdrawn `falls` times between
 /// its signings.
 pub fn prelude(r: &mut Random, image: &mut [u8], falls: usize) -> Vec<u8> {

@@ -22,7 +22,8 @@ struct Test {
     offered: u64,
     named: [u64; 17], // smallest volumes by size, 0 for none
     searched: u64,
-    heard: [u64; 2], // all heard frozen: no, yes
+    heard: [u64; 2],     // all heard frozen: no, yes
+    exchanged: [u64; 4], // pairs by how many of the two steps are refused; refused calls
     damaged: u64,
     still_formed: u64,
     /// Whether the image was grown from a begun one; runs that left a life number over 255, and an entry over 255: on other images, and
@@ -162,15 +163,23 @@ impl Test {
         self.heard[yes as usize] += 1;
     }
 
+    /// The image, or a fresh one where it is ill-formed or of another length: what steps are drawn for.
+    fn drawn_for(&self) -> Vec<u8> {
+        let whole = self.ours.len() == IMAGE && ledger::offer(&self.ours, 0) != Err(19);
+        if whole {
+            self.ours.clone()
+        } else {
+            vec![0; IMAGE]
+        }
+    }
+
     /// A good list of n steps somewhere in a longer one: the list and where the part starts.
     fn list(&mut self, n: usize) -> (Vec<u8>, usize) {
         let mix = generate::MIXES[self.r.below(generate::MIXES.len())];
         let start = self.r.below(40);
         let mut list = vec![0; start];
         self.r.fill(&mut list);
-        // The image may be ill-formed or of another length: steps are then drawn for a fresh one.
-        let whole = self.ours.len() == IMAGE && ledger::offer(&self.ours, 0) != Err(19);
-        let mut image = if whole { self.ours.clone() } else { vec![0; IMAGE] };
+        let mut image = self.drawn_for();
         list.extend(generate::steps(&mut self.r, &mix, &mut image, n));
         let mut rest = vec![0; self.r.below(40)];
         self.r.fill(&mut rest);
@@ -227,6 +236,39 @@ impl Test {
         self.run(&list, start, end, length);
     }
 
+    /// Two neighbours of kinds 5 to 10 on different takes change places: the same image, and each the same reply.
+    fn exchange(&mut self) {
+        let mix = generate::MIXES[self.r.below(generate::MIXES.len())];
+        let (before, after) = (self.r.below(20), self.r.below(20));
+        let mut image = self.drawn_for();
+        let mut list = generate::steps(&mut self.r, &mix, &mut image, before);
+        let at = list.len();
+        for s in generate::edits_apart(&mut self.r, &image) {
+            ledger::step_unchecked(&mut image, s);
+            list.extend(s.to_be_bytes());
+        }
+        list.extend(generate::steps(&mut self.r, &mix, &mut image, after));
+        let mut blank = vec![0; list.len() - self.r.one_in(8) as usize];
+        self.r.fill(&mut blank);
+        let library_run = |list: &[u8]| {
+            let (mut image, mut replies) = (self.theirs.clone(), blank.clone());
+            let answer = library::run(&mut image, list, 0, list.len(), &mut replies);
+            (answer, image, replies)
+        };
+        let (a, first, mut replies) = library_run(&list);
+        let refused = (replies.get(at).is_some_and(|o| *o >= 20), replies.get(at + STEP).is_some_and(|o| *o >= 20));
+        list[at..at + 2 * STEP].rotate_left(STEP);
+        let (b, second, turned) = library_run(&list);
+        self.expect(a == b, &format!("answers {a} and {b} with two edits in either order"));
+        self.expect(first == second, "two edits of different takes in either order leave different images");
+        if a == 0 {
+            replies[at..at + 2 * STEP].rotate_left(STEP);
+        }
+        self.expect(replies == turned, "two edits of different takes in either order have different replies");
+        self.expect(a == 0 || (first == self.theirs && turned == blank), "a refused run changed something");
+        self.exchanged[if a == 0 { refused.0 as usize + refused.1 as usize } else { 3 }] += 1;
+    }
+
     fn take(&mut self) -> usize {
         match self.r.below(8) {
             0 => self.r.below(40),
@@ -264,6 +306,7 @@ impl Test {
         self.smallest(take);
         self.all_heard(take);
         self.show(number);
+        self.exchange();
         self.set(kept);
     }
 
@@ -301,6 +344,7 @@ impl Test {
         let n = self.r.below(20);
         let (list, start) = self.list(n);
         self.run(&list, start, start + STEP * n, STEP * n);
+        self.exchange();
         self.set(kept);
     }
 
@@ -322,6 +366,7 @@ impl Test {
             self.grown = false;
         }
         for _ in 0..1 + self.r.below(10) {
+            self.exchange();
             match self.r.below(20) {
                 0..=9 => self.good_run(),
                 10 | 11 => {
@@ -357,6 +402,7 @@ impl Test {
             self.expect(n > 0, &format!("no smallest volume was of {what}"));
         }
         self.expect(self.heard[0] > 0 && self.heard[1] > 0, "all heard frozen was never yes, or never no");
+        self.expect(self.exchanged.iter().all(|n| *n > 0), "no two edits of some sort were exchanged");
         let outcome = |n: usize| self.steps.iter().map(|kind| kind[n]).sum::<u64>();
         for n in (0..=5).chain(20..=31) {
             self.expect(outcome(n) > 0, &format!("no step had outcome or refusal {n}"));
@@ -384,6 +430,8 @@ impl Test {
         }
         println!("smallest volumes by size {:?}, searched for {}", self.named, self.searched);
         println!("all heard frozen: no {}, yes {}", self.heard[0], self.heard[1]);
+        let [none, one, both, calls] = self.exchanged;
+        println!("edits exchanged: none refused {none}, one {one}, both {both}; in refused calls {calls}");
         println!(
             "offers that gave a parcel {}; damaged images {}, still well-formed {}",
             self.offered, self.damaged, self.still_formed
@@ -416,6 +464,7 @@ fn main() {
         named: [0; 17],
         searched: 0,
         heard: [0; 2],
+        exchanged: [0; 4],
         damaged: 0,
         still_formed: 0,
         grown: false,

@@ -2,6 +2,7 @@ pub mod Bits
 pub mod ByKind
 pub mod Calls
 pub mod Convert
+pub mod Exchange
 pub mod Form
 pub mod Good
 pub mod Groups

@@ -1,5 +1,6 @@
 pub mod Calls
 pub mod Convert
+pub mod Exchange
 pub mod Form
 pub mod Groups
 pub mod Heard
