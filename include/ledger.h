@@ -58,7 +58,7 @@ enum ledger_outcome {
     LEDGER_NOT_READY = 5,
     /* calls */
     LEDGER_WRONG_LENGTH = 16, /* image not of LEDGER_IMAGE bytes */
-    LEDGER_WRONG_PART = 17,   /* part not inside the list, not a multiple of 8, over 8,192 bytes */
+    LEDGER_WRONG_PART = 17,   /* part not inside the list, not a multiple of 8, over 8,192 bytes; also worst window */
     LEDGER_WRONG_ROOM = 18,   /* replies not as long as the part */
     LEDGER_ILL_FORMED = 19,   /* image ill-formed */
     /* steps; 21, 22 also offer, smallest group and all heard stable, 24 also show */
@@ -75,13 +75,21 @@ enum ledger_outcome {
     LEDGER_ALL_CHECKPOINTED = 30, /* a named transactor has 15 checkpoints */
     LEDGER_UNRELATED = 31,    /* receive: histories of one transactor from two different sessions */
     /* conversion back */
-    LEDGER_TOO_WIDE = 32      /* an incarnation number or an entry of a list is over 255 */
+    LEDGER_TOO_WIDE = 32,     /* an incarnation number or an entry of a list is over 255 */
+    /* worst window, beside 17 */
+    LEDGER_WRONG_WIDTH = 35   /* width outside 1 to 256 */
 };
 
 /* A part of the image: the length bytes from image + offset on. */
 struct ledger_part {
     size_t offset;
     size_t length;
+};
+
+/* A window of a list of replies: how many of them have outcome 3 or 4, and its place, that of its first reply, from 0. */
+struct ledger_window {
+    size_t count;
+    size_t place;
 };
 
 /* Begins a fresh session: the image is all zero bytes, whatever it held, and the answer is 0.
@@ -118,6 +126,11 @@ uint8_t ledger_forward(const uint8_t *source, size_t source_length, uint8_t *tar
 /* Writes source, an image, in target in the old form, and answers 0: ledger_forward gives source again. Refused with 16 (source not
  * LEDGER_IMAGE bytes, or target not LEDGER_OLD_IMAGE), 19 (source ill-formed) or 32: no byte is changed. */
 uint8_t ledger_back(const uint8_t *source, size_t source_length, uint8_t *target, size_t target_length);
+
+/* Of the windows of width successive replies of 8 bytes, the first of those with most outcomes 3 and 4; a list shorter than the width
+ * is one window, and an empty list gives 0 at 0; *refusal is 0. Refused with 17 or 35, which is put in *refusal: both numbers are 0.
+ * It reads a list of replies alone, wherever they come from, and no image. */
+struct ledger_window ledger_worst_window(const uint8_t *replies, size_t replies_length, size_t width, uint8_t *refusal);
 
 #ifdef __cplusplus
 }

@@ -742,6 +742,27 @@ pub fn all_heard(image: &[u8], take: usize) -> Result<bool, u8> {
     Ok(frozen(&x.state) && frozen(&x.creation))
 }
 
+/// The greatest number of outcomes 3 and 4 in a window, and the first place that has it.
+pub fn worst_window(replies: &[u8], width: usize) -> Result<(usize, usize), u8> {
+    if replies.len() % STEP != 0 || replies.len() > LONGEST {
+        return Err(17);
+    }
+    if !(1..=256).contains(&width) {
+        return Err(35);
+    }
+    let trouble = |r: &[u8]| matches!(r[0], 3 | 4) as usize;
+    let replies = replies.chunks_exact(STEP);
+    let mut count: usize = replies.clone().take(width).map(trouble).sum();
+    let mut worst = (count, 0);
+    for (k, (left, met)) in replies.clone().zip(replies.skip(width)).enumerate() {
+        count = count + trouble(met) - trouble(left);
+        if count > worst.0 {
+            worst = (count, k + 1);
+        }
+    }
+    Ok(worst)
+}
+
 pub fn show(image: &[u8], number: u16) -> Result<&[u8], u8> {
     if image.len() != IMAGE {
         return Err(16);

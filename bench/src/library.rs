@@ -10,6 +10,12 @@ struct Part {
     length: usize,
 }
 
+#[repr(C)]
+struct Worst {
+    count: usize,
+    place: usize,
+}
+
 extern "C" {
     fn ledger_begin(image: *mut u8, image_length: usize) -> u8;
     fn ledger_run(
@@ -28,6 +34,7 @@ extern "C" {
     fn ledger_forward(source: *const u8, source_length: usize, target: *mut u8, target_length: usize) -> u8;
     fn ledger_back(source: *const u8, source_length: usize, target: *mut u8, target_length: usize) -> u8;
     fn ledger_show(image: *const u8, image_length: usize, number: u16, refusal: *mut u8) -> Part;
+    fn ledger_worst_window(replies: *const u8, replies_length: usize, width: usize, refusal: *mut u8) -> Worst;
 }
 
 pub fn begin(image: &mut [u8]) -> u8 {
@@ -87,4 +94,14 @@ pub fn forward(source: &[u8], target: &mut [u8]) -> u8 {
 
 pub fn back(source: &[u8], target: &mut [u8]) -> u8 {
     unsafe { ledger_back(source.as_ptr(), source.len(), target.as_mut_ptr(), target.len()) }
+}
+
+pub fn worst_window(replies: &[u8], width: usize) -> Result<(usize, usize), u8> {
+    let mut refusal = 255;
+    let worst = unsafe { ledger_worst_window(replies.as_ptr(), replies.len(), width, &mut refusal) };
+    if refusal != 0 {
+        assert_eq!((worst.count, worst.place), (0, 0), "a refused call gives a window");
+        return Err(refusal);
+    }
+    Ok((worst.count, worst.place))
 }

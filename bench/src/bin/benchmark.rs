@@ -23,6 +23,7 @@ struct Calls {
     show: for<'a> fn(&'a [u8], u16) -> Result<&'a [u8], u8>,
     forward: fn(&[u8], &mut [u8]) -> u8,
     back: fn(&[u8], &mut [u8]) -> u8,
+    worst_window: fn(&[u8], usize) -> Result<(usize, usize), u8>,
 }
 
 const LIBRARY: Calls = Calls {
@@ -35,6 +36,7 @@ const LIBRARY: Calls = Calls {
     show: library::show,
     forward: library::forward,
     back: library::back,
+    worst_window: library::worst_window,
 };
 const RUST: Calls = Calls {
     name: "rust",
@@ -46,6 +48,7 @@ const RUST: Calls = Calls {
     show: ledger::show,
     forward: convert::forward,
     back: convert::back,
+    worst_window: ledger::worst_window,
 };
 
 enum Call {
@@ -61,6 +64,8 @@ enum Call {
     /// Conversions: the image is the source, the replies are the destination.
     Forward,
     Back,
+    /// A list of replies and a width.
+    WorstWindow(Vec<u8>, usize),
 }
 
 /// A call, repeated on an image.
@@ -98,6 +103,10 @@ impl Work {
                 Call::Show(n) => (by.show)(image, *n).unwrap()[0] as u64,
                 Call::Forward => (by.forward)(image, replies) as u64,
                 Call::Back => (by.back)(image, replies) as u64,
+                Call::WorstWindow(replies, w) => {
+                    let (count, place) = (by.worst_window)(black_box(replies), *w).unwrap();
+                    (count << 10 | place) as u64
+                }
                 Call::Run(list, n) => {
                     let (mut at, mut sum) = (0, 0);
                     while at < list.len() {
@@ -314,6 +323,17 @@ fn heard() -> Vec<u8> {
     image
 }
 
+/// 1,024 replies of which one in so many has outcome 3 or 4.
+fn replies(seed: u64, one_in: usize) -> Vec<u8> {
+    let mut r = Random(seed);
+    let mut list = vec![0; 1024 * STEP];
+    r.fill(&mut list);
+    for reply in list.chunks_mut(STEP) {
+        reply[0] = if r.one_in(one_in) { 3 + r.below(2) } else { 20 * r.below(2) } as u8;
+    }
+    list
+}
+
 const ALL: u64 = 12 << 60 | 0xffff << 32;
 
 fn rows() -> Vec<Row> {
@@ -367,6 +387,13 @@ fn rows() -> Vec<Row> {
         row("forward, full image", "call", many(&old, Call::Forward)),
         row("back, session", "call", many(&session, Call::Back)),
         row("back, full image", "call", many(&low, Call::Back)),
+        row(
+            "worst window of 1,024 replies, width 256",
+            "call",
+            (0..16)
+                .map(|seed| Work { image: vec![0; IMAGE], call: Call::WorstWindow(replies(seed, 8), 256), times: 16 })
+                .collect(),
+        ),
         row("begin", "call", many(&session, Call::Begin)),
     ]
 }

@@ -17,11 +17,12 @@ struct Test {
     /// The image as the Rust ledger leaves it, and as the library does: the same before and after each call.
     ours: Vec<u8>,
     theirs: Vec<u8>,
-    calls: [[u64; 32]; 6],  // begin, run, offer, show, smallest, all heard by answer
+    calls: [[u64; 36]; 7],  // begin, run, offer, show, smallest, all heard, worst window by answer
     steps: [[u64; 32]; 16], // by kind and outcome or refusal
     offered: u64,
     named: [u64; 17], // smallest volumes by size, 0 for none
     searched: u64,
+    counted: u64,
     heard: [u64; 2],     // all heard frozen: no, yes
     exchanged: [u64; 4], // pairs by how many of the two steps are refused; refused calls
     damaged: u64,
@@ -32,7 +33,7 @@ struct Test {
     long: [[u64; 2]; 2],
 }
 
-const CALLS: [&str; 6] = ["begin", "run", "offer", "show", "smallest", "all heard"];
+const CALLS: [&str; 7] = ["begin", "run", "offer", "show", "smallest", "all heard", "window"];
 
 impl Test {
     fn fail(&self, what: &str) -> ! {
@@ -98,6 +99,7 @@ impl Test {
             self.expect(self.theirs == before, "a refused run changed the image");
             return;
         }
+        self.windows(&mut other.clone());
         for (step, reply) in list[start..end].chunks(STEP).zip(other.chunks(STEP)) {
             self.steps[(step[0] >> 4) as usize][reply[0] as usize & 31] += 1;
         }
@@ -171,6 +173,53 @@ impl Test {
         } else {
             vec![0; IMAGE]
         }
+    }
+
+    /// Of the replies of a run, some of them with another outcome or short of a byte.
+    fn windows(&mut self, replies: &mut Vec<u8>) {
+        let n = replies.len() / STEP;
+        let share = 1 + self.r.below(40);
+        let from = self.r.below(n + 1);
+        for reply in replies.chunks_mut(STEP).skip(from) {
+            if self.r.one_in(share) {
+                reply[0] = self.r.below(8) as u8;
+            }
+        }
+        if self.r.one_in(16) {
+            replies.truncate((STEP * n).saturating_sub(1));
+        } else if self.r.one_in(16) {
+            replies.resize(LONGEST + STEP, 3);
+        }
+        let width = match self.r.below(8) {
+            0 => self.r.below(3),
+            1 => n + self.r.below(3),
+            2 => 255 + self.r.below(4),
+            3 => usize::MAX - self.r.below(400),
+            4 => 256 * self.r.below(300) + self.r.below(256),
+            _ => 1 + self.r.below(256),
+        };
+        let (a, b) = (library::worst_window(replies, width), ledger::worst_window(replies, width));
+        self.expect(a == b, &format!("worst window of {width}: {a:?}, and {b:?} in the Rust ledger"));
+        self.calls[6][a.err().unwrap_or(0) as usize] += 1;
+        let Ok(worst) = a else { return };
+        if self.r.one_in(10) {
+            self.count_each(replies, width, worst);
+        }
+    }
+
+    /// By a fresh count of each window.
+    fn count_each(&mut self, replies: &[u8], width: usize, worst: (usize, usize)) {
+        self.counted += 1;
+        let n = replies.len() / STEP;
+        let length = width.min(n);
+        let count = |p: usize| (p..p + length).filter(|i| matches!(replies[STEP * i], 3 | 4)).count();
+        let counts: Vec<usize> = (0..=n - length).map(count).collect();
+        let most = *counts.iter().max().unwrap();
+        let first = counts.iter().position(|c| *c == most).unwrap();
+        self.expect(
+            worst == (most, first),
+            &format!("worst window of {width}: {worst:?}, by counting {:?}", (most, first)),
+        );
     }
 
     /// A good list of n steps somewhere in a longer one: the list and where the part starts.
@@ -411,7 +460,8 @@ impl Test {
             self.expect(self.steps[2][n] > 0, &format!("no receive had outcome or refusal {n}"));
         }
         let query: &[usize] = &[0, 16, 19, 21, 22];
-        let answers: [&[usize]; 6] = [&[0, 16], &[0, 16, 17, 18, 19], query, &[0, 16, 19, 24], query, query];
+        let answers: [&[usize]; 7] =
+            [&[0, 16], &[0, 16, 17, 18, 19], query, &[0, 16, 19, 24], query, query, &[0, 17, 35]];
         for (call, wanted) in answers.iter().enumerate() {
             for n in *wanted {
                 self.expect(self.calls[call][*n] > 0, &format!("no {} answered {n}", CALLS[call]));
@@ -429,6 +479,7 @@ impl Test {
             row(name, counts);
         }
         println!("smallest volumes by size {:?}, searched for {}", self.named, self.searched);
+        println!("worst windows counted afresh {}", self.counted);
         println!("all heard frozen: no {}, yes {}", self.heard[0], self.heard[1]);
         let [none, one, both, calls] = self.exchanged;
         println!("edits exchanged: none refused {none}, one {one}, both {both}; in refused calls {calls}");
@@ -458,11 +509,12 @@ fn main() {
         r: Random(0),
         ours: Vec::new(),
         theirs: Vec::new(),
-        calls: [[0; 32]; 6],
+        calls: [[0; 36]; 7],
         steps: [[0; 32]; 16],
         offered: 0,
         named: [0; 17],
         searched: 0,
+        counted: 0,
         heard: [0; 2],
         exchanged: [0; 4],
         damaged: 0,

@@ -6,12 +6,14 @@ use image::layout::MESSAGE;
 use image::messages;
 use rules::Grouped;
 use rules::Offered;
+use window::Worst;
 ghost use mathlib.Core.Path.{_≡_};
 ghost use Rattle.rules.specs.Layout.{base, standard};
 ghost use Rattle.rules.specs.Calls.{beginAnswer, beginImage, runAnswer, runImage, runReplies, queryRefusal, Offers, showRefusal};
 ghost use Rattle.rules.specs.Groups.{Smallest};
 ghost use Rattle.rules.specs.Heard.{heardAnswer};
 ghost use Rattle.rules.specs.Convert.{forwardAnswer, forwardImage, backAnswer, backImage};
+ghost use Rattle.window.specs.Window.{windowRefusal, worstWindow};
 ghost use Rattle.ledger_c.specs.Interface.{offeredBy, groupOf, numberFor, shownPart};
 
 // The number that stands for no message.
@@ -121,4 +123,13 @@ pub extern "C" fn ledger_back(source: &[u8], target: &mut [u8]) -> u8
         × (now (target .exit) ≡ backImage (now (source .entry)) (now (target .entry))) ⌝ }
 {
     convert::back(source, target)
+}
+
+// The greatest count of outcomes 3 and 4 over every window of width successive replies, and the place of the first window that has
+// it; a list shorter than the width is one window. The lent number takes the refusal, 17 or 35, or 0; refused, both numbers are 0.
+#[no_mangle]
+pub extern "C" fn ledger_worst_window(replies: &[u8], width: usize, refusal: &mut u8) -> Worst
+    ensures { λ r. ⌜ (now (refusal .exit) ≡ windowRefusal (now (replies .entry)) width) × (r ≡ worstWindow (now (replies .entry)) width) ⌝ }
+{
+    window::worst_window(replies, width, refusal)
 }

@@ -110,3 +110,5 @@ pub const UNRELATED: u8 = 31;
 
 // conversion back: a life number or list entry over 255
 pub const TOO_WIDE: u8 = 32;
+// width of a window outside 1 to 256
+pub const WRONG_WIDTH: u8 = 35;

@@ -5,6 +5,7 @@ use script::print;
 use script::print::BAD;
 use script::print::CHANGED;
 use script::print::COMPARE;
+use script::print::PRINTED;
 use script::print::SILENT;
 
 // The longest list, and the most replies.
@@ -79,6 +80,19 @@ fn part(image: &mut [u8], list: &[u8], n: &[u8]) -> u8 {
     run(image, &list[..length], start, end, &mut replies[..room])
 }
 
+// t: the worst window of a list of so many bytes of replies.
+fn worst(list: &[u8], length: usize, width: usize) -> u8 {
+    if list.len() < length {
+        return BAD;
+    }
+    let mut refusal: u8 = 99;
+    let w = window::worst_window(&list[..length], width, &mut refusal);
+    print::number(refusal as usize);
+    print::number(w.count);
+    print::number(w.place);
+    PRINTED
+}
+
 fn steps(op: u8, image: &mut [u8], n: &[u8]) -> u8 {
     let list = packed(n);
     match op {
@@ -94,6 +108,7 @@ pub fn play(image: &mut [u8], list: &mut [u8], n: &[u8]) -> u8 {
     match op {
         b'l' => numbers::put(list, n),
         b'u' => part(image, list, n),
+        b't' => worst(list, numbers::at(n, 1), numbers::at(n, 2)),
         _ => steps(op, image, n),
     }
 }

@@ -1,0 +1,278 @@
+-- The worst window: what pins it down, and the laws of the functions that find it.
+use Prim.Native.Nat.{ℕ, zero, suc, _+_, _-_, _%_, _≤_, _<_}
+use mathlib.Core.Bool.{Bool, true, false, not}
+use mathlib.Core.Path.{_≡_, refl, sym, subst, _∙_}
+use mathlib.Core.List.{List, []}
+use mathlib.Core.Logic.{⊎-elim}
+use native.Mathlib.Numerals.{add-one}
+use native.Mathlib.Omega.{arith}
+use borrow.Author.Tests.{lt-ltb, le-ltb, ltb-true, ltb-false, eq-eqb, ne-eqb}
+use lib.Dec.{eqb, ltb}
+use lib.ListN.{length}
+use Rattle.octets.specs.Bytes.{pick, _or_}
+use Rattle.octets.proofs.Chunks.{sides, cases}
+use Rattle.octets.proofs.Tests.{pick-zero, or-off}
+use Rattle.rules.specs.Step.{stepBytes, fallenBack, vanished}
+use Rattle.rules.specs.Calls.{stepsIn, longest, wrongPart}
+use Rattle.rules.proofs.Calls.Run.{part-broken, part-long, part-fine}
+use Rattle.window.specs.Window.{Worst, outcomeAt, isTrouble, troubleAt, troubles, windowLength, lastPlace, windowCount, worseOf, worstUpTo, worst, wrongWidth, windowRefusal, worstWindow}
+
+-- ---- windows
+
+module _ (w n : ℕ) where
+  -- "A list shorter than w is one window"
+  pub length-short : n < w → windowLength w n ≡ n
+  unfolding windowLength
+  length-short h = rw (lt-ltb n w h)
+
+  pub length-long : w ≤ n → windowLength w n ≡ w
+  unfolding windowLength
+  length-long h = rw (le-ltb n w h)
+
+  pub last-short : n < w → lastPlace w n ≡ 0
+  unfolding lastPlace
+  last-short h = rw (length-short h) (omega arith)
+
+  pub last-long : w ≤ n → lastPlace w n ≡ n - w
+  unfolding lastPlace
+  last-long h = rw (length-long h)
+
+  -- every window of w successive replies has a place, and no other
+  pub places-exactly : w ≤ n → (p : ℕ) → (p ≤ lastPlace w n → p + w ≤ n) × (p + w ≤ n → p ≤ lastPlace w n)
+  places-exactly h p = (λ (l : p ≤ lastPlace w n). omega (arith, last-long h), λ (l : p + w ≤ n). omega (arith, last-long h))
+
+-- ---- the worst of them
+
+module _ (b : List ℕ) (n : ℕ) where
+  -- x is the first of the greatest counts of the windows at places 0 to k
+  pub record FirstGreatest (k : ℕ) (x : Worst) : Type 0 where
+    pub within : x .place ≤ k
+    pub attained : x .count ≡ troubles b (x .place) n
+    pub greatest : (p : ℕ) → p ≤ k → troubles b p n ≤ x .count
+    pub first : (p : ℕ) → p < x .place → troubles b p n < x .count
+
+  upTo-zero : FirstGreatest 0 (worstUpTo b n 0)
+  unfolding worstUpTo
+  upTo-zero = record {
+    within = omega arith;
+    attained = refl;
+    greatest = λ p h. let e : 0 ≡ p = omega arith in subst (λ (q : ℕ). troubles b q n ≤ troubles b 0 n) e (omega arith);
+    first = λ p h. absurd (omega arith);
+  }
+
+  -- one more window
+  more : (k : ℕ) (x : Worst) → FirstGreatest k x → FirstGreatest (suc k) (worseOf x (troubles b (suc k) n) (suc k))
+  unfolding worseOf
+  more k x f = go (ltb (x .count) (troubles b (suc k) n)) refl
+    where
+      here : (m p : ℕ) → p ≤ suc k → ((q : ℕ) → q ≤ k → troubles b q n ≤ m) → troubles b (suc k) n ≤ m → troubles b p n ≤ m
+      here m p h g l = ⊎-elim (λ (i : p < suc k). g p (omega arith)) (λ (e : p ≡ suc k). subst (λ (q : ℕ). troubles b q n ≤ m) (sym e) l) (cases (suc k) p (omega arith))
+
+      go : (t : Bool) → ltb (x .count) (troubles b (suc k) n) ≡ t → FirstGreatest (suc k) (pick t (record { count = troubles b (suc k) n; place = suc k }) x)
+      go true e =
+          let h : x .count < troubles b (suc k) n = ltb-true (x .count) (troubles b (suc k) n) e in
+          record {
+            within = omega arith;
+            attained = refl;
+            greatest = λ p i. here (troubles b (suc k) n) p i (λ q j. omega (arith, f .greatest q j)) (omega arith);
+            first = λ p i. omega (arith, f .greatest p (omega arith));
+          }
+      go false e =
+          let h : troubles b (suc k) n ≤ x .count = ltb-false (x .count) (troubles b (suc k) n) e in
+          record {
+            within = omega (arith, f .within);
+            attained = f .attained;
+            greatest = λ p i. here (x .count) p i (f .greatest) h;
+            first = f .first;
+          }
+
+  upTo-greatest : (k : ℕ) → FirstGreatest k (worstUpTo b n k)
+  unfolding worstUpTo
+  upTo-greatest zero = upTo-zero
+  upTo-greatest (suc k) = more k (worstUpTo b n k) (upTo-greatest k)
+
+module _ (b : List ℕ) (w : ℕ) where
+  -- The place is that of a window, and the count is its own; no window has a greater count, and no earlier one as great a one.
+  pub worst-place : worst b w .place ≤ lastPlace w (stepsIn b)
+  unfolding worst
+  worst-place = upTo-greatest b (windowLength w (stepsIn b)) (lastPlace w (stepsIn b)) .within
+
+  pub worst-attained : worst b w .count ≡ windowCount b w (worst b w .place)
+  unfolding worst
+  worst-attained = upTo-greatest b (windowLength w (stepsIn b)) (lastPlace w (stepsIn b)) .attained
+
+  pub worst-greatest : (p : ℕ) → p ≤ lastPlace w (stepsIn b) → windowCount b w p ≤ worst b w .count
+  unfolding worst
+  worst-greatest = upTo-greatest b (windowLength w (stepsIn b)) (lastPlace w (stepsIn b)) .greatest
+
+  pub worst-first : (p : ℕ) → p < worst b w .place → windowCount b w p < worst b w .count
+  unfolding worst
+  worst-first = upTo-greatest b (windowLength w (stepsIn b)) (lastPlace w (stepsIn b)) .first
+
+  -- These four facts leave no other answer.
+  pub worst-unique : (x : Worst) → x .place ≤ lastPlace w (stepsIn b) → x .count ≡ windowCount b w (x .place)
+      → ((p : ℕ) → p ≤ lastPlace w (stepsIn b) → windowCount b w p ≤ x .count)
+      → ((p : ℕ) → p < x .place → windowCount b w p < x .count)
+      → x ≡ worst b w
+  worst-unique x l a g f =
+      let n : x .count ≡ worst b w .count = omega (arith, worst-greatest (x .place) l, g (worst b w .place) worst-place, worst-attained) in
+      let p : x .place ≡ worst b w .place = same (x .place) (worst b w .place)
+      (λ (h : x .place < worst b w .place). omega (arith, worst-first (x .place) h))
+      (λ (h : worst b w .place < x .place). omega (arith, f (worst b w .place) h, worst-attained)) in
+      λ i. record { count = n i; place = p i }
+    where
+      same : (i j : ℕ) → (i < j → ⊥) → (j < i → ⊥) → i ≡ j
+      same i j m k = ⊎-elim (λ (h : i < j). absurd (m h)) (λ (h : j ≤ i). ⊎-elim (λ (q : j < i). absurd (k q)) (λ (q : i ≤ j). omega arith) (sides j i)) (sides i j)
+
+-- ---- a reply
+
+pub trouble-fallen : (b : List ℕ) (i : ℕ) → outcomeAt b i ≡ fallenBack → 1 ≡ troubleAt b i
+unfolding troubleAt isTrouble
+trouble-fallen b i e = rw (eq-eqb (outcomeAt b i) fallenBack e)
+
+pub trouble-vanished : (b : List ℕ) (i : ℕ) → (outcomeAt b i ≡ fallenBack → ⊥) → outcomeAt b i ≡ vanished → 1 ≡ troubleAt b i
+unfolding troubleAt isTrouble
+trouble-vanished b i n e = rw (ne-eqb (outcomeAt b i) fallenBack n, eq-eqb (outcomeAt b i) vanished e)
+
+pub trouble-off : (b : List ℕ) (i : ℕ) → (outcomeAt b i ≡ fallenBack → ⊥) → (outcomeAt b i ≡ vanished → ⊥) → 0 ≡ troubleAt b i
+unfolding troubleAt isTrouble
+trouble-off b i n m = rw (ne-eqb (outcomeAt b i) fallenBack n, ne-eqb (outcomeAt b i) vanished m)
+
+trouble-most : (b : List ℕ) (i : ℕ) → troubleAt b i ≤ 1
+unfolding troubleAt
+trouble-most b i = go (isTrouble (outcomeAt b i))
+  where
+    go : (t : Bool) → pick t 1 0 ≤ 1
+    go true = omega arith
+    go false = omega arith
+
+-- ---- the count moves along
+
+troubles-most : (b : List ℕ) (p n : ℕ) → troubles b p n ≤ n
+unfolding troubles
+troubles-most b p zero = omega arith
+troubles-most b p (suc n) = omega (arith, troubles-most b p n, trouble-most b (p + n))
+
+pub troubles-sum : (b : List ℕ) (p q n c t : ℕ) → c ≡ troubles b p n → t ≡ troubleAt b q → c + t ≤ n + 1
+troubles-sum b p q n c t e f = omega (arith, troubles-most b p n, trouble-most b q)
+
+pub troubles-none : (b : List ℕ) (p : ℕ) → 0 ≡ troubles b p 0
+unfolding troubles
+troubles-none b p = refl
+
+pub troubles-more : (b : List ℕ) (n c t : ℕ) → c ≡ troubles b 0 n → t ≡ troubleAt b n → c + t ≡ troubles b 0 (n + 1)
+unfolding troubles
+troubles-more b n c t e f = let z : 0 + n ≡ n = omega arith in rw (add-one, e, f, z)
+
+pub troubles-end : (b : List ℕ) (n k c : ℕ) → c ≡ troubles b 0 k → k ≡ n → c ≡ troubles b 0 n
+troubles-end b n k c e h = e ∙ rw h
+
+-- what comes in, and what goes out
+turn : (b : List ℕ) (p n : ℕ) → troubles b p n + troubleAt b (p + n) ≡ troubleAt b p + troubles b (p + 1) n
+unfolding troubles
+turn b p zero = let e : p + 0 ≡ p = omega arith in rw e (omega arith)
+turn b p (suc n) =
+    let e : p + suc n ≡ p + 1 + n = omega arith in
+    let f = turn b p n in
+    rw e (omega arith)
+
+-- so the count that moves along is the fresh one
+pub troubles-moved : (b : List ℕ) (p n c i o : ℕ) → c ≡ troubles b p n → i ≡ troubleAt b (p + n) → o ≡ troubleAt b p → c + i - o ≡ troubles b (p + 1) n
+troubles-moved b p n c i o e f g = omega (arith, turn b p n)
+
+pub troubles-left : (b : List ℕ) (p n c i o : ℕ) → c ≡ troubles b p n → i ≡ troubleAt b (p + n) → o ≡ troubleAt b p → o ≤ c + i
+troubles-left b p n c i o e f g = omega (arith, turn b p n)
+
+-- ---- the worst so far
+
+pub worse-greater : (x : Worst) (n p : ℕ) → x .count < n → record { count = n; place = p } ≡ worseOf x n p
+unfolding worseOf
+worse-greater x n p h = rw (lt-ltb (x .count) n h)
+
+pub worse-not : (x : Worst) (n p : ℕ) → n ≤ x .count → x ≡ worseOf x n p
+unfolding worseOf
+worse-not x n p h = rw (le-ltb (x .count) n h)
+
+pub upTo-first : (b : List ℕ) (n c : ℕ) → c ≡ troubles b 0 n → record { count = c; place = 0 } ≡ worstUpTo b n 0
+unfolding worstUpTo
+upTo-first b n c e = rw e
+
+pub upTo-more : (b : List ℕ) (n k c : ℕ) (x : Worst) (z : Worst) → x ≡ worstUpTo b n k → c ≡ troubles b (k + 1) n → z ≡ worseOf x c (k + 1) → z ≡ worstUpTo b n (k + 1)
+unfolding worstUpTo
+upTo-more b n k c x z e f g = g ∙ rw (e, f, add-one)
+
+pub upTo-end : (b : List ℕ) (n k m : ℕ) (x : Worst) → x ≡ worstUpTo b n k → k ≡ m → x ≡ worstUpTo b n m
+upTo-end b n k m x e h = e ∙ rw h
+
+-- ---- the call
+
+module _ (b : List ℕ) (w : ℕ) where
+  all : length b - 0 ≡ length b
+  all = omega arith
+
+  pub refusal-broken : (length b % stepBytes ≡ 0 → ⊥) → 17 ≡ windowRefusal b w
+  unfolding windowRefusal
+  refusal-broken n = rw (part-broken b 0 (length b) (omega arith) (omega arith) (rw all n))
+
+  module _ (whole : length b % stepBytes ≡ 0) where
+    pub refusal-long : longest < length b → 17 ≡ windowRefusal b w
+    unfolding windowRefusal
+    refusal-long h = rw (part-long b 0 (length b) (omega arith) (omega arith) (rw all whole) (rw all h))
+
+    module _ (short : length b ≤ longest) where
+      fine : wrongPart b 0 (length b) ≡ false
+      fine = part-fine b 0 (length b) (omega arith) (omega arith) (rw all whole) (rw all short)
+
+      pub refusal-narrow : w < 1 → 35 ≡ windowRefusal b w
+      unfolding windowRefusal wrongWidth
+      refusal-narrow h = rw (fine, lt-ltb w 1 h)
+
+      pub refusal-wide : 1 ≤ w → 256 < w → 35 ≡ windowRefusal b w
+      unfolding windowRefusal wrongWidth
+      refusal-wide h i = rw (fine, le-ltb w 1 h, lt-ltb 256 w i)
+
+      pub refusal-none : 1 ≤ w → w ≤ 256 → 0 ≡ windowRefusal b w
+      unfolding windowRefusal wrongWidth
+      refusal-none h i = rw (fine, le-ltb w 1 h, le-ltb 256 w i)
+
+-- r is the refusal
+module _ (b : List ℕ) (w r : ℕ) (is : r ≡ windowRefusal b w) where
+  pub worst-refused : (r ≡ 0 → ⊥) → record { count = 0; place = 0 } ≡ worstWindow b w
+  unfolding worstWindow
+  worst-refused n = rw (ne-eqb (windowRefusal b w) 0 (λ (e : windowRefusal b w ≡ 0). n (is ∙ e)))
+
+  module _ (zero : r ≡ 0) where
+    accepted : windowRefusal b w ≡ 0
+    accepted = sym is ∙ zero
+
+    -- an accepted list is no longer than it may be
+    pub accepted-short : length b ≤ longest
+    unfolding windowRefusal wrongPart
+    accepted-short =
+        let n : ℕ = length b - 0 in
+        let a = pick-zero (wrongPart b 0 (length b)) 17 (pick (wrongWidth w) 35 0) (omega arith) accepted .0 in
+        let d = or-off (ltb (length b) 0) (ltb (length b) (length b) or not (eqb (n % stepBytes) 0) or ltb longest n) a .1 in
+        let f = or-off (ltb (length b) (length b)) (not (eqb (n % stepBytes) 0) or ltb longest n) d .1 in
+        let g = or-off (not (eqb (n % stepBytes) 0)) (ltb longest n) f .1 in
+        omega (arith, ltb-false longest n g)
+
+    module _ (x : Worst) where
+      pub worst-narrow : stepsIn b < w → x ≡ worstUpTo b (stepsIn b) (stepsIn b - stepsIn b) → x ≡ worstWindow b w
+      unfolding worstWindow worst
+      worst-narrow h e =
+          let z : stepsIn b - stepsIn b ≡ 0 = omega arith in
+          rw (eq-eqb (windowRefusal b w) 0 accepted, length-short w (stepsIn b) h, last-short w (stepsIn b) h) (e ∙ rw z)
+
+      pub worst-wide : w ≤ stepsIn b → x ≡ worstUpTo b w (stepsIn b - w) → x ≡ worstWindow b w
+      unfolding worstWindow worst
+      worst-wide h e = rw (eq-eqb (windowRefusal b w) 0 accepted, length-long w (stepsIn b) h, last-long w (stepsIn b) h) e
+
+-- "An empty list gives count 0 at place 0."
+empty-length : (w : ℕ) → windowLength w 0 ≡ 0
+unfolding windowLength
+empty-length zero = refl
+empty-length (suc w) = rw (lt-ltb 0 (suc w) (omega arith)) refl
+
+pub worst-empty : (w : ℕ) → worst [] w ≡ record { count = 0; place = 0 }
+unfolding worst lastPlace worstUpTo troubles
+worst-empty w = rw (empty-length w) refl

@@ -1,0 +1,59 @@
+-- At each place the count is the fresh one of the window there, and the best is the worst window up to it.
+use Prim.Native.Nat.{_+_, _-_, _≤_}
+use mathlib.Core.Path.{_≡_}
+use native.Mathlib.Omega.{arith}
+use Rattle.window.specs.Window.{troubles, worstUpTo}
+use Rattle.window.proofs.Windows.{troubles-sum, troubles-moved, troubles-left, upTo-first, upTo-more, upTo-end}
+use borrow.Author.Needs.{needs}
+use Rattle.window.proofs.slide.Statement.{statement}
+use Rattle.window.proofs.slide.Tie as tie
+
+abbrev Inv-loop : tie.InvT-loop
+Inv-loop replies width n count₀ best₀ place₀ count best place = (place + width ≤ n) × (count ≡ troubles replies place width) × (best ≡ worstUpTo replies width place)
+
+abbrev μ-loop : tie.MeasureT-loop
+μ-loop replies width n count₀ best₀ place₀ count best place = n - place
+
+loop-holds : tie.Need-loop-holds Inv-loop μ-loop
+loop-holds c = (omega arith, c .first .ensures, upTo-first _ _ _ (c .first .ensures))
+
+trouble-requires : tie.Need-trouble-requires Inv-loop μ-loop
+trouble-requires c κs = omega arith
+
+add-count : tie.Need-add-count Inv-loop μ-loop
+add-count c = let h = troubles-sum _ _ _ _ _ _ (c .before .before .loop .inv .1) (c .trouble .ensures) in search needs
+
+trouble-requires-2 : tie.Need-trouble-requires-2 Inv-loop μ-loop
+trouble-requires-2 c κs = omega arith
+
+sub-count : tie.Need-sub-count Inv-loop μ-loop
+sub-count c = troubles-left _ _ _ _ _ _ (c .before .before .before .loop .inv .1) (c .before .trouble .ensures) (c .trouble2 .ensures)
+
+loop-again : tie.Need-loop-again Inv-loop μ-loop
+loop-again c =
+    let l = c .before .before .before .before .loop in
+    let e = troubles-moved _ _ _ _ _ _ (l .inv .1) (c .before .before .trouble .ensures) (c .before .trouble2 .ensures) in
+    (omega arith, e, upTo-more _ _ _ _ _ _ (l .inv .2) e (c .worse .ensures))
+
+returns : tie.Need-returns Inv-loop μ-loop
+returns c = upTo-end _ _ _ _ _ (c .before .loop .inv .2) (omega arith)
+
+pub slide-spec : {M : Type 1} → statement M
+slide-spec =
+    tie.close
+    (tie.spec
+    Inv-loop
+    μ-loop
+    (λ c κs. search needs)
+    loop-holds
+    (λ c. search needs)
+    (λ c. search needs)
+    trouble-requires
+    add-count
+    trouble-requires-2
+    sub-count
+    (λ c. search needs)
+    (λ c κs. search needs)
+    (λ c. search needs)
+    loop-again
+    returns)
