@@ -1,5 +1,6 @@
 pub mod Accepted
 pub mod Calls
+pub mod Carried
 pub mod Count
 pub mod Demand3
 pub mod Kept
@@ -10,6 +11,7 @@ pub mod LogTrace
 pub mod Messages
 pub mod Model
 pub mod News
+pub mod Onward
 pub mod Opening
 pub mod Plays
 pub mod Promises
@@ -22,6 +24,7 @@ pub mod Seen
 pub mod Sets
 pub mod Sign
 pub mod Signing
+pub mod Stands
 pub mod Step
 pub mod Tables
 pub mod Traces
@@ -33,3 +36,4 @@ pub mod ViewRules
 pub mod ViewSeen
 pub mod ViewState
 pub mod ViewStep
+pub mod Waiting

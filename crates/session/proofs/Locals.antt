@@ -171,7 +171,7 @@ anew-rel now t m g f = record {
     alone u a (in-creation k) = absurd (List·Memᴰ·not-nil k)
     alone u a (in-behaviour k) = absurd (List·Memᴰ·not-nil k)
 
-isNil-true : (s : List ℕ) → isNil s ≡ true → s ≡ []
+pub isNil-true : (s : List ℕ) → isNil s ≡ true → s ≡ []
 isNil-true [] e = refl
 isNil-true (x ∷ s) e = absurd (false≢true e)
 

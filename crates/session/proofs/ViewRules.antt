@@ -305,7 +305,7 @@ module _ {y : Layout} {s : State} (well : WellFormed y s) (g : ℕ) where
     own-is : incarnationOf (ownHistory u (transactorAt s u)) ≡ own u (viewNode (transactorAt s u)) .incarnation
     own-is = ap (λ (m : HistoryView). m .incarnation) (sym (own-view well u))
 
-    entry-test : (entryReady s g u h ≡ true) ↔ EntryReady (view s) (named g) u (viewOf h)
+    pub entry-test : (entryReady s g u h ≡ true) ↔ EntryReady (view s) (named g) u (viewOf h)
     unfolding entryReady view
     entry-test =
         let x : Transactor = transactorAt s u in

@@ -64,7 +64,7 @@ names-test y g bits = (to, of)
         at t false e = refl
 
 -- a frozen take is one of the layout's
-stable-below : {y : Layout} {s : State} → WellFormed y s → (t : ℕ) → own t (viewNode (transactorAt s t)) .stable ≡ true → t < y .transactors
+pub stable-below : {y : Layout} {s : State} → WellFormed y s → (t : ℕ) → own t (viewNode (transactorAt s t)) .stable ≡ true → t < y .transactors
 stable-below {y} well t e = ⊎-elim
     (λ h. h)
     (λ h. absurd (false≢true (

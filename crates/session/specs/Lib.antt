@@ -7,3 +7,4 @@ pub mod Stabilized
 pub mod Trace
 pub mod Count
 pub mod Related
+pub mod Waiting

@@ -1,0 +1,338 @@
+-- Document 02, W14, "Nothing lost by waiting": the fact to show first, and that a volume that is ready stays so.
+use Prim.Native.Nat.{ℕ, zero, suc, _-_, _≤_, _<_}
+use mathlib.Core.Bool.{Bool, true, false, not, false≢true}
+use mathlib.Core.Path.{_≡_, refl, ap, sym, _∙_, subst}
+use mathlib.Core.List.{List}
+use mathlib.Core.Logic.{_⊎_, inl, inr, _↔_}
+use mathlib.Core.Option.{none, some}
+use native.Mathlib.Decide.{ℕ-discrete}
+use native.Mathlib.Omega.{arith}
+use lib.Dec.{eqb}
+use Rattle.octets.specs.Bytes.{pick, _and_, part, Octets}
+use Rattle.octets.specs.Numbers.{bound}
+use Rattle.octets.proofs.Put.{octets-part}
+use Rattle.marks.specs.History.{HistoryView}
+use Rattle.maps.specs.declared.DependenceMap.{DependenceMap}
+use Rattle.maps.specs.Map.{heldAt, historyAt}
+use Rattle.maps.specs.Internal.View.{mapView, SupersededView}
+use Rattle.maps.proofs.View.{view-some}
+use Rattle.rules.specs.Layout.{Layout, Limits, Fitting, Allowed, base, standard}
+use Rattle.rules.specs.State.{Message, State, transactorAt, messageAt, placeOf}
+use Rattle.rules.specs.declared.Step.{Step}
+use Rattle.rules.specs.declared.Reply.{Reply}
+use Rattle.rules.specs.Step.{stepAt, receive, sign, done, notReady}
+use Rattle.rules.specs.Refusals.{Seen, groupBits, named, malformed, notWaiting, emptyGroup, unopened, isGone, wrongStatus, unrelatedReceipt, allOpened, allWaiting, allNumbered, allCheckpointed, atLast, lastRollsBack, refusalOf}
+use Rattle.rules.specs.Rules.{Effect, Result, entryReady, messageSuperseded, receiptRollsBack, receiveBy, seen, refusal, applyReceive, apply, stepOf}
+use Rattle.rules.specs.Groups as groups
+use Rattle.rules.specs.Pack.{unpack}
+use Rattle.rules.specs.Calls.{stateAfter, stepsIn, runAnswer, ranImage, runImage}
+use Rattle.rules.specs.Internal.Well.{StepOk, WellFormed}
+use Rattle.rules.proofs.ByKind.Applied.{applies}
+use Rattle.rules.proofs.Pack.RoundTrip.{unpack-pack}
+use Rattle.rules.proofs.Keep.Run.{stepOk-at}
+use Rattle.rules.proofs.Keep.Step.{refused-same, applied-same, keeps, keeps-after, fitting-base, allowed-standard}
+use Rattle.session.specs.Provenance.{ready, Live, Holder, Provenance}
+use Rattle.session.specs.Grounds.{Equal}
+use Rattle.session.specs.Steps.{provenanceRefusal, signing}
+use Rattle.session.specs.Fed.{Call}
+use Rattle.session.specs.Trace.{Answer, Performed, beginning, running, offering, naming, hearing, showing, Trace, called, SigningRight, checkpointed, uncheckpointed, StepRight}
+use Rattle.session.specs.Waiting.{ReadyGroup, Grounded, Falls, falls-back, vanishes, falls-last, Stands, NoSigning, Waits, Waiting, none, one-more}
+use Rattle.session.proofs.Model.{MessageView, own, findMessage, knownMap, view}
+use Rattle.session.proofs.Tables.{pick-view}
+use Rattle.session.proofs.Relation.{live-or-not, present, Rel, own-history}
+use Rattle.session.proofs.Accepted.{named-live}
+use Rattle.session.proofs.Sign.{EntryReady, Ready, ready-live, equal-ready}
+use Rattle.session.proofs.ViewState.{own-view, view-find}
+use Rattle.session.proofs.ViewRules.{rolledBackAt, rolledBack-test, entry-test}
+use Rattle.session.proofs.ViewStep.{stable-below, state-kept}
+use Rattle.session.proofs.Step.{step-right}
+use Rattle.session.proofs.Run.{Ran, run-right}
+use Rattle.session.proofs.Demand3.{grown}
+use Rattle.session.proofs.Stands.{stands, With, with-exists, rule-with}
+use Rattle.session.proofs.Carried.{Signs, signs-on, rule-on}
+
+-- ---- what a receipt replies that makes nobody fall
+
+module _ (x : ℕ) (free : 0 ≡ x → ⊥) (others : (n : ℕ) → 20 ≤ n → (n ≡ 28 → ⊥) → n ≡ x → ⊥) where
+  other : (c : Bool) (n r : ℕ) → 20 ≤ n → (n ≡ 28 → ⊥) → (r ≡ x → ⊥) → pick c n r ≡ x → ⊥
+  other true n r h k i = others n h k
+  other false n r h k i = i
+
+  refusal-else : (m : Limits) (w : Seen) (p : Step) → lastRollsBack m w p ≡ false → refusalOf m w p ≡ x → ⊥
+  unfolding refusalOf
+  refusal-else m w p e =
+      other (malformed p) 20 _ (omega arith) (omega arith)
+      (other (notWaiting w p) 24 _ (omega arith) (omega arith)
+      (other (emptyGroup p) 29 _ (omega arith) (omega arith)
+      (other (unopened w p) 21 _ (omega arith) (omega arith)
+      (other (isGone w p) 22 _ (omega arith) (omega arith)
+      (other (wrongStatus w p) 23 _ (omega arith) (omega arith)
+      (other (unrelatedReceipt w p) 31 _ (omega arith) (omega arith)
+      (other (allOpened m w p) 25 _ (omega arith) (omega arith)
+      (other (allWaiting m w p) 26 _ (omega arith) (omega arith)
+      (other (allNumbered w p) 27 _ (omega arith) (omega arith)
+      (other (allCheckpointed m w p) 30 _ (omega arith) (omega arith)
+      (last (lastRollsBack m w p) e)))))))))))
+    where
+      last : (c : Bool) → c ≡ false → pick c 28 0 ≡ x → ⊥
+      last c f = rw f free
+
+falls-no-refusal : {x : ℕ} → Falls x → (m : Limits) (w : Seen) (p : Step) → lastRollsBack m w p ≡ false → refusalOf m w p ≡ x → ⊥
+falls-no-refusal falls-back = refusal-else 3 (λ e. omega arith) (λ n h k e. omega arith)
+falls-no-refusal vanishes = refusal-else 4 (λ e. omega arith) (λ n h k e. omega arith)
+falls-no-refusal falls-last = refusal-else 28 (λ e. omega arith) (λ n h k e. k e)
+
+falls-high : {x : ℕ} → Falls x → 3 ≤ x
+falls-high falls-back = omega arith
+falls-high vanishes = omega arith
+falls-high falls-last = omega arith
+
+module _ (y : Layout) (m : Limits) (s : State) (p : Step) (k : p .kind ≡ receive) (e : rolledBackAt y s (p .message) ≡ false) where
+  -- 28 asks for a fall
+  no-28 : lastRollsBack m (seen y s) p ≡ false
+  unfolding lastRollsBack seen receiptRollsBack rolledBackAt
+  no-28 =
+      let q : Message = messageAt s (placeOf s (p .message)) in
+      rw (k, e) (go (not (messageSuperseded y (transactorAt s (q .addressee)) q)) (atLast m (seen y s) (q .addressee)))
+    where
+      go : (c d : Bool) → (c and false) and d ≡ false
+      go true d = refl
+      go false d = refl
+
+  accepted-low : apply y s p .reply .outcome ≤ 2
+  unfolding applyReceive receiveBy rolledBackAt
+  accepted-low = rw (applies y s p .receive k, e) (pick-view (λ (x : Effect). x .outcome ≤ 2)
+      (messageSuperseded y (transactorAt s (messageAt s (placeOf s (p .message)) .addressee)) (messageAt s (placeOf s (p .message)))) _ _ (λ f. omega arith) (λ f. omega arith))
+
+  receipt-stands : Falls (stepOf y m s p .reply .outcome) → ⊥
+  unfolding refusal
+  receipt-stands f = go (ℕ-discrete (refusal y m s p) 0)
+    where
+      go : Dec (refusal y m s p ≡ 0) → ⊥
+      go (yes q) = omega (arith, falls-high f, accepted-low, ap (λ (x : Result). x .reply .outcome) (applied-same y m s p q))
+      go (no n) = falls-no-refusal f m (seen y s) p no-28 (sym (ap (λ (x : Result). x .reply .outcome) (refused-same y m s p n)))
+
+-- ---- states beside a book
+
+module _ {y : Layout} {m : Limits} (z : Fitting y) (l : Allowed y m) {s : State} (well : WellFormed y s) {b : Provenance} (r : Rel (view s) b) where
+  module _ (v : ℕ) (bits : v < bound 2) where
+    signing-ok : StepOk (groups.signing v)
+    unfolding bound
+    signing-ok = record { kind = omega arith; transactor = omega arith; other = omega arith; zero = omega arith; message = bits; value = omega arith }
+
+    -- the signing of volume v would reply 0 exactly if the book signs it
+    signs-exactly : (stepOf y m s (groups.signing v) .reply .outcome ≡ done) ↔ Signs m b v
+    signs-exactly = (λ e. to e (ℕ-discrete (provenanceRefusal m b (groups.signing v)) 0), λ k. of (k .same) (right .signing (k .zero) refl))
+      where
+        right : StepRight y m s b (groups.signing v) (step-right z l well r signing-ok .after)
+        right = step-right z l well r signing-ok .right
+
+        to : stepOf y m s (groups.signing v) .reply .outcome ≡ done → Dec (provenanceRefusal m b (groups.signing v) ≡ 0) → Signs m b v
+        to e (no n) = absurd (n (sym (ap (λ (x : Reply). x .outcome) (right .refused n .0)) ∙ e))
+        to e (yes q) = go (right .signing q refl)
+          where
+            go : SigningRight y m s b (groups.signing v) → Signs m b v
+            go (checkpointed k f g) = record { zero = q; same = k }
+            go (uncheckpointed k f g) = let h : _≡_ {A = ℕ} notReady done = sym (ap (λ (x : Reply). x .outcome) f) ∙ e in absurd (omega arith)
+
+        of : Equal b v → SigningRight y m s b (groups.signing v) → stepOf y m s (groups.signing v) .reply .outcome ≡ done
+        of k (checkpointed q f g) = ap (λ (x : Reply). x .outcome) f
+        of k (uncheckpointed n f g) = absurd (n k)
+
+module _ {y : Layout} {m : Limits} (z : Fitting y) (l : Allowed y m) {s : State} (well : WellFormed y s) {b : Provenance} (r : Rel (view s) b) where
+  ready-on : {p : Step} → StepOk p → (p .kind ≡ sign → ⊥) → {v : ℕ} → ReadyGroup y m s v → ReadyGroup y m (stepOf y m s p .state) v
+  ready-on {p} fits other {v} before =
+      let k = state-kept well m r l p (fits .message) in
+      let now = signs-exactly z l well r v (before .bits) .0 (before .signs) in
+      let after = signs-on (view s) b r m v (before .bits) now (view (stepOf y m s p .state)) (k .rel) p other (k .step) in
+      record { bits = before .bits; signs = signs-exactly z l (keeps z l well fits) (k .rel) v (before .bits) .1 after }
+
+  -- meeting the signing rule stays too, whatever the refusals
+  rule-stays : (v : ℕ) {p : Step} → StepOk p → (p .kind ≡ sign → ⊥) → Ready (view s) (named v) → Ready (view (stepOf y m s p .state)) (named v)
+  rule-stays v {p} fits other now =
+      let k = state-kept well m r l p (fits .message) in
+      rule-on (view s) b r m v now (view (stepOf y m s p .state)) (k .rel) p other (k .step)
+
+  ready-rule : {v : ℕ} → ReadyGroup y m s v → Ready (view s) (named v)
+  ready-rule {v} before =
+      let k = signs-exactly z l well r v (before .bits) .0 (before .signs) in
+      equal-ready (view s) b r v (named-live (view s) b r m (groups.signing v) (k .zero) refl (before .bits)) (k .same)
+
+  -- parcel n shows take t, its addressee, no fall
+  unshown : (t n : ℕ) → messageAt s (placeOf s n) .addressee ≡ t → (SupersededView (knownMap (view s .nodes t)) (findMessage n (view s .messages) .dependences) → ⊥) → rolledBackAt y s n ≡ false
+  unshown t n e f = go (rolledBackAt y s n) refl
+    where
+      go : (c : Bool) → rolledBackAt y s n ≡ c → c ≡ false
+      go false q = refl
+      go true q = absurd (f (subst (λ u. SupersededView (knownMap (view s .nodes u)) (findMessage n (view s .messages) .dependences)) (ap (λ (x : MessageView). x .addressee) (view-find s n) ∙ e) (rolledBack-test well n .0 q)))
+
+  -- to a named take of a volume that meets the rule
+  rule-stands : (v : ℕ) → Ready (view s) (named v) → (t : ℕ) → named v t ≡ true → Stands y m s t
+  rule-stands v rule t k p kind e = receipt-stands y m s p kind (unshown t (p .message) e
+      (stands (view s) b r (named v) t (ready-live (view s) b r v rule t k) (λ u x q. rule .state t k u x) (λ u x q. rule .creation t k u x) (p .message)))
+
+  -- ---- the fact, in a state
+
+  module _ {v t : ℕ} (g : Grounded s v t) where
+    passes : (N : DependenceMap) → ((u : ℕ) → (u ≡ t → ⊥) → heldAt N u ≡ true → entryReady s v u (historyAt N u) ≡ true)
+        → (u : ℕ) (x : HistoryView) → (u ≡ t → ⊥) → mapView N u ≡ some x → EntryReady (view s) (named v) u x
+    passes N f u x n e = let p = view-some N u x e in rw (p .1) (entry-test well v u (historyAt N u) .0 (f u n (p .0)))
+
+    -- a frozen take is live: of any other the own mark is the opening one
+    grounded-live : Live (b .holders t .status)
+    unfolding view
+    grounded-live = go (live-or-not (b .holders t .status))
+      where
+        go : Live (b .holders t .status) ⊎ (Live (b .holders t .status) → ⊥) → Live (b .holders t .status)
+        go (inl k) = k
+        go (inr k) = absurd (false≢true (sym (ap (λ (h : Holder). h .history .stable) (r .holders t .gone k)) ∙ sym (ap (λ (x : HistoryView). x .stable) (own-history (r .holders t))) ∙ ap (λ (x : HistoryView). x .stable) (own-view well t) ∙ g .stable))
+
+    no-message : (n : ℕ) → SupersededView (knownMap (view s .nodes t)) (findMessage n (view s .messages) .dependences) → ⊥
+    unfolding view
+    no-message = stands (view s) b r (named v) t grounded-live (passes (transactorAt s t .state) (g .state)) (passes (transactorAt s t .creation) (g .creation))
+
+    grounded-stands : Stands y m s t
+    grounded-stands p k e = receipt-stands y m s p k (unshown t (p .message) e (no-message (p .message)))
+
+    -- with a ready volume: the volume with this take meets the rule
+    grounded-with : v < bound 2 → Ready (view s) (named v) → (g : ℕ) × With v t g × Ready (view s) (named g)
+    unfolding view
+    grounded-with bits rule =
+        let still = ap (λ (x : HistoryView). x .stable) (own-view well t) ∙ g .stable in
+        let below : t < groupBits = omega (arith, z .transactors, stable-below well t still) in
+        let w = with-exists v t bits below in (
+          w .0,
+          w .1,
+          rule-with (view s) b r v t (w .0) (w .1) rule grounded-live still
+              (passes (transactorAt s t .state) (g .state)) (passes (transactorAt s t .creation) (g .creation)),
+        )
+
+-- ---- every session
+
+module _ (y : Layout) (m : Limits) (z : Fitting y) (l : Allowed y m) {img : List ℕ} (τ : Trace y m img) where
+  module _ (steps : List ℕ) (octets : Octets steps) where
+    abbrev after : ℕ → State
+    after i = stateAfter y m (unpack y img) steps i
+
+    well-after : (i : ℕ) → WellFormed y (stateAfter y m (unpack y img) steps i)
+    well-after = keeps-after z l (grown z l τ .holds .well) steps octets
+
+    ran : (i : ℕ) → Ran y m (unpack y img) (grown z l τ .provenance) steps i
+    ran = run-right z l (grown z l τ .holds .well) (grown z l τ .holds .rel) steps octets
+
+    -- what each step that is no signing keeps holds after all of them
+    keep-on : (P : State → Type 0) → ((i : ℕ) → (stepAt steps i .kind ≡ sign → ⊥) → P (after i) → P (after (suc i))) → (i j : ℕ) → i ≤ j → NoSigning steps i j → P (after i) → P (after j)
+    keep-on P next i j h others now = go j h others
+      where
+        go : (k : ℕ) → i ≤ k → NoSigning steps i k → P (after k)
+        go zero e f = let q : i ≡ 0 = omega arith in subst (λ (n : ℕ). P (after n)) q now
+        go (suc k) e f = at (ℕ-discrete i (suc k)) (λ (h : i ≤ k). go k h (λ n a c. f n a (omega arith)))
+          where
+            at : Dec (i ≡ suc k) → (i ≤ k → P (after k)) → P (after (suc k))
+            at (yes q) g = subst (λ (n : ℕ). P (after n)) q now
+            at (no n) g = next k (f k (omega arith) (omega arith)) (g (omega arith))
+
+    rule-after : (i j v : ℕ) → i ≤ j → NoSigning steps i j → Ready (view (stateAfter y m (unpack y img) steps i)) (named v) → Ready (view (stateAfter y m (unpack y img) steps j)) (named v)
+    unfolding stateAfter
+    rule-after i j v h others = keep-on (λ s. Ready (view s) (named v)) (λ k other. rule-stays z l (well-after k) (ran k .rel) v (stepOk-at steps octets k) other) i j h others
+
+    -- "A frozen take whose marks in state and creation, its own apart, are all of signed lives or of present lives of takes in the ready
+    -- volume can't be made to fall by any parcel of that session, and that is the fact to show first." For every layout whose counts fit
+    -- their fields, all limits that the layout can hold, every trace, and after each step of whatever part comes next; the volume
+    -- need not be ready for this.
+    pub cannot-fall : (i v t : ℕ) → Grounded (stateAfter y m (unpack y img) steps i) v t → Stands y m (stateAfter y m (unpack y img) steps i) t
+    cannot-fall i v t g p k e =
+        let r = ran i in
+        grounded-stands z l (well-after i) (r .rel) g p k e
+
+    -- And it stays so as long as nothing is signed: with the volume ready, no parcel makes it fall that is sent later either.
+    pub never-falls : (i j v t : ℕ) → i ≤ j → NoSigning steps i j → ReadyGroup y m (stateAfter y m (unpack y img) steps i) v → Grounded (stateAfter y m (unpack y img) steps i) v t
+        → Stands y m (stateAfter y m (unpack y img) steps j) t
+    never-falls i j v t h others before g =
+        let r = ran i in
+        let w = grounded-with z l (well-after i) (r .rel) g (before .bits) (ready-rule z l (well-after i) (r .rel) before) in
+        rule-stands z l (well-after j) (ran j .rel) (w .0) (rule-after i j (w .0) h others (w .2)) t (w .1 .own)
+
+    -- For a volume that is ready, and where "the next step is no signing, it must still be ready afterwards", refused or not.
+    pub still-ready : (i v : ℕ) → ReadyGroup y m (stateAfter y m (unpack y img) steps i) v → (stepAt steps i .kind ≡ sign → ⊥) → ReadyGroup y m (stateAfter y m (unpack y img) steps (suc i)) v
+    unfolding stateAfter
+    still-ready i v before other =
+        let r = ran i in
+        ready-on z l (well-after i) (r .rel) (stepOk-at steps octets i) other before
+
+    -- The same over any steps of a part, from i up to j, without a signing.
+    pub still-ready-steps : (i j v : ℕ) → i ≤ j → NoSigning steps i j → ReadyGroup y m (stateAfter y m (unpack y img) steps i) v → ReadyGroup y m (stateAfter y m (unpack y img) steps j) v
+    still-ready-steps i j v h others before = keep-on (λ s. ReadyGroup y m s v) (λ k other now. still-ready k v now other) i j h others before
+
+module _ (y : Layout) (m : Limits) (z : Fitting y) (l : Allowed y m) where
+  on-trace : {img after : List ℕ} → Trace y m img → Waiting y m img after → Trace y m after
+  on-trace τ none = τ
+  on-trace τ (one-more {c = c} {a = a} k w p) = called (on-trace τ k) c a p
+
+  -- what every part without a signing keeps, in every session, is kept by calls that sign nothing, refused ones included
+  module _ (P : State → Type 0)
+      (part-keeps : (img : List ℕ) → Trace y m img → (b : List ℕ) → Octets b → NoSigning b 0 (stepsIn b) → P (stateAfter y m (unpack y img) b 0) → P (stateAfter y m (unpack y img) b (stepsIn b))) where
+    run-keeps : {img : List ℕ} → Trace y m img → (list : List ℕ) → Octets list → (start end : ℕ) (lent : List ℕ) → NoSigning (part start (end - start) list) 0 (stepsIn (part start (end - start) list))
+        → P (unpack y img) → P (unpack y (runImage y m img list start end lent))
+    unfolding runImage ranImage stateAfter
+    run-keeps {img} τ list o start end lent f before = pick-view (λ (i : List ℕ). P (unpack y i)) (eqb (runAnswer y img list start end lent) 0) _ img
+        (λ e. rw (unpack-pack y (stateAfter y m (unpack y img) b n) (keeps-after z l (grown z l τ .holds .well) b octets n .packable)) (part-keeps img τ b octets f before))
+        (λ e. before)
+      where
+        b : List ℕ
+        b = part start (end - start) list
+
+        n : ℕ
+        n = stepsIn b
+
+        octets : Octets b
+        octets = octets-part start (end - start) list o
+
+    call-keeps : {img after : List ℕ} {c : Call} {a : Answer} → Trace y m img → Waits c → Performed y m img c a after → P (unpack y img) → P (unpack y after)
+    call-keeps τ f (running {list} {o} {start} {end} {replies}) before = run-keeps τ list o start end replies f before
+    call-keeps τ w beginning before = absurd w
+    call-keeps τ w (offering q) before = before
+    call-keeps τ w (naming q) before = before
+    call-keeps τ w hearing before = before
+    call-keeps τ w showing before = before
+
+    calls-keep : {img after : List ℕ} → Trace y m img → Waiting y m img after → P (unpack y img) → P (unpack y after)
+    calls-keep τ none before = before
+    calls-keep τ (one-more k w p) before = call-keeps (on-trace τ k) w p (calls-keep τ k before)
+
+  -- The same over any list of calls that sign nothing: runs without a signing, offers, shows and queries, refused ones included.
+  pub still-ready-calls : {img after : List ℕ} → Trace y m img → Waiting y m img after → (v : ℕ) → ReadyGroup y m (unpack y img) v → ReadyGroup y m (unpack y after) v
+  still-ready-calls τ k v = calls-keep (λ s. ReadyGroup y m s v) (λ i σ b o f. still-ready-steps y m z l σ b o 0 (stepsIn b) v (omega arith) f) τ k
+
+  -- And of the fact: no parcel that such calls send makes the take fall.
+  pub never-falls-calls : {img after : List ℕ} → Trace y m img → Waiting y m img after → (v t : ℕ) → ReadyGroup y m (unpack y img) v → Grounded (unpack y img) v t → Stands y m (unpack y after) t
+  never-falls-calls τ k v t before g p =
+      let r = grown z l τ in
+      let q = grown z l (on-trace τ k) in
+      let w = grounded-with z l (r .holds .well) (r .holds .rel) g (before .bits) (ready-rule z l (r .holds .well) (r .holds .rel) before) in
+      rule-stands z l (q .holds .well) (q .holds .rel) (w .0)
+      (calls-keep (λ s. Ready (view s) (named (w .0))) (λ i σ b o f. rule-after y m z l σ b o 0 (stepsIn b) (w .0) (omega arith) f) τ k (w .2)) t (w .1 .own) p
+
+-- At document 01's own layout and limits: no hypothesis but the trace.
+module _ {img : List ℕ} (τ : Trace base standard img) where
+  pub cannot-fall-base : (steps : List ℕ) → Octets steps → (i v t : ℕ) → Grounded (stateAfter base standard (unpack base img) steps i) v t → Stands base standard (stateAfter base standard (unpack base img) steps i) t
+  cannot-fall-base = cannot-fall base standard fitting-base allowed-standard τ
+
+  pub never-falls-base : (steps : List ℕ) → Octets steps → (i j v t : ℕ) → i ≤ j → NoSigning steps i j → ReadyGroup base standard (stateAfter base standard (unpack base img) steps i) v
+      → Grounded (stateAfter base standard (unpack base img) steps i) v t → Stands base standard (stateAfter base standard (unpack base img) steps j) t
+  never-falls-base = never-falls base standard fitting-base allowed-standard τ
+
+  pub still-ready-base : (steps : List ℕ) → Octets steps → (i v : ℕ) → ReadyGroup base standard (stateAfter base standard (unpack base img) steps i) v
+      → (stepAt steps i .kind ≡ sign → ⊥) → ReadyGroup base standard (stateAfter base standard (unpack base img) steps (suc i)) v
+  still-ready-base = still-ready base standard fitting-base allowed-standard τ
+
+  pub still-ready-steps-base : (steps : List ℕ) → Octets steps → (i j v : ℕ) → i ≤ j → NoSigning steps i j → ReadyGroup base standard (stateAfter base standard (unpack base img) steps i) v
+      → ReadyGroup base standard (stateAfter base standard (unpack base img) steps j) v
+  still-ready-steps-base = still-ready-steps base standard fitting-base allowed-standard τ
+
+  pub never-falls-calls-base : {after : List ℕ} → Waiting base standard img after → (v t : ℕ) → ReadyGroup base standard (unpack base img) v → Grounded (unpack base img) v t
+      → Stands base standard (unpack base after) t
+  never-falls-calls-base = never-falls-calls base standard fitting-base allowed-standard τ
+
+  pub still-ready-calls-base : {after : List ℕ} → Waiting base standard img after → (v : ℕ) → ReadyGroup base standard (unpack base img) v → ReadyGroup base standard (unpack base after) v
+  still-ready-calls-base = still-ready-calls base standard fitting-base allowed-standard τ

@@ -1,0 +1,62 @@
+-- Document 02, W14, "Nothing lost by waiting": "For a session grown from fresh, if a volume is ready, and the next step is no signing,
+-- it must still be ready afterwards."
+use Prim.Native.Nat.{ℕ, _-_, _≤_, _<_}
+use mathlib.Core.Bool.{true}
+use mathlib.Core.Path.{_≡_}
+use mathlib.Core.List.{List}
+use Rattle.octets.specs.Bytes.{part, Octets}
+use Rattle.octets.specs.Numbers.{bound}
+use Rattle.maps.specs.Map.{heldAt, historyAt}
+use Rattle.rules.specs.Layout.{Layout, Limits}
+use Rattle.rules.specs.State.{State, transactorAt, messageAt, ownHistory, placeOf}
+use Rattle.rules.specs.declared.Step.{Step}
+use Rattle.rules.specs.Step.{stepAt, receive, sign, done, fallenBack, vanished}
+use Rattle.rules.specs.Rules.{entryReady, stepOf}
+use Rattle.rules.specs.Groups.{signing}
+use Rattle.rules.specs.Calls.{stepsIn}
+use Rattle.session.specs.Fed.{Call, begin, run, offer, smallest, heard, show}
+use Rattle.session.specs.Trace.{Answer, Performed}
+
+-- volume v is ready: the step that signs it would reply 0
+pub record ReadyGroup (y : Layout) (m : Limits) (s : State) (v : ℕ) : Type 0 where
+  pub bits : v < bound 2
+  pub signs : stepOf y m s (signing v) .reply .outcome ≡ done
+
+-- ---- the fact to show first
+
+-- "A frozen take whose marks in state and creation, its own apart, are all of signed lives or of present lives of takes in the ready
+-- volume": take t, which need not be in volume v. Each mark of another take u passes the signing rule's own test.
+pub record Grounded (s : State) (v t : ℕ) : Type 0 where
+  pub stable : ownHistory t (transactorAt s t) .stable ≡ true
+  pub state : (u : ℕ) → (u ≡ t → ⊥) → heldAt (transactorAt s t .state) u ≡ true → entryReady s v u (historyAt (transactorAt s t .state) u) ≡ true
+  pub creation : (u : ℕ) → (u ≡ t → ⊥) → heldAt (transactorAt s t .creation) u ≡ true → entryReady s v u (historyAt (transactorAt s t .creation) u) ≡ true
+
+-- the replies to a receipt by which the addressee falls: outcomes 3 and 4; and 28, where it would fall from the largest life number
+pub data Falls : ℕ → Type 0 where
+  falls-back : Falls fallenBack
+  vanishes : Falls vanished
+  falls-last : Falls 28
+
+-- "can't be made to fall by any parcel of that session": no receipt of a parcel addressed to take t has such a reply
+abbrev pub Stands : Layout → Limits → State → ℕ → Type 0
+Stands y m s t = (p : Step) → p .kind ≡ receive → messageAt s (placeOf s (p .message)) .addressee ≡ t → Falls (stepOf y m s p .reply .outcome) → ⊥
+
+-- ---- lists of steps and of calls without a signing
+
+-- none of the steps i up to j of a part is a signing
+abbrev pub NoSigning : List ℕ → ℕ → ℕ → Type 0
+NoSigning steps i j = (k : ℕ) → i ≤ k → k < j → stepAt steps k .kind ≡ sign → ⊥
+
+-- a call that signs nothing: a run without a signing, or one that only reads; a begin is not among them, since it is a new session
+abbrev pub Waits : Call → Type 0
+Waits begin = ⊥
+Waits (run list o start end lent) = NoSigning (part start (end - start) list) 0 (stepsIn (part start (end - start) list))
+Waits (offer t) = Unit
+Waits (smallest t) = Unit
+Waits (heard t) = Unit
+Waits (show n) = Unit
+
+-- such calls, one after the other, from the image img to the one after them
+pub data Waiting (y : Layout) (m : Limits) (img : List ℕ) : List ℕ → Type 0 where
+  none : Waiting y m img img
+  one-more : {now after : List ℕ} {c : Call} {a : Answer} → Waiting y m img now → Waits c → Performed y m now c a after → Waiting y m img after
