@@ -20,14 +20,15 @@ extern "C" {
 #endif
 
 enum {
-    LEDGER_IMAGE = 42612,  /* bytes of an image */
+    LEDGER_IMAGE = 42616,  /* bytes of an image */
     LEDGER_OLD_IMAGE = 22132, /* bytes of an image of the old form, with incarnation numbers of one byte */
     LEDGER_STEP = 8,       /* bytes of a step, and of a reply */
     LEDGER_LONGEST = 8192, /* bytes of a run's longest part */
     LEDGER_MAP = 528,      /* bytes of a map */
     LEDGER_HISTORY = 33,   /* bytes of a history */
-    LEDGER_TRANSACTORS = 16,
+    LEDGER_TRANSACTORS = 16, /* the greatest limits of a session */
     LEDGER_MESSAGES = 32,
+    LEDGER_CHECKPOINTS = 15,
     LEDGER_NONE = 65535    /* stands for no message: numbers run 0 to 65,534 */
 };
 
@@ -67,15 +68,17 @@ enum ledger_outcome {
     LEDGER_GONE = 22,         /* acting, receiving or named transactor annihilated */
     LEDGER_WRONG_STATUS = 23, /* receive when not ready; kinds 3 to 9 when not busy */
     LEDGER_NOT_WAITING = 24,  /* message not waiting */
-    LEDGER_ALL_OPENED = 25,   /* sixteen transactors opened */
-    LEDGER_ALL_WAITING = 26,  /* 32 messages waiting */
+    LEDGER_ALL_OPENED = 25,   /* as many transactors opened as the session's limit */
+    LEDGER_ALL_WAITING = 26,  /* as many messages waiting as the session's limit */
     LEDGER_ALL_NUMBERED = 27, /* next message number is 65,535 */
     LEDGER_LAST_INCARNATION = 28, /* a checkpointed transactor would fall from incarnation 65,535 */
     LEDGER_EMPTY_GROUP = 29,  /* group empty */
-    LEDGER_ALL_CHECKPOINTED = 30, /* a named transactor has 15 checkpoints */
+    LEDGER_ALL_CHECKPOINTED = 30, /* a named transactor has as many checkpoints as the session's limit */
     LEDGER_UNRELATED = 31,    /* receive: histories of one transactor from two different sessions */
     /* conversion back */
-    LEDGER_TOO_WIDE = 32,     /* an incarnation number or an entry of a list is over 255 */
+    LEDGER_TOO_WIDE = 32,     /* an incarnation number or an entry of a list is over 255, or the limits are not 16, 32 and 15 */
+    /* begin, after 16 */
+    LEDGER_OUT_OF_RANGE = 33, /* a limit out of range */
     /* worst window, beside 17 */
     LEDGER_WRONG_WIDTH = 35   /* width outside 1 to 256 */
 };
@@ -92,9 +95,10 @@ struct ledger_window {
     size_t place;
 };
 
-/* Begins a fresh session: the image is all zero bytes, whatever it held, and the answer is 0.
- * 16: no byte is changed. */
-uint8_t ledger_begin(uint8_t *image, size_t image_length);
+/* Begins a fresh session, which opens at most so many transactors (1 to 16), has at most so many messages waiting (1 to 32) and
+ * checkpoints a transactor at most so often (1 to 15): the image is all zero bytes but for these limits, whatever it held, and the answer
+ * is 0. 16, 33: no byte is changed. */
+uint8_t ledger_begin(uint8_t *image, size_t image_length, size_t transactors, size_t messages, size_t checkpoints);
 
 /* Runs the steps of list from byte start up to byte end, writes a reply of 8 bytes for each, leaves the image as the rules give
  * it, and answers 0, whatever the steps reply: 20 to 31 are replies, and the list goes on. 16 to 19: no byte is changed. */
@@ -118,7 +122,7 @@ uint8_t ledger_all_heard_stable(const uint8_t *image, size_t image_length, size_
  * Refused with 16, 19 or 24, which is put in *refusal: offset and length are 0. */
 struct ledger_part ledger_show(const uint8_t *image, size_t image_length, uint16_t number, uint8_t *refusal);
 
-/* Writes source, an image of the old form, in target as one that the other calls take, and answers 0.
+/* Writes source, an image of the old form, in target as one that the other calls take, with the limits 16, 32 and 15, and answers 0.
  * Refused with 16 (source not LEDGER_OLD_IMAGE bytes, or target not LEDGER_IMAGE) or 19 (source ill-formed): no byte is changed.
  * Needs some 43 kilobytes of stack. */
 uint8_t ledger_forward(const uint8_t *source, size_t source_length, uint8_t *target, size_t target_length);

@@ -1,11 +1,14 @@
 //! Conversions between the old form of an image, 22,132 bytes, and the ledger's, written from documents 01 and 02 alone. The old form
 //! is tested where it stands.
 
-use crate::ledger::{self, IMAGE, MAP, PARCELS, TAKES};
+use crate::ledger::{self, IMAGE, MAP, PARCELS, SIGNINGS, TAKES};
 
 pub const OLD_IMAGE: usize = 22_132;
 
 const HEAD: usize = 4;
+/// What follows the head in the new form, and in every new image that has an old form.
+const LIMITS: [u8; 4] = [TAKES as u8, PARCELS as u8, SIGNINGS as u8, 0];
+const START: usize = HEAD + LIMITS.len();
 /// The fields in front of a take's maps, and of a parcel's.
 const TAKE_FRONT: usize = 9;
 const PARCEL_FRONT: usize = 7;
@@ -19,7 +22,7 @@ const OLD_PARCEL: usize = PARCEL_FRONT + OLD_MAP;
 const PARCEL: usize = PARCEL_FRONT + MAP;
 
 const _: () = assert!(HEAD + TAKES * OLD_TAKE + PARCELS * OLD_PARCEL == OLD_IMAGE);
-const _: () = assert!(HEAD + TAKES * TAKE + PARCELS * PARCEL == IMAGE && TAKES * MARK == MAP);
+const _: () = assert!(START + TAKES * TAKE + PARCELS * PARCEL == IMAGE && TAKES * MARK == MAP);
 
 fn zero(part: &[u8]) -> bool {
     part.iter().fold(0, |a, b| a | b) == 0
@@ -129,8 +132,9 @@ pub fn forward(old: &[u8], new: &mut [u8]) -> u8 {
         return 19;
     }
     new[..HEAD].copy_from_slice(&old[..HEAD]);
+    new[HEAD..START].copy_from_slice(&LIMITS);
     let (old_takes, old_parcels) = old[HEAD..].split_at(TAKES * OLD_TAKE);
-    let (takes, parcels) = new[HEAD..].split_at_mut(TAKES * TAKE);
+    let (takes, parcels) = new[START..].split_at_mut(TAKES * TAKE);
     for (a, b) in old_takes.chunks_exact(OLD_TAKE).zip(takes.chunks_exact_mut(TAKE)) {
         widen(a, b, TAKE_FRONT);
     }
@@ -147,8 +151,9 @@ pub fn back(new: &[u8], old: &mut [u8]) -> u8 {
     if !ledger::formed(new) {
         return 19;
     }
-    let (takes, parcels) = new[HEAD..].split_at(TAKES * TAKE);
-    if takes.chunks_exact(TAKE).any(|t| over(t, TAKE_FRONT))
+    let (takes, parcels) = new[START..].split_at(TAKES * TAKE);
+    if new[HEAD..START] != LIMITS
+        || takes.chunks_exact(TAKE).any(|t| over(t, TAKE_FRONT))
         || parcels.chunks_exact(PARCEL).any(|p| over(p, PARCEL_FRONT))
     {
         return 32;

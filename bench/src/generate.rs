@@ -1,6 +1,6 @@
 //! Seeded inputs: step lists that follow the image they run on, and images that no session grows.
 
-use crate::ledger::{self, IMAGE, PARCELS, TAKES};
+use crate::ledger::{self, IMAGE, PARCELS, SIGNINGS, TAKES};
 
 /// splitmix64
 pub struct Random(pub u64);
@@ -35,14 +35,15 @@ impl Random {
 // ---- where things stand in an image
 
 pub const TAKE: usize = 1593;
-pub const FIRST_PARCEL: usize = 4 + TAKE * TAKES;
+pub const FIRST_TAKE: usize = 8;
+pub const FIRST_PARCEL: usize = FIRST_TAKE + TAKE * TAKES;
 pub const PARCEL: usize = 535;
 pub const MARK: usize = 33;
 pub const STATE: usize = 9;
 pub const MAP: usize = ledger::MAP;
 
 pub fn take_at(t: usize) -> usize {
-    4 + TAKE * t
+    FIRST_TAKE + TAKE * t
 }
 
 pub fn parcel_at(k: usize) -> usize {
@@ -58,6 +59,11 @@ pub fn marks() -> impl Iterator<Item = usize> {
 
 pub fn opened(image: &[u8]) -> usize {
     (image[0] as usize).min(TAKES)
+}
+
+/// Takes, parcels waiting and signings that the session allows.
+pub fn limits(image: &[u8]) -> [usize; 3] {
+    [4, 5, 6].map(|at| image[at] as usize)
 }
 
 pub fn status(image: &[u8], t: usize) -> u8 {
@@ -154,7 +160,8 @@ fn volume(r: &mut Random, image: &[u8]) -> usize {
 /// The kind, or another where the image would refuse it: no take at work, none idle with a parcel, no place free.
 fn possible(kind: usize, image: &[u8], working: usize, live: usize) -> usize {
     let receivable = (0..waiting(image)).any(|k| status(image, addressee(image, k)) == 1);
-    let (takes, parcels) = (opened(image) < TAKES, waiting(image) < PARCELS && image[1..3] != [255; 2]);
+    let [most, crowd, _] = limits(image);
+    let (takes, parcels) = (opened(image) < most, waiting(image) < crowd && image[1..3] != [255; 2]);
     let kind = match kind {
         _ if live == 0 && takes => 0,
         0 | 3 if !takes => 5,
@@ -250,12 +257,13 @@ pub fn edits_apart(r: &mut Random, image: &[u8]) -> [u64; 2] {
 /// its signings.
 pub fn prelude(r: &mut Random, image: &mut [u8], falls: usize) -> Vec<u8> {
     let mut list = Vec::new();
+    let most = limits(image)[0];
     let mut add = |s: u64| {
         ledger::step_unchecked(image, s);
         list.extend(s.to_be_bytes());
         image[1..3].try_into().map(u16::from_be_bytes).unwrap() as usize
     };
-    for t in 0..1 + r.below(TAKES) {
+    for t in 0..1 + r.below(most) {
         add(packed(0, 0, 0, 0, r.next() as u32));
         for signed in 0..r.below(3) {
             for _ in 0..if (t, signed) == (0, 1) { falls } else { 0 } {
@@ -302,13 +310,13 @@ fn put_life(r: &mut Random, mark: &mut [u8], i: usize) {
     mark[number_at(i)..number_at(i + 1)].copy_from_slice(&life(r));
 }
 
-/// A present mark whose list is mostly a beginning of `base`, so that lists often agree.
-fn mark(r: &mut Random, base: &[[u8; 2]; 15]) -> Mark {
+/// A present mark whose list, of at most `most` entries, is mostly a beginning of `base`, so that lists often agree.
+fn mark(r: &mut Random, base: &[[u8; 2]; 15], most: usize) -> Mark {
     let mut m = [0; MARK];
     let count = match r.below(4) {
-        0 => r.below(16),
-        1 => 15 - r.below(2),
-        _ => r.below(4),
+        0 => r.below(most + 1),
+        1 => most - r.below(2),
+        _ => r.below(4).min(most),
     };
     m[0] = 0x80 | (r.one_in(3) as u8) << 6 | count as u8;
     put_life(r, &mut m, 0);
@@ -335,7 +343,7 @@ pub fn long_lives(image: &[u8]) -> [bool; 2] {
 }
 
 /// A mark of the life of `own`, of one signed before it, or of one that is almost either.
-fn related(r: &mut Random, own: &Mark) -> Mark {
+fn related(r: &mut Random, own: &Mark, most: usize) -> Mark {
     let mut m = *own;
     let count = (own[0] & 15) as usize;
     if count > 0 && r.one_in(3) {
@@ -356,7 +364,7 @@ fn related(r: &mut Random, own: &Mark) -> Mark {
                 m[0] -= 1;
                 m[number_at(count)..number_at(count + 1)].fill(0);
             }
-            _ if count < 15 => m[0] += 1,
+            _ if count < most => m[0] += 1,
             _ => {}
         }
     }
@@ -369,36 +377,67 @@ struct Ground {
     own: Vec<Mark>,
     related: bool,
     percent: usize,
+    signings: usize,
 }
 
 fn map(r: &mut Random, into: &mut [u8], g: &Ground) {
     for (u, list) in g.lists.iter().enumerate() {
         if r.below(100) < g.percent {
-            let m = if g.related { related(r, &g.own[u]) } else { mark(r, list) };
+            let m = if g.related { related(r, &g.own[u], g.signings) } else { mark(r, list, g.signings) };
             into[MARK * u..MARK * (u + 1)].copy_from_slice(&m);
         }
     }
 }
 
+/// A limit that can be begun with: the greatest, 1, or any.
+pub fn limit(r: &mut Random, greatest: usize) -> usize {
+    match r.below(5) {
+        0 | 1 => greatest,
+        2 => 1,
+        _ => 1 + r.below(greatest),
+    }
+}
+
+/// Takes, parcels waiting and signings of a session.
+pub fn any_limits(r: &mut Random) -> [usize; 3] {
+    [TAKES, PARCELS, SIGNINGS].map(|greatest| limit(r, greatest))
+}
+
+/// A fresh image with the greatest limits.
+pub fn fresh() -> Vec<u8> {
+    let mut image = vec![0; IMAGE];
+    ledger::begin(&mut image, TAKES, PARCELS, SIGNINGS);
+    image
+}
+
 /// A well-formed image.
 pub fn image(r: &mut Random) -> Vec<u8> {
-    let opened = r.below(TAKES + 1);
+    let limits = any_limits(r);
+    let opened = if r.one_in(3) { limits[0] } else { r.below(limits[0] + 1) };
     let percent = r.pick(&[0, 5, 30, 70, 100]).unwrap();
-    let parcels = if opened == 0 { 0 } else { r.pick(&[0, 1, 5, 31, 32, 32]).unwrap() };
-    image_of(r, opened, percent, parcels, &[1, 1, 1, 2, 2, 2, 2, 3])
+    let parcels = if opened == 0 { 0 } else { r.pick(&[0, 1, 5, 31, 32, 32]).unwrap().min(limits[1]) };
+    image_of(r, limits, opened, percent, parcels, &[1, 1, 1, 2, 2, 2, 2, 3])
 }
 
 /// A well-formed image in which every place is taken: every take at work, every map full.
 pub fn full_image(r: &mut Random) -> Vec<u8> {
-    image_of(r, TAKES, 100, PARCELS, &[2])
+    image_of(r, [TAKES, PARCELS, SIGNINGS], TAKES, 100, PARCELS, &[2])
 }
 
-fn image_of(r: &mut Random, opened: usize, percent: usize, parcels: usize, statuses: &[u8]) -> Vec<u8> {
+fn image_of(
+    r: &mut Random,
+    limits: [usize; 3],
+    opened: usize,
+    percent: usize,
+    parcels: usize,
+    statuses: &[u8],
+) -> Vec<u8> {
     let mut image = vec![0; IMAGE];
-    let mut g = Ground { lists: Vec::new(), own: Vec::new(), related: r.one_in(3), percent };
+    image[4..7].copy_from_slice(&limits.map(|n| n as u8));
+    let mut g = Ground { lists: Vec::new(), own: Vec::new(), related: r.one_in(3), percent, signings: limits[2] };
     for _ in 0..opened {
         let list = std::array::from_fn(|_| life(r));
-        let mut own = mark(r, &list);
+        let mut own = mark(r, &list, g.signings);
         if g.related && !r.one_in(10) {
             own[0] |= 0x40;
         }
@@ -444,6 +483,7 @@ fn image_of(r: &mut Random, opened: usize, percent: usize, parcels: usize, statu
 /// Marks of another hearing pasted over some of those that stand in maps, a take's own apart: the image stays well-formed.
 pub fn paste(r: &mut Random, image: &mut [u8]) {
     let list: [[u8; 2]; 15] = std::array::from_fn(|_| life(r));
+    let most = limits(image)[2];
     for _ in 0..1 + r.below(12) {
         let u = r.below(TAKES);
         let t = r.below(TAKES);
@@ -454,7 +494,7 @@ pub fn paste(r: &mut Random, image: &mut [u8]) {
         let own = take_at(u) + STATE + MARK * u;
         let at = map + MARK * u;
         if at != own && image[at] & 0x80 != 0 {
-            image[at..at + MARK].copy_from_slice(&mark(r, &list));
+            image[at..at + MARK].copy_from_slice(&mark(r, &list, most));
         }
     }
 }
@@ -471,7 +511,7 @@ fn edge(r: &mut Random, image: &mut [u8]) {
     }
     let past = maps + number_at(1 + (image[maps] & 15) as usize) + r.below(2);
     let n = waiting(image);
-    match r.below(12) {
+    match r.below(14) {
         0 if n > 0 => {
             let next = number(image, n - 1).wrapping_add(r.below(2) as u16);
             image[1..3].copy_from_slice(&next.to_be_bytes());
@@ -493,6 +533,12 @@ fn edge(r: &mut Random, image: &mut [u8]) {
         8 => image[take + 5 + r.below(4)] = r.below(3) as u8,
         9 => image[maps] ^= 1 << r.below(8),
         10 => image[maps] = image[maps].wrapping_sub(1),
+        11 => image[4] = (opened(image) + 1 - r.below(3).min(opened(image))) as u8,
+        12 => match r.below(3) {
+            0 => image[5] = (n + 1 - r.below(3).min(n)) as u8,
+            1 => image[6] = image[maps] & 15,
+            _ => image[4 + r.below(4)] = r.pick(&[0, 1, 15, 16, 17, 31, 32, 33]).unwrap(),
+        },
         _ => put_life(r, &mut image[maps..], 0),
     }
 }
@@ -508,7 +554,7 @@ pub fn damage(r: &mut Random, image: &mut [u8]) {
     }
     for _ in 0..1 + r.below(5) {
         let at = match r.below(6) {
-            0 => r.below(4),
+            0 => r.below(FIRST_TAKE),
             1 => take_at(r.below(TAKES)) + r.below(9),
             2 => take_at(r.below(TAKES)) + STATE + MARK * r.below(3 * TAKES) + r.below(4),
             3 => parcel_at(r.below(PARCELS)) + r.below(8),

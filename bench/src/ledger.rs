@@ -1,9 +1,10 @@
 //! A ledger written from documents 01 and 02 alone, for speed: the yardstick of the differential test and of the benchmark.
 //! Names are document 01's. It works in place on the caller's bytes.
 
-pub const IMAGE: usize = 42_612;
+pub const IMAGE: usize = 42_616;
 pub const TAKES: usize = 16;
 pub const PARCELS: usize = 32;
+pub const SIGNINGS: usize = 15;
 pub const STEP: usize = 8;
 pub const LONGEST: usize = 8_192;
 pub const MAP: usize = 528;
@@ -38,11 +39,21 @@ struct Parcel {
     map: Map,
 }
 
+#[derive(Clone, Copy)]
+#[repr(C)]
+struct Limits {
+    takes: u8,
+    parcels: u8,
+    signings: u8,
+    zero: u8,
+}
+
 #[repr(C)]
 struct Image {
     opened: u8,
     next: [u8; 2],
     zero: u8,
+    limits: Limits,
     takes: [Take; TAKES],
     parcels: [Parcel; PARCELS],
 }
@@ -153,14 +164,14 @@ impl Mark {
         Mark { head: (self.head & !FROZEN) + 1, rest }
     }
 
-    /// No zero bit set, nothing past the count; absent: nothing at all.
+    /// No zero bit set, a count within the limit, nothing past the count; absent: nothing at all.
     #[inline(always)]
-    fn formed(&self) -> bool {
+    fn formed(&self, signings: u8) -> bool {
         if self.head & PRESENT == 0 {
             return self.head == 0 && self.rest() == [0; 2];
         }
         let (rest, past) = (self.rest(), PAST[self.count()]);
-        self.head & 0x30 == 0 && rest[0] & past[0] | rest[1] & past[1] == 0
+        self.head & 0x30 == 0 && self.head & COUNT <= signings && rest[0] & past[0] | rest[1] & past[1] == 0
     }
 }
 
@@ -173,12 +184,12 @@ fn zero(part: &[u8]) -> bool {
     part.iter().fold(0, |a, b| a | b) == 0
 }
 
-fn map_formed(map: &Map, opened: usize) -> bool {
+fn map_formed(map: &Map, opened: usize, signings: u8) -> bool {
     let (named, unnamed) = map.split_at(opened);
-    zero(bytes(unnamed)) && named.iter().all(|m| m.formed())
+    zero(bytes(unnamed)) && named.iter().all(|m| m.formed(signings))
 }
 
-fn take_formed(take: &Take, own: usize, opened: usize) -> bool {
+fn take_formed(take: &Take, own: usize, opened: usize, signings: u8) -> bool {
     if take.status == VANISHED {
         return zero(&bytes(std::slice::from_ref(take))[1..]);
     }
@@ -193,10 +204,10 @@ fn take_formed(take: &Take, own: usize, opened: usize) -> bool {
         if !zero(bytes(&take.behaviour)) {
             return false;
         }
-    } else if !map_formed(&take.behaviour, opened) {
+    } else if !map_formed(&take.behaviour, opened, signings) {
         return false;
     }
-    map_formed(&take.state, opened) && map_formed(&take.creation, opened)
+    map_formed(&take.state, opened, signings) && map_formed(&take.creation, opened, signings)
 }
 
 impl Image {
@@ -215,12 +226,16 @@ impl Image {
     }
 
     fn formed(&self) -> bool {
+        let Limits { takes, parcels, signings, zero: fourth } = self.limits;
+        if self.zero != 0 || fourth != 0 || !in_range(takes as usize, parcels as usize, signings as usize) {
+            return false;
+        }
         let opened = self.opened as usize;
-        if opened > TAKES || self.zero != 0 || !zero(bytes(&self.takes[opened..])) {
+        if opened > takes as usize || !zero(bytes(&self.takes[opened..])) {
             return false;
         }
         for (t, take) in self.takes[..opened].iter().enumerate() {
-            if !take_formed(take, t, opened) {
+            if !take_formed(take, t, opened, signings) {
                 return false;
             }
         }
@@ -231,11 +246,11 @@ impl Image {
                 return zero(bytes(&self.parcels[k..]));
             }
             let number = u16::from_be_bytes(p.number) as u32;
-            if p.head & 0xf0 != WAITING || (p.head & 15) as usize >= opened || number < least || number >= next {
+            if k >= parcels as usize || p.head & 0xf0 != WAITING || (p.head & 15) as usize >= opened || number < least || number >= next {
                 return false;
             }
             least = number + 1;
-            if !map_formed(&p.map, opened) {
+            if !map_formed(&p.map, opened, signings) {
                 return false;
             }
         }
@@ -406,7 +421,7 @@ impl Session<'_> {
 
     fn open(&mut self, text: u32) -> Option<usize> {
         let t = self.opened();
-        if t == TAKES {
+        if t >= self.image.limits.takes as usize {
             return None;
         }
         self.image.opened += 1;
@@ -419,7 +434,7 @@ impl Session<'_> {
 
     /// The refusal of a new parcel, if any.
     fn full(&self) -> Option<u64> {
-        if self.waiting == PARCELS {
+        if self.waiting >= self.image.limits.parcels as usize {
             return Some(26);
         }
         (self.image.next == [255; 2]).then_some(27)
@@ -491,7 +506,7 @@ impl Session<'_> {
         for (t, take) in self.image.takes[..opened].iter().enumerate() {
             let head = take.state[t].head;
             vanished |= named(t) && take.status == VANISHED;
-            full |= named(t) && head & COUNT == 15;
+            full |= named(t) && head & COUNT >= self.image.limits.signings;
             frozen &= !named(t) || head & FROZEN != 0;
         }
         if vanished {
@@ -648,11 +663,19 @@ impl Session<'_> {
 
 // ---- the calls
 
-pub fn begin(image: &mut [u8]) -> u8 {
+fn in_range(takes: usize, parcels: usize, signings: usize) -> bool {
+    (1..=TAKES).contains(&takes) && (1..=PARCELS).contains(&parcels) && (1..=SIGNINGS).contains(&signings)
+}
+
+pub fn begin(image: &mut [u8], takes: usize, parcels: usize, signings: usize) -> u8 {
     if image.len() != IMAGE {
         return 16;
     }
+    if !in_range(takes, parcels, signings) {
+        return 33;
+    }
     image.fill(0);
+    image[4..7].copy_from_slice(&[takes as u8, parcels as u8, signings as u8]);
     0
 }
 
@@ -708,14 +731,14 @@ pub fn offer(image: &[u8], take: usize) -> Result<Option<u16>, u8> {
 
 /// The smallest volume with the take that could be signed now: each take that is added is looked at once.
 pub fn smallest(image: &[u8], take: usize) -> Result<Option<u16>, u8> {
-    let takes = &asked(image, take)?.takes;
+    let Image { takes, limits, .. } = asked(image, take)?;
     let mut volume = 1u16 << take;
     let mut added = volume;
     while added != 0 {
         let t = added.trailing_zeros() as usize;
         added &= added - 1;
         let own = &takes[t].state[t];
-        if own.head & FROZEN == 0 || own.count() == 15 {
+        if own.head & FROZEN == 0 || own.head & COUNT >= limits.signings {
             return Ok(None);
         }
         for (u, other) in takes.iter().enumerate() {

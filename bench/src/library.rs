@@ -17,7 +17,7 @@ struct Worst {
 }
 
 extern "C" {
-    fn ledger_begin(image: *mut u8, image_length: usize) -> u8;
+    fn ledger_begin(image: *mut u8, image_length: usize, takes: usize, parcels: usize, signings: usize) -> u8;
     fn ledger_run(
         image: *mut u8,
         image_length: usize,
@@ -37,8 +37,8 @@ extern "C" {
     fn ledger_worst_window(replies: *const u8, replies_length: usize, width: usize, refusal: *mut u8) -> Worst;
 }
 
-pub fn begin(image: &mut [u8]) -> u8 {
-    unsafe { ledger_begin(image.as_mut_ptr(), image.len()) }
+pub fn begin(image: &mut [u8], takes: usize, parcels: usize, signings: usize) -> u8 {
+    unsafe { ledger_begin(image.as_mut_ptr(), image.len(), takes, parcels, signings) }
 }
 
 pub fn run(image: &mut [u8], list: &[u8], start: usize, end: usize, replies: &mut [u8]) -> u8 {

@@ -13,7 +13,7 @@ int main(void) {
         uint64_t packed = (uint64_t)(s[0] << 12 | s[1] << 8 | s[2] << 4) << 48 | (uint64_t)s[3] << 32 | s[4];
         list[i] = (uint8_t)(packed >> (56 - 8 * (i % LEDGER_STEP)));
     }
-    if (ledger_begin(image, sizeof image) != LEDGER_DONE) return 1;
+    if (ledger_begin(image, sizeof image, LEDGER_TRANSACTORS, LEDGER_MESSAGES, LEDGER_CHECKPOINTS) != LEDGER_DONE) return 1;
     if (ledger_run(image, sizeof image, list, sizeof list, 0, sizeof list, replies, sizeof replies) != LEDGER_DONE) return 1;
     for (size_t i = 0; i < sizeof list / LEDGER_STEP; i++) {
         const uint8_t *r = replies + LEDGER_STEP * i;

@@ -2,7 +2,7 @@
 
 #[link(name = "ledger_c", kind = "static")]
 extern "C" {
-    fn ledger_begin(image: *mut u8, image_length: usize) -> u8;
+    fn ledger_begin(image: *mut u8, image_length: usize, transactors: usize, messages: usize, checkpoints: usize) -> u8;
     fn ledger_run(
         image: *mut u8, image_length: usize,
         list: *const u8, list_length: usize, start: usize, end: usize,
@@ -21,8 +21,8 @@ fn main() {
         step(4, 0, 1, 0, 9), step(2, 0, 0, 1, 0), step(6, 1, 0, 0, 10), step(7, 1, 0, 0, 0), step(12, 0, 0, 2, 0),
         step(7, 0, 0, 0, 0), step(12, 0, 0, 3, 0), step(10, 0, 0, 0, 0),
     ].concat();
-    let (mut image, mut replies) = (vec![0; 42_612], vec![0; list.len()]);
-    let begun = unsafe { ledger_begin(image.as_mut_ptr(), image.len()) };
+    let (mut image, mut replies) = (vec![0; 42_616], vec![0; list.len()]);
+    let begun = unsafe { ledger_begin(image.as_mut_ptr(), image.len(), 16, 32, 15) };
     let (r, n) = (replies.as_mut_ptr(), replies.len());
     let ran = unsafe { ledger_run(image.as_mut_ptr(), image.len(), list.as_ptr(), list.len(), 0, list.len(), r, n) };
     assert_eq!((begun, ran), (0, 0));

@@ -8,14 +8,14 @@
 
 use bench::convert::{self, OLD_IMAGE};
 use bench::generate::{self, packed, Random, MAP, MARK, STATE};
-use bench::ledger::{self, IMAGE, STEP};
+use bench::ledger::{self, IMAGE, PARCELS, SIGNINGS, STEP, TAKES};
 use bench::library;
 use std::hint::black_box;
 use std::time::{Duration, Instant};
 
 struct Calls {
     name: &'static str,
-    begin: fn(&mut [u8]) -> u8,
+    begin: fn(&mut [u8], usize, usize, usize) -> u8,
     run: fn(&mut [u8], &[u8], usize, usize, &mut [u8]) -> u8,
     offer: fn(&[u8], usize) -> Result<Option<u16>, u8>,
     smallest: fn(&[u8], usize) -> Result<Option<u16>, u8>,
@@ -95,7 +95,7 @@ impl Work {
         let mut sum = 0;
         for _ in 0..self.times {
             sum += match &self.call {
-                Call::Begin => (by.begin)(image) as u64,
+                Call::Begin => (by.begin)(image, TAKES, PARCELS, SIGNINGS) as u64,
                 Call::Form => (by.run)(image, &[], 0, 0, &mut []) as u64,
                 Call::Offer(t) => (by.offer)(image, *t).unwrap().map_or(7, |n| n as u64),
                 Call::Smallest(t) => (by.smallest)(image, *t).unwrap().map_or(7, |v| v as u64),
@@ -236,7 +236,7 @@ fn bytes(list: &[u64]) -> Vec<u8> {
 /// A session some steps old, and the next n steps of it.
 fn mixed(seed: u64, old: usize, n: usize) -> (Vec<u8>, Vec<u8>) {
     let mut r = Random(seed);
-    let mut image = vec![0; IMAGE];
+    let mut image = generate::fresh();
     generate::prelude(&mut r, &mut image, 0);
     generate::steps(&mut r, &generate::MIXED, &mut image, old);
     let list = generate::steps(&mut r, &generate::MIXED, &mut image.clone(), n);
@@ -245,7 +245,7 @@ fn mixed(seed: u64, old: usize, n: usize) -> (Vec<u8>, Vec<u8>) {
 
 /// Sixteen takes, all at work; a parcel has gone round them twice, so that each knows all.
 fn ring() -> Vec<u8> {
-    let mut image = vec![0; IMAGE];
+    let mut image = generate::fresh();
     apply(&mut image, &[packed(0, 0, 0, 0, 1); 16]);
     apply(&mut image, &[packed(1, 0, 0, 0, 5)]);
     for i in 0..32 {
@@ -294,7 +294,7 @@ fn frozen() -> Vec<u8> {
 
 /// Sixteen frozen takes, of which each but the first rests on itself and the one before.
 fn chain() -> Vec<u8> {
-    let mut image = vec![0; IMAGE];
+    let mut image = generate::fresh();
     apply(&mut image, &[packed(0, 0, 0, 0, 1); 16]);
     for t in 1..16 {
         // A letter, on which the take before sends a parcel; the take writes on that.
@@ -373,7 +373,7 @@ fn rows() -> Vec<Row> {
             "call",
             (0..16).map(|_| run((signing.clone(), bytes(&[ALL])), 1)).collect(),
         ),
-        row("form test alone, fresh image", "call", many(&vec![0; IMAGE], Call::Form)),
+        row("form test alone, fresh image", "call", many(&generate::fresh(), Call::Form)),
         row("form test alone, session", "call", many(&session, Call::Form)),
         row("form test alone, full image", "call", many(&full, Call::Form)),
         row("show, session", "call", many(&session, Call::Show(newest(&session, waiting)))),

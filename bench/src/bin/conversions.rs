@@ -8,6 +8,9 @@ use bench::generate::{self, Random, MARK};
 use bench::ledger::{IMAGE, TAKES};
 use bench::library;
 
+/// What follows the head of a new image that has an old form.
+const LIMITS: [u8; 4] = [16, 32, 15, 0];
+
 type Convert = fn(&[u8], &mut [u8]) -> u8;
 
 struct Way {
@@ -45,6 +48,8 @@ struct Test {
     back: Way,
     /// 32 for numbers n and entries of lists, in the maps of takes and in parcels.
     over: [[u64; 2]; 4],
+    /// 32 for limits alone.
+    limits: u64,
     damaged: [u64; 2],
 }
 
@@ -100,6 +105,10 @@ impl Test {
     fn round(&mut self) {
         let mut image =
             if self.r.one_in(10) { generate::full_image(&mut self.r) } else { generate::image(&mut self.r) };
+        if !self.r.one_in(4) {
+            image[4..8].copy_from_slice(&LIMITS);
+        }
+        let other = image[4..8] != LIMITS;
         let kind = self.r.below(8);
         if kind > 0 {
             self.lower(&mut image);
@@ -115,6 +124,10 @@ impl Test {
         if let Some((map, entry)) = raised {
             assert_eq!(answer, 32, "a number of 256 comes back");
             self.over[map][entry] += 1;
+        }
+        if kind == 3 || kind > 4 {
+            assert_eq!(answer, if other { 32 } else { 0 }, "limits {:?}", &image[4..8]);
+            self.limits += other as u64;
         }
         if answer == 0 {
             assert_eq!(self.forth_and_back(&old), 0);
@@ -175,6 +188,7 @@ fn main() {
         forward: Way { name: "forward", library: library::forward, rust: convert::forward, answers: [0; 33] },
         back: Way { name: "back", library: library::back, rust: convert::back, answers: [0; 33] },
         over: [[0; 2]; 4],
+        limits: 0,
         damaged: [0; 2],
     };
     test.every_place();
@@ -193,12 +207,14 @@ fn main() {
         "32 for numbers and for list entries: state {:?}, creation {:?}, behaviour {:?}, parcels {:?}",
         test.over[0], test.over[1], test.over[2], test.over[3]
     );
+    println!("32 for limits alone: {}", test.limits);
     println!("damaged old images: ill-formed {}, still well-formed {}", test.damaged[0], test.damaged[1]);
     if count >= 100_000 {
         for n in [0, 16, 19] {
             assert!(test.forward.answers[n] > 0 && test.back.answers[n] > 0, "{n} was not seen both ways");
         }
         assert!(test.over.as_flattened().iter().all(|n| *n > 0), "32 was not seen everywhere");
+        assert!(test.limits > 0, "32 was not seen for limits");
     }
     println!("conversions: seed {seed}, {} forward, {} back, no difference", test.forward.asked(), test.back.asked());
 }

@@ -6,7 +6,7 @@
 //! Each round has a seed of its own; with ROUND that one alone is run.
 
 use bench::generate::{self, Random};
-use bench::ledger::{self, IMAGE, LONGEST, STEP, TAKES};
+use bench::ledger::{self, IMAGE, LONGEST, PARCELS, SIGNINGS, STEP, TAKES};
 use bench::library;
 use std::process::exit;
 
@@ -60,16 +60,36 @@ impl Test {
         self.ours = image;
     }
 
-    fn begin(&mut self) {
+    fn begin(&mut self, [takes, parcels, signings]: [usize; 3]) {
         let before = self.ours.clone();
-        let (a, b) = (library::begin(&mut self.theirs), ledger::begin(&mut self.ours));
-        self.expect(a == b, &format!("begin answers {a}, and {b} in the Rust ledger"));
+        let a = library::begin(&mut self.theirs, takes, parcels, signings);
+        let b = ledger::begin(&mut self.ours, takes, parcels, signings);
+        self.expect(a == b, &format!("begin with {takes} {parcels} {signings} answers {a}, and {b} in the Rust ledger"));
         self.calls[0][a as usize] += 1;
         if self.ours != self.theirs {
             self.images("begin");
         }
         self.expect(a == 0 || self.theirs == before, "a refused begin changed the image");
         self.grown |= a == 0;
+    }
+
+    /// Limits that can be begun with, or with one in four that some are out of range.
+    fn limits(&mut self) -> [usize; 3] {
+        let mut limits = generate::any_limits(&mut self.r);
+        if self.r.one_in(4) {
+            let greatest = [TAKES, PARCELS, SIGNINGS];
+            for _ in 0..1 + self.r.below(2) {
+                let i = self.r.below(3);
+                limits[i] = match self.r.below(5) {
+                    0 => 0,
+                    1 => greatest[i] + 1,
+                    2 => limits[i] + 256 * (1 + self.r.below(3)),
+                    3 => limits[i] + (1 << 32 + self.r.below(32)),
+                    _ => usize::MAX - self.r.below(20),
+                };
+            }
+        }
+        limits
     }
 
     fn run(&mut self, list: &[u8], start: usize, end: usize, length: usize) {
@@ -171,7 +191,7 @@ impl Test {
         if whole {
             self.ours.clone()
         } else {
-            vec![0; IMAGE]
+            generate::fresh()
         }
     }
 
@@ -346,7 +366,8 @@ impl Test {
         let mut image = kept.clone();
         image.resize(length, 0);
         self.set(image);
-        self.begin();
+        let limits = self.limits();
+        self.begin(limits);
         let (list, start) = self.list(2);
         let end = start + self.r.below(20);
         self.run(&list, start, end, 16);
@@ -402,7 +423,8 @@ impl Test {
             let mut bytes = vec![0; IMAGE];
             self.r.fill(&mut bytes);
             self.set(bytes);
-            self.begin();
+            let limits = generate::any_limits(&mut self.r);
+            self.begin(limits);
             if self.r.one_in(2) {
                 let falls = if self.r.one_in(4) { 250 + self.r.below(20) } else { 0 };
                 let list = generate::prelude(&mut self.r, &mut self.ours.clone(), falls);
@@ -432,8 +454,12 @@ impl Test {
                 15 => self.wrong_length(),
                 16 | 17 => self.damaged(),
                 18 => self.pasted(),
-                _ if self.r.one_in(4) => self.begin(),
-                _ => {}
+                _ => {
+                    let limits = self.limits();
+                    if self.r.one_in(4) || limits.iter().any(|n| *n > 32) {
+                        self.begin(limits);
+                    }
+                }
             }
         }
     }
@@ -461,7 +487,7 @@ impl Test {
         }
         let query: &[usize] = &[0, 16, 19, 21, 22];
         let answers: [&[usize]; 7] =
-            [&[0, 16], &[0, 16, 17, 18, 19], query, &[0, 16, 19, 24], query, query, &[0, 17, 35]];
+            [&[0, 16, 33], &[0, 16, 17, 18, 19], query, &[0, 16, 19, 24], query, query, &[0, 17, 35]];
         for (call, wanted) in answers.iter().enumerate() {
             for n in *wanted {
                 self.expect(self.calls[call][*n] > 0, &format!("no {} answered {n}", CALLS[call]));

@@ -10,18 +10,18 @@ use script::print::COMPARE;
 use script::print::PRINTED;
 use script::print::SILENT;
 
-// n: a fresh session.
+// n: a fresh session with the greatest limits.
 fn fresh(image: &mut [u8]) -> u8 {
     bytes::fill(image, 0);
-    if ledger::begin(image) != 0 {
+    if ledger::begin(image, 16, 32, 15) != 0 {
         return BAD;
     }
     SILENT
 }
 
-// b: begin on the image as it is.
-fn begin(image: &mut [u8]) -> u8 {
-    let answer = ledger::begin(image);
+// b: begin on the image as it is, with these limits.
+fn begin(image: &mut [u8], transactors: usize, messages: usize, checkpoints: usize) -> u8 {
+    let answer = ledger::begin(image, transactors, messages, checkpoints);
     print::number(answer as usize);
     COMPARE
 }
@@ -109,7 +109,7 @@ pub fn play(image: &mut [u8], n: &[u8]) -> u8 {
     let b = numbers::at(n, 2);
     match op {
         b'n' => fresh(image),
-        b'b' => begin(image),
+        b'b' => begin(image, a, b, numbers::at(n, 3)),
         b'f' => changed(image, a, b),
         _ => ask(op, image, a, b),
     }

@@ -71,7 +71,7 @@ module _ (old new : List ℕ) where
         unfolding backAnswer
         back-too-wide f = back-refused 32 (rw (eq-eqb (length new) (imageBytes base) p, eq-eqb (length old) (imageBytes narrow) q, e, f)) refl
 
-        pub back-done : Octets new → tooWide new ≡ false → (r : List ℕ) → r ≡ recast base 1 new → (0 ≡ backAnswer new old) × (r ≡ backImage new old)
+        pub back-done : Octets new → tooWide new ≡ false → (r : List ℕ) → r ≡ recast base narrow new → (0 ≡ backAnswer new old) × (r ≡ backImage new old)
         unfolding backAnswer backImage
         back-done o f r g =
             let a : backAnswer new old ≡ 0 = rw (eq-eqb (length new) (imageBytes base) p, eq-eqb (length old) (imageBytes narrow) q, e, f) in

@@ -1,8 +1,8 @@
 -- The loops over histories, transactors and messages: what they have put after i turns, and the whole image.
 use Prim.Native.Nat.{ℕ, zero, suc, _+_, _-_, _*_, _≤_, _<_}
-use mathlib.Core.Bool.{true}
+use mathlib.Core.Bool.{Bool, true, false}
 use mathlib.Core.Path.{_≡_, refl, ap, sym, _∙_, subst}
-use mathlib.Core.List.{List, _++_, append-assoc}
+use mathlib.Core.List.{List, _++_, append-assoc, append-nil}
 use native.Mathlib.Nat.{zero-add}
 use native.Mathlib.Omega.{arith}
 use lib.ListN.{length, drop, replicate, length-append}
@@ -12,10 +12,11 @@ use Rattle.octets.proofs.Chunks.{step, chunks-same, chunks-add, put-none}
 use Rattle.octets.proofs.Runs.{lengths, put-next, zero-behind}
 use Rattle.marks.specs.Packed.{historySize}
 use Rattle.maps.specs.Packed.{entryBytes}
-use Rattle.rules.specs.Layout.{Layout, mapBytes, stateAt, creationAt, behaviourAt, dependencesAt, transactorBytes, messageBytes, headBytes, transactorAddress, messageAddress, imageBytes}
-use Rattle.rules.specs.Pack.{transactorPart, messagePart}
+use Rattle.rules.specs.Layout.{Layout, widest, mapBytes, stateAt, creationAt, behaviourAt, dependencesAt, transactorBytes, messageBytes, headBytes, limitsBytes, transactorAddress, messageAddress, imageBytes}
+use Rattle.rules.specs.Pack.{packLimits, transactorPart, messagePart}
 use Rattle.rules.specs.Internal.Widths.{resized}
-use Rattle.rules.specs.Internal.Recast.{recastHistory, recastEntryAt, recastMap, recastPart, recastTransactor, recastMessage, recastTransactorAt, recastMessageAt, recast}
+use Rattle.rules.specs.Internal.Recast.{recastHistory, recastEntryAt, recastMap, recastPart, recastTransactor, recastMessage, recastTransactorAt, recastMessageAt, recastFront, recast}
+use Rattle.rules.proofs.Pack.Sizes.{length-packLimits}
 use Rattle.rules.proofs.Pack.Loads.{length-transactorPart, length-messagePart}
 use Rattle.rules.proofs.Convert.RecastMap.{length-recast}
 use Rattle.rules.proofs.Convert.RecastParts.{length-recastTransactor, length-recastMessage}
@@ -108,12 +109,16 @@ entries-add v w m from a b s h =
 
 -- ---- transactors and messages
 
-module _ (y : Layout) (v w : ℕ) (img : List ℕ) (whole : length img ≡ imageBytes (resized y v)) where
+module _ (y : Layout) (v w : ℕ) (old new : Bool) (img : List ℕ) (whole : length img ≡ imageBytes (resized y v old)) where
   abbrev s : Layout
-  s = resized y v
+  s = resized y v old
 
   abbrev d : Layout
-  d = resized y w
+  d = resized y w new
+
+  -- where the transactors begin
+  abbrev first : ℕ
+  first = headBytes + limitsBytes d
 
   abbrev size : ℕ
   size = historySize v (y .places)
@@ -131,11 +136,11 @@ module _ (y : Layout) (v w : ℕ) (img : List ℕ) (whole : length img ≡ image
 
   transactor-wide : (t : ℕ) → t < count → length (recastTransactorAt s w img t) ≡ transactorBytes d
   unfolding recastTransactorAt
-  transactor-wide t h = length-recastTransactor y v w (transactorPart s img t) (length-transactorPart s img whole t h)
+  transactor-wide t h = length-recastTransactor y v w old new (transactorPart s img t) (length-transactorPart s img whole t h)
 
   message-wide : (k : ℕ) → k < y .messages → length (recastMessageAt s w img k) ≡ messageBytes d
   unfolding recastMessageAt
-  message-wide k h = length-recastMessage y v w (messagePart s img k) (length-messagePart s img whole k h)
+  message-wide k h = length-recastMessage y v w old new (messagePart s img k) (length-messagePart s img whole k h)
 
   module _ (t : ℕ) (h : t < count) where
     abbrev a : ℕ
@@ -164,15 +169,15 @@ module _ (y : Layout) (v w : ℕ) (img : List ℕ) (whole : length img ≡ image
     transactor-maps = recastMap v w (y .places) (count + count + count) (part (a + stateAt) (size * (count + count + count)) img)
 
     -- a turn: the fields in front, then the histories
-    module _ (l l' l'' : List ℕ) (long : length l ≡ imageBytes d) (e : l' ≡ put headBytes (chunks t (recastTransactorAt s w img)) l) (g : l'' ≡ put (transactorAddress d t) (part a (a + stateAt - a) img) l') where
+    module _ (l l' l'' : List ℕ) (long : length l ≡ imageBytes d) (e : l' ≡ put first (chunks t (recastTransactorAt s w img)) l) (g : l'' ≡ put (transactorAddress d t) (part a (a + stateAt - a) img) l') where
       short : length transactor-front ≡ stateAt
       short = length-part a stateAt img (omega (arith, step (transactorBytes s) t count h))
 
-      pub transactors-more : (r : List ℕ) → r ≡ put (transactorAddress d t + stateAt) transactor-maps l'' → r ≡ put headBytes (chunks (t + 1) (recastTransactorAt s w img)) l
-      transactors-more = records-more headBytes (transactorBytes d) count (recastTransactorAt s w img) transactor-wide t stateAt h transactor-front transactor-maps transactor-bytes short l l' l'' (omega arith) e (g ∙ ap (λ (x : List ℕ). put (transactorAddress d t) x l') (lent a stateAt img))
+      pub transactors-more : (r : List ℕ) → r ≡ put (transactorAddress d t + stateAt) transactor-maps l'' → r ≡ put first (chunks (t + 1) (recastTransactorAt s w img)) l
+      transactors-more = records-more first (transactorBytes d) count (recastTransactorAt s w img) transactor-wide t stateAt h transactor-front transactor-maps transactor-bytes short l l' l'' (omega arith) e (g ∙ ap (λ (x : List ℕ). put (transactorAddress d t) x l') (lent a stateAt img))
 
-      pub transactors-zero : allZero (drop headBytes l) ≡ true → allZero (drop (transactorAddress d t + stateAt) l'') ≡ true
-      transactors-zero = records-zero headBytes (transactorBytes d) count (recastTransactorAt s w img) transactor-wide t stateAt h transactor-front transactor-maps transactor-bytes short l l' l'' (omega arith) e (g ∙ ap (λ (x : List ℕ). put (transactorAddress d t) x l') (lent a stateAt img))
+      pub transactors-zero : allZero (drop first l) ≡ true → allZero (drop (transactorAddress d t + stateAt) l'') ≡ true
+      transactors-zero = records-zero first (transactorBytes d) count (recastTransactorAt s w img) transactor-wide t stateAt h transactor-front transactor-maps transactor-bytes short l l' l'' (omega arith) e (g ∙ ap (λ (x : List ℕ). put (transactorAddress d t) x l') (lent a stateAt img))
 
   module _ (k : ℕ) (h : k < y .messages) where
     abbrev c : ℕ
@@ -198,33 +203,47 @@ module _ (y : Layout) (v w : ℕ) (img : List ℕ) (whole : length img ≡ image
       pub messages-zero : allZero (drop (transactorAddress d count) l) ≡ true → allZero (drop (messageAddress d k + dependencesAt) l'') ≡ true
       messages-zero = records-zero (transactorAddress d count) (messageBytes d) (y .messages) (recastMessageAt s w img) message-wide k dependencesAt h message-front message-map message-bytes narrow l l' l'' (omega arith) e (g ∙ ap (λ (x : List ℕ). put (messageAddress d k) x l') (lent c dependencesAt img))
 
-  -- ---- the whole image: head, transactors, messages
+  -- ---- the whole image: head and limits, transactors, messages
 
-  module _ (l l1 : List ℕ) (room : length l ≡ imageBytes d) (e : l1 ≡ put 0 (part 0 headBytes img) l) where
-    head-short : length (part 0 headBytes img) ≡ headBytes
-    head-short = length-part 0 headBytes img (omega arith)
+  head-short : length (part 0 headBytes img) ≡ headBytes
+  head-short = length-part 0 headBytes img (omega arith)
 
-    pub head-zero : allZero l ≡ true → allZero (drop headBytes l1) ≡ true
-    head-zero z = subst (λ (j : ℕ). allZero (drop j l1) ≡ true) (zero-add (length (part 0 headBytes img)) ∙ head-short) (rw e (zero-behind 0 l z (part 0 headBytes img) (omega (arith, head-short))))
+  front-short : length (recastFront d img) ≡ first
+  unfolding recastFront
+  front-short = rw (length-append, head-short, length-packLimits d (widest d))
+
+  -- the head and then the limits
+  pub front-put : (l l1 l2 : List ℕ) → length l ≡ imageBytes d → l1 ≡ put 0 (part 0 headBytes img) l → l2 ≡ put headBytes (packLimits d (widest d)) l1 → l2 ≡ put 0 (recastFront d img) l
+  unfolding recastFront
+  front-put l l1 l2 room e g = put-both 0 headBytes (part 0 headBytes img) (packLimits d (widest d)) l l1 l2 head-short (omega (arith, length-packLimits d (widest d))) e g
+
+  module _ (l l1 : List ℕ) (room : length l ≡ imageBytes d) (e : l1 ≡ put 0 (recastFront d img) l) where
+    pub front-zero : allZero l ≡ true → allZero (drop first l1) ≡ true
+    front-zero z = subst (λ (j : ℕ). allZero (drop j l1) ≡ true) (zero-add (length (recastFront d img)) ∙ front-short) (rw e (zero-behind 0 l z (recastFront d img) (omega (arith, front-short))))
 
     run : length (chunks count (recastTransactorAt s w img)) ≡ transactorBytes d * count
     run = lengths (transactorBytes d) count (recastTransactorAt s w img) transactor-wide
 
-    module _ (l2 : List ℕ) (g : l2 ≡ put headBytes (chunks count (recastTransactorAt s w img)) l1) where
+    module _ (l2 : List ℕ) (g : l2 ≡ put first (chunks count (recastTransactorAt s w img)) l1) where
       long1 : length l1 ≡ length l
-      long1 = ap length e ∙ length-put 0 (part 0 headBytes img) l (omega (arith, head-short))
+      long1 = ap length e ∙ length-put 0 (recastFront d img) l (omega (arith, front-short))
 
       pub transactors-done : allZero l ≡ true → allZero (drop (transactorAddress d count) l2) ≡ true
-      transactors-done z = zero-after headBytes (transactorBytes d) count (recastTransactorAt s w img) transactor-wide count (omega arith) l1 l2 g (omega (arith, long1)) (head-zero z)
+      transactors-done z = zero-after first (transactorBytes d) count (recastTransactorAt s w img) transactor-wide count (omega arith) l1 l2 g (omega (arith, long1)) (front-zero z)
 
-      pub image-done : (r : List ℕ) → r ≡ put (transactorAddress d count) (chunks (y .messages) (recastMessageAt s w img)) l2 → r ≡ recast s w img
+      pub image-done : (r : List ℕ) → r ≡ put (transactorAddress d count) (chunks (y .messages) (recastMessageAt s w img)) l2 → r ≡ recast s d img
       unfolding recast
       image-done r q =
           let last : length (chunks (y .messages) (recastMessageAt s w img)) ≡ messageBytes d * y .messages = lengths (messageBytes d) (y .messages) (recastMessageAt s w img) message-wide in
-          let head : List ℕ = part 0 headBytes img in
+          let front : List ℕ = recastFront d img in
           let some : List ℕ = chunks count (recastTransactorAt s w img) in
           let more : List ℕ = chunks (y .messages) (recastMessageAt s w img) in
-          let two : l2 ≡ put 0 (head ++ some) l = put-both 0 headBytes head some l l1 l2 head-short (omega (arith, run)) e g in
-          let half : length (head ++ some) ≡ transactorAddress d count = rw (length-append, head-short, run) in
-          let three : r ≡ put 0 (head ++ some ++ more) l = put-both 0 (transactorAddress d count) (head ++ some) more l l2 r half (omega (arith, last)) two (q ∙ ap (λ (k : ℕ). put k more l2) (sym (zero-add (transactorAddress d count)))) in
-          three ∙ put-whole (head ++ some ++ more) l (rw (length-append, half, last) (sym room))
+          let two : l2 ≡ put 0 (front ++ some) l = put-both 0 first front some l l1 l2 front-short (omega (arith, run)) e (g ∙ ap (λ (k : ℕ). put k some l1) (sym (zero-add first))) in
+          let half : length (front ++ some) ≡ transactorAddress d count = rw (length-append, front-short, run) in
+          let three : r ≡ put 0 (front ++ some ++ more) l = put-both 0 (transactorAddress d count) (front ++ some) more l l2 r half (omega (arith, last)) two (q ∙ ap (λ (k : ℕ). put k more l2) (sym (zero-add (transactorAddress d count)))) in
+          three ∙ put-whole (front ++ some ++ more) l (rw (length-append, half, last) (sym room))
+
+-- where no limits are stored the front is the head
+pub front-plain : (y : Layout) (w : ℕ) (img : List ℕ) → recastFront (resized y w false) img ≡ part 0 headBytes img
+unfolding recastFront packLimits
+front-plain y w img = append-nil (part 0 headBytes img)

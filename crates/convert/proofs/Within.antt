@@ -8,14 +8,14 @@ use native.Mathlib.Numerals.{add-one}
 use lib.Bits.{bitOr}
 use lib.Dec.{eqb, leb}
 use lib.ListN.{length, getD}
-use borrow.Author.Tests.{le-leb, lt-leb}
+use borrow.Author.Tests.{le-leb, lt-leb, eq-eqb, ne-eqb}
 use Rattle.octets.specs.Bytes.{_and_, _or_, part, every, Octets}
 use Rattle.octets.proofs.Put.{getD-part, octets-part}
 use Rattle.octets.proofs.Zero.{or-zero}
 use Rattle.marks.specs.Packed.{presentIn}
-use Rattle.rules.specs.Layout.{Layout, base, stateAt, dependencesAt, transactorAddress, messageAddress}
+use Rattle.rules.specs.Layout.{Layout, base, widest, stateAt, dependencesAt, transactorAddress, messageAddress}
 use Rattle.rules.specs.Pack.{waitingIn, unpack}
-use Rattle.rules.specs.Convert.{largestNarrow, stateWithin, tooWide}
+use Rattle.rules.specs.Convert.{largestNarrow, limitsAre, stateWithin, tooWide}
 use Rattle.rules.specs.Internal.HighBytes.{entryWithin, entriesWithin}
 use Rattle.rules.proofs.Convert.HighBytes.{firstZero, history-high, state-entries}
 
@@ -50,16 +50,37 @@ module _ (s : List ℕ) where
   abbrev messages : ℕ → Bool
   messages k = entriesWithin largestNarrow base s (messageAddress base k + dependencesAt) 16
 
-  image-within : not (tooWide s) ≡ every 16 transactors and every (waitingIn base s) messages
+  abbrev widestLimits : Bool
+  widestLimits = limitsAre (unpack base s .limits) (widest base)
+
+  image-within : not (tooWide s) ≡ widestLimits and (every 16 transactors and every (waitingIn base s) messages)
   unfolding tooWide
-  image-within = twice (stateWithin largestNarrow base (unpack base s)) ∙ state-entries largestNarrow base s
+  image-within = twice (widestLimits and stateWithin largestNarrow base (unpack base s)) ∙ ap (λ (t : Bool). widestLimits and t) (state-entries largestNarrow base s)
     where
       twice : (t : Bool) → not (not t) ≡ t
       twice true = refl
       twice false = refl
 
-  pub transactors-over : every 16 transactors ≡ false → false ≡ not (tooWide s)
-  transactors-over e = sym (image-within ∙ rw e)
+  -- the three limits
+  module _ (a : ℕ) (p : a ≡ unpack base s .limits .transactors) where
+    pub transactors-other : (a ≡ 16 → ⊥) → false ≡ widestLimits
+    unfolding limitsAre
+    transactors-other h = sym (rw (sym p, ne-eqb a 16 h))
 
-  pub messages-left : (n : ℕ) → every 16 transactors ≡ true → n ≡ waitingIn base s → (r : Bool) → r ≡ every n messages → r ≡ not (tooWide s)
-  messages-left n e h r q = q ∙ ap (λ (k : ℕ). every k messages) h ∙ sym (image-within ∙ rw e)
+    module _ (e : a ≡ 16) (b : ℕ) (q : b ≡ unpack base s .limits .messages) where
+      pub messages-other : (b ≡ 32 → ⊥) → false ≡ widestLimits
+      unfolding limitsAre
+      messages-other h = sym (rw (sym p, eq-eqb a 16 e, sym q, ne-eqb b 32 h))
+
+      pub checkpoints-left : b ≡ 32 → (c : ℕ) → c ≡ unpack base s .limits .checkpoints → eqb c 15 ≡ widestLimits
+      unfolding limitsAre
+      checkpoints-left f c r = sym (rw (sym p, eq-eqb a 16 e, sym q, eq-eqb b 32 f, sym r))
+
+  pub limits-other : widestLimits ≡ false → false ≡ not (tooWide s)
+  limits-other f = sym (image-within ∙ rw f)
+
+  pub transactors-over : widestLimits ≡ true → every 16 transactors ≡ false → false ≡ not (tooWide s)
+  transactors-over f e = sym (image-within ∙ rw (f, e))
+
+  pub messages-left : (n : ℕ) → widestLimits ≡ true → every 16 transactors ≡ true → n ≡ waitingIn base s → (r : Bool) → r ≡ every n messages → r ≡ not (tooWide s)
+  messages-left n f e h r q = q ∙ ap (λ (k : ℕ). every k messages) h ∙ sym (image-within ∙ rw (f, e))

@@ -1,20 +1,38 @@
-// Whether every number of an image of the new form is within one byte: the first byte of each is zero.
+// Whether an image of the new form has room in the old one: its limits are the greatest, and every number is within one byte, the first
+// byte of each zero.
 use image::layout::DEPENDENCES;
 use image::layout::FIRST_MESSAGE;
-use image::layout::HEAD;
+use image::layout::FIRST_TRANSACTOR;
 use image::layout::MESSAGE;
+use image::layout::MESSAGES;
 use image::layout::STATE;
 use image::layout::TRANSACTOR;
 use image::layout::TRANSACTORS;
+use image::limits;
 use image::messages;
 ghost use Prim.Native.Nat.{_+_, _*_, _≤_};
 ghost use mathlib.Core.Bool.{not};
 ghost use mathlib.Core.Path.{_≡_};
 ghost use lib.ListN.{length};
 ghost use Rattle.octets.specs.Bytes.{part, every};
-ghost use Rattle.rules.specs.Layout.{base, stateAt, dependencesAt, transactorAddress, messageAddress, imageBytes};
-ghost use Rattle.rules.specs.Convert.{tooWide};
+ghost use Rattle.rules.specs.Layout.{base, widest, stateAt, dependencesAt, transactorAddress, messageAddress, imageBytes};
+ghost use Rattle.rules.specs.Pack.{unpack};
+ghost use Rattle.rules.specs.Convert.{limitsAre, tooWide};
 ghost use Rattle.rules.specs.Internal.HighBytes.{entryWithin, entriesWithin};
+
+// The limits are those of every image of the old form.
+fn limits(s: &[u8]) -> bool
+    requires { ⌜ length (now s) ≡ imageBytes base ⌝ }
+    ensures { λ r. ⌜ r ≡ limitsAre (unpack base (now (s .entry)) .limits) (widest base) ⌝ }
+{
+    if limits::transactors(s) as usize != TRANSACTORS {
+        return false;
+    }
+    if limits::messages(s) as usize != MESSAGES {
+        return false;
+    }
+    limits::checkpoints(s) as usize == marks::PLACES
+}
 
 // A history: it is not there, or the or of the first bytes of its numbers is zero.
 fn history(s: &[u8], at: usize) -> bool
@@ -54,7 +72,11 @@ fn transactors(s: &[u8]) -> bool
 {
     let mut t: usize = 0;
     while t < TRANSACTORS {
-        if !histories(s, HEAD + TRANSACTOR * t + STATE, 3 * maps::ENTRIES) {
+        if !histories(
+            s,
+            FIRST_TRANSACTOR + TRANSACTOR * t + STATE,
+            3 * maps::ENTRIES,
+        ) {
             return false;
         }
         t += 1;
@@ -81,6 +103,9 @@ pub fn image(s: &[u8]) -> bool
     requires { ⌜ length (now s) ≡ imageBytes base ⌝ }
     ensures { λ r. ⌜ r ≡ not (tooWide (now (s .entry))) ⌝ }
 {
+    if !limits(s) {
+        return false;
+    }
     if !transactors(s) {
         return false;
     }

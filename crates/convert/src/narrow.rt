@@ -1,7 +1,8 @@
-// An image of the new form in the old one: the second byte of every number, all other bytes as they stand.
+// An image of the new form in the old one: the second byte of every number, all other bytes as they stand, without the limits.
 use crate::old;
 use image::layout::DEPENDENCES;
 use image::layout::FIRST_MESSAGE;
+use image::layout::FIRST_TRANSACTOR;
 use image::layout::HEAD;
 use image::layout::MESSAGE;
 use image::layout::MESSAGES;
@@ -51,7 +52,7 @@ fn transactors(source: &[u8], target: &mut [u8])
 {
     let mut t: usize = 0;
     while t < TRANSACTORS {
-        let from = HEAD + TRANSACTOR * t;
+        let from = FIRST_TRANSACTOR + TRANSACTOR * t;
         let front = from + STATE;
         let to = HEAD + old::TRANSACTOR * t;
         octets::write(target, to, &source[from..front]);
@@ -77,7 +78,7 @@ fn messages(source: &[u8], target: &mut [u8])
 
 pub fn image(source: &[u8], target: &mut [u8])
     requires { ⌜ (length (now source) ≡ imageBytes base) × (length (now target) ≡ imageBytes narrow) ⌝ }
-    ensures { λ _. ⌜ now (target .exit) ≡ recast base 1 (now (source .entry)) ⌝ }
+    ensures { λ _. ⌜ now (target .exit) ≡ recast base narrow (now (source .entry)) ⌝ }
 {
     octets::write(target, 0, &source[..HEAD]);
     transactors(source, target);

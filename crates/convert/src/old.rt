@@ -1,4 +1,4 @@
-// Sizes in an image of the old form, where an incarnation number has one byte. Fields in front of the maps stand as in the new one.
+// Sizes in an image of the old form, where an incarnation number has one byte and no limits follow the head. Fields in front of the maps stand as in the new one.
 use image::layout::DEPENDENCES;
 use image::layout::HEAD;
 use image::layout::MESSAGES;

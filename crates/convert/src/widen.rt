@@ -1,19 +1,22 @@
-// An image of the old form in the new one, well-formed or not: every number with a zero byte in front, all other bytes as they stand.
+// An image of the old form in the new one, well-formed or not: the greatest limits after the head, every number with a zero byte in
+// front, all other bytes as they stand.
 use crate::old;
 use image::layout::DEPENDENCES;
 use image::layout::FIRST_MESSAGE;
+use image::layout::FIRST_TRANSACTOR;
 use image::layout::HEAD;
 use image::layout::MESSAGE;
 use image::layout::MESSAGES;
 use image::layout::STATE;
 use image::layout::TRANSACTOR;
 use image::layout::TRANSACTORS;
+use image::limits;
 ghost use mathlib.Core.Path.{_≡_};
 ghost use Prim.Native.Nat.{_+_, _*_, _≤_};
 ghost use mathlib.Core.Bool.{true};
 ghost use lib.ListN.{length, drop};
 ghost use Rattle.octets.specs.Bytes.{put, part, chunks, allZero};
-ghost use Rattle.rules.specs.Layout.{narrow, base, headBytes, transactorAddress, imageBytes};
+ghost use Rattle.rules.specs.Layout.{narrow, base, headBytes, limitsBytes, transactorAddress, imageBytes};
 ghost use Rattle.rules.specs.Internal.Recast.{recastHistory, recastMap, recastTransactorAt, recastMessageAt, widened};
 
 // A history: its flags and count, its incarnation number and its checkpoints. The target is zero from there on.
@@ -50,14 +53,14 @@ fn histories(source: &[u8], from: usize, target: &mut [u8], to: usize, n: usize)
 }
 
 fn transactors(source: &[u8], target: &mut [u8])
-    requires { ⌜ (length (now source) ≡ imageBytes narrow) × (length (now target) ≡ imageBytes base) × (allZero (drop headBytes (now target)) ≡ true) ⌝ }
-    ensures { λ _. ⌜ now (target .exit) ≡ put headBytes (chunks (narrow .transactors) (recastTransactorAt narrow 2 (now (source .entry)))) (now (target .entry)) ⌝ }
+    requires { ⌜ (length (now source) ≡ imageBytes narrow) × (length (now target) ≡ imageBytes base) × (allZero (drop (headBytes + limitsBytes base) (now target)) ≡ true) ⌝ }
+    ensures { λ _. ⌜ now (target .exit) ≡ put (headBytes + limitsBytes base) (chunks (narrow .transactors) (recastTransactorAt narrow 2 (now (source .entry)))) (now (target .entry)) ⌝ }
 {
     let mut t: usize = 0;
     while t < TRANSACTORS {
         let from = HEAD + old::TRANSACTOR * t;
         let front = from + STATE;
-        let to = HEAD + TRANSACTOR * t;
+        let to = FIRST_TRANSACTOR + TRANSACTOR * t;
         octets::write(target, to, &source[from..front]);
         histories(source, front, target, to + STATE, 3 * maps::ENTRIES);
         t += 1;
@@ -84,6 +87,12 @@ pub fn image(source: &[u8], target: &mut [u8])
     ensures { λ _. ⌜ now (target .exit) ≡ widened (now (source .entry)) ⌝ }
 {
     octets::write(target, 0, &source[..HEAD]);
+    limits::store(
+        target,
+        TRANSACTORS as u8,
+        MESSAGES as u8,
+        marks::PLACES as u8,
+    );
     transactors(source, target);
     messages(source, target);
 }

@@ -7,7 +7,7 @@ use native.Mathlib.Omega.{arith}
 use borrow.Rule.Slice.PartMut.{midOf, putMid}
 use lib.ListN.{length}
 use Rattle.octets.specs.Bytes.{put}
-use Rattle.rules.specs.Layout.{base, standard, transactorBytes, transactorAddress}
+use Rattle.rules.specs.Layout.{base, transactorBytes, transactorAddress}
 use Rattle.rules.specs.State.{Transactor, State, transactorAt, ownHistory}
 use Rattle.rules.specs.Refusals.{named}
 use Rattle.rules.specs.Rules.{checkpointBy, checkpointAt, checkpointGroup}
@@ -76,9 +76,9 @@ module _ (img : List ℕ) (good : Good img) (g : ℕ) where
       }
 
       module _ (n : Bool) (name : n ≡ named g t) (on : n ≡ true) where
-        pub signed-room : Room standard s g → ownHistory t (unpackTransactor base own) .count < base .places
+        pub signed-room : Room s g → ownHistory t (unpackTransactor base own) .count < base .places
         unfolding Room
-        signed-room r = rw own-unpacked (r t (sym name ∙ on))
+        signed-room r = rw own-unpacked (omega (arith, r t (sym name ∙ on), good .well .limits .checkpoints-high))
 
         pub signed-named : (b : List ℕ) → b ≡ packTransactor base (checkpointBy base t (unpackTransactor base own)) → putMid at (at + transactorBytes base - at) l b ≡ signedTo img g (t + 1)
         unfolding signedTo checkpointAt

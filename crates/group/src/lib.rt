@@ -1,7 +1,7 @@
 // A checkpoint group (document 01: a volume): which transactors it names, whether it can be signed, and its signing.
 use image::head;
 use image::layout::CREATION;
-use image::layout::HEAD;
+use image::layout::FIRST_TRANSACTOR;
 use image::layout::STATE;
 use image::layout::TRANSACTOR;
 use image::layout::TRANSACTORS;
@@ -16,7 +16,7 @@ ghost use Rattle.octets.specs.Bytes.{_and_, _or_};
 ghost use Rattle.marks.specs.Incarnation.{checkpointedIn, sameIncarnation};
 ghost use Rattle.marks.specs.History.{incarnationOf};
 ghost use Rattle.marks.specs.Packed.{width, places, historyIn};
-ghost use Rattle.rules.specs.Layout.{base, standard, historyBytes, imageBytes};
+ghost use Rattle.rules.specs.Layout.{base, historyBytes, imageBytes};
 ghost use Rattle.rules.specs.State.{live, ownHistory, transactorAt};
 ghost use Rattle.rules.specs.Refusals.{named, anyNamed};
 ghost use Rattle.rules.specs.Rules.{groupReady, checkpointGroup};
@@ -38,13 +38,16 @@ fn own(image: &[u8], t: usize) -> History
     requires { ⌜ Good (now image) × (t < base .transactors) ⌝ }
     ensures { λ r. ⌜ r ≡ ownHistory t (transactorAt (unpack base (now (image .entry))) t) ⌝ }
 {
-    History::load(image, HEAD + TRANSACTOR * t + STATE + marks::SIZE * t)
+    History::load(
+        image,
+        FIRST_TRANSACTOR + TRANSACTOR * t + STATE + marks::SIZE * t,
+    )
 }
 
 // Whether transactor t, if named, blocks a signing with refusal 21, 22 or 30.
 fn blocks(image: &[u8], number: u8, t: usize) -> bool
     requires { ⌜ Good (now image) × (t < base .transactors) ⌝ }
-    ensures { λ r. ⌜ r ≡ blocksAt standard (unpack base (now (image .entry))) number t ⌝ }
+    ensures { λ r. ⌜ r ≡ blocksAt (unpack base (now (image .entry))) number t ⌝ }
 {
     if number == numbers::UNOPENED {
         return (head::opened(image) as usize) <= t;
@@ -53,13 +56,13 @@ fn blocks(image: &[u8], number: u8, t: usize) -> bool
         return head::status(image, t) == numbers::ANNIHILATED;
     }
     let h = own(image, t);
-    limits::CHECKPOINTS <= h.count
+    limits::checkpoints(image) <= h.count
 }
 
 // Whether a named transactor blocks it so.
 fn blocked(image: &[u8], group: u16, number: u8) -> bool
     requires { ⌜ Good (now image) ⌝ }
-    ensures { λ r. ⌜ r ≡ anyNamed group (blocksAt standard (unpack base (now (image .entry))) number) ⌝ }
+    ensures { λ r. ⌜ r ≡ anyNamed group (blocksAt (unpack base (now (image .entry))) number) ⌝ }
 {
     let mut t: usize = 0;
     while t < TRANSACTORS {
@@ -74,7 +77,7 @@ fn blocked(image: &[u8], group: u16, number: u8) -> bool
 // The refusals of a signing, 29, 21, 22 and 30, or 0.
 pub fn refusal(image: &[u8], group: u16) -> u8
     requires { ⌜ Good (now image) ⌝ }
-    ensures { λ r. ⌜ r ≡ groupRefusal standard (unpack base (now (image .entry))) group ⌝ }
+    ensures { λ r. ⌜ r ≡ groupRefusal (unpack base (now (image .entry))) group ⌝ }
 {
     if group == 0 {
         return numbers::EMPTY_GROUP;
@@ -127,7 +130,7 @@ fn entry_ready(image: &[u8], group: u16, at: usize, u: usize) -> bool
     if !is_live(image, u) {
         return false;
     }
-    let own = HEAD + TRANSACTOR * u + STATE + marks::SIZE * u;
+    let own = FIRST_TRANSACTOR + TRANSACTOR * u + STATE + marks::SIZE * u;
     covered(image, at, own, is_named(group, u))
 }
 
@@ -136,7 +139,7 @@ pub fn pair_ready(image: &[u8], group: u16, t: usize, u: usize) -> bool
     requires { ⌜ Good (now image) × (t < base .transactors) × (u < base .transactors) ⌝ }
     ensures { λ r. ⌜ r ≡ pairReady base (now (image .entry)) group t u ⌝ }
 {
-    let at = HEAD + TRANSACTOR * t;
+    let at = FIRST_TRANSACTOR + TRANSACTOR * t;
     if !entry_ready(image, group, at + STATE + marks::SIZE * u, u) {
         return false;
     }
@@ -181,13 +184,13 @@ pub fn ready(image: &[u8], group: u16) -> bool
 
 // Every named transactor is checkpointed.
 pub fn checkpoint(image: &mut [u8], group: u16)
-    requires { ⌜ Good (now image) × Room standard (unpack base (now image)) group ⌝ }
+    requires { ⌜ Good (now image) × Room (unpack base (now image)) group ⌝ }
     ensures { λ _. ⌜ now (image .exit) ≡ pack base (checkpointGroup base (unpack base (now (image .entry))) group) ⌝ }
 {
     let mut t: usize = 0;
     while t < TRANSACTORS {
         if is_named(group, t) {
-            let at = HEAD + TRANSACTOR * t;
+            let at = FIRST_TRANSACTOR + TRANSACTOR * t;
             let end = at + TRANSACTOR;
             transactor::checkpoint(&mut image[at..end], t);
         }

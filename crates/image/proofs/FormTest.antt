@@ -2,7 +2,7 @@
 use Prim.Native.Nat.{ℕ, zero, suc, _+_, _-_, _/_, _%_, _≤_, _<_}
 use mathlib.Core.Bool.{Bool, true, false, not}
 use mathlib.Core.Path.{_≡_, refl, sym, ap, _∙_}
-use mathlib.Core.List.{List}
+use mathlib.Core.List.{List, [], _∷_}
 use mathlib.Core.Logic.{⊎-elim, _↔_}
 use native.Mathlib.Numerals.{add-one}
 use native.Mathlib.Omega.{arith}
@@ -14,21 +14,23 @@ use lib.ListN.{length, getD, drop, length-drop}
 use lib.Seq.{take-all}
 use Rattle.octets.specs.Bytes.{pick, _and_, _or_, part, every, allZero, Octets}
 use Rattle.octets.specs.Numbers.{ofBe}
+use Rattle.octets.proofs.Numbers.{be-one}
 use Rattle.octets.proofs.Put.{part-def, octet, octets-of}
 use Rattle.octets.proofs.Chunks.{sides}
 use Rattle.octets.proofs.Zero.{both, allZero-at, allZero-part, every-at, every-all}
 use Rattle.maps.specs.Map.{heldAt}
 use Rattle.maps.specs.Packed.{formedMap}
-use Rattle.rules.specs.Layout.{Layout, mapBytes, stateAt, creationAt, behaviourAt, dependencesAt, transactorBytes, transactorAddress, messageAddress, imageBytes}
+use Rattle.rules.specs.Layout.{Layout, base, limitsOf, inRange, mapBytes, stateAt, creationAt, behaviourAt, dependencesAt, transactorBytes, transactorAddress, messageAddress, imageBytes}
 use Rattle.rules.specs.Status.{unused, ready, annihilated}
-use Rattle.rules.specs.State.{Transactor, transactorAt, messageAt, ownHistory}
-use Rattle.rules.specs.Pack.{transactorPart, messagePart, waitingIn, unpack}
-use Rattle.rules.specs.Form.{mapFormed, wellFormed}
+use Rattle.rules.specs.State.{State, Transactor, transactorAt, messageAt, ownHistory}
+use Rattle.rules.specs.Pack.{packLimits, transactorPart, messagePart, waitingIn, unpack}
+use Rattle.rules.specs.Form.{mapFormed, limitsZero, wellFormed}
 use Rattle.rules.specs.Internal.Well.{Live, idle, working}
-use Rattle.image.specs.Internal.Tests.{formedOwnAt, formedLiveAt, formedTransactorAt, leastAt, formedMessageAt, formedImage}
+use Rattle.image.specs.Internal.Tests.{formedOwnAt, formedLiveAt, formedTransactorAt, leastAt, formedMessageAt, formedFront, formedImage}
 use Rattle.octets.proofs.Tests.{implied, implying, same-test}
 use Rattle.rules.proofs.Form.Clauses.{Below}
-use Rattle.rules.proofs.Pack.Loads.{length-transactorPart, part-transactor, first-transactor, part-message, first-message, read-status, read-saved, read-held, read-history, read-addressee, read-number, waiting-few}
+use Rattle.rules.proofs.Ranges.{allowed-of}
+use Rattle.rules.proofs.Pack.Loads.{length-transactorPart, part-transactor, first-transactor, part-message, first-message, read-status, read-saved, read-held, read-history, read-addressee, read-number, unpack-waiting, waiting-few}
 use Rattle.rules.proofs.Form.Transactor.{TransactorForm, TransactorFormAt, unopened, vanished, living, AliveForm, live-low, live-high, statuses, mapFormed-zeros}
 use Rattle.rules.proofs.Form.Message.{MessageFormAt, MessagesForm}
 use Rattle.rules.proofs.Form.Image.{ImageForm, form-image, image-form}
@@ -36,30 +38,30 @@ use Rattle.rules.proofs.Form.Image.{ImageForm, form-image, image-form}
 -- ---- one transactor
 
 -- The test on the bytes b of transactor t, which is x: last, for a live one, and whole.
-abbrev testBehaviour : Layout → ℕ → List ℕ → Transactor → Bool
-testBehaviour y opened b x = pick (eqb (x .status) ready) (allZero (part (behaviourAt y) (mapBytes y) b)) (mapFormed y opened (behaviourAt y) b)
+abbrev testBehaviour : Layout → State → List ℕ → Transactor → Bool
+testBehaviour y s b x = pick (eqb (x .status) ready) (allZero (part (behaviourAt y) (mapBytes y) b)) (mapFormed y s (behaviourAt y) b)
 
 abbrev testOwn : ℕ → Transactor → Bool
 testOwn t x = heldAt (x .state) t and (not (eqb (ownHistory t x .count) 0) or eqb (x .saved) 0)
 
-abbrev testLive : Layout → ℕ → ℕ → List ℕ → Transactor → Bool
-testLive y opened t b x =
-    mapFormed y opened stateAt b
-    and mapFormed y opened (creationAt y) b
+abbrev testLive : Layout → State → ℕ → List ℕ → Transactor → Bool
+testLive y s t b x =
+    mapFormed y s stateAt b
+    and mapFormed y s (creationAt y) b
     and testOwn t x
-    and testBehaviour y opened b x
+    and testBehaviour y s b x
 
-abbrev testTransactor : Layout → ℕ → ℕ → List ℕ → Transactor → Bool
-testTransactor y opened t b x =
-    pick (leb opened t) (allZero b)
+abbrev testTransactor : Layout → State → ℕ → List ℕ → Transactor → Bool
+testTransactor y s t b x =
+    pick (leb (s .opened) t) (allZero b)
     (eqb (getD b 0 0 % 64) 0
     and not (eqb (x .status) unused)
-    and pick (eqb (x .status) annihilated) (allZero (drop 1 b)) (testLive y opened t b x))
+    and pick (eqb (x .status) annihilated) (allZero (drop 1 b)) (testLive y s t b x))
 
 module _ (y : Layout) (img : List ℕ) (t : ℕ) (below : t < y .transactors) where
-  map-there : (opened at : ℕ) → at + mapBytes y ≤ transactorBytes y → mapFormed y opened at (transactorPart y img t) ≡ mapFormed y opened (transactorAddress y t + at) img
+  map-there : (s : State) (at : ℕ) → at + mapBytes y ≤ transactorBytes y → mapFormed y s at (transactorPart y img t) ≡ mapFormed y s (transactorAddress y t + at) img
   unfolding mapFormed
-  map-there opened at h = ap (formedMap (y .width) (y .places) (y .transactors) opened) (part-transactor y img t at (mapBytes y) h)
+  map-there s at h = ap (formedMap (y .width) (y .places) (y .transactors) (s .limits .checkpoints) (s .opened)) (part-transactor y img t at (mapBytes y) h)
 
   rest-there : length img ≡ imageBytes y → drop 1 (transactorPart y img t) ≡ part (transactorAddress y t + 1) (transactorBytes y - 1) img
   rest-there n =
@@ -72,7 +74,7 @@ module _ (y : Layout) (img : List ℕ) (t : ℕ) (below : t < y .transactors) wh
   unfolding transactorPart
   whole-there = refl
 
-  transactor-test : length img ≡ imageBytes y → testTransactor y (unpack y img .opened) t (transactorPart y img t) (transactorAt (unpack y img) t) ≡ formedTransactorAt y img t
+  transactor-test : length img ≡ imageBytes y → testTransactor y (unpack y img) t (transactorPart y img t) (transactorAt (unpack y img) t) ≡ formedTransactorAt y img t
   unfolding formedTransactorAt formedLiveAt formedOwnAt
   transactor-test n =
       rw (
@@ -82,28 +84,28 @@ module _ (y : Layout) (img : List ℕ) (t : ℕ) (below : t < y .transactors) wh
         read-saved y img t below,
         read-held y img t below t below,
         read-history y img t below t below,
-        map-there (unpack y img .opened) stateAt (omega arith),
-        map-there (unpack y img .opened) (creationAt y) (omega arith),
-        map-there (unpack y img .opened) (behaviourAt y) (omega arith),
+        map-there (unpack y img) stateAt (omega arith),
+        map-there (unpack y img) (creationAt y) (omega arith),
+        map-there (unpack y img) (behaviourAt y) (omega arith),
         part-transactor y img t (behaviourAt y) (mapBytes y) (omega arith),
         whole-there,
       )
 
-module _ (y : Layout) (opened t : ℕ) (b : List ℕ) (x : Transactor) where
+module _ (y : Layout) (s : State) (t : ℕ) (b : List ℕ) (x : Transactor) where
   saved-test : (ownHistory t x .count ≡ 0 → x .saved ≡ 0) → not (eqb (ownHistory t x .count) 0) or eqb (x .saved) 0 ≡ true
   saved-test f = implying (eqb (ownHistory t x .count) 0) (eqb (x .saved) 0) (λ e. eq-eqb (x .saved) 0 (f (eqb-true (ownHistory t x .count) 0 e)))
 
   test-saved : not (eqb (ownHistory t x .count) 0) or eqb (x .saved) 0 ≡ true → ownHistory t x .count ≡ 0 → x .saved ≡ 0
   test-saved e z = eqb-true (x .saved) 0 (implied (eqb (ownHistory t x .count) 0) (eqb (x .saved) 0) e (eq-eqb (ownHistory t x .count) 0 z))
 
-  form-test : TransactorForm y opened t b x → testTransactor y opened t b x ≡ true
-  form-test (unopened p u e) = rw (le-leb opened t p) e
-  form-test (vanished p u d e) = rw (lt-leb opened t p, eq-eqb (getD b 0 0 % 64) 0 d, u) e
+  form-test : TransactorForm y s t b x → testTransactor y s t b x ≡ true
+  form-test (unopened p u e) = rw (le-leb (s .opened) t p) e
+  form-test (vanished p u d e) = rw (lt-leb (s .opened) t p, eq-eqb (getD b 0 0 % 64) 0 d, u) e
   form-test (living p a) =
       let low = live-low (a .status) in
       let high = live-high (a .status) in
       rw (
-        lt-leb opened t p,
+        lt-leb (s .opened) t p,
         eq-eqb (getD b 0 0 % 64) 0 (a .head),
         ne-eqb (x .status) unused (λ u. omega arith),
         ne-eqb (x .status) annihilated (λ u. omega arith),
@@ -113,14 +115,14 @@ module _ (y : Layout) (opened t : ℕ) (b : List ℕ) (x : Transactor) where
         saved-test (a .saved),
       ) (last (x .status) refl (a .status))
     where
-      last : (n : ℕ) → x .status ≡ n → Live n → testBehaviour y opened b x ≡ true
+      last : (n : ℕ) → x .status ≡ n → Live n → testBehaviour y s b x ≡ true
       last n u idle = rw u (a .behaves u)
       last n u working = rw u (a .behaviour)
 
-  live-form : length b ≡ transactorBytes y → getD b 0 0 % 64 ≡ 0 → Live (x .status) → testLive y opened t b x ≡ true → AliveForm y opened t b x
+  live-form : length b ≡ transactorBytes y → getD b 0 0 % 64 ≡ 0 → Live (x .status) → testLive y s t b x ≡ true → AliveForm y s t b x
   live-form n d l e =
-      let state = both (mapFormed y opened stateAt b) _ e in
-      let creation = both (mapFormed y opened (creationAt y) b) _ (state .1) in
+      let state = both (mapFormed y s stateAt b) _ e in
+      let creation = both (mapFormed y s (creationAt y) b) _ (state .1) in
       let signed = both (testOwn t x) _ (creation .1) in
       let own = both (heldAt (x .state) t) _ (signed .0) in
       let last = behaves (x .status) refl l (signed .1) in
@@ -135,24 +137,24 @@ module _ (y : Layout) (opened t : ℕ) (b : List ℕ) (x : Transactor) where
         behaves = last .1;
       }
     where
-      behaves : (m : ℕ) → x .status ≡ m → Live m → testBehaviour y opened b x ≡ true
-          → (mapFormed y opened (behaviourAt y) b ≡ true) × (x .status ≡ ready → allZero (part (behaviourAt y) (mapBytes y) b) ≡ true)
+      behaves : (m : ℕ) → x .status ≡ m → Live m → testBehaviour y s b x ≡ true
+          → (mapFormed y s (behaviourAt y) b ≡ true) × (x .status ≡ ready → allZero (part (behaviourAt y) (mapBytes y) b) ≡ true)
       behaves m u idle g =
           let z : allZero (part (behaviourAt y) (mapBytes y) b) ≡ true = rw u at g in
-          (mapFormed-zeros y opened (behaviourAt y) b (allZero-part (behaviourAt y) (mapBytes y) b (omega arith) z), λ r. z)
+          (mapFormed-zeros y s (behaviourAt y) b (allZero-part (behaviourAt y) (mapBytes y) b (omega arith) z), λ r. z)
       behaves m u working g = (rw u at g, λ r. absurd (omega arith))
 
-  test-form : x .status ≡ getD b 0 0 / 64 → getD b 0 0 < 256 → length b ≡ transactorBytes y → testTransactor y opened t b x ≡ true → TransactorForm y opened t b x
-  test-form s h n e = ⊎-elim used rest (sides t opened)
+  test-form : x .status ≡ getD b 0 0 / 64 → getD b 0 0 < 256 → length b ≡ transactorBytes y → testTransactor y s t b x ≡ true → TransactorForm y s t b x
+  test-form f h n e = ⊎-elim used rest (sides t (s .opened))
     where
-      rest : opened ≤ t → TransactorForm y opened t b x
+      rest : s .opened ≤ t → TransactorForm y s t b x
       rest p =
-          let z : allZero b ≡ true = rw (le-leb opened t p) at e in
+          let z : allZero b ≡ true = rw (le-leb (s .opened) t p) at e in
           unopened p (omega (arith, allZero-at b 0 z)) z
 
-      used : t < opened → TransactorForm y opened t b x
+      used : t < s .opened → TransactorForm y s t b x
       used p =
-          let head = both (eqb (getD b 0 0 % 64) 0) _ (rw (lt-leb opened t p) at e) in
+          let head = both (eqb (getD b 0 0 % 64) 0) _ (rw (lt-leb (s .opened) t p) at e) in
           let status = both (not (eqb (x .status) unused)) _ (head .1) in
           let d : getD b 0 0 % 64 ≡ 0 = eqb-true (getD b 0 0 % 64) 0 (head .0) in
           ⊎-elim
@@ -169,8 +171,8 @@ transactor-tested y img n o t h =
     let x = transactorAt (unpack y img) t in
     let first = first-transactor y img t in
     let e = transactor-test y img t h n in (
-      λ f. test-form y (unpack y img .opened) t b x (omega (arith, read-status y img t h)) (omega (arith, octet img o (transactorAddress y t))) (length-transactorPart y img n t h) (e ∙ f),
-      λ f. sym e ∙ form-test y (unpack y img .opened) t b x f,
+      λ f. test-form y (unpack y img) t b x (omega (arith, read-status y img t h)) (omega (arith, octet img o (transactorAddress y t))) (length-transactorPart y img n t h) (e ∙ f),
+      λ f. sym e ∙ form-test y (unpack y img) t b x f,
     )
 
 -- ---- the messages
@@ -188,9 +190,9 @@ module _ (y : Layout) (img : List ℕ) where
   pub least-after : (k j : ℕ) → j + 1 ≡ k → leastAt y img k ≡ ofBe 2 (part (messageAddress y j + 1) 2 img) + 1
   least-after k j e = rw (← e) (least-more j)
 
-  dependences-there : (k : ℕ) → mapFormed y (unpack y img .opened) dependencesAt (messagePart y img k) ≡ mapFormed y (unpack y img .opened) (messageAddress y k + dependencesAt) img
+  dependences-there : (k : ℕ) → mapFormed y (unpack y img) dependencesAt (messagePart y img k) ≡ mapFormed y (unpack y img) (messageAddress y k + dependencesAt) img
   unfolding mapFormed
-  dependences-there k = ap (formedMap (y .width) (y .places) (y .transactors) (unpack y img .opened)) (part-message y img k dependencesAt (mapBytes y) (omega arith))
+  dependences-there k = ap (formedMap (y .width) (y .places) (y .transactors) (unpack y img .limits .checkpoints) (unpack y img .opened)) (part-message y img k dependencesAt (mapBytes y) (omega arith))
 
   -- what the test says of a place that is taken
   record Tested (k : ℕ) : Type 0 where
@@ -258,49 +260,117 @@ module _ (y : Layout) (img : List ℕ) where
 
 -- ---- the image
 
+-- what the test says of the head and the limits
+pub record Front (y : Layout) (img : List ℕ) : Type 0 where
+  pub zero : getD img 3 0 ≡ 0
+  pub fourth : limitsZero y img ≡ true
+  pub limits : inRange y (unpack y img .limits) ≡ true
+  pub opened : unpack y img .opened ≤ unpack y img .limits .transactors
+  pub waiting : waitingIn y img ≤ unpack y img .limits .messages
+
+module _ (y : Layout) (img : List ℕ) where
+  pub front-test : formedFront y img ≡ true → Front y img
+  unfolding formedFront
+  front-test e =
+      let zero = both (eqb (getD img 3 0) 0) _ e in
+      let fourth = both (limitsZero y img) _ (zero .1) in
+      let limits = both (inRange y (unpack y img .limits)) _ (fourth .1) in
+      let opened = both (leb (unpack y img .opened) (unpack y img .limits .transactors)) _ (limits .1) in
+      record {
+        zero = eqb-true (getD img 3 0) 0 (zero .0);
+        fourth = fourth .0;
+        limits = limits .0;
+        opened = leb-true (unpack y img .opened) (unpack y img .limits .transactors) (opened .0);
+        waiting = leb-true (waitingIn y img) (unpack y img .limits .messages) (opened .1);
+      }
+
+  front-tested : Front y img → formedFront y img ≡ true
+  unfolding formedFront
+  front-tested f = rw (
+    eq-eqb (getD img 3 0) 0 (f .zero),
+    f .fourth,
+    f .limits,
+    le-leb (unpack y img .opened) (unpack y img .limits .transactors) (f .opened),
+    le-leb (waitingIn y img) (unpack y img .limits .messages) (f .waiting),
+  )
+
 pub formedImage-is : (y : Layout) (img : List ℕ) → length img ≡ imageBytes y → Octets img → formedImage y img ≡ wellFormed y img
 unfolding formedImage
 formedImage-is y img n o = same-test (formedImage y img) (wellFormed y img) (λ e. image-form y img n (tested e)) (λ e. test (form-image y img o e))
   where
     tested : formedImage y img ≡ true → ImageForm y img
     tested e =
-        let zero = both (eqb (getD img 3 0) 0) _ e in
-        let opened = both (leb (unpack y img .opened) (y .transactors)) _ (zero .1) in
-        let transactors = both (every (y .transactors) (formedTransactorAt y img)) _ (opened .1) in
+        let front = both (formedFront y img) _ e in
+        let f = front-test y img (front .0) in
+        let transactors = both (every (y .transactors) (formedTransactorAt y img)) _ (front .1) in
         record {
-          zero = eqb-true (getD img 3 0) 0 (zero .0);
-          opened = leb-true (unpack y img .opened) (y .transactors) (opened .0);
+          zero = f .zero;
+          fourth = f .fourth;
+          limits = f .limits;
+          opened = f .opened;
+          waiting = omega (arith, unpack-waiting y img, f .waiting);
           transactors = λ t h. transactor-tested y img n o t h .0 (every-at (formedTransactorAt y img) (y .transactors) t (transactors .0) h);
           messages = messages-test y img (λ k. every-at (formedMessageAt y img) (y .messages) k (transactors .1));
         }
 
     test : ImageForm y img → formedImage y img ≡ true
     test f = rw (
-      eq-eqb (getD img 3 0) 0 (f .zero),
-      le-leb (unpack y img .opened) (y .transactors) (f .opened),
+      front-tested y img (record { zero = f .zero; fourth = f .fourth; limits = f .limits; opened = f .opened; waiting = omega (arith, unpack-waiting y img, f .waiting) }),
       every-all (formedTransactorAt y img) (y .transactors) (λ t h. transactor-tested y img n o t h .1 (f .transactors t h)),
       every-all (formedMessageAt y img) (y .messages) (messages-tested y img (f .messages)),
     )
 
--- what the code answers of a slice of bytes, test by test
+-- a list has room for what the limits allow
+pub front-few : (y : Layout) (img : List ℕ) → not (formedFront y img) ≡ false → unpack y img .limits .checkpoints ≤ y .places
+front-few y img e = allowed-of (front-test y img (not-false (formedFront y img) e) .limits) .checkpoints-high
+
+-- the packed limits
+pub limits-bytes : (a b c : ℕ) → a < 256 → b < 256 → c < 256 → packLimits base (limitsOf a b c) ≡ a ∷ b ∷ c ∷ 0 ∷ []
+unfolding packLimits
+limits-bytes a b c p q r = rw (be-one a p, be-one b q, be-one c r, be-one 0 (omega arith))
+
+-- what the code answers of the head and the limits, test by test
+module _ (img : List ℕ) where
+  pub front-blank : (getD img 3 0 ≡ 0 → ⊥) → false ≡ formedFront base img
+  unfolding formedFront
+  front-blank n = rw (ne-eqb (getD img 3 0) 0 n)
+
+  module _ (blank : getD img 3 0 ≡ 0) where
+    pub front-fourth : (getD img 7 0 ≡ 0 → ⊥) → false ≡ formedFront base img
+    unfolding formedFront limitsZero
+    front-fourth n = rw (eq-eqb (getD img 3 0) 0 blank, ne-eqb (getD img 7 0) 0 n)
+
+    module _ (fourth : getD img 7 0 ≡ 0) (a b c : ℕ) (transactors : a ≡ unpack base img .limits .transactors) (messages : b ≡ unpack base img .limits .messages) (checkpoints : c ≡ unpack base img .limits .checkpoints) where
+      same : inRange base (limitsOf a b c) ≡ inRange base (unpack base img .limits)
+      same = ap (inRange base) (λ i. limitsOf (transactors i) (messages i) (checkpoints i))
+
+      pub front-limits : not (inRange base (limitsOf a b c)) ≡ true → false ≡ formedFront base img
+      unfolding formedFront limitsZero
+      front-limits n = rw (eq-eqb (getD img 3 0) 0 blank, eq-eqb (getD img 7 0) 0 fourth, ← same, not-true (inRange base (limitsOf a b c)) n)
+
+      module _ (range : not (inRange base (limitsOf a b c)) ≡ false) where
+        pub front-opened : a < unpack base img .opened → false ≡ formedFront base img
+        unfolding formedFront limitsZero
+        front-opened h = rw (eq-eqb (getD img 3 0) 0 blank, eq-eqb (getD img 7 0) 0 fourth, ← same, not-false (inRange base (limitsOf a b c)) range, lt-leb (unpack base img .opened) (unpack base img .limits .transactors) (omega arith))
+
+        pub front-waiting : unpack base img .opened ≤ a → (n : ℕ) → n ≡ waitingIn base img → leb n b ≡ formedFront base img
+        unfolding formedFront limitsZero
+        front-waiting h n e = rw (eq-eqb (getD img 3 0) 0 blank, eq-eqb (getD img 7 0) 0 fourth, ← same, not-false (inRange base (limitsOf a b c)) range, le-leb (unpack base img .opened) (unpack base img .limits .transactors) (omega arith), ← messages, ← e)
+
+-- and of the rest
 module _ (y : Layout) (img : List ℕ) (long : length img ≡ imageBytes y) (bytes : (i : ℕ) → Fits w8 (getD img i 0)) where
   tested : {r : Bool} → r ≡ formedImage y img → r ≡ wellFormed y img
   tested e = e ∙ formedImage-is y img long (octets-of img bytes)
 
-  pub not-blank : (getD img 3 0 ≡ 0 → ⊥) → false ≡ wellFormed y img
+  pub front-ill-formed : not (formedFront y img) ≡ true → false ≡ wellFormed y img
   unfolding formedImage
-  not-blank n = tested (rw (ne-eqb (getD img 3 0) 0 n))
+  front-ill-formed e = tested (rw (not-true (formedFront y img) e))
 
-  module _ (blank : getD img 3 0 ≡ 0) where
-    pub too-many : y .transactors < unpack y img .opened → false ≡ wellFormed y img
+  module _ (front : not (formedFront y img) ≡ false) where
+    pub one-ill-formed : not (every (y .transactors) (formedTransactorAt y img)) ≡ true → false ≡ wellFormed y img
     unfolding formedImage
-    too-many h = tested (rw (eq-eqb (getD img 3 0) 0 blank, lt-leb (unpack y img .opened) (y .transactors) h))
+    one-ill-formed e = tested (rw (not-false (formedFront y img) front, not-true (every (y .transactors) (formedTransactorAt y img)) e))
 
-    module _ (few : unpack y img .opened ≤ y .transactors) where
-      pub one-ill-formed : not (every (y .transactors) (formedTransactorAt y img)) ≡ true → false ≡ wellFormed y img
-      unfolding formedImage
-      one-ill-formed e = tested (rw (eq-eqb (getD img 3 0) 0 blank, le-leb (unpack y img .opened) (y .transactors) few, not-true (every (y .transactors) (formedTransactorAt y img)) e))
-
-      pub all-formed : not (every (y .transactors) (formedTransactorAt y img)) ≡ false → every (y .messages) (formedMessageAt y img) ≡ wellFormed y img
-      unfolding formedImage
-      all-formed e = tested (rw (eq-eqb (getD img 3 0) 0 blank, le-leb (unpack y img .opened) (y .transactors) few, not-false (every (y .transactors) (formedTransactorAt y img)) e))
+    pub all-formed : not (every (y .transactors) (formedTransactorAt y img)) ≡ false → every (y .messages) (formedMessageAt y img) ≡ wellFormed y img
+    unfolding formedImage
+    all-formed e = tested (rw (not-false (formedFront y img) front, not-false (every (y .transactors) (formedTransactorAt y img)) e))

@@ -5,7 +5,8 @@ use crate::layout::BLANK;
 use crate::layout::CREATION;
 use crate::layout::DEPENDENCES;
 use crate::layout::FIRST_MESSAGE;
-use crate::layout::HEAD;
+use crate::layout::FIRST_TRANSACTOR;
+use crate::layout::LIMITS_BLANK;
 use crate::layout::MESSAGE;
 use crate::layout::MESSAGES;
 use crate::layout::NUMBER;
@@ -13,25 +14,26 @@ use crate::layout::SAVED;
 use crate::layout::STATE;
 use crate::layout::TRANSACTOR;
 use crate::layout::TRANSACTORS;
+use crate::limits;
 use crate::messages;
 use maps::DependenceMap;
 use marks::History;
 use rules::numbers;
 ghost use mathlib.Core.Path.{_≡_};
-ghost use Prim.Native.Nat.{_/_, _<_};
+ghost use Prim.Native.Nat.{_/_, _≤_, _<_};
 ghost use lib.ListN.{length, getD};
 ghost use Rattle.octets.specs.Bytes.{every};
 ghost use Rattle.rules.specs.Layout.{base, transactorAddress, imageBytes};
 ghost use Rattle.rules.specs.Pack.{waitingIn, unpack};
 ghost use Rattle.rules.specs.Form.{wellFormed};
-ghost use Rattle.image.specs.Internal.Tests.{formedOwnAt, formedLiveAt, formedTransactorAt, leastAt, formedMessageAt};
+ghost use Rattle.image.specs.Internal.Tests.{formedOwnAt, formedLiveAt, formedTransactorAt, leastAt, formedMessageAt, formedFront};
 
 // Its own history, and no saved value before a checkpoint.
 fn own_formed(s: &[u8], t: usize) -> bool
     requires { ⌜ (length (now s) ≡ imageBytes base) × (t < base .transactors) ⌝ }
     ensures { λ r. ⌜ r ≡ formedOwnAt base (now (s .entry)) t ⌝ }
 {
-    let at = HEAD + TRANSACTOR * t;
+    let at = FIRST_TRANSACTOR + TRANSACTOR * t;
     let there = at + STATE + marks::SIZE * t;
     if !History::present(s, there) {
         return false;
@@ -44,15 +46,15 @@ fn own_formed(s: &[u8], t: usize) -> bool
 }
 
 // A transactor, idle or at work.
-fn live_formed(s: &[u8], t: usize, status: u8, opened: usize) -> bool
-    requires { ⌜ (length (now s) ≡ imageBytes base) × (t < base .transactors) × (status ≡ getD (now s) (transactorAddress base t) 0 / 64) × (opened ≡ unpack base (now s) .opened) ⌝ }
+fn live_formed(s: &[u8], t: usize, status: u8, opened: usize, limit: u8) -> bool
+    requires { ⌜ (length (now s) ≡ imageBytes base) × (t < base .transactors) × (status ≡ getD (now s) (transactorAddress base t) 0 / 64) × (opened ≡ unpack base (now s) .opened) × (limit ≡ unpack base (now s) .limits .checkpoints) × (limit ≤ base .places) ⌝ }
     ensures { λ r. ⌜ r ≡ formedLiveAt base (now (s .entry)) t ⌝ }
 {
-    let at = HEAD + TRANSACTOR * t;
-    if !DependenceMap::formed(s, at + STATE, opened) {
+    let at = FIRST_TRANSACTOR + TRANSACTOR * t;
+    if !DependenceMap::formed(s, at + STATE, opened, limit) {
         return false;
     }
-    if !DependenceMap::formed(s, at + CREATION, opened) {
+    if !DependenceMap::formed(s, at + CREATION, opened, limit) {
         return false;
     }
     if !own_formed(s, t) {
@@ -61,14 +63,15 @@ fn live_formed(s: &[u8], t: usize, status: u8, opened: usize) -> bool
     if status == numbers::READY {
         return octets::all_zero(s, at + BEHAVIOUR, maps::SIZE);
     }
-    DependenceMap::formed(s, at + BEHAVIOUR, opened)
+    DependenceMap::formed(s, at + BEHAVIOUR, opened, limit)
 }
 
-fn transactor_formed(s: &[u8], t: usize, opened: usize) -> bool
-    requires { ⌜ (length (now s) ≡ imageBytes base) × (t < base .transactors) × (opened ≡ unpack base (now s) .opened) ⌝ }
+// One transactor, where opened are opened and a list may have limit entries.
+fn transactor_formed(s: &[u8], t: usize, opened: usize, limit: u8) -> bool
+    requires { ⌜ (length (now s) ≡ imageBytes base) × (t < base .transactors) × (opened ≡ unpack base (now s) .opened) × (limit ≡ unpack base (now s) .limits .checkpoints) × (limit ≤ base .places) ⌝ }
     ensures { λ r. ⌜ r ≡ formedTransactorAt base (now (s .entry)) t ⌝ }
 {
-    let at = HEAD + TRANSACTOR * t;
+    let at = FIRST_TRANSACTOR + TRANSACTOR * t;
     if opened <= t {
         return octets::all_zero(s, at, TRANSACTOR);
     }
@@ -83,7 +86,7 @@ fn transactor_formed(s: &[u8], t: usize, opened: usize) -> bool
     if status == numbers::ANNIHILATED {
         return octets::all_zero(s, at + 1, TRANSACTOR - 1);
     }
-    live_formed(s, t, status, opened)
+    live_formed(s, t, status, opened, limit)
 }
 
 // One more than the number in the place before k; 0 for the first.
@@ -99,8 +102,8 @@ fn least(s: &[u8], k: usize) -> usize
 }
 
 // Place k, of which the first n wait.
-fn message_formed(s: &[u8], k: usize, n: usize, opened: usize, next: u16) -> bool
-    requires { ⌜ (length (now s) ≡ imageBytes base) × (k < base .messages) × (n ≡ waitingIn base (now s)) × (opened ≡ unpack base (now s) .opened) × (next ≡ unpack base (now s) .next) ⌝ }
+fn message_formed(s: &[u8], k: usize, n: usize, opened: usize, next: u16, limit: u8) -> bool
+    requires { ⌜ (length (now s) ≡ imageBytes base) × (k < base .messages) × (n ≡ waitingIn base (now s)) × (opened ≡ unpack base (now s) .opened) × (next ≡ unpack base (now s) .next) × (limit ≡ unpack base (now s) .limits .checkpoints) × (limit ≤ base .places) ⌝ }
     ensures { λ r. ⌜ r ≡ formedMessageAt base (now (s .entry)) k ⌝ }
 {
     let at = FIRST_MESSAGE + MESSAGE * k;
@@ -122,16 +125,16 @@ fn message_formed(s: &[u8], k: usize, n: usize, opened: usize, next: u16) -> boo
     if (number as usize) < least(s, k) {
         return false;
     }
-    DependenceMap::formed(s, at + DEPENDENCES, opened)
+    DependenceMap::formed(s, at + DEPENDENCES, opened, limit)
 }
 
-fn transactors_formed(s: &[u8], opened: usize) -> bool
-    requires { ⌜ (length (now s) ≡ imageBytes base) × (opened ≡ unpack base (now s) .opened) ⌝ }
+fn transactors_formed(s: &[u8], opened: usize, limit: u8) -> bool
+    requires { ⌜ (length (now s) ≡ imageBytes base) × (opened ≡ unpack base (now s) .opened) × (limit ≡ unpack base (now s) .limits .checkpoints) × (limit ≤ base .places) ⌝ }
     ensures { λ r. ⌜ r ≡ every (base .transactors) (formedTransactorAt base (now (s .entry))) ⌝ }
 {
     let mut t: usize = 0;
     while t < TRANSACTORS {
-        if !transactor_formed(s, t, opened) {
+        if !transactor_formed(s, t, opened, limit) {
             return false;
         }
         t += 1;
@@ -139,13 +142,13 @@ fn transactors_formed(s: &[u8], opened: usize) -> bool
     true
 }
 
-fn messages_formed(s: &[u8], n: usize, opened: usize, next: u16) -> bool
-    requires { ⌜ (length (now s) ≡ imageBytes base) × (n ≡ waitingIn base (now s)) × (opened ≡ unpack base (now s) .opened) × (next ≡ unpack base (now s) .next) ⌝ }
+fn messages_formed(s: &[u8], n: usize, opened: usize, next: u16, limit: u8) -> bool
+    requires { ⌜ (length (now s) ≡ imageBytes base) × (n ≡ waitingIn base (now s)) × (opened ≡ unpack base (now s) .opened) × (next ≡ unpack base (now s) .next) × (limit ≡ unpack base (now s) .limits .checkpoints) × (limit ≤ base .places) ⌝ }
     ensures { λ r. ⌜ r ≡ every (base .messages) (formedMessageAt base (now (s .entry))) ⌝ }
 {
     let mut k: usize = 0;
     while k < MESSAGES {
-        if !message_formed(s, k, n, opened, next) {
+        if !message_formed(s, k, n, opened, next, limit) {
             return false;
         }
         k += 1;
@@ -153,19 +156,40 @@ fn messages_formed(s: &[u8], n: usize, opened: usize, next: u16) -> bool
     true
 }
 
-pub fn formed(s: &[u8]) -> bool
-    requires { ⌜ length (now s) ≡ imageBytes base ⌝ }
-    ensures { λ r. ⌜ r ≡ wellFormed base (now (s .entry)) ⌝ }
+// The head and the limits, of which n messages that wait are within theirs.
+fn front_formed(s: &[u8], n: usize) -> bool
+    requires { ⌜ (length (now s) ≡ imageBytes base) × (n ≡ waitingIn base (now s)) ⌝ }
+    ensures { λ r. ⌜ r ≡ formedFront base (now (s .entry)) ⌝ }
 {
     if s[BLANK] != 0 {
         return false;
     }
+    if s[LIMITS_BLANK] != 0 {
+        return false;
+    }
+    let most = limits::transactors(s);
+    let crowd = limits::messages(s) as usize;
+    if !limits::in_range(most as usize, crowd, limits::checkpoints(s) as usize) {
+        return false;
+    }
+    if most < head::opened(s) {
+        return false;
+    }
+    n <= crowd
+}
+
+pub fn formed(s: &[u8]) -> bool
+    requires { ⌜ length (now s) ≡ imageBytes base ⌝ }
+    ensures { λ r. ⌜ r ≡ wellFormed base (now (s .entry)) ⌝ }
+{
+    let n = messages::waiting(s);
+    if !front_formed(s, n) {
+        return false;
+    }
     let opened = head::opened(s) as usize;
-    if TRANSACTORS < opened {
+    let limit = limits::checkpoints(s);
+    if !transactors_formed(s, opened, limit) {
         return false;
     }
-    if !transactors_formed(s, opened) {
-        return false;
-    }
-    messages_formed(s, messages::waiting(s), opened, head::next(s))
+    messages_formed(s, n, opened, head::next(s), limit)
 }

@@ -1,5 +1,5 @@
 // What the steps first ask of an image: how many transactors are opened, the next message number, and a transactor's status.
-use crate::layout::HEAD;
+use crate::layout::FIRST_TRANSACTOR;
 use crate::layout::NEXT;
 use crate::layout::OPENED;
 use crate::layout::TRANSACTOR;
@@ -31,7 +31,7 @@ pub fn status(image: &[u8], t: usize) -> u8
     requires { ⌜ (length (now image) ≡ imageBytes base) × (t < base .transactors) ⌝ }
     ensures { λ r. ⌜ r ≡ transactorAt (unpack base (now (image .entry))) t .status ⌝ }
 {
-    image[HEAD + TRANSACTOR * t] / 64
+    image[FIRST_TRANSACTOR + TRANSACTOR * t] / 64
 }
 
 // Why transactor t cannot act, 21 or 22, or 0.

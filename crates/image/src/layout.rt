@@ -36,7 +36,18 @@ pub const BLANK: usize = 3;
 
 pub const HEAD: usize = 4;
 
-pub const FIRST_MESSAGE: usize = HEAD + TRANSACTOR * TRANSACTORS;
+// After it the session's limits: transactors opened, messages waiting, checkpoints of one transactor, zero, 1 byte each.
+pub const MOST_TRANSACTORS: usize = HEAD;
+
+pub const MOST_MESSAGES: usize = HEAD + 1;
+
+pub const MOST_CHECKPOINTS: usize = HEAD + 2;
+
+pub const LIMITS_BLANK: usize = HEAD + 3;
+
+pub const FIRST_TRANSACTOR: usize = HEAD + 4;
+
+pub const FIRST_MESSAGE: usize = FIRST_TRANSACTOR + TRANSACTOR * TRANSACTORS;
 
 pub const IMAGE: usize = FIRST_MESSAGE + MESSAGE * MESSAGES;
 

@@ -7,7 +7,7 @@ use image::layout::TRANSACTORS;
 ghost use mathlib.Core.Path.{_≡_};
 ghost use Prim.Native.Nat.{_≤_, _<_};
 ghost use lib.Dec.{eqb};
-ghost use Rattle.rules.specs.Layout.{base, standard};
+ghost use Rattle.rules.specs.Layout.{base};
 ghost use Rattle.rules.specs.State.{placeFrom};
 ghost use Rattle.rules.specs.Step.{done};
 ghost use Rattle.rules.specs.Rules.{stepOf};
@@ -63,7 +63,7 @@ pub fn closure(image: &[u8], t: usize) -> u16
 // Whether the group could be checkpointed now.
 pub fn can_checkpoint(image: &[u8], group: u16) -> bool
     requires { ⌜ Good (now image) ⌝ }
-    ensures { λ r. ⌜ r ≡ eqb (stepOf base standard (unpack base (now (image .entry))) (signing group) .reply .outcome) done ⌝ }
+    ensures { λ r. ⌜ r ≡ eqb (stepOf base (unpack base (now (image .entry))) (signing group) .reply .outcome) done ⌝ }
 {
     if refusal(image, group) != 0 {
         return false;

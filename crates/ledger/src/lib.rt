@@ -6,7 +6,7 @@ use image::head;
 use image::layout::CREATION;
 use image::layout::DEPENDENCES;
 use image::layout::FIRST_MESSAGE;
-use image::layout::HEAD;
+use image::layout::FIRST_TRANSACTOR;
 use image::layout::IMAGE;
 use image::layout::LONGEST;
 use image::layout::MESSAGE;
@@ -15,6 +15,7 @@ use image::layout::STATE;
 use image::layout::STEP;
 use image::layout::TRANSACTOR;
 use image::layout::TRANSACTORS;
+use image::limits;
 use image::messages;
 use maps::stability;
 use rules::Grouped;
@@ -25,11 +26,9 @@ use rules::numbers;
 ghost use mathlib.Core.Path.{_≡_};
 ghost use Prim.Native.Nat.{_+_, _*_, _/_, _≤_};
 ghost use lib.ListN.{length};
-ghost use Rattle.octets.specs.Bytes.{put, part};
-ghost use Rattle.rules.specs.Layout.{base, standard, imageBytes};
+ghost use Rattle.octets.specs.Bytes.{put, part, zeros};
+ghost use Rattle.rules.specs.Layout.{base, limitsOf, imageBytes};
 ghost use Rattle.rules.specs.Step.{unpackStep, packReply, stepBytes};
-ghost use Rattle.rules.specs.State.{fresh};
-ghost use Rattle.rules.specs.Pack.{pack};
 ghost use Rattle.rules.specs.Internal.Good.{Good};
 ghost use Rattle.rules.specs.Calls.{beginAnswer, beginImage, runAnswer, runImage, runReplies, ranImage, ranReplies, queryRefusal, offeredNumber, Offers, showRefusal, shown};
 ghost use Rattle.rules.specs.Groups.{groupNumber, Smallest};
@@ -37,26 +36,32 @@ ghost use Rattle.rules.specs.Heard.{heardAnswer};
 
 // ---- begin
 
-// Begins a fresh session: 0, or 16.
-pub fn begin(image: &mut [u8]) -> u8
-    ensures { λ r. ⌜ (r ≡ beginAnswer base (now (image .entry))) × (now (image .exit) ≡ beginImage base (now (image .entry))) ⌝ }
+// Begins a fresh session that opens so many transactors, keeps so many messages waiting and checkpoints a transactor so often: 0, or
+// 16, 33 with no byte changed.
+pub fn begin(image: &mut [u8], transactors: usize, messages: usize, checkpoints: usize) -> u8
+    ensures { λ r. ⌜ (r ≡ beginAnswer base (limitsOf transactors messages checkpoints) (now (image .entry)))
+        × (now (image .exit) ≡ beginImage base (limitsOf transactors messages checkpoints) (now (image .entry))) ⌝ }
 {
     if image.len() != IMAGE {
         return numbers::WRONG_LENGTH;
     }
+    if !limits::in_range(transactors, messages, checkpoints) {
+        return numbers::OUT_OF_RANGE;
+    }
     refresh(image);
+    limits::store(image, transactors as u8, messages as u8, checkpoints as u8);
     0
 }
 
-// Nothing opened and nothing sent: every transactor as bare as the initial history's constant packs it.
+// Nothing opened, nothing sent, no limits: every transactor as bare as the initial history's constant packs it.
 fn refresh(image: &mut [u8])
     requires { ⌜ length (now image) ≡ imageBytes base ⌝ }
-    ensures { λ _. ⌜ now (image .exit) ≡ pack base (fresh base) ⌝ }
+    ensures { λ _. ⌜ now (image .exit) ≡ zeros (imageBytes base) ⌝ }
 {
-    octets::clear(image, 0, HEAD);
+    octets::clear(image, 0, FIRST_TRANSACTOR);
     let mut t: usize = 0;
     while t < TRANSACTORS {
-        let at = HEAD + TRANSACTOR * t;
+        let at = FIRST_TRANSACTOR + TRANSACTOR * t;
         let end = at + TRANSACTOR;
         transactor::strip(&mut image[at..end], numbers::UNUSED);
         t += 1;
@@ -97,7 +102,7 @@ fn encode(replies: &mut [u8], at: usize, r: Reply)
 // Runs a list of whole steps.
 fn run_steps(image: &mut [u8], list: &[u8], replies: &mut [u8])
     requires { ⌜ Good (now image) × (length (now replies) ≡ length (now list)) × (stepBytes * (length (now list) / stepBytes) ≡ length (now list)) ⌝ }
-    ensures { λ _. ⌜ (now (image .exit) ≡ ranImage base standard (now (image .entry)) (now (list .entry))) × (now (replies .exit) ≡ ranReplies base standard (now (image .entry)) (now (list .entry))) ⌝ }
+    ensures { λ _. ⌜ (now (image .exit) ≡ ranImage base (now (image .entry)) (now (list .entry))) × (now (replies .exit) ≡ ranReplies base (now (image .entry)) (now (list .entry))) ⌝ }
 {
     let n = list.len() / STEP;
     let mut i: usize = 0;
@@ -112,8 +117,8 @@ fn run_steps(image: &mut [u8], list: &[u8], replies: &mut [u8])
 // Runs the steps of the list from start up to end, and writes a reply for each: 0, or 16, 17, 18, 19 with no byte changed.
 pub fn run(image: &mut [u8], list: &[u8], start: usize, end: usize, replies: &mut [u8]) -> u8
     ensures { λ r. ⌜ (r ≡ runAnswer base (now (image .entry)) (now (list .entry)) start end (now (replies .entry)))
-        × (now (image .exit) ≡ runImage base standard (now (image .entry)) (now (list .entry)) start end (now (replies .entry)))
-        × (now (replies .exit) ≡ runReplies base standard (now (image .entry)) (now (list .entry)) start end (now (replies .entry))) ⌝ }
+        × (now (image .exit) ≡ runImage base (now (image .entry)) (now (list .entry)) start end (now (replies .entry)))
+        × (now (replies .exit) ≡ runReplies base (now (image .entry)) (now (list .entry)) start end (now (replies .entry))) ⌝ }
 {
     if image.len() != IMAGE {
         return numbers::WRONG_LENGTH;
@@ -176,7 +181,7 @@ pub fn offer(image: &[u8], transactor: usize, refusal: &mut u8) -> Offered
 // The smallest group with the transactor that could be checkpointed now, or none exactly if there is none. The lent number takes
 // the refusal, 16, 19, 21 or 22, or 0; refused, none.
 pub fn smallest_group(image: &[u8], transactor: usize, refusal: &mut u8) -> Grouped
-    ensures { λ r. ⌜ (now (refusal .exit) ≡ queryRefusal base (now (image .entry)) transactor) × Smallest base standard (now (image .entry)) transactor (groupNumber r) ⌝ }
+    ensures { λ r. ⌜ (now (refusal .exit) ≡ queryRefusal base (now (image .entry)) transactor) × Smallest base (now (image .entry)) transactor (groupNumber r) ⌝ }
 {
     let number = query_refusal(image, transactor);
     *refusal = number;
@@ -200,7 +205,7 @@ pub fn all_heard_stable(image: &[u8], transactor: usize, refusal: &mut u8) -> bo
     if number != 0 {
         return false;
     }
-    let at = HEAD + TRANSACTOR * transactor;
+    let at = FIRST_TRANSACTOR + TRANSACTOR * transactor;
     if !stability::others_stable(image, at + STATE, transactor) {
         return false;
     }

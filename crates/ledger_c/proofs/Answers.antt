@@ -12,7 +12,7 @@ use Rattle.octets.specs.Bytes.{pick, part, Octets}
 use Rattle.octets.specs.Numbers.{bound}
 use Rattle.rules.specs.declared.Offered.{Offered}
 use Rattle.rules.specs.declared.Grouped.{Grouped}
-use Rattle.rules.specs.Layout.{Layout, base, standard, imageBytes, messageAddress, dependencesAt, mapBytes}
+use Rattle.rules.specs.Layout.{Layout, base, imageBytes, messageAddress, dependencesAt, mapBytes}
 use Rattle.rules.specs.State.{placeOf}
 use Rattle.rules.specs.Pack.{unpack}
 use Rattle.rules.specs.Form.{wellFormed}
@@ -64,15 +64,15 @@ module _ (img : List ℕ) where
 
   module _ (t : ℕ) where
     -- a volume with take t is not 0
-    grouped : (a : Option ℕ) → Smallest base standard img t a → Smallest base standard img t (groupOf (groupBitsOf a))
+    grouped : (a : Option ℕ) → Smallest base img t a → Smallest base img t (groupOf (groupBitsOf a))
     unfolding groupOf
     grouped none f = f
     grouped (some v) (smallest r c l) =
         let h : v ≡ 0 → ⊥ = λ d. never (sym (c .contains) ∙ rw d (named-zero t)) in
         rw (ne-eqb v 0 h) (smallest r c l)
 
-    pub named : {a b : Grouped} → a ≡ b → Smallest base standard img t (groupNumber a) → Smallest base standard img t (groupOf (groupBitsOf (groupNumber b)))
-    named {a} e f = subst (λ (b : Grouped). Smallest base standard img t (groupOf (groupBitsOf (groupNumber b)))) e (grouped (groupNumber a) f)
+    pub named : {a b : Grouped} → a ≡ b → Smallest base img t (groupNumber a) → Smallest base img t (groupOf (groupBitsOf (groupNumber b)))
+    named {a} e f = subst (λ (b : Grouped). Smallest base img t (groupOf (groupBitsOf (groupNumber b)))) e (grouped (groupNumber a) f)
 
   -- ---- show, accepted
 

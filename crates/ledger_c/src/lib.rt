@@ -8,7 +8,7 @@ use rules::Grouped;
 use rules::Offered;
 use window::Worst;
 ghost use mathlib.Core.Path.{_≡_};
-ghost use Rattle.rules.specs.Layout.{base, standard};
+ghost use Rattle.rules.specs.Layout.{base, limitsOf};
 ghost use Rattle.rules.specs.Calls.{beginAnswer, beginImage, runAnswer, runImage, runReplies, queryRefusal, Offers, showRefusal};
 ghost use Rattle.rules.specs.Groups.{Smallest};
 ghost use Rattle.rules.specs.Heard.{heardAnswer};
@@ -26,12 +26,19 @@ pub struct Part {
     pub length: usize,
 }
 
-// Begins a fresh session: 0, or 16.
+// Begins a fresh session that opens so many transactors, keeps so many messages waiting and checkpoints a transactor so often: 0, or
+// 16, 33 with no byte changed.
 #[no_mangle]
-pub extern "C" fn ledger_begin(image: &mut [u8]) -> u8
-    ensures { λ r. ⌜ (r ≡ beginAnswer base (now (image .entry))) × (now (image .exit) ≡ beginImage base (now (image .entry))) ⌝ }
+pub extern "C" fn ledger_begin(
+    image: &mut [u8],
+    transactors: usize,
+    messages: usize,
+    checkpoints: usize,
+) -> u8
+    ensures { λ r. ⌜ (r ≡ beginAnswer base (limitsOf transactors messages checkpoints) (now (image .entry)))
+        × (now (image .exit) ≡ beginImage base (limitsOf transactors messages checkpoints) (now (image .entry))) ⌝ }
 {
-    ledger::begin(image)
+    ledger::begin(image, transactors, messages, checkpoints)
 }
 
 // Runs the steps of the list from start up to end, and writes a reply for each: 0, or 16, 17, 18, 19 with no byte changed.
@@ -44,8 +51,8 @@ pub extern "C" fn ledger_run(
     replies: &mut [u8],
 ) -> u8
     ensures { λ r. ⌜ (r ≡ runAnswer base (now (image .entry)) (now (list .entry)) start end (now (replies .entry)))
-        × (now (image .exit) ≡ runImage base standard (now (image .entry)) (now (list .entry)) start end (now (replies .entry)))
-        × (now (replies .exit) ≡ runReplies base standard (now (image .entry)) (now (list .entry)) start end (now (replies .entry))) ⌝ }
+        × (now (image .exit) ≡ runImage base (now (image .entry)) (now (list .entry)) start end (now (replies .entry)))
+        × (now (replies .exit) ≡ runReplies base (now (image .entry)) (now (list .entry)) start end (now (replies .entry))) ⌝ }
 {
     ledger::run(image, list, start, end, replies)
 }
@@ -66,7 +73,7 @@ pub extern "C" fn ledger_offer(image: &[u8], transactor: usize, refusal: &mut u8
 // the refusal, 16, 19, 21 or 22, or 0; refused, 0.
 #[no_mangle]
 pub extern "C" fn ledger_smallest_group(image: &[u8], transactor: usize, refusal: &mut u8) -> u16
-    ensures { λ r. ⌜ (now (refusal .exit) ≡ queryRefusal base (now (image .entry)) transactor) × Smallest base standard (now (image .entry)) transactor (groupOf r) ⌝ }
+    ensures { λ r. ⌜ (now (refusal .exit) ≡ queryRefusal base (now (image .entry)) transactor) × Smallest base (now (image .entry)) transactor (groupOf r) ⌝ }
 {
     let Grouped::Group(group) = ledger::smallest_group(image, transactor, refusal) else {
         return 0;
@@ -107,7 +114,7 @@ pub extern "C" fn ledger_show(image: &[u8], number: u16, refusal: &mut u8) -> Pa
     }
 }
 
-// Writes an image of the old form, 22,132 bytes, in the ledger's: 0, or 16, 19 with no byte changed.
+// Writes an image of the old form, 22,132 bytes, in the ledger's, with the greatest limits: 0, or 16, 19 with no byte changed.
 #[no_mangle]
 pub extern "C" fn ledger_forward(source: &[u8], target: &mut [u8]) -> u8
     ensures { λ r. ⌜ (r ≡ forwardAnswer (now (source .entry)) (now (target .entry)))

@@ -124,7 +124,7 @@ fn told(op: u8, image: &[u8], at: usize) -> bool
         return false;
     }
     match op {
-        b'W' => History::formed(image, at),
+        b'W' => History::formed(image, at, 15),
         b'P' => History::present(image, at),
         _ => History::load(image, at).stable,
     }

@@ -13,13 +13,14 @@ use Rattle.octets.proofs.Chunks.{sides, length-tabulate, getD-tabulate}
 use Rattle.marks.specs.declared.History.{History}
 use Rattle.marks.specs.History.{HistoryView, incarnationOf, viewOf}
 use Rattle.marks.specs.News.{informed}
-use Rattle.marks.proofs.News.{informed-incarnation, informed-stable, roomy-informed, packable-informed, informedView, view-informed}
+use Rattle.marks.proofs.News.{informed-incarnation, informed-count, informed-stable, roomy-informed, packable-informed, informedView, view-informed}
 use Rattle.maps.specs.declared.DependenceMap.{DependenceMap}
 use Rattle.maps.specs.Map.{heldAt, historyAt, emptyMap}
 use Rattle.maps.specs.News.{informedHistory, informedHistoryAt, informedOf}
-use Rattle.maps.specs.Internal.Fitting.{EntryOk, present, absent, MapOk}
+use Rattle.maps.specs.Internal.Fitting.{EntryOk, present, absent, MapOk, Bounded}
 use Rattle.maps.specs.Internal.View.{MapView, mapView}
 use Rattle.maps.proofs.Map.{outside, Sized, same-map, sized-empty, held-empty}
+use Rattle.maps.proofs.Packed.{bounded-at, bounded-within}
 use Rattle.maps.proofs.View.{Within, view-past, view-absent}
 
 both-same : (c : Bool) (h : History) → pick c h h ≡ h
@@ -54,6 +55,12 @@ module _ (n t : ℕ) (a b : DependenceMap) where
     pub history-shown : u ≢ t → heldAt a u ≡ true → heldAt b u ≡ true → historyAt (informedOf n t a b) u ≡ informed (historyAt a u) (historyAt b u)
     unfolding informedHistoryAt informedHistory
     history-shown k e f = history-informed ∙ rw (ne-eqb u t k, e, f)
+
+  -- no list grows
+  pub bounded-informed : (c : ℕ) → Bounded c a → Bounded c (informedOf n t a b)
+  unfolding informedOf
+  bounded-informed c k = bounded-within c n (informedOf n t a b) (length-tabulate (informedHistoryAt t a b) n)
+      (λ u h. informed-entry u h (λ x. x .count ≤ c) (bounded-at c a k u) (omega (arith, informed-count (historyAt a u) (historyAt b u), bounded-at c a k u)))
 
   -- the receiver's own entry
   pub own-informed : t < n → historyAt (informedOf n t a b) t ≡ historyAt a t

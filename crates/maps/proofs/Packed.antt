@@ -18,7 +18,7 @@ use Rattle.marks.specs.declared.History.{History}
 use Rattle.marks.specs.History.{initialHistory}
 use Rattle.marks.specs.Packed.{countBound, historySize, unpackHistory, presentIn, formedHistory}
 use Rattle.marks.proofs.Histories.{newer-which}
-use Rattle.marks.proofs.Packed.{length-packHistory, octets-packHistory, unpack-packHistory, pack-unpackHistory, packable-unpack, unpack-count, unpack-zeros as unpack-zero, roomy-unpack, present-packHistory, formed-packHistory, absent-zeros, absent-is-zero, unpack-absent, formed-zeros}
+use Rattle.marks.proofs.Packed.{length-packHistory, octets-packHistory, unpack-packHistory, pack-unpackHistory, packable-unpack, unpack-count, unpack-zeros as unpack-zero, roomy-unpack, count-unpack, present-packHistory, formed-packHistory, absent-zeros, absent-is-zero, unpack-absent, formed-zeros}
 use Rattle.maps.specs.declared.DependenceMap.{DependenceMap}
 use Rattle.maps.specs.Map.{heldAt, historyAt, emptyMap, withEntry, singleton, isEmpty, joinOf}
 use Rattle.maps.specs.Packed.{mapSize, packEntry, packEntryAt, packMap, entryBytes, unpackHeldAt, unpackHistoryAt, unpackMap, formedEntry, formedEntryAt, formedMap}
@@ -106,33 +106,36 @@ unpack-packMap {w} {l} {n} {m} k = same-map (sized-unpack w l n (packMap w l n m
 
 -- ---- well-formed bytes
 
-module _ (w l : ℕ) where
+module _ (w l c : ℕ) where
   -- a mark that is well-formed as one of an unopened take is well-formed
-  formed-entry : (known : Bool) (b : List ℕ) → formedEntry w l known b ≡ true → formedHistory w l b ≡ true
+  formed-entry : (known : Bool) (b : List ℕ) → formedEntry w c known b ≡ true → formedHistory w c b ≡ true
   unfolding formedEntry
   formed-entry true b e = e
-  formed-entry false b e = subst (λ (x : List ℕ). formedHistory w l x ≡ true) (sym (zeros-is b e)) (formed-zeros w l (length b))
+  formed-entry false b e = subst (λ (x : List ℕ). formedHistory w c x ≡ true) (sym (zeros-is b e)) (formed-zeros w c (length b))
 
-  module _ (b : List ℕ) (octets : Octets b) (formed : formedHistory w l b ≡ true) where
+  module _ (b : List ℕ) (octets : Octets b) (formed : formedHistory w c b ≡ true) where
     pack-unpackEntry : length b ≡ historySize w l → packEntry w l (presentIn b) (unpackHistory w l b) ≡ b
     unfolding packEntry
     pack-unpackEntry whole = go (presentIn b) refl
       where
         go : (p : Bool) → presentIn b ≡ p → packEntry w l p (unpackHistory w l b) ≡ b
-        go true e = pack-unpackHistory w l b whole octets e formed
-        go false e = sym (absent-is-zero w l b e formed ∙ ap zeros whole)
+        go true e = pack-unpackHistory w l c b whole octets e formed
+        go false e = sym (absent-is-zero w c b e formed ∙ ap zeros whole)
 
-    entryOk-unpack : EntryOk w l (presentIn b) (unpackHistory w l b)
-    entryOk-unpack = go (presentIn b) refl
+    entryOk-unpack : c ≤ l → EntryOk w l (presentIn b) (unpackHistory w l b)
+    entryOk-unpack fits = go (presentIn b) refl
       where
         go : (p : Bool) → presentIn b ≡ p → EntryOk w l p (unpackHistory w l b)
-        go true e = present (roomy-unpack w l b formed) (packable-unpack w l b octets)
-        go false e = subst (EntryOk w l false) (sym (unpack-absent w l b e formed)) absent
+        go true e = present (roomy-unpack w l c b fits formed) (packable-unpack w l b octets)
+        go false e = subst (EntryOk w l false) (sym (unpack-absent w l c b e formed)) absent
 
-module _ (w l n opened : ℕ) (b : List ℕ) (formed : formedMap w l n opened b ≡ true) where
-  formed-at : (i : ℕ) → i < n → formedEntry w l (ltb i opened) (entryBytes w l b i) ≡ true
+module _ (w l n c opened : ℕ) (b : List ℕ) (formed : formedMap w l n c opened b ≡ true) where
+  formed-at : (i : ℕ) → i < n → formedEntry w c (ltb i opened) (entryBytes w l b i) ≡ true
   unfolding formedMap formedEntryAt
-  formed-at i h = every-at (formedEntryAt w l opened b) n i formed h
+  formed-at i h = every-at (formedEntryAt w l c opened b) n i formed h
+
+  entry-formed : (i : ℕ) → i < n → formedHistory w c (entryBytes w l b i) ≡ true
+  entry-formed i h = formed-entry w l c (ltb i opened) (entryBytes w l b i) (formed-at i h)
 
   -- there is no mark of a take that is not opened
   pub known-unpack : (i : ℕ) → opened ≤ i → heldAt (unpackMap w l n b) i ≡ false
@@ -141,16 +144,13 @@ module _ (w l n opened : ℕ) (b : List ℕ) (formed : formedMap w l n opened b 
     where
       below : i < n → heldAt (unpackMap w l n b) i ≡ false
       below p =
-          let z : allZero (entryBytes w l b i) ≡ true = subst (λ (t : Bool). formedEntry w l t (entryBytes w l b i) ≡ true) (le-ltb i opened h) (formed-at i p) in
+          let z : allZero (entryBytes w l b i) ≡ true = subst (λ (t : Bool). formedEntry w c t (entryBytes w l b i) ≡ true) (le-ltb i opened h) (formed-at i p) in
           held-unpack w l n b i p ∙ ap presentIn (zeros-is (entryBytes w l b i) z) ∙ absent-zeros (length (entryBytes w l b i))
 
       past : n ≤ i → heldAt (unpackMap w l n b) i ≡ false
       past p = List·getD-eq-default (unpackMap w l n b .held) false {n = i} (omega (arith, sized-unpack w l n b .helds))
 
-module _ (w l n opened : ℕ) (b : List ℕ) (whole : length b ≡ mapSize w l n) (octets : Octets b) (formed : formedMap w l n opened b ≡ true) where
-  entry-formed : (i : ℕ) → i < n → formedHistory w l (entryBytes w l b i) ≡ true
-  entry-formed i h = formed-entry w l (ltb i opened) (entryBytes w l b i) (formed-at w l n opened b formed i h)
-
+module _ (w l n c opened : ℕ) (b : List ℕ) (whole : length b ≡ mapSize w l n) (octets : Octets b) (formed : formedMap w l n c opened b ≡ true) where
   pub pack-unpackMap : packMap w l n (unpackMap w l n b) ≡ b
   unfolding packMap packEntryAt entryBytes
   pack-unpackMap =
@@ -159,32 +159,32 @@ module _ (w l n opened : ℕ) (b : List ℕ) (whole : length b ≡ mapSize w l n
     where
       each : (i : ℕ) → i < n → packEntryAt w l (unpackMap w l n b) i ≡ entryBytes w l b i
       each i h = rw (held-unpack w l n b i h, history-unpack w l n b i h)
-          (pack-unpackEntry w l (entryBytes w l b i) (octets-entry w l b octets i) (entry-formed i h) (length-entry w l n b whole i h))
+          (pack-unpackEntry w l c (entryBytes w l b i) (octets-entry w l b octets i) (entry-formed w l n c opened b formed i h) (length-entry w l n b whole i h))
 
-  pub mapOk-unpack : MapOk w l n (unpackMap w l n b)
-  mapOk-unpack = record { helds = sized-unpack w l n b .helds; histories = sized-unpack w l n b .histories; each = each }
+  pub mapOk-unpack : c ≤ l → MapOk w l n (unpackMap w l n b)
+  mapOk-unpack fits = record { helds = sized-unpack w l n b .helds; histories = sized-unpack w l n b .histories; each = each }
     where
       each : (i : ℕ) → i < n → EntryOk w l (heldAt (unpackMap w l n b) i) (historyAt (unpackMap w l n b) i)
       each i h = rw (held-unpack w l n b i h, history-unpack w l n b i h)
-          (entryOk-unpack w l (entryBytes w l b i) (octets-entry w l b octets i) (entry-formed i h))
+          (entryOk-unpack w l c (entryBytes w l b i) (octets-entry w l b octets i) (entry-formed w l n c opened b formed i h) fits)
 
-formed-packEntry : {w l : ℕ} {p : Bool} {h : History} → EntryOk w l p h → formedHistory w l (packEntry w l p h) ≡ true
+formed-packEntry : {w l c : ℕ} {p : Bool} {h : History} → EntryOk w l p h → h .count ≤ c → formedHistory w c (packEntry w l p h) ≡ true
 unfolding packEntry
-formed-packEntry (present r k) = formed-packHistory r k
-formed-packEntry {w} {l} absent = formed-zeros w l (historySize w l)
+formed-packEntry (present r k) b = formed-packHistory r k b
+formed-packEntry {w} {l} {c} absent b = formed-zeros w c (historySize w l)
 
-pub formed-packMap : {w l n : ℕ} {m : DependenceMap} (opened : ℕ) → MapOk w l n m → ((i : ℕ) → opened ≤ i → heldAt m i ≡ false)
-    → formedMap w l n opened (packMap w l n m) ≡ true
-unfolding formedMap formedEntryAt formedEntry packEntryAt packEntry
-formed-packMap {w} {l} {n} {m} opened k f = every-all (formedEntryAt w l opened (packMap w l n m)) n each
+pub formed-packMap : {w l n : ℕ} {m : DependenceMap} (c opened : ℕ) → MapOk w l n m → Bounded c m → ((i : ℕ) → opened ≤ i → heldAt m i ≡ false)
+    → formedMap w l n c opened (packMap w l n m) ≡ true
+unfolding formedMap formedEntryAt formedEntry packEntryAt packEntry Bounded
+formed-packMap {w} {l} {n} {m} c opened k b f = every-all (formedEntryAt w l c opened (packMap w l n m)) n each
   where
-    entry : (i : ℕ) → i < n → (t : Bool) → ltb i opened ≡ t → formedEntry w l t (packEntryAt w l m i) ≡ true
-    entry i h true e = formed-packEntry (k .each i h)
+    entry : (i : ℕ) → i < n → (t : Bool) → ltb i opened ≡ t → formedEntry w c t (packEntryAt w l m i) ≡ true
+    entry i h true e = formed-packEntry (k .each i h) (b i)
     entry i h false e =
         subst (λ (p : Bool). allZero (packEntry w l p (historyAt m i)) ≡ true) (sym (f i (ltb-false i opened e))) (allZero-zeros (historySize w l))
 
-    each : (i : ℕ) → i < n → formedEntryAt w l opened (packMap w l n m) i ≡ true
-    each i h = subst (λ (x : List ℕ). formedEntry w l (ltb i opened) x ≡ true) (sym (entry-packMap w l n m i h)) (entry i h (ltb i opened) refl)
+    each : (i : ℕ) → i < n → formedEntryAt w l c opened (packMap w l n m) i ≡ true
+    each i h = subst (λ (x : List ℕ). formedEntry w c (ltb i opened) x ≡ true) (sym (entry-packMap w l n m i h)) (entry i h (ltb i opened) refl)
 
 -- ---- what can be packed
 
@@ -245,24 +245,29 @@ unfolding Bounded
 bounded-at l m b i = b i
 
 -- past the end the count is 0
-bounded-within : {n : ℕ} {m : DependenceMap} (l : ℕ) → Sized n m → ((i : ℕ) → i < n → historyAt m i .count ≤ l) → Bounded l m
+pub bounded-within : (l n : ℕ) (m : DependenceMap) → length (m .histories) ≡ n → ((i : ℕ) → i < n → historyAt m i .count ≤ l) → Bounded l m
 unfolding Bounded
-bounded-within {n} {m} l s f i = ⊎-elim (f i) past (sides i n)
+bounded-within l n m s f i = ⊎-elim (f i) past (sides i n)
   where
     past : n ≤ i → historyAt m i .count ≤ l
     past p =
-        let e : historyAt m i ≡ outside = List·getD-eq-default (m .histories) outside {n = i} (omega (arith, s .histories)) in
+        let e : historyAt m i ≡ outside = List·getD-eq-default (m .histories) outside {n = i} (omega (arith, s)) in
         omega (arith, ap (λ (h : History). h .count) e)
 
 pub mapOk-bounded : {w l n : ℕ} {m : DependenceMap} → MapOk w l n m → Bounded l m
-mapOk-bounded {l = l} k = bounded-within l (mapOk-sized k) (λ i h. entry-bounded (k .each i h))
+mapOk-bounded {l = l} {n = n} {m = m} k = bounded-within l n m (k .histories) (λ i h. entry-bounded (k .each i h))
 
 pub bounded-unpack : (w l n : ℕ) (b : List ℕ) → countBound ≤ l + 1 → Bounded l (unpackMap w l n b)
-bounded-unpack w l n b h = bounded-within l (sized-unpack w l n b)
+bounded-unpack w l n b h = bounded-within l n (unpackMap w l n b) (sized-unpack w l n b .histories)
     (λ i p. omega (arith, ap (λ (x : History). x .count) (history-unpack w l n b i p), unpack-count w l (entryBytes w l b i)))
 
-pub bounded-empty : (l n : ℕ) → Bounded l (emptyMap l n)
-bounded-empty l n = bounded-within l (sized-empty l n) (λ i h. omega (arith, ap (λ (x : History). x .count) (history-empty l n i h)))
+-- the counts are what the form allows
+pub bounded-formed : (w l n c opened : ℕ) (b : List ℕ) → formedMap w l n c opened b ≡ true → Bounded c (unpackMap w l n b)
+bounded-formed w l n c opened b formed = bounded-within c n (unpackMap w l n b) (sized-unpack w l n b .histories)
+    (λ i h. omega (arith, ap (λ (x : History). x .count) (history-unpack w l n b i h), count-unpack w l c (entryBytes w l b i) (entry-formed w l n c opened b formed i h)))
+
+pub bounded-empty : (c l n : ℕ) → Bounded c (emptyMap l n)
+bounded-empty c l n = bounded-within c n (emptyMap l n) (sized-empty l n .histories) (λ i h. omega (arith, ap (λ (x : History). x .count) (history-empty l n i h)))
 
 pub bounded-withEntry : (l : ℕ) (m : DependenceMap) (i : ℕ) (h : History) → h .count ≤ l → Bounded l m → Bounded l (withEntry m i h)
 unfolding Bounded withEntry
@@ -277,12 +282,12 @@ bounded-withEntry l m i h c b j = elim (ℕ-discrete j i) [
     small : History → Type 0
     small x = x .count ≤ l
 
-pub bounded-singleton : (l n i : ℕ) (h : History) → h .count ≤ l → Bounded l (singleton l n i h)
+pub bounded-singleton : (c l n i : ℕ) (h : History) → h .count ≤ c → Bounded c (singleton l n i h)
 unfolding singleton
-bounded-singleton l n i h c = bounded-withEntry l (emptyMap l n) i h c (bounded-empty l n)
+bounded-singleton c l n i h k = bounded-withEntry c (emptyMap l n) i h k (bounded-empty c l n)
 
 pub bounded-join : (l n : ℕ) (a b : DependenceMap) → Bounded l a → Bounded l b → Bounded l (joinOf n a b)
-bounded-join l n a b p q = bounded-within l (sized-join n a b) (λ i h. go (bounded-at l a p i) (bounded-at l b q i) (join-view n a b i h))
+bounded-join l n a b p q = bounded-within l n (joinOf n a b) (sized-join n a b .histories) (λ i h. go (bounded-at l a p i) (bounded-at l b q i) (join-view n a b i h))
   where
     go : {p q r : Bool} {x y m : History} → x .count ≤ l → y .count ≤ l → Joined p x q y r m → m .count ≤ l
     go c d (both e f v) = ⊎-elim
@@ -308,6 +313,6 @@ pack-emptyMap w l n = pack-isEmpty w l n (emptyMap l n) (isEmpty-empty l n)
 pub unpack-zeros : (w l n : ℕ) → unpackMap w l n (zeros (mapSize w l n)) ≡ emptyMap l n
 unpack-zeros w l n = ap (unpackMap w l n) (sym (pack-emptyMap w l n)) ∙ unpack-packMap (mapOk-empty w l n)
 
-pub formed-zeroMap : (w l n opened : ℕ) → formedMap w l n opened (zeros (mapSize w l n)) ≡ true
-formed-zeroMap w l n opened =
-    subst (λ (b : List ℕ). formedMap w l n opened b ≡ true) (pack-emptyMap w l n) (formed-packMap opened (mapOk-empty w l n) (λ i h. held-empty l n i))
+pub formed-zeroMap : (w l n c opened : ℕ) → formedMap w l n c opened (zeros (mapSize w l n)) ≡ true
+formed-zeroMap w l n c opened =
+    subst (λ (b : List ℕ). formedMap w l n c opened b ≡ true) (pack-emptyMap w l n) (formed-packMap c opened (mapOk-empty w l n) (bounded-empty c l n) (λ i h. held-empty l n i))

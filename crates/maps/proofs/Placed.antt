@@ -35,14 +35,14 @@ module _ (w l : ℕ) where
     unfolding packEntry
     put-absent e f = rw e f
 
-  module _ (known : Bool) (b : List ℕ) where
-    pub entry-known : known ≡ true → formedHistory w l b ≡ formedEntry w l known b
-    unfolding formedEntry
-    entry-known e = rw e
+module _ (w c : ℕ) (known : Bool) (b : List ℕ) where
+  pub entry-known : known ≡ true → formedHistory w c b ≡ formedEntry w c known b
+  unfolding formedEntry
+  entry-known e = rw e
 
-    pub entry-unknown : known ≡ false → allZero b ≡ formedEntry w l known b
-    unfolding formedEntry
-    entry-unknown e = rw e
+  pub entry-unknown : known ≡ false → allZero b ≡ formedEntry w c known b
+  unfolding formedEntry
+  entry-unknown e = rw e
 
 -- ---- a map is stored entry by entry
 
@@ -109,23 +109,23 @@ module _ (w l n at : ℕ) (s : List ℕ) (i : ℕ) (below : i < n) where
   pub history-in : historyAt (mapIn w l n s at) i ≡ unpackHistory w l (part (at + historySize w l * i) (historySize w l) s)
   history-in = history-unpack w l n (part at (mapSize w l n) s) i below ∙ ap (unpackHistory w l) entry-here
 
-  module _ (opened : ℕ) (t : Bool) (e : t ≡ formedEntry w l (ltb i opened) (part (at + historySize w l * i) (historySize w l) s)) where
-    formed-here : formedEntryAt w l opened (part at (mapSize w l n) s) i ≡ t
+  module _ (c opened : ℕ) (t : Bool) (e : t ≡ formedEntry w c (ltb i opened) (part (at + historySize w l * i) (historySize w l) s)) where
+    formed-here : formedEntryAt w l c opened (part at (mapSize w l n) s) i ≡ t
     unfolding formedEntryAt
-    formed-here = ap (formedEntry w l (ltb i opened)) entry-here ∙ sym e
+    formed-here = ap (formedEntry w c (ltb i opened)) entry-here ∙ sym e
 
-    pub formed-more : formedMap w l i opened (part at (mapSize w l n) s) ≡ true → t ≡ true → formedMap w l (i + 1) opened (part at (mapSize w l n) s) ≡ true
+    pub formed-more : formedMap w l i c opened (part at (mapSize w l n) s) ≡ true → t ≡ true → formedMap w l (i + 1) c opened (part at (mapSize w l n) s) ≡ true
     unfolding formedMap
-    formed-more f z = every-more (formedEntryAt w l opened (part at (mapSize w l n) s)) i f (formed-here ∙ z)
+    formed-more f z = every-more (formedEntryAt w l c opened (part at (mapSize w l n) s)) i f (formed-here ∙ z)
 
-    pub formed-off : t ≡ false → formedMap w l n opened (part at (mapSize w l n) s) ≡ false
+    pub formed-off : t ≡ false → formedMap w l n c opened (part at (mapSize w l n) s) ≡ false
     unfolding formedMap
-    formed-off z = every-off (formedEntryAt w l opened (part at (mapSize w l n) s)) n i below (formed-here ∙ z)
+    formed-off z = every-off (formedEntryAt w l c opened (part at (mapSize w l n) s)) n i below (formed-here ∙ z)
 
-module _ (w l opened : ℕ) (b : List ℕ) where
-  pub formed-none : formedMap w l 0 opened b ≡ true
+module _ (w l c opened : ℕ) (b : List ℕ) where
+  pub formed-none : formedMap w l 0 c opened b ≡ true
   unfolding formedMap
-  formed-none = every-none (formedEntryAt w l opened b)
+  formed-none = every-none (formedEntryAt w l c opened b)
 
 -- ---- of a packed map whose bytes are all zero no entry is looked at
 
@@ -176,9 +176,9 @@ module _ (w l n : ℕ) (s : List ℕ) (at : ℕ) (fits : at + mapSize w l n ≤ 
       unlooked-history = ap (λ (m : DependenceMap). historyAt m j) (unlooked j h k) ∙ history-empty l n j k
 
     -- well-formed if those that are looked at are
-    pub formed-all : (opened i : ℕ) → formedMap w l i opened b ≡ true → i ≡ e → formedMap w l n opened b ≡ true
-    formed-all opened i f h = go (allZero b) refl
+    pub formed-all : (c opened i : ℕ) → formedMap w l i c opened b ≡ true → i ≡ e → formedMap w l n c opened b ≡ true
+    formed-all c opened i f h = go (allZero b) refl
       where
-        go : (t : Bool) → allZero b ≡ t → formedMap w l n opened b ≡ true
-        go true z = subst (λ (x : List ℕ). formedMap w l n opened x ≡ true) (sym (bytes-zero z)) (formed-zeroMap w l n opened)
-        go false z = subst (λ (k : ℕ). formedMap w l k opened b ≡ true) (h ∙ end ∙ looked-all n b z) f
+        go : (t : Bool) → allZero b ≡ t → formedMap w l n c opened b ≡ true
+        go true z = subst (λ (x : List ℕ). formedMap w l n c opened x ≡ true) (sym (bytes-zero z)) (formed-zeroMap w l n c opened)
+        go false z = subst (λ (k : ℕ). formedMap w l k c opened b ≡ true) (h ∙ end ∙ looked-all n b z) f

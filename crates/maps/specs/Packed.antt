@@ -42,12 +42,12 @@ unpackMap w l n b = record { held = tabulate n (unpackHeldAt w l b); histories =
 abbrev pub mapIn : ℕ → ℕ → ℕ → List ℕ → ℕ → DependenceMap
 mapIn w l n s at = unpackMap w l n (part at (mapSize w l n) s)
 
--- Well-formed: every mark is, and there is none of a take that is not among the first opened.
+-- Well-formed, where a list may have c entries: every mark is, and there is none of a take that is not among the first opened.
 unfoldable pub formedEntry : ℕ → ℕ → Bool → List ℕ → Bool
-formedEntry w l known b = pick known (formedHistory w l b) (allZero b)
+formedEntry w c known b = pick known (formedHistory w c b) (allZero b)
 
-unfoldable pub formedEntryAt : ℕ → ℕ → ℕ → List ℕ → ℕ → Bool
-formedEntryAt w l opened b i = formedEntry w l (ltb i opened) (entryBytes w l b i)
+unfoldable pub formedEntryAt : ℕ → ℕ → ℕ → ℕ → List ℕ → ℕ → Bool
+formedEntryAt w l c opened b i = formedEntry w c (ltb i opened) (entryBytes w l b i)
 
-unfoldable pub formedMap : ℕ → ℕ → ℕ → ℕ → List ℕ → Bool
-formedMap w l n opened b = every n (formedEntryAt w l opened b)
+unfoldable pub formedMap : ℕ → ℕ → ℕ → ℕ → ℕ → List ℕ → Bool
+formedMap w l n c opened b = every n (formedEntryAt w l c opened b)

@@ -232,15 +232,16 @@ impl DependenceMap {
         r
     }
 
-    // Whether the bytes of a packed map from at on are well-formed, the first opened transactors being opened.
-    pub fn formed(s: &[u8], at: usize, opened: usize) -> bool
-        requires { ⌜ at + mapSize width places entries ≤ length (now s) ⌝ }
-        ensures { λ r. ⌜ r ≡ formedMap width places entries opened (part at (mapSize width places entries) (now (s .entry))) ⌝ }
+    // Whether the bytes of a packed map from at on are well-formed, the first opened transactors being opened, where a list may have
+    // limit entries.
+    pub fn formed(s: &[u8], at: usize, opened: usize, limit: u8) -> bool
+        requires { ⌜ (at + mapSize width places entries ≤ length (now s)) × (limit ≤ places) ⌝ }
+        ensures { λ r. ⌜ r ≡ formedMap width places entries limit opened (part at (mapSize width places entries) (now (s .entry))) ⌝ }
     {
         let end = looked_at(s, at);
         let mut i: usize = 0;
         while i < end {
-            if !formed_entry(s, at + marks::SIZE * i, i < opened) {
+            if !formed_entry(s, at + marks::SIZE * i, i < opened, limit) {
                 return false;
             }
             i += 1;
@@ -321,12 +322,12 @@ fn store_entry(image: &mut [u8], at: usize, p: bool, h: History)
     octets::clear(image, at, marks::SIZE);
 }
 
-fn formed_entry(s: &[u8], at: usize, known: bool) -> bool
-    requires { ⌜ at + historySize width places ≤ length (now s) ⌝ }
-    ensures { λ r. ⌜ r ≡ formedEntry width places known (part at (historySize width places) (now (s .entry))) ⌝ }
+fn formed_entry(s: &[u8], at: usize, known: bool, limit: u8) -> bool
+    requires { ⌜ (at + historySize width places ≤ length (now s)) × (limit ≤ places) ⌝ }
+    ensures { λ r. ⌜ r ≡ formedEntry width limit known (part at (historySize width places) (now (s .entry))) ⌝ }
 {
     if known {
-        return History::formed(s, at);
+        return History::formed(s, at, limit);
     }
     octets::all_zero(s, at, marks::SIZE)
 }

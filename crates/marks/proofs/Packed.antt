@@ -127,23 +127,23 @@ unpack-packHistory {w} {l} {h} r p =
     )
 
 -- what the form test says of a history that is present
-module _ (w l : ℕ) (b : List ℕ) (p : presentIn b ≡ true) (e : formedHistory w l b ≡ true) where
-  formed-parts : (eqb (getD b 0 0 / 16 % 4) 0 ≡ true) × (leb (getD b 0 0 % 16) l and allZero (drop (1 + w + w * (getD b 0 0 % 16)) b) ≡ true)
+module _ (w c : ℕ) (b : List ℕ) (p : presentIn b ≡ true) (e : formedHistory w c b ≡ true) where
+  formed-parts : (eqb (getD b 0 0 / 16 % 4) 0 ≡ true) × (leb (getD b 0 0 % 16) c and allZero (drop (1 + w + w * (getD b 0 0 % 16)) b) ≡ true)
   unfolding formedHistory
   formed-parts =
       both
       (eqb (getD b 0 0 / 16 % 4) 0)
-      (leb (getD b 0 0 % 16) l and allZero (drop (1 + w + w * (getD b 0 0 % 16)) b))
+      (leb (getD b 0 0 % 16) c and allZero (drop (1 + w + w * (getD b 0 0 % 16)) b))
       (rw p at e)
 
-  formed-rest : (leb (getD b 0 0 % 16) l ≡ true) × (allZero (drop (1 + w + w * (getD b 0 0 % 16)) b) ≡ true)
-  formed-rest = both (leb (getD b 0 0 % 16) l) (allZero (drop (1 + w + w * (getD b 0 0 % 16)) b)) (formed-parts .1)
+  formed-rest : (leb (getD b 0 0 % 16) c ≡ true) × (allZero (drop (1 + w + w * (getD b 0 0 % 16)) b) ≡ true)
+  formed-rest = both (leb (getD b 0 0 % 16) c) (allZero (drop (1 + w + w * (getD b 0 0 % 16)) b)) (formed-parts .1)
 
   bits-zero : getD b 0 0 / 16 % 4 ≡ 0
   bits-zero = eqb-true (getD b 0 0 / 16 % 4) 0 (formed-parts .0)
 
-  count-within : getD b 0 0 % 16 ≤ l
-  count-within = leb-true (getD b 0 0 % 16) l (formed-rest .0)
+  count-within : getD b 0 0 % 16 ≤ c
+  count-within = leb-true (getD b 0 0 % 16) c (formed-rest .0)
 
   past-count : (i : ℕ) → 1 + w + w * (getD b 0 0 % 16) ≤ i → getD b i 0 ≡ 0
   past-count i h =
@@ -162,13 +162,13 @@ three a n m b e =
     let y : part 0 (a + n + m) b ≡ part 0 (a + n) b ++ part (a + n) m b = part-add 0 (a + n) m b ∙ rw zero-add in
     rw (← x, ← y, part-whole (a + n + m) b e)
 
-pub pack-unpackHistory : (w l : ℕ) (b : List ℕ) → length b ≡ historySize w l → Octets b → presentIn b ≡ true → formedHistory w l b ≡ true
+pub pack-unpackHistory : (w l c : ℕ) (b : List ℕ) → length b ≡ historySize w l → Octets b → presentIn b ≡ true → formedHistory w c b ≡ true
     → packHistory w l (unpackHistory w l b) ≡ b
 unfolding packHistory packNumberAt unpackHistory loadNumberAt
-pack-unpackHistory w l b n o p e =
+pack-unpackHistory w l c b n o p e =
     let ns : List ℕ = tabulate l (loadNumberAt w b (1 + w)) in
     let byte : be 1 (128 + 64 * bit (leb 64 (getD b 0 0 % 128)) + getD b 0 0 % 16) ≡ part 0 1 b =
-    ap (be 1) (head-back (getD b 0 0) (present-to b p) (octet b o 0) (bits-zero w l b p e)) ∙ be-byte 0 b (omega arith) o in
+    ap (be 1) (head-back (getD b 0 0) (present-to b p) (octet b o 0) (bits-zero w c b p e)) ∙ be-byte 0 b (omega arith) o in
     let number : (at : ℕ) → at + w ≤ length b → be w (ofBe w (part at w b)) ≡ part at w b =
     λ at h. be-ofBe w (part at w b) (length-part at w b h) (octets-part at w b o) in
     let place : (i : ℕ) → i < l → packNumberAt w ns i ≡ part (w * i) w (part (1 + w) (w * l) b) =
@@ -212,40 +212,51 @@ pub absent-zeros : (n : ℕ) → presentIn (zeros n) ≡ false
 unfolding presentIn
 absent-zeros n = rw (getD-zeros n 0)
 
-pub formed-zeros : (w l n : ℕ) → formedHistory w l (zeros n) ≡ true
+pub formed-zeros : (w c n : ℕ) → formedHistory w c (zeros n) ≡ true
 unfolding formedHistory
-formed-zeros w l n = rw (absent-zeros n) (allZero-zeros n)
+formed-zeros w c n = rw (absent-zeros n) (allZero-zeros n)
 
-pub absent-is-zero : (w l : ℕ) (b : List ℕ) → presentIn b ≡ false → formedHistory w l b ≡ true → b ≡ zeros (length b)
+pub absent-is-zero : (w c : ℕ) (b : List ℕ) → presentIn b ≡ false → formedHistory w c b ≡ true → b ≡ zeros (length b)
 unfolding formedHistory
-absent-is-zero w l b p e = zeros-is b (rw p at e)
+absent-is-zero w c b p e = zeros-is b (rw p at e)
 
 -- an absent history unpacks as the initial one
-pub unpack-absent : (w l : ℕ) (b : List ℕ) → presentIn b ≡ false → formedHistory w l b ≡ true → unpackHistory w l b ≡ initialHistory l
-unpack-absent w l b p e = ap (unpackHistory w l) (absent-is-zero w l b p e) ∙ unpack-zeros w l (length b)
+pub unpack-absent : (w l c : ℕ) (b : List ℕ) → presentIn b ≡ false → formedHistory w c b ≡ true → unpackHistory w l b ≡ initialHistory l
+unpack-absent w l c b p e = ap (unpackHistory w l) (absent-is-zero w c b p e) ∙ unpack-zeros w l (length b)
 
 pub length-unpack : (w l : ℕ) (b : List ℕ) → length (unpackHistory w l b .checkpoints) ≡ l
 unfolding unpackHistory
 length-unpack w l b = length-tabulate (loadNumberAt w b (1 + w)) l
 
-pub roomy-unpack : (w l : ℕ) (b : List ℕ) → formedHistory w l b ≡ true → Roomy l (unpackHistory w l b)
+-- the count is what the form allows
+pub count-unpack : (w l c : ℕ) (b : List ℕ) → formedHistory w c b ≡ true → unpackHistory w l b .count ≤ c
+unfolding unpackHistory
+count-unpack w l c b e = go (presentIn b) refl
+  where
+    go : (t : Bool) → presentIn b ≡ t → getD b 0 0 % 16 ≤ c
+    go true p = count-within w c b p e
+    go false p =
+        let z : getD b 0 0 ≡ 0 = ap (λ (x : List ℕ). getD x 0 0) (absent-is-zero w c b p e) ∙ getD-zeros (length b) 0 in
+        omega arith
+
+pub roomy-unpack : (w l c : ℕ) (b : List ℕ) → c ≤ l → formedHistory w c b ≡ true → Roomy l (unpackHistory w l b)
 unfolding unpackHistory loadNumberAt
-roomy-unpack w l b e = go (presentIn b) refl
+roomy-unpack w l c b fits e = go (presentIn b) refl
   where
     here : presentIn b ≡ true → Roomy l (unpackHistory w l b)
     here p = record {
       places = length-tabulate (loadNumberAt w b (1 + w)) l;
-      within = count-within w l b p e;
+      within = omega (arith, count-within w c b p e);
       unused = λ i q. ⊎-elim
           (λ (k : i < l). getD-tabulate (loadNumberAt w b (1 + w)) l i 0 k
-          ∙ number-zero w (1 + w + w * i) b (λ j r. past-count w l b p e (1 + w + w * i + j) (omega (arith, mul-le-mul-left w q))))
+          ∙ number-zero w (1 + w + w * i) b (λ j r. past-count w c b p e (1 + w + w * i + j) (omega (arith, mul-le-mul-left w q))))
           (λ (k : l ≤ i). List·getD-eq-default (tabulate l (loadNumberAt w b (1 + w))) 0 (rw length-tabulate k))
           (sides i l);
     }
 
     go : (t : Bool) → presentIn b ≡ t → Roomy l (unpackHistory w l b)
     go true p = here p
-    go false p = subst (Roomy l) (sym (unpack-absent w l b p e)) (roomy-initial l)
+    go false p = subst (Roomy l) (sym (unpack-absent w l c b p e)) (roomy-initial l)
 
 -- ---- a packed history is present and well-formed
 
@@ -253,9 +264,9 @@ pub present-packHistory : {w l : ℕ} {h : History} → Packable w l h → prese
 unfolding presentIn
 present-packHistory {w} {l} {h} p = rw (first-byte w l h (p .count)) (le-leb 128 (headOf h) (omega arith))
 
-pub formed-packHistory : {w l : ℕ} {h : History} → Roomy l h → Packable w l h → formedHistory w l (packHistory w l h) ≡ true
+pub formed-packHistory : {w l c : ℕ} {h : History} → Roomy l h → Packable w l h → h .count ≤ c → formedHistory w c (packHistory w l h) ≡ true
 unfolding formedHistory packNumberAt
-formed-packHistory {w} {l} {h} r p =
+formed-packHistory {w} {l} {c} {h} r p k =
     let free : (i : ℕ) → packNumberAt w (h .checkpoints) (h .count + i) ≡ zeros w =
     λ i. ap (be w) (r .unused (h .count + i) (omega arith)) ∙ be-zero w in
     let none : drop (1 + w + w * h .count) (packHistory w l h) ≡ zeros (w * (l - h .count)) =
@@ -267,7 +278,7 @@ formed-packHistory {w} {l} {h} r p =
       first-byte w l h (p .count),
       head-bits (h .stable) (h .count) (p .count),
       head-count (h .stable) (h .count) (p .count),
-      le-leb (h .count) l (r .within),
+      le-leb (h .count) c k,
       none,
     ) (allZero-zeros (w * (l - h .count)))
 

@@ -100,13 +100,24 @@ module _ (w l at : ℕ) (s : List ℕ) (h : at + historySize w l ≤ length s) w
   unfolding presentIn
   present-here = rw first
 
-  pub formed-absent : getD s at 0 < 128 → allZero (part at (historySize w l) s) ≡ formedHistory w l (part at (historySize w l) s)
+  pub formed-absent : (c : ℕ) → getD s at 0 < 128 → allZero (part at (historySize w l) s) ≡ formedHistory w c (part at (historySize w l) s)
   unfolding presentIn formedHistory
-  formed-absent p = rw (first, lt-leb 128 (getD s at 0) p)
+  formed-absent c p = rw (first, lt-leb 128 (getD s at 0) p)
 
-  pub formed-bits : 128 ≤ getD s at 0 → (getD s at 0 / 16 % 4 ≡ 0 → ⊥) → false ≡ formedHistory w l (part at (historySize w l) s)
+  formed-bits : (c : ℕ) → 128 ≤ getD s at 0 → (getD s at 0 / 16 % 4 ≡ 0 → ⊥) → false ≡ formedHistory w c (part at (historySize w l) s)
   unfolding presentIn formedHistory
-  formed-bits p q = rw (first, le-leb 128 (getD s at 0) p, ne-eqb (getD s at 0 / 16 % 4) 0 q)
+  formed-bits c p q = rw (first, le-leb 128 (getD s at 0) p, ne-eqb (getD s at 0 / 16 % 4) 0 q)
+
+  formed-long : (c : ℕ) → 128 ≤ getD s at 0 → getD s at 0 / 16 % 4 ≡ 0 → c < getD s at 0 % 16 → false ≡ formedHistory w c (part at (historySize w l) s)
+  unfolding presentIn formedHistory
+  formed-long c p q r = rw (first, le-leb 128 (getD s at 0) p, eq-eqb (getD s at 0 / 16 % 4) 0 q, lt-leb (getD s at 0 % 16) c r)
+
+  -- a zero bit or a count over c, the zero bits standing above the count
+  pub formed-over : (c : ℕ) → 128 ≤ getD s at 0 → c < 16 → c < getD s at 0 % 64 → false ≡ formedHistory w c (part at (historySize w l) s)
+  formed-over c p b q = ⊎-elim
+      (λ (k : getD s at 0 / 16 % 4 < 1). formed-long c p (omega arith) (omega arith))
+      (λ (k : 1 ≤ getD s at 0 / 16 % 4). formed-bits c p (λ z. omega arith))
+      (sides (getD s at 0 / 16 % 4) 1)
 
   -- the places from c on
   unused : (c : ℕ) → c ≤ l → part (at + 1 + w + w * c) (w * (l - c)) s ≡ drop (1 + w + w * c) (part at (historySize w l) s)
@@ -119,10 +130,10 @@ module _ (w l at : ℕ) (s : List ℕ) (h : at + historySize w l ≤ length s) w
       ∙ part-def (1 + w + w * c) (w * (l - c)) all
       ∙ take-all (w * (l - c)) (drop (1 + w + w * c) all) few
 
-  pub formed-list : 128 ≤ getD s at 0 → getD s at 0 / 16 % 4 ≡ 0 → getD s at 0 % 16 ≤ l
-      → allZero (part (at + 1 + w + w * (getD s at 0 % 16)) (w * (l - getD s at 0 % 16)) s) ≡ formedHistory w l (part at (historySize w l) s)
+  pub formed-list : (c : ℕ) → 128 ≤ getD s at 0 → getD s at 0 / 16 % 4 ≡ 0 → getD s at 0 % 16 ≤ l → getD s at 0 % 16 ≤ c
+      → allZero (part (at + 1 + w + w * (getD s at 0 % 16)) (w * (l - getD s at 0 % 16)) s) ≡ formedHistory w c (part at (historySize w l) s)
   unfolding presentIn formedHistory
-  formed-list p q r = rw (first, le-leb 128 (getD s at 0) p, eq-eqb (getD s at 0 / 16 % 4) 0 q, le-leb (getD s at 0 % 16) l r, unused (getD s at 0 % 16) r)
+  formed-list c p q r k = rw (first, le-leb 128 (getD s at 0) p, eq-eqb (getD s at 0 / 16 % 4) 0 q, le-leb (getD s at 0 % 16) c k, unused (getD s at 0 % 16) r)
 
 -- ---- the first bytes of two packed histories
 

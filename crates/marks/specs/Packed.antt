@@ -60,12 +60,13 @@ historyIn w l s at = unpackHistory w l (part at (historySize w l) s)
 unfoldable pub presentIn : List ℕ → Bool
 presentIn b = leb 128 (getD b 0 0)
 
--- Well-formed: absent and all zero; or present, the zero bits zero, the count at most l, every place past the count zero.
+-- Well-formed, where a list may have c entries: absent and all zero; or present, the zero bits zero, the count at most c, every place
+-- past the count zero.
 unfoldable pub formedHistory : ℕ → ℕ → List ℕ → Bool
-formedHistory w l b =
+formedHistory w c b =
     pick (presentIn b)
     (eqb (getD b 0 0 / 16 % 4) 0
-    and leb (getD b 0 0 % 16) l
+    and leb (getD b 0 0 % 16) c
     and allZero (drop (1 + w + w * (getD b 0 0 % 16)) b))
     (allZero b)
 

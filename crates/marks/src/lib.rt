@@ -315,20 +315,20 @@ impl History {
         128 <= s[at]
     }
 
-    // Whether the bytes of a packed form from at on are well-formed.
-    pub fn formed(s: &[u8], at: usize) -> bool
-        requires { ⌜ at + historySize width places ≤ length (now s) ⌝ }
-        ensures { λ r. ⌜ r ≡ formedHistory width places (part at (historySize width places) (now (s .entry))) ⌝ }
+    // Whether the bytes of a packed form from at on are well-formed, where a list may have limit entries.
+    pub fn formed(s: &[u8], at: usize, limit: u8) -> bool
+        requires { ⌜ (at + historySize width places ≤ length (now s)) × (limit ≤ places) ⌝ }
+        ensures { λ r. ⌜ r ≡ formedHistory width limit (part at (historySize width places) (now (s .entry))) ⌝ }
     {
         let head = s[at];
         if head < 128 {
             return octets::all_zero(s, at, SIZE);
         }
-        if head / 16 % 4 != 0 {
+        // The zero bits stand above the count, and the limit is below them.
+        if limit < head % 64 {
             return false;
         }
-        let count = (head % 16) as usize;
-        unused_zero(s, at + 1 + WIDTH, count)
+        unused_zero(s, at + 1 + WIDTH, (head % 16) as usize)
     }
 }
 

@@ -64,7 +64,7 @@ fn begin(image: &mut [u8], i: usize) {
     if i % SESSION != 0 {
         return;
     }
-    ledger::begin(image);
+    ledger::begin(image, 16, 32, 15);
     if i / SESSION % 4 == 3 && 1 < image.len() {
         image[1] = 255;
     }

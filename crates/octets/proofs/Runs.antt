@@ -11,6 +11,7 @@ use lib.ListN.{length, getD, set, drop, length-append}
 use lib.Seq.{drop-drop, getD-drop}
 use Rattle.octets.specs.Bytes.{_and_, put, part, chunks, every, allZero}
 use Rattle.octets.proofs.Put.{put-append, put-one, drop-put, part-left, part-right, part-part, part-add, part-whole, length-part}
+use Rattle.octets.proofs.Tests.{and-assoc}
 use Rattle.octets.proofs.Zero.{allZero-at, allZero-drop}
 use Rattle.octets.proofs.Chunks.{step, cases, chunks-suc, chunks-same, chunks-parts}
 
@@ -52,10 +53,6 @@ put-next at w n f sized i k l l' l'' e e' h =
     e' ∙ rw (e, add-one, chunks-suc, ← m, put-append at (chunks i f) (f i) l (omega (arith, m, sized i k)))
 
 -- ---- a test at the first places and at the rest
-
-pub and-assoc : (t u v : Bool) → (t and u) and v ≡ t and (u and v)
-and-assoc true u v = refl
-and-assoc false u v = refl
 
 pub every-add : (a b : ℕ) (f : ℕ → Bool) → every (a + b) f ≡ every a f and every b (λ i. f (a + i))
 unfolding every

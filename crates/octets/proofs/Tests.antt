@@ -29,6 +29,10 @@ pub or-off : (a b : Bool) → a or b ≡ false → (a ≡ false) × (b ≡ false
 or-off true b e = never e
 or-off false b e = (refl, e)
 
+pub and-assoc : (a b c : Bool) → (a and b) and c ≡ a and (b and c)
+and-assoc true b c = refl
+and-assoc false b c = refl
+
 pub and-off : (a b : Bool) → a and b ≡ false → a ≡ true → b ≡ false
 and-off true b e p = e
 and-off false b e p = never (sym p)

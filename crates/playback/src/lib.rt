@@ -108,7 +108,7 @@ fn turn(image: &mut [u8], done: u64) -> bool
 pub fn replay() {
     let mut space = [0u8; IMAGE];
     let image: &mut [u8] = &mut space;
-    ledger::begin(image);
+    ledger::begin(image, 16, 32, 15);
     let mut parts: u64 = 0;
     while parts < PARTS && turn(image, STEPS * parts) {
         parts += 1;

@@ -12,7 +12,7 @@ use Rattle.octets.specs.Bytes.{part, Octets}
 use Rattle.octets.proofs.Put.{octets-part}
 use Rattle.octets.proofs.Chunks.{sides}
 use Rattle.octets.proofs.Tests.{pick-view, pick-zero}
-use Rattle.rules.specs.Layout.{Layout, Limits, Allowed, Fitting}
+use Rattle.rules.specs.Layout.{Layout, Fitting}
 use Rattle.rules.specs.State.{Message, State, noMessage, messageAt, placeOf, numbered, withTransactor, withOpened, withMessage, withoutMessage}
 use Rattle.rules.specs.Step.{Step, root, letter, receive, new, send, lose, sign, stepAt}
 use Rattle.rules.specs.Rules.{Result, groupReady, checkpointGroup, seen, refusal, opened, applyRoot, applyLetter, applyReceive, applyNew, applySend, applyLocal, applySign, apply, stepOf}
@@ -53,15 +53,15 @@ record Without (n : ℕ) (s s' : State) : Type 0 where
   next : s' .next ≡ s .next
   messages : s' .messages ≡ rest (s .messages) place below
 
-module _ (y : Layout) (m : Limits) where
+module _ (y : Layout) where
   module _ (s : State) (p : Step) where
-    without-receive : p .kind ≡ receive → refusal y m s p ≡ 0 → Without (p .message) s (stepOf y m s p .state)
+    without-receive : p .kind ≡ receive → refusal y s p ≡ 0 → Without (p .message) s (stepOf y s p .state)
     unfolding applyReceive withoutMessage withTransactor placeOf numbered seen refusal
     without-receive k r =
         let n : ℕ = length (s .messages) in
         let j : ℕ = placeOf s (p .message) in
-        let below : j < n = leb-false n j (message-waits (accepted m (seen y s) p r) (rw k)) in
-        subst (λ (r : Result). Without (p .message) s (r .state)) (sym (applied-same y m s p r ∙ applies y s p .receive k)) (record {
+        let below : j < n = leb-false n j (message-waits (accepted y (seen y s) p r) (rw k)) in
+        subst (λ (r : Result). Without (p .message) s (r .state)) (sym (applied-same y s p r ∙ applies y s p .receive k)) (record {
           place = j;
           below = below;
           number = eqb-true (messageAt s j .number) (p .message) (place (numbered s (p .message)) 0 n .here (omega arith));
@@ -82,11 +82,11 @@ module _ (y : Layout) (m : Limits) where
         pick-view P (eqb k lose) _ _ (λ e. absurd (no-loss (eqb-true k lose e))) λ e5.
         pick-view P (eqb k sign) _ _ (λ e. pick-view P (groupReady y s (p .message)) _ _ (λ f. same refl refl) (λ f. same refl refl)) λ e6. same refl refl
 
-  spared-step : (s : State) (b : List ℕ) (i : ℕ) → Spares y m s b i → Spared (stateAfter y m s b i) (stateAfter y m s b (suc i))
+  spared-step : (s : State) (b : List ℕ) (i : ℕ) → Spares y s b i → Spared (stateAfter y s b i) (stateAfter y s b (suc i))
   unfolding stateAfter stepOf
   spared-step s b i spares =
-      let now : State = stateAfter y m s b i in
-      let r : ℕ = refusal y m now (stepAt b i) in
+      let now : State = stateAfter y s b i in
+      let r : ℕ = refusal y now (stepAt b i) in
       pick-view (λ (r : Result). Spared now (r .state)) (eqb r 0) _ _
       (λ e. let q = spares (eqb-true r 0 e) in spared-apply now (stepAt b i) (q .0) (q .1))
       (λ e. same refl refl)
@@ -184,27 +184,27 @@ waits-turns y u k n other = record { before = waits-spared u k; after = waits-sp
 
 -- ---- a list of steps
 
-module _ {y : Layout} {m : Limits} (z : Fitting y) (l : Allowed y m) where
-  module _ {s : State} {b : List ℕ} {k n : ℕ} (w : WellFormed y s) (o : Octets b) (r : Receives y m s b k n) where
-    after-receipt : (P Q : State → Type 0) → Turns y n P Q → P s → Q (stateAfter y m s b k)
+module _ {y : Layout} (z : Fitting y) where
+  module _ {s : State} {b : List ℕ} {k n : ℕ} (w : WellFormed y s) (o : Octets b) (r : Receives y s b k n) where
+    after-receipt : (P Q : State → Type 0) → Turns y n P Q → P s → Q (stateAfter y s b k)
     unfolding stateAfter
     after-receipt P Q turns p =
         let j : ℕ = r .step in
-        let now : State = stateAfter y m s b j in
-        let next : State = stateAfter y m s b (suc j) in
-        let before : P now = from-to (λ i. P (stateAfter y m s b i)) 0 j (omega arith) p
-        (λ i c d. turns .before _ _ (spared-step y m s b i (r .spares i (omega (arith, r .within)) (λ e. omega arith)))) in
-        let taken : Without n now next = subst (λ (x : ℕ). Without x now next) (r .message) (without-receive y m now (stepAt b j) (r .kind) (r .accepted)) in
-        from-to (λ i. Q (stateAfter y m s b i)) (suc j) k (omega (arith, r .within)) (turns .receipt now next (keeps-after z l w b o j) taken before)
-        (λ i c d. turns .after _ _ (spared-step y m s b i (r .spares i d (λ e. omega arith))))
+        let now : State = stateAfter y s b j in
+        let next : State = stateAfter y s b (suc j) in
+        let before : P now = from-to (λ i. P (stateAfter y s b i)) 0 j (omega arith) p
+        (λ i c d. turns .before _ _ (spared-step y s b i (r .spares i (omega (arith, r .within)) (λ e. omega arith)))) in
+        let taken : Without n now next = subst (λ (x : ℕ). Without x now next) (r .message) (without-receive y now (stepAt b j) (r .kind) (r .accepted)) in
+        from-to (λ i. Q (stateAfter y s b i)) (suc j) k (omega (arith, r .within)) (turns .receipt now next (keeps-after z w b o j) taken before)
+        (λ i c d. turns .after _ _ (spared-step y s b i (r .spares i d (λ e. omega arith))))
 
     -- Of some steps one receives parcel n, the lowest that waits for take t, and by the others nothing is received or lost. Then
     -- every parcel that waits for t after them has a higher number.
-    pub received-in-order : (t : ℕ) → LowestFor s t n → (n' : ℕ) → WaitsFor (stateAfter y m s b k) t n' → n < n'
-    received-in-order t low = above-waits t (suc n) (stateAfter y m s b k) (after-receipt (Above t n) (Above t (suc n)) (above-turns y t n) (above-lowest t n s w low))
+    pub received-in-order : (t : ℕ) → LowestFor s t n → (n' : ℕ) → WaitsFor (stateAfter y s b k) t n' → n < n'
+    received-in-order t low = above-waits t (suc n) (stateAfter y s b k) (after-receipt (Above t n) (Above t (suc n)) (above-turns y t n) (above-lowest t n s w low))
 
     -- Nothing is skipped: every other parcel that waited before, for whatever take, waits after them.
-    pub others-wait : (u n' : ℕ) → WaitsFor s u n' → (n' ≡ n → ⊥) → WaitsFor (stateAfter y m s b k) u n'
+    pub others-wait : (u n' : ℕ) → WaitsFor s u n' → (n' ≡ n → ⊥) → WaitsFor (stateAfter y s b k) u n'
     others-wait u n' v other = after-receipt (Waits u n') (Waits u n') (waits-turns y u n' n other) v
 
 -- ---- calls
@@ -222,16 +222,16 @@ well-offered y t img o e =
     let b = pick-zero _ 19 _ (omega arith) (a .1) in
     formed-state y img (eqb-true _ _ (not-false _ (a .0))) o (not-false _ (b .0))
 
-module _ {y : Layout} {m : Limits} (z : Fitting y) (l : Allowed y m) where
-  holds-ran : (P : State → Type 0) (img b : List ℕ) → WellFormed y (unpack y img) → Octets b → P (stateAfter y m (unpack y img) b (stepsIn b)) → Holds y P (ranImage y m img b)
+module _ {y : Layout} (z : Fitting y) where
+  holds-ran : (P : State → Type 0) (img b : List ℕ) → WellFormed y (unpack y img) → Octets b → P (stateAfter y (unpack y img) b (stepsIn b)) → Holds y P (ranImage y img b)
   unfolding ranImage
   holds-ran P img b w o p =
-      let s : State = stateAfter y m (unpack y img) b (stepsIn b) in
-      let v : WellFormed y s = keeps-after z l w b o (stepsIn b) in
-      let back : s ≡ unpack y (ranImage y m img b) = sym (unpack-pack y s (v .packable)) in
+      let s : State = stateAfter y (unpack y img) b (stepsIn b) in
+      let v : WellFormed y s = keeps-after z w b o (stepsIn b) in
+      let back : s ≡ unpack y (ranImage y img b) = sym (unpack-pack y s (v .packable)) in
       record { well = subst (WellFormed y) back v; says = subst P back p }
 
-  holds-sparing : (P : State → Type 0) → Lasts P → {img after : List ℕ} → Holds y P img → Sparing y m img after → Holds y P after
+  holds-sparing : (P : State → Type 0) → Lasts P → {img after : List ℕ} → Holds y P img → Sparing y img after → Holds y P after
   unfolding runImage stateAfter
   holds-sparing P lasts h none = h
   holds-sparing P lasts h (one-more {now} r list start end replies o spares) =
@@ -239,25 +239,25 @@ module _ {y : Layout} {m : Limits} (z : Fitting y) (l : Allowed y m) where
       let b : List ℕ = part start (end - start) list in
       pick-view (Holds y P) (eqb (runAnswer y now list start end replies) 0) _ _
       (λ e. holds-ran P now b (q .well) (octets-part start (end - start) list o)
-      (from-to (λ i. P (stateAfter y m (unpack y now) b i)) 0 (stepsIn b) (omega arith) (q .says)
-      (λ i c d. lasts _ _ (spared-step y m (unpack y now) b i (spares (eqb-true (runAnswer y now list start end replies) 0 e) i d)))))
+      (from-to (λ i. P (stateAfter y (unpack y now) b i)) 0 (stepsIn b) (omega arith) (q .says)
+      (λ i c d. lasts _ _ (spared-step y (unpack y now) b i (spares (eqb-true (runAnswer y now list start end replies) 0 e) i d)))))
       (λ e. q)
 
-  holds-received : (P Q : State → Type 0) {n : ℕ} → Turns y n P Q → {now after : List ℕ} → Holds y P now → Received y m now n after → Holds y Q after
+  holds-received : (P Q : State → Type 0) {n : ℕ} → Turns y n P Q → {now after : List ℕ} → Holds y P now → Received y now n after → Holds y Q after
   unfolding runImage
   holds-received P Q turns {now} h (run list start end replies ol e r) =
       let b : List ℕ = part start (end - start) list in
       let o : Octets b = octets-part start (end - start) list ol in
-      rw (eq-eqb (runAnswer y now list start end replies) 0 e) (holds-ran Q now b (h .well) o (after-receipt z l (h .well) o r P Q turns (h .says)))
+      rw (eq-eqb (runAnswer y now list start end replies) 0 e) (holds-ran Q now b (h .well) o (after-receipt z (h .well) o r P Q turns (h .says)))
 
   holds-all : (P Q : State → Type 0) {n : ℕ} → Turns y n P Q → {img now then after : List ℕ} → Holds y P img
-      → Sparing y m img now → Received y m now n then → Sparing y m then after → Holds y Q after
+      → Sparing y img now → Received y now n then → Sparing y then after → Holds y Q after
   holds-all P Q turns h before r behind = holds-sparing Q (turns .after) (holds-received P Q turns (holds-sparing P (turns .before) h before) r) behind
 
   -- Parcel n is offered to take t, and later a run receives it. If by the runs before and after it nothing is received or lost, then
   -- any parcel offered to t after them has a higher number.
   pub offers-in-order : (t n : ℕ) {img now then after : List ℕ} → Octets img → Offers y img t (some n)
-      → Sparing y m img now → Received y m now n then → Sparing y m then after
+      → Sparing y img now → Received y now n then → Sparing y then after
       → (n' : ℕ) → Offers y after t (some n') → n < n'
   offers-in-order t n {img} {now} {then} {after} o (waiting u low) before r behind n' (waiting u' low') =
       let w = well-offered y t img o u in
@@ -266,7 +266,7 @@ module _ {y : Layout} {m : Limits} (z : Fitting y) (l : Allowed y m) where
 
   -- And nothing is skipped: every other parcel that waited at the offer waits after them.
   pub offers-skip-none : (t n : ℕ) {img now then after : List ℕ} → Octets img → Offers y img t (some n)
-      → Sparing y m img now → Received y m now n then → Sparing y m then after
+      → Sparing y img now → Received y now n then → Sparing y then after
       → (u n' : ℕ) → WaitsFor (unpack y img) u n' → (n' ≡ n → ⊥) → WaitsFor (unpack y after) u n'
   offers-skip-none t n {img} {now} {then} {after} o (waiting e low) before r behind u n' v other =
       holds-all (Waits u n') (Waits u n') (waits-turns y u n' n other) (record { well = well-offered y t img o e; says = v }) before r behind .says
@@ -274,42 +274,42 @@ module _ {y : Layout} {m : Limits} (z : Fitting y) (l : Allowed y m) where
 -- ---- repeated offers
 
 -- images stay octets
-octets-run : (y : Layout) (m : Limits) (img list : List ℕ) (start end : ℕ) (replies : List ℕ) → Octets img → Octets (runImage y m img list start end replies)
+octets-run : (y : Layout) (img list : List ℕ) (start end : ℕ) (replies : List ℕ) → Octets img → Octets (runImage y img list start end replies)
 unfolding runImage ranImage
-octets-run y m img list start end replies o = pick-view Octets (eqb (runAnswer y img list start end replies) 0) _ _ (λ e. octets-pack y _) (λ e. o)
+octets-run y img list start end replies o = pick-view Octets (eqb (runAnswer y img list start end replies) 0) _ _ (λ e. octets-pack y _) (λ e. o)
 
-module _ {y : Layout} {m : Limits} {img : List ℕ} (o : Octets img) where
-  octets-sparing : {after : List ℕ} → Sparing y m img after → Octets after
+module _ {y : Layout} {img : List ℕ} (o : Octets img) where
+  octets-sparing : {after : List ℕ} → Sparing y img after → Octets after
   octets-sparing none = o
-  octets-sparing (one-more {now} r list start end replies ol spares) = octets-run y m now list start end replies (octets-sparing r)
+  octets-sparing (one-more {now} r list start end replies ol spares) = octets-run y now list start end replies (octets-sparing r)
 
-  octets-received : {n : ℕ} {after : List ℕ} → Received y m img n after → Octets after
-  octets-received (run list start end replies ol e r) = octets-run y m img list start end replies o
+  octets-received : {n : ℕ} {after : List ℕ} → Received y img n after → Octets after
+  octets-received (run list start end replies ol e r) = octets-run y img list start end replies o
 
-octets-rounds : {y : Layout} {m : Limits} {t : ℕ} {img ns now : List ℕ} → Octets img → Rounds y m t img ns now → Octets now
+octets-rounds : {y : Layout} {t : ℕ} {img ns now : List ℕ} → Octets img → Rounds y t img ns now → Octets now
 octets-rounds o no-round = o
 octets-rounds o (round rs before offer between r) = octets-received (octets-sparing (octets-sparing (octets-rounds o rs) before) between) r
 
-module _ {y : Layout} {m : Limits} (z : Fitting y) (l : Allowed y m) (t : ℕ) {img : List ℕ} where
+module _ {y : Layout} (z : Fitting y) (t : ℕ) {img : List ℕ} where
   -- By repeated offers, if nothing else is received or lost between them, parcels are received in sending order.
-  pub rounds-in-order : {ns now : List ℕ} → Octets img → Rounds y m t img ns now → Rising ns
+  pub rounds-in-order : {ns now : List ℕ} → Octets img → Rounds y t img ns now → Rising ns
   rounds-in-order o no-round = empty
   rounds-in-order o (round no-round before offer between r) = single
   rounds-in-order o (round {n = n'} (round {n} rs before offer between r) before' offer' between' r') =
-      above (offers-in-order z l t n (octets-sparing (octets-rounds o rs) before) offer between r before' n' offer') (rounds-in-order o (round rs before offer between r))
+      above (offers-in-order z t n (octets-sparing (octets-rounds o rs) before) offer between r before' n' offer') (rounds-in-order o (round rs before offer between r))
 
-  holds-rounds : (k : ℕ) {ns now : List ℕ} → Holds y (Waits t k) img → Rounds y m t img ns now → (List·Memᴰ k ns → ⊥) → Holds y (Waits t k) now
+  holds-rounds : (k : ℕ) {ns now : List ℕ} → Holds y (Waits t k) img → Rounds y t img ns now → (List·Memᴰ k ns → ⊥) → Holds y (Waits t k) now
   holds-rounds k h no-round other = h
   holds-rounds k h (round {n} rs before offer between r) other =
-      holds-all z l (Waits t k) (Waits t k) (waits-turns y t k n (λ e. other (List·Memᴰ·head e)))
-      (holds-sparing z l (Waits t k) (waits-spared t k) (holds-rounds k h rs (λ d. other (List·Memᴰ·tail d))) before) between r none
+      holds-all z (Waits t k) (Waits t k) (waits-turns y t k n (λ e. other (List·Memᴰ·head e)))
+      (holds-sparing z (Waits t k) (waits-spared t k) (holds-rounds k h rs (λ d. other (List·Memᴰ·tail d))) before) between r none
 
   -- Nothing is skipped: a parcel that waited for t at first, and is not among those received, has a higher number than the last of
   -- them.
-  pub rounds-skip-none : {n : ℕ} {ns now : List ℕ} → WellFormed y (unpack y img) → Rounds y m t img (n ∷ ns) now
+  pub rounds-skip-none : {n : ℕ} {ns now : List ℕ} → WellFormed y (unpack y img) → Rounds y t img (n ∷ ns) now
       → (k : ℕ) → WaitsFor (unpack y img) t k → (List·Memᴰ k (n ∷ ns) → ⊥) → n < k
   rounds-skip-none {n} w (round rs before (waiting e low) between r) k v other =
-      let h = holds-sparing z l (Waits t k) (waits-spared t k) (holds-rounds k (record { well = w; says = v }) rs (λ d. other (List·Memᴰ·tail d))) before in
+      let h = holds-sparing z (Waits t k) (waits-spared t k) (holds-rounds k (record { well = w; says = v }) rs (λ d. other (List·Memᴰ·tail d))) before in
       let not-n : k ≡ n → ⊥ = λ q. other (List·Memᴰ·head q) in
       omega (arith, low .lowest k (h .says), not-n)
 
@@ -319,9 +319,9 @@ rising-all (above h r) k (List·Memᴰ·head e) = omega (arith, h, e)
 rising-all (above h r) k (List·Memᴰ·tail d) = let l = rising-all r k d in omega (arith, h, l)
 
 -- what spares: a step that is refused, and one of any other kind
-module _ (y : Layout) (m : Limits) (s : State) (b : List ℕ) (i : ℕ) where
-  pub spares-refused : (refusal y m (stateAfter y m s b i) (stepAt b i) ≡ 0 → ⊥) → Spares y m s b i
+module _ (y : Layout) (s : State) (b : List ℕ) (i : ℕ) where
+  pub spares-refused : (refusal y (stateAfter y s b i) (stepAt b i) ≡ 0 → ⊥) → Spares y s b i
   spares-refused n = λ e. absurd (n e)
 
-  pub spares-other : (stepAt b i .kind ≡ receive → ⊥) → (stepAt b i .kind ≡ lose → ⊥) → Spares y m s b i
+  pub spares-other : (stepAt b i .kind ≡ receive → ⊥) → (stepAt b i .kind ≡ lose → ⊥) → Spares y s b i
   spares-other f g = λ e. (f, g)

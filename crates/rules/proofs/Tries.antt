@@ -19,23 +19,23 @@ use Rattle.marks.specs.Packed.{packNumberAt, packHistory, loadNumberAt, unpackH
 use Rattle.maps.specs.Map.{emptyMap, withEntry, singleton, joinedHistory, joinedHeldAt, joinedHistoryAt, joinOf, supersededEntry, supersededAt, firstFrom, firstSuperseded, unrelatedEntry, unrelatedAt, anyFrom, anyUnrelated}
 use Rattle.maps.specs.News.{informedHistory, informedHistoryAt, informedOf}
 use Rattle.maps.specs.Packed.{packEntry, packEntryAt, packMap, entryBytes, unpackHeldAt, unpackHistoryAt, unpackMap, formedEntry, formedEntryAt, formedMap}
-use Rattle.rules.specs.Layout.{Layout, Limits, imageBytes}
+use Rattle.rules.specs.Layout.{Layout, Limits, inRange, imageBytes}
 use Rattle.rules.specs.State.{transactorAt, messageAt, withTransactor, withOpened, withMessage, withoutMessage, placeFrom, numbered, placeOf}
 use Rattle.rules.specs.Step.{unpackStep, stepAt, packReply}
-use Rattle.rules.specs.Pack.{packTransactor, packMessage, packTransactorAt, packMessageAt, packHead, pack, unpackTransactor, unpackMessage, transactorPart, messagePart, unpackTransactorAt, unpackMessageAt, vacantAt, waitingIn, unpack}
-use Rattle.rules.specs.Form.{mapFormed, transactorZeros, messageZeros, statusRight, ownHeld, savedRight, readyRight, annihilatedRight, noGap, inOrder, numberRight, addresseeRight, wellFormed}
+use Rattle.rules.specs.Pack.{packTransactor, packMessage, packTransactorAt, packMessageAt, packHead, packLimits, packFront, pack, unpackTransactor, unpackMessage, transactorPart, messagePart, unpackTransactorAt, unpackMessageAt, vacantAt, waitingIn, unpackLimits, unpack}
+use Rattle.rules.specs.Form.{limitsZero, mapFormed, transactorZeros, messageZeros, statusRight, ownHeld, savedRight, readyRight, annihilatedRight, noGap, inOrder, numberRight, addresseeRight, wellFormed}
 use Rattle.rules.specs.Refusals.{named, anyNamed, malformed, notWaiting, emptyGroup, unopened, isGone, wrongStatus, unrelatedReceipt, allOpened, allWaiting, allNumbered, allCheckpointed, atLast, lastRollsBack, refusalOf}
 use Rattle.rules.specs.Rules.{messageUnrelated, receiptUnrelated, rollback, readBy, writeBy, freezeBy, finishBy, fallBy, failBy, localBy, messageSuperseded, receiverSuperseded, receiveBy, receiptRollsBack, seen, refusal, opened, applyRoot, applyLetter, applyReceive, applyLocal, applyLose, apply, stepOf, carried}
-use Rattle.rules.specs.Calls.{stateAfter, replyAt, wrongPart, runAnswer, ranImage, ranReplies, runImage, runReplies, stepsIn, queryRefusal, WaitsFor, Offers, waiting}
+use Rattle.rules.specs.Calls.{stateAfter, replyAt, beginAnswer, freshImage, beginImage, wrongPart, runAnswer, ranImage, ranReplies, runImage, runReplies, stepsIn, queryRefusal, WaitsFor, Offers, waiting}
 use Rattle.rules.specs.InOrder.{Spares, Receives, Sparing, none, one-more, Received, run, Rounds, no-round, round}
 use Rattle.rules.proofs.InOrder.{spares-refused, spares-other}
 
--- one take and three parcels
+-- one take and four parcels, of which the session allows three
 abbrev pub small : Layout
-small = record { width = 1; places = 1; transactors = 1; messages = 3 }
+small = record { width = 1; places = 1; transactors = 1; messages = 4; limited = true }
 
 abbrev pub limits : Limits
-limits = record { transactors = 1; messages = 3; checkpoints = 1; incarnation = 255 }
+limits = record { transactors = 1; messages = 3; checkpoints = 1 }
 
 -- a packed step of take 0: kind, parcel, text
 abbrev pub word : ℕ → ℕ → ℕ → List ℕ
@@ -58,24 +58,24 @@ abbrev pub second : List ℕ
 second = word 11 1 0 ++ word 2 1 0
 
 pub image0 : List ℕ
-image0 = runImage small limits (zeros (imageBytes small)) start 0 24 (zeros 24)
+image0 = runImage small (beginImage small limits (zeros (imageBytes small))) start 0 24 (zeros 24)
 
 pub image1 : List ℕ
-image1 = runImage small limits image0 others 0 24 (zeros 24)
+image1 = runImage small image0 others 0 24 (zeros 24)
 
 -- a run that is refused
 pub image2 : List ℕ
-image2 = runImage small limits image1 second 0 7 []
+image2 = runImage small image1 second 0 7 []
 
 pub image3 : List ℕ
-image3 = runImage small limits image2 first 0 16 (zeros 16)
+image3 = runImage small image2 first 0 16 (zeros 16)
 
 pub image4 : List ℕ
-image4 = runImage small limits image3 second 8 16 (zeros 8)
+image4 = runImage small image3 second 8 16 (zeros 8)
 
 -- what refuses step i of them
 abbrev refusalOfOther : ℕ → ℕ
-refusalOfOther i = refusal small limits (stateAfter small limits (unpack small image0) (part 0 24 others) i) (stepAt (part 0 24 others) i)
+refusalOfOther i = refusal small (stateAfter small (unpack small image0) (part 0 24 others) i) (stepAt (part 0 24 others) i)
 
 -- ---- what computes
 
@@ -95,7 +95,7 @@ record Computed : Type 0 where
   many3 : stepsIn (part 0 16 first) ≡ 2
   receive3 : stepAt (part 0 16 first) 0 .kind ≡ 2
   message3 : stepAt (part 0 16 first) 0 .message ≡ 0
-  received3 : refusal small limits (stateAfter small limits (unpack small image2) (part 0 16 first) 0) (stepAt (part 0 16 first) 0) ≡ 0
+  received3 : refusal small (stateAfter small (unpack small image2) (part 0 16 first) 0) (stepAt (part 0 16 first) 0) ≡ 0
   done3 : stepAt (part 0 16 first) 1 .kind ≡ 8
   offer3 : queryRefusal small image3 0 ≡ 0
   waiting3 : length (unpack small image3 .messages) ≡ 2
@@ -106,10 +106,10 @@ record Computed : Type 0 where
   many4 : stepsIn (part 8 8 second) ≡ 1
   receive4 : stepAt (part 8 8 second) 0 .kind ≡ 2
   message4 : stepAt (part 8 8 second) 0 .message ≡ 1
-  received4 : refusal small limits (stateAfter small limits (unpack small image3) (part 8 8 second) 0) (stepAt (part 8 8 second) 0) ≡ 0
+  received4 : refusal small (stateAfter small (unpack small image3) (part 8 8 second) 0) (stepAt (part 8 8 second) 0) ≡ 0
 
 computed : Computed
-unfolding byNumbers byNextEntry relationOf showsStable informed unrelatedEntry unrelatedAt anyFrom anyUnrelated informedHistory informedHistoryAt informedOf messageUnrelated receiptUnrelated put part chunks tabulate zeros allZero every be ofBe sameList beginsWith strictPrefix supersededBy newerOf packNumberAt packHistory loadNumberAt unpackHistory presentIn formedHistory emptyMap withEntry singleton joinedHistory joinedHeldAt joinedHistoryAt joinOf supersededEntry supersededAt firstFrom firstSuperseded packEntry packEntryAt packMap entryBytes unpackHeldAt unpackHistoryAt unpackMap formedEntry formedEntryAt formedMap transactorAt messageAt withTransactor withOpened withMessage withoutMessage placeFrom numbered placeOf unpackStep stepAt packReply packTransactor packMessage packTransactorAt packMessageAt packHead pack unpackTransactor unpackMessage transactorPart messagePart unpackTransactorAt unpackMessageAt vacantAt waitingIn unpack mapFormed transactorZeros messageZeros statusRight ownHeld savedRight readyRight annihilatedRight noGap inOrder numberRight addresseeRight wellFormed any named anyNamed malformed notWaiting emptyGroup unopened isGone wrongStatus unrelatedReceipt allOpened allWaiting allNumbered allCheckpointed atLast lastRollsBack refusalOf rollback readBy writeBy freezeBy finishBy fallBy failBy localBy messageSuperseded receiverSuperseded receiveBy receiptRollsBack seen refusal opened applyRoot applyLetter applyReceive applyLocal applyLose apply stepOf stateAfter replyAt wrongPart runAnswer ranImage ranReplies runImage runReplies queryRefusal image0 image1 image2 image3 image4
+unfolding byNumbers byNextEntry relationOf showsStable informed unrelatedEntry unrelatedAt anyFrom anyUnrelated informedHistory informedHistoryAt informedOf messageUnrelated receiptUnrelated put part chunks tabulate zeros allZero every be ofBe sameList beginsWith strictPrefix supersededBy newerOf packNumberAt packHistory loadNumberAt unpackHistory presentIn formedHistory emptyMap withEntry singleton joinedHistory joinedHeldAt joinedHistoryAt joinOf supersededEntry supersededAt firstFrom firstSuperseded packEntry packEntryAt packMap entryBytes unpackHeldAt unpackHistoryAt unpackMap formedEntry formedEntryAt formedMap transactorAt messageAt withTransactor withOpened withMessage withoutMessage placeFrom numbered placeOf unpackStep stepAt packReply packTransactor packMessage packTransactorAt packMessageAt packHead packLimits packFront pack unpackTransactor unpackMessage transactorPart messagePart unpackTransactorAt unpackMessageAt vacantAt waitingIn unpackLimits unpack inRange limitsZero mapFormed transactorZeros messageZeros statusRight ownHeld savedRight readyRight annihilatedRight noGap inOrder numberRight addresseeRight wellFormed any named anyNamed malformed notWaiting emptyGroup unopened isGone wrongStatus unrelatedReceipt allOpened allWaiting allNumbered allCheckpointed atLast lastRollsBack refusalOf rollback readBy writeBy freezeBy finishBy fallBy failBy localBy messageSuperseded receiverSuperseded receiveBy receiptRollsBack seen refusal opened applyRoot applyLetter applyReceive applyLocal applyLose apply stepOf stateAfter replyAt beginAnswer freshImage beginImage wrongPart runAnswer ranImage ranReplies runImage runReplies queryRefusal image0 image1 image2 image3 image4
 computed = record {
   offer0 = refl;
   waiting0 = refl;
@@ -144,10 +144,10 @@ computed = record {
 bytes : (k n v k' n' v' : ℕ) → Octets (word k n v ++ word k' n' v')
 bytes k n v k' n' v' = octets-append (word k n v) (word k' n' v') (octets-be 8 (k * 2 ^ 60 + n * 2 ^ 32 + v)) (octets-be 8 (k' * 2 ^ 60 + n' * 2 ^ 32 + v'))
 
-others-spare : (i : ℕ) → i < stepsIn (part 0 24 others) → Spares small limits (unpack small image0) (part 0 24 others) i
-others-spare zero h = spares-other small limits (unpack small image0) (part 0 24 others) 0 (λ k. omega (arith, computed .letter1, k)) (λ k. omega (arith, computed .letter1, k))
-others-spare (suc zero) h = spares-refused small limits (unpack small image0) (part 0 24 others) 1 (λ e. omega (arith, computed .missing1, e))
-others-spare (suc (suc zero)) h = spares-refused small limits (unpack small image0) (part 0 24 others) 2 (λ e. omega (arith, computed .idle1, e))
+others-spare : (i : ℕ) → i < stepsIn (part 0 24 others) → Spares small (unpack small image0) (part 0 24 others) i
+others-spare zero h = spares-other small (unpack small image0) (part 0 24 others) 0 (λ k. omega (arith, computed .letter1, k)) (λ k. omega (arith, computed .letter1, k))
+others-spare (suc zero) h = spares-refused small (unpack small image0) (part 0 24 others) 1 (λ e. omega (arith, computed .missing1, e))
+others-spare (suc (suc zero)) h = spares-refused small (unpack small image0) (part 0 24 others) 2 (λ e. omega (arith, computed .idle1, e))
 others-spare (suc (suc (suc i))) h = absurd (omega (arith, computed .many1, h))
 
 offered0 : Offers small image0 0 (some 0)
@@ -157,13 +157,13 @@ offered0 = waiting (computed .offer0) (record {
 })
 
 -- a letter, two refused steps, and a refused run
-between : Sparing small limits image0 image2
+between : Sparing small image0 image2
 unfolding image1 image2
 between = one-more
     (one-more none others 0 24 (zeros 24) (octets-append (word 1 0 8 ++ word 2 9 0) (word 5 0 0) (bytes 1 0 8 2 9 0) (octets-be 8 (5 * 2 ^ 60 + 0 * 2 ^ 32 + 0))) (λ e. others-spare))
     second 0 7 [] (bytes 11 1 0 2 1 0) (λ e. absurd (omega (arith, computed .refused2, e)))
 
-received0 : Received small limits image2 0 image3
+received0 : Received small image2 0 image3
 unfolding image3
 received0 = run first 0 16 (zeros 16) (bytes 2 0 0 8 0 0) (computed .accepted3) (record {
   step = 0;
@@ -174,9 +174,9 @@ received0 = run first 0 16 (zeros 16) (bytes 2 0 0 8 0 0) (computed .accepted3) 
   spares = go;
 })
   where
-    go : (i : ℕ) → i < stepsIn (part 0 16 first) → (i ≡ 0 → ⊥) → Spares small limits (unpack small image2) (part 0 16 first) i
+    go : (i : ℕ) → i < stepsIn (part 0 16 first) → (i ≡ 0 → ⊥) → Spares small (unpack small image2) (part 0 16 first) i
     go zero h n = absurd (n refl)
-    go (suc zero) h n = spares-other small limits (unpack small image2) (part 0 16 first) 1 (λ k. omega (arith, computed .done3, k)) (λ k. omega (arith, computed .done3, k))
+    go (suc zero) h n = spares-other small (unpack small image2) (part 0 16 first) 1 (λ k. omega (arith, computed .done3, k)) (λ k. omega (arith, computed .done3, k))
     go (suc (suc i)) h n = absurd (omega (arith, computed .many3, h))
 
 lowest3 : (k : ℕ) → WaitsFor (unpack small image3) 0 k → 1 ≤ k
@@ -193,7 +193,7 @@ offered1 = waiting (computed .offer3) (record {
   lowest = lowest3;
 })
 
-received1 : Received small limits image3 1 image4
+received1 : Received small image3 1 image4
 unfolding image4
 received1 = run second 8 16 (zeros 8) (bytes 11 1 0 2 1 0) (computed .accepted4) (record {
   step = 0;
@@ -204,10 +204,10 @@ received1 = run second 8 16 (zeros 8) (bytes 11 1 0 2 1 0) (computed .accepted4)
   spares = go;
 })
   where
-    go : (i : ℕ) → i < stepsIn (part 8 8 second) → (i ≡ 0 → ⊥) → Spares small limits (unpack small image3) (part 8 8 second) i
+    go : (i : ℕ) → i < stepsIn (part 8 8 second) → (i ≡ 0 → ⊥) → Spares small (unpack small image3) (part 8 8 second) i
     go zero h n = absurd (n refl)
     go (suc i) h n = absurd (omega (arith, computed .many4, h))
 
 -- two rounds, with a letter, refused steps and a refused run between offer and receipt
-pub two-rounds : Rounds small limits 0 image0 (1 ∷ 0 ∷ []) image4
+pub two-rounds : Rounds small 0 image0 (1 ∷ 0 ∷ []) image4
 two-rounds = round (round no-round none offered0 between received0) none offered1 none received1

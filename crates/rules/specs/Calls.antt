@@ -6,39 +6,45 @@ use mathlib.Core.List.{List, []}
 use mathlib.Core.Option.{Option, none, some}
 use lib.ListN.{length}
 use lib.Dec.{eqb, ltb, leb}
-use Rattle.octets.specs.Bytes.{pick, _or_, part, chunks, zeros}
+use Rattle.octets.specs.Bytes.{pick, _or_, put, part, chunks, zeros}
 use Rattle.rules.specs.declared.Offered.{Offered}
 use Rattle.rules.specs.declared.Offered.the-variants.{Message, Nothing}
-use Rattle.rules.specs.Layout.{Layout, Limits, imageBytes, messageAddress, dependencesAt, mapBytes}
+use Rattle.rules.specs.Layout.{Layout, Limits, inRange, headBytes, imageBytes, messageAddress, dependencesAt, mapBytes}
 use Rattle.rules.specs.Status.{annihilated}
 use Rattle.rules.specs.State.{State, transactorAt, messageAt, placeOf}
 use Rattle.rules.specs.Step.{stepBytes, stepAt, packReply}
 use Rattle.rules.specs.Rules.{stepOf}
-use Rattle.rules.specs.Pack.{pack, unpack}
+use Rattle.rules.specs.Pack.{packLimits, pack, unpack}
 use Rattle.rules.specs.Form.{wellFormed}
 
 -- 16: image not as long as the layout says
 abbrev pub wrongLength : Layout → List ℕ → Bool
 wrongLength y img = not (eqb (length img) (imageBytes y))
 
--- ---- begin a fresh image: all zero bytes
+-- ---- begin a fresh image with these limits (document 02, W7)
 
-unfoldable pub beginAnswer : Layout → List ℕ → ℕ
-beginAnswer y img = pick (wrongLength y img) 16 0
+-- 16; 33: "a beginning whose numbers are out of range, after 16"
+unfoldable pub beginAnswer : Layout → Limits → List ℕ → ℕ
+beginAnswer y m img = pick (wrongLength y img) 16 (pick (not (inRange y m)) 33 0)
 
-unfoldable pub beginImage : Layout → List ℕ → List ℕ
-beginImage y img = pick (wrongLength y img) img (zeros (imageBytes y))
+-- "a fresh image is zero but for them"
+unfoldable pub freshImage : Layout → Limits → List ℕ
+freshImage y m = put headBytes (packLimits y m) (zeros (imageBytes y))
+
+-- a refused begin changes no byte
+unfoldable pub beginImage : Layout → Limits → List ℕ → List ℕ
+beginImage y m img = pick (eqb (beginAnswer y m img) 0) (freshImage y m) img
 
 -- ---- run a step list
 
 -- the state after the first i steps of b
-unfoldable pub stateAfter : Layout → Limits → State → List ℕ → ℕ → State
-stateAfter y m s b zero = s
-stateAfter y m s b (suc i) = stepOf y m (stateAfter y m s b i) (stepAt b i) .state
+unfoldable pub stateAfter : Layout → State → List ℕ → ℕ → State
+stateAfter y s b zero = s
+stateAfter y s b (suc i) = stepOf y (stateAfter y s b i) (stepAt b i) .state
 
 -- the packed reply to step i of b
-unfoldable pub replyAt : Layout → Limits → State → List ℕ → ℕ → List ℕ
-replyAt y m s b i = packReply (stepOf y m (stateAfter y m s b i) (stepAt b i) .reply)
+unfoldable pub replyAt : Layout → State → List ℕ → ℕ → List ℕ
+replyAt y s b i = packReply (stepOf y (stateAfter y s b i) (stepAt b i) .reply)
 
 -- how many whole steps b has
 abbrev pub stepsIn : List ℕ → ℕ
@@ -60,20 +66,20 @@ runAnswer y img list start end replies =
     (pick (not (eqb (length replies) (end - start))) 18
     (pick (not (wellFormed y img)) 19 0)))
 
-unfoldable pub ranImage : Layout → Limits → List ℕ → List ℕ → List ℕ
-ranImage y m img b = pack y (stateAfter y m (unpack y img) b (stepsIn b))
+unfoldable pub ranImage : Layout → List ℕ → List ℕ → List ℕ
+ranImage y img b = pack y (stateAfter y (unpack y img) b (stepsIn b))
 
-unfoldable pub ranReplies : Layout → Limits → List ℕ → List ℕ → List ℕ
-ranReplies y m img b = chunks (stepsIn b) (replyAt y m (unpack y img) b)
+unfoldable pub ranReplies : Layout → List ℕ → List ℕ → List ℕ
+ranReplies y img b = chunks (stepsIn b) (replyAt y (unpack y img) b)
 
 -- a refused run changes no byte
-unfoldable pub runImage : Layout → Limits → List ℕ → List ℕ → ℕ → ℕ → List ℕ → List ℕ
-runImage y m img list start end replies =
-    pick (eqb (runAnswer y img list start end replies) 0) (ranImage y m img (part start (end - start) list)) img
+unfoldable pub runImage : Layout → List ℕ → List ℕ → ℕ → ℕ → List ℕ → List ℕ
+runImage y img list start end replies =
+    pick (eqb (runAnswer y img list start end replies) 0) (ranImage y img (part start (end - start) list)) img
 
-unfoldable pub runReplies : Layout → Limits → List ℕ → List ℕ → ℕ → ℕ → List ℕ → List ℕ
-runReplies y m img list start end replies =
-    pick (eqb (runAnswer y img list start end replies) 0) (ranReplies y m img (part start (end - start) list)) replies
+unfoldable pub runReplies : Layout → List ℕ → List ℕ → ℕ → ℕ → List ℕ → List ℕ
+runReplies y img list start end replies =
+    pick (eqb (runAnswer y img list start end replies) 0) (ranReplies y img (part start (end - start) list)) replies
 
 -- ---- queries about a take: offer, and those of document 02
 

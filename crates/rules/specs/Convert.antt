@@ -1,4 +1,5 @@
--- Document 02, W6, "Old images to new ones and back": the old form is that of layout narrow, 22,132 bytes.
+-- Document 02, W6, "Old images to new ones and back", and what W7 adds: the old form is that of layout narrow, 22,132 bytes, which stores
+-- no limits; those of an old image are 16, 32 and 15 (`widest narrow`).
 use Prim.Native.Nat.{ℕ}
 use mathlib.Core.Bool.{Bool, not}
 use mathlib.Core.List.{List}
@@ -8,7 +9,7 @@ use Rattle.octets.specs.Bytes.{pick, _and_, _or_, every}
 use Rattle.marks.specs.declared.History.{History}
 use Rattle.maps.specs.declared.DependenceMap.{DependenceMap}
 use Rattle.maps.specs.Map.{heldAt, historyAt}
-use Rattle.rules.specs.Layout.{Layout, narrow, base}
+use Rattle.rules.specs.Layout.{Layout, Limits, widest, narrow, base}
 use Rattle.rules.specs.State.{Transactor, Message, State, transactorAt, messageAt}
 use Rattle.rules.specs.Pack.{pack, unpack}
 use Rattle.rules.specs.Form.{wellFormed}
@@ -16,7 +17,7 @@ use Rattle.rules.specs.Calls.{wrongLength}
 
 -- ---- the conversions: "each field of the old form keeps its value both ways"
 
--- an image of the old form in the new one
+-- an image of the old form in the new one; W7: "conversion forward sets those" limits
 unfoldable pub forward : List ℕ → List ℕ
 forward img = pack base (unpack narrow img)
 
@@ -51,8 +52,12 @@ stateWithin n y s =
     every (y .transactors) (λ t. transactorWithin n y (transactorAt s t))
     and every (length (s .messages)) (λ k. messageWithin n y (messageAt s k))
 
+-- W7: "also .. unless the limits are 16, 32 and 15"
+unfoldable pub limitsAre : Limits → Limits → Bool
+limitsAre a b = eqb (a .transactors) (b .transactors) and eqb (a .messages) (b .messages) and eqb (a .checkpoints) (b .checkpoints)
+
 unfoldable pub tooWide : List ℕ → Bool
-tooWide img = not (stateWithin largestNarrow base (unpack base img))
+tooWide img = not (limitsAre (unpack base img .limits) (widest base) and stateWithin largestNarrow base (unpack base img))
 
 -- ---- the calls: "source and destination lengths come under 16 and form under 19"; 32 "checked last and leaving the
 -- destination untouched", as every refusal does

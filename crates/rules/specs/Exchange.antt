@@ -5,7 +5,7 @@ use mathlib.Core.Path.{_≡_}
 use mathlib.Core.List.{List, _++_}
 use lib.Dec.{eqb}
 use Rattle.octets.specs.Bytes.{pick, put, part}
-use Rattle.rules.specs.Layout.{Layout, Limits}
+use Rattle.rules.specs.Layout.{Layout}
 use Rattle.rules.specs.State.{State}
 use Rattle.rules.specs.Step.{Step, read, fail, stepBytes}
 use Rattle.rules.specs.Rules.{stepOf}
@@ -23,10 +23,10 @@ pub record EditsApart (p q : Step) : Type 0 where
   pub apart : p .transactor ≡ q .transactor → ⊥
 
 -- Of steps: from the state s "both orders must give the same" state, "and each step the same reply".
-pub record Exchanged (y : Layout) (m : Limits) (s : State) (p q : Step) : Type 0 where
-  pub state : stepOf y m (stepOf y m s p .state) q .state ≡ stepOf y m (stepOf y m s q .state) p .state
-  pub first : stepOf y m s p .reply ≡ stepOf y m (stepOf y m s q .state) p .reply
-  pub second : stepOf y m (stepOf y m s p .state) q .reply ≡ stepOf y m s q .reply
+pub record Exchanged (y : Layout) (s : State) (p q : Step) : Type 0 where
+  pub state : stepOf y (stepOf y s p .state) q .state ≡ stepOf y (stepOf y s q .state) p .state
+  pub first : stepOf y s p .reply ≡ stepOf y (stepOf y s q .state) p .reply
+  pub second : stepOf y (stepOf y s p .state) q .reply ≡ stepOf y s q .reply
 
 -- ---- on images: the calls
 
@@ -36,15 +36,15 @@ exchangedAt k b = put k (part (k + stepBytes) stepBytes b ++ part k stepBytes b)
 
 -- A run of the two steps alone, packed: both orders answer the same and leave the same image; the replies are each other's with the
 -- two places exchanged, or, where the call is refused, the buffer as it was.
-pub record PairExchanged (y : Layout) (m : Limits) (img p q buffer : List ℕ) : Type 0 where
+pub record PairExchanged (y : Layout) (img p q buffer : List ℕ) : Type 0 where
   pub answer : runAnswer y img (q ++ p) 0 16 buffer ≡ runAnswer y img (p ++ q) 0 16 buffer
-  pub image : runImage y m img (q ++ p) 0 16 buffer ≡ runImage y m img (p ++ q) 0 16 buffer
-  pub replies : runReplies y m img (q ++ p) 0 16 buffer
-      ≡ pick (eqb (runAnswer y img (p ++ q) 0 16 buffer) 0) (exchangedAt 0 (runReplies y m img (p ++ q) 0 16 buffer)) buffer
+  pub image : runImage y img (q ++ p) 0 16 buffer ≡ runImage y img (p ++ q) 0 16 buffer
+  pub replies : runReplies y img (q ++ p) 0 16 buffer
+      ≡ pick (eqb (runAnswer y img (p ++ q) 0 16 buffer) 0) (exchangedAt 0 (runReplies y img (p ++ q) 0 16 buffer)) buffer
 
 -- A run of any part of any list, in which steps i and i + 1 of the part have changed places.
-pub record RunExchanged (y : Layout) (m : Limits) (img list : List ℕ) (start end : ℕ) (buffer : List ℕ) (i : ℕ) : Type 0 where
+pub record RunExchanged (y : Layout) (img list : List ℕ) (start end : ℕ) (buffer : List ℕ) (i : ℕ) : Type 0 where
   pub answer : runAnswer y img (exchangedAt (start + stepBytes * i) list) start end buffer ≡ runAnswer y img list start end buffer
-  pub image : runImage y m img (exchangedAt (start + stepBytes * i) list) start end buffer ≡ runImage y m img list start end buffer
-  pub replies : runReplies y m img (exchangedAt (start + stepBytes * i) list) start end buffer
-      ≡ pick (eqb (runAnswer y img list start end buffer) 0) (exchangedAt (stepBytes * i) (runReplies y m img list start end buffer)) buffer
+  pub image : runImage y img (exchangedAt (start + stepBytes * i) list) start end buffer ≡ runImage y img list start end buffer
+  pub replies : runReplies y img (exchangedAt (start + stepBytes * i) list) start end buffer
+      ≡ pick (eqb (runAnswer y img list start end buffer) 0) (exchangedAt (stepBytes * i) (runReplies y img list start end buffer)) buffer

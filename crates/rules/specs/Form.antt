@@ -7,29 +7,30 @@ use lib.Dec.{eqb, ltb, leb}
 use Rattle.octets.specs.Bytes.{pick, _and_, _or_, part, every, allZero}
 use Rattle.maps.specs.Map.{heldAt}
 use Rattle.maps.specs.Packed.{formedMap}
-use Rattle.rules.specs.Layout.{Layout, mapBytes, stateAt, creationAt, behaviourAt, dependencesAt}
+use Rattle.rules.specs.Layout.{Layout, inRange, mapBytes, stateAt, creationAt, behaviourAt, dependencesAt}
 use Rattle.rules.specs.Status.{unused, ready, annihilated}
 use Rattle.rules.specs.State.{State, transactorAt, messageAt, ownHistory, live}
 use Rattle.rules.specs.Pack.{transactorPart, messagePart, vacantAt, unpack}
 
--- the map at a place of b: its zero fields and unused places are zero, and it has no mark of an unopened take
-unfoldable pub mapFormed : Layout → ℕ → ℕ → List ℕ → Bool
-mapFormed y opened at b = formedMap (y .width) (y .places) (y .transactors) opened (part at (mapBytes y) b)
+-- the map at a place of an image's part b: its zero fields and unused places are zero, it has no mark of an unopened take, and no mark
+-- has more entries in its list than the session's limits allow
+unfoldable pub mapFormed : Layout → State → ℕ → List ℕ → Bool
+mapFormed y s at b = formedMap (y .width) (y .places) (y .transactors) (s .limits .checkpoints) (s .opened) (part at (mapBytes y) b)
 
 -- a zero field or unused place not zero, a mark of an unopened take: in a take's place
 unfoldable pub transactorZeros : Layout → List ℕ → ℕ → Bool
 transactorZeros y img t =
     eqb (getD (transactorPart y img t) 0 0 % 64) 0
-    and mapFormed y (unpack y img .opened) stateAt (transactorPart y img t)
-    and mapFormed y (unpack y img .opened) (creationAt y) (transactorPart y img t)
-    and mapFormed y (unpack y img .opened) (behaviourAt y) (transactorPart y img t)
+    and mapFormed y (unpack y img) stateAt (transactorPart y img t)
+    and mapFormed y (unpack y img) (creationAt y) (transactorPart y img t)
+    and mapFormed y (unpack y img) (behaviourAt y) (transactorPart y img t)
     and (ltb t (unpack y img .opened) or allZero (transactorPart y img t))
 
 -- the same in a parcel's place
 unfoldable pub messageZeros : Layout → List ℕ → ℕ → Bool
 messageZeros y img k =
     pick (vacantAt y img k) (allZero (messagePart y img k))
-    (eqb (getD (messagePart y img k) 0 0 / 16) 8 and mapFormed y (unpack y img .opened) dependencesAt (messagePart y img k))
+    (eqb (getD (messagePart y img k) 0 0 / 16) 8 and mapFormed y (unpack y img) dependencesAt (messagePart y img k))
 
 -- an opened take with status 0 or an unopened one with another
 unfoldable pub statusRight : State → ℕ → Bool
@@ -74,12 +75,19 @@ numberRight s k = leb (length (s .messages)) k or ltb (messageAt s k .number) (s
 unfoldable pub addresseeRight : State → ℕ → Bool
 addresseeRight s k = leb (length (s .messages)) k or ltb (messageAt s k .addressee) (s .opened)
 
+-- document 02, W7: "the fourth zero"
+unfoldable pub limitsZero : Layout → List ℕ → Bool
+limitsZero y img = not (y .limited) or eqb (getD img 7 0) 0
+
 unfoldable pub wellFormed : Layout → List ℕ → Bool
 wellFormed y img =
     eqb (getD img 3 0) 0
+    and limitsZero y img
+    and inRange y (unpack y img .limits)
     and every (y .transactors) (transactorZeros y img)
     and every (y .messages) (messageZeros y img)
-    and leb (unpack y img .opened) (y .transactors)
+    and leb (unpack y img .opened) (unpack y img .limits .transactors)
+    and leb (length (unpack y img .messages)) (unpack y img .limits .messages)
     and every (y .transactors) (statusRight (unpack y img))
     and every (y .transactors) (ownHeld (unpack y img))
     and every (y .transactors) (savedRight (unpack y img))

@@ -7,7 +7,7 @@ use mathlib.Core.Option.{Option, none, some}
 use Rattle.octets.specs.Numbers.{bound}
 use Rattle.rules.specs.declared.Grouped.{Grouped}
 use Rattle.rules.specs.declared.Grouped.the-variants.{Group, NoGroup}
-use Rattle.rules.specs.Layout.{Layout, Limits}
+use Rattle.rules.specs.Layout.{Layout}
 use Rattle.rules.specs.State.{State, transactorAt, ownHistory}
 use Rattle.rules.specs.Step.{Step, sign, done}
 use Rattle.rules.specs.Refusals.{named}
@@ -20,16 +20,17 @@ abbrev pub signing : ℕ → Step
 signing v = record { kind = sign; transactor = 0; other = 0; zero = 0; message = v; value = 0 }
 
 -- volume v contains take t and could be signed now: its signing would reply 0
-pub record Checkpointable (y : Layout) (m : Limits) (s : State) (t v : ℕ) : Type 0 where
+pub record Checkpointable (y : Layout) (s : State) (t v : ℕ) : Type 0 where
   pub bits : v < bound 2
   pub contains : named v t ≡ true
-  pub signs : stepOf y m s (signing v) .reply .outcome ≡ done
+  pub signs : stepOf y s (signing v) .reply .outcome ≡ done
 
--- volume v is a "set of takes holding this one, none of them with 15 signings", and "meets the signing rule"
-pub record Meets (y : Layout) (m : Limits) (s : State) (t v : ℕ) : Type 0 where
+-- volume v is a "set of takes holding this one, none of them with 15 signings", or as many as the session's limits allow, and "meets the
+-- signing rule"
+pub record Meets (y : Layout) (s : State) (t v : ℕ) : Type 0 where
   pub bits : v < bound 2
   pub contains : named v t ≡ true
-  pub room : (u : ℕ) → u < y .transactors → named v u ≡ true → ownHistory u (transactorAt s u) .count < m .checkpoints
+  pub room : (u : ℕ) → u < y .transactors → named v u ≡ true → ownHistory u (transactorAt s u) .count < s .limits .checkpoints
   pub ready : groupReady y s v ≡ true
 
 -- every take of v is one of w
@@ -42,7 +43,7 @@ groupNumber (Group v) = some v
 groupNumber NoGroup = none
 
 -- "the smallest volume containing it that could be signed now, or say that none exists". Refused, as offer is: none.
-pub data Smallest (y : Layout) (m : Limits) (img : List ℕ) (t : ℕ) : Option ℕ → Type 0 where
-  refused : (queryRefusal y img t ≡ 0 → ⊥) → Smallest y m img t none
-  nothing : queryRefusal y img t ≡ 0 → ((v : ℕ) → Checkpointable y m (unpack y img) t v → ⊥) → Smallest y m img t none
-  smallest : {v : ℕ} → queryRefusal y img t ≡ 0 → Checkpointable y m (unpack y img) t v → ((w : ℕ) → Checkpointable y m (unpack y img) t w → Within v w) → Smallest y m img t (some v)
+pub data Smallest (y : Layout) (img : List ℕ) (t : ℕ) : Option ℕ → Type 0 where
+  refused : (queryRefusal y img t ≡ 0 → ⊥) → Smallest y img t none
+  nothing : queryRefusal y img t ≡ 0 → ((v : ℕ) → Checkpointable y (unpack y img) t v → ⊥) → Smallest y img t none
+  smallest : {v : ℕ} → queryRefusal y img t ≡ 0 → Checkpointable y (unpack y img) t v → ((w : ℕ) → Checkpointable y (unpack y img) t w → Within v w) → Smallest y img t (some v)

@@ -1,14 +1,14 @@
 -- Document 01, "Packed forms": the image.
 use Prim.Native.Nat.{ℕ, _+_, _*_, _/_, _%_}
 use mathlib.Core.Bool.{Bool}
-use mathlib.Core.List.{List, _++_}
+use mathlib.Core.List.{List, [], _++_}
 use lib.ListN.{length, getD}
 use lib.Dec.{ltb}
 use Rattle.octets.specs.Bytes.{pick, part, chunks, tabulate, zeros}
 use Rattle.octets.specs.Numbers.{be, ofBe}
 use Rattle.maps.specs.declared.DependenceMap.{DependenceMap}
 use Rattle.maps.specs.Packed.{packMap, unpackMap}
-use Rattle.rules.specs.Layout.{Layout, mapBytes, valueAt, savedAt, stateAt, creationAt, behaviourAt, transactorBytes, dependencesAt, messageBytes, transactorAddress, messageAddress}
+use Rattle.rules.specs.Layout.{Layout, Limits, widest, mapBytes, valueAt, savedAt, stateAt, creationAt, behaviourAt, transactorBytes, dependencesAt, messageBytes, transactorAddress, messageAddress}
 use Rattle.rules.specs.State.{Transactor, Message, State, transactorAt, messageAt, placeFrom}
 
 abbrev pub packDependences : Layout → DependenceMap → List ℕ
@@ -35,8 +35,16 @@ packMessageAt y s k = pick (ltb k (length (s .messages))) (packMessage y (messag
 unfoldable pub packHead : State → List ℕ
 packHead s = be 1 (s .opened) ++ be 2 (s .next) ++ be 1 0
 
+-- document 02, W7: takes 8, parcels waiting 8, signings 8, zero 8
+unfoldable pub packLimits : Layout → Limits → List ℕ
+packLimits y m = pick (y .limited) (be 1 (m .transactors) ++ be 1 (m .messages) ++ be 1 (m .checkpoints) ++ be 1 0) []
+
+-- "stored after the head in four bytes"
+unfoldable pub packFront : Layout → State → List ℕ
+packFront y s = packHead s ++ packLimits y (s .limits)
+
 unfoldable pub pack : Layout → State → List ℕ
-pack y s = packHead s ++ chunks (y .transactors) (packTransactorAt y s) ++ chunks (y .messages) (packMessageAt y s)
+pack y s = packFront y s ++ chunks (y .transactors) (packTransactorAt y s) ++ chunks (y .messages) (packMessageAt y s)
 
 -- ---- back
 
@@ -83,8 +91,12 @@ vacantAt y img k = ltb (getD (messagePart y img k) 0 0) 128
 unfoldable pub waitingIn : Layout → List ℕ → ℕ
 waitingIn y img = placeFrom (vacantAt y img) 0 (y .messages)
 
+unfoldable pub unpackLimits : Layout → List ℕ → Limits
+unpackLimits y img = pick (y .limited) (record { transactors = getD img 4 0; messages = getD img 5 0; checkpoints = getD img 6 0 }) (widest y)
+
 unfoldable pub unpack : Layout → List ℕ → State
 unpack y img = record {
+  limits = unpackLimits y img;
   opened = getD img 0 0;
   next = ofBe 2 (part 1 2 img);
   transactors = tabulate (y .transactors) (unpackTransactorAt y img);

@@ -4,12 +4,14 @@ use Prim.Native.Nat.{ℕ, _/_, _%_, _^_}
 use mathlib.Core.Bool.{Bool, not}
 use lib.Dec.{eqb, ltb, leb}
 use Rattle.octets.specs.Bytes.{pick, _and_, _or_, any}
-use Rattle.rules.specs.Layout.{Limits, lastNumber}
+use Rattle.rules.specs.Layout.{Layout, Limits, largest, lastNumber}
 use Rattle.rules.specs.Status.{ready, busy, annihilated}
 use Rattle.rules.specs.Step.{Step, root, letter, receive, new, send, write, fall, fail, lose, sign}
 
 -- What the table looks at.
 pub record Seen : Type 0 where
+  -- the session's limits
+  pub limits : Limits
   -- takes opened, next parcel number, parcels waiting
   pub opened : ℕ
   pub next : ℕ
@@ -100,34 +102,34 @@ unfoldable pub unrelatedReceipt : Seen → Step → Bool
 unrelatedReceipt v p = eqb (p .kind) receive and v .unrelated (p .message)
 
 -- 25: all takes opened (root, new)
-unfoldable pub allOpened : Limits → Seen → Step → Bool
-allOpened m v p = (eqb (p .kind) root or eqb (p .kind) new) and leb (m .transactors) (v .opened)
+unfoldable pub allOpened : Seen → Step → Bool
+allOpened v p = (eqb (p .kind) root or eqb (p .kind) new) and leb (v .limits .transactors) (v .opened)
 
 -- 26: all places of parcels waiting (letter, send)
-unfoldable pub allWaiting : Limits → Seen → Step → Bool
-allWaiting m v p = sends (p .kind) and leb (m .messages) (v .waiting)
+unfoldable pub allWaiting : Seen → Step → Bool
+allWaiting v p = sends (p .kind) and leb (v .limits .messages) (v .waiting)
 
 -- 27: next parcel number is 65,535 (letter, send)
 unfoldable pub allNumbered : Seen → Step → Bool
 allNumbered v p = sends (p .kind) and eqb (v .next) lastNumber
 
 -- 30: a named take has all its signings
-unfoldable pub allCheckpointed : Limits → Seen → Step → Bool
-allCheckpointed m v p = eqb (p .kind) sign and anyNamed (p .message) (λ t. leb (m .checkpoints) (v .checkpoints t))
+unfoldable pub allCheckpointed : Seen → Step → Bool
+allCheckpointed v p = eqb (p .kind) sign and anyNamed (p .message) (λ t. leb (v .limits .checkpoints) (v .checkpoints t))
 
 -- a signed take at the largest life number
-unfoldable pub atLast : Limits → Seen → ℕ → Bool
-atLast m v t = ltb 0 (v .checkpoints t) and leb (m .incarnation) (v .incarnation t)
+unfoldable pub atLast : Layout → Seen → ℕ → Bool
+atLast y v t = ltb 0 (v .checkpoints t) and leb (largest y) (v .incarnation t)
 
 -- 28: a signed take would fall from the largest life number
-unfoldable pub lastRollsBack : Limits → Seen → Step → Bool
-lastRollsBack m v p =
-    ((eqb (p .kind) fall or eqb (p .kind) fail) and not (v .stable (p .transactor)) and atLast m v (p .transactor))
-    or (eqb (p .kind) receive and v .falls (p .message) and atLast m v (v .addressee (p .message)))
+unfoldable pub lastRollsBack : Layout → Seen → Step → Bool
+lastRollsBack y v p =
+    ((eqb (p .kind) fall or eqb (p .kind) fail) and not (v .stable (p .transactor)) and atLast y v (p .transactor))
+    or (eqb (p .kind) receive and v .falls (p .message) and atLast y v (v .addressee (p .message)))
 
--- the first condition that holds, in the table's order, or 0
-unfoldable pub refusalOf : Limits → Seen → Step → ℕ
-refusalOf m v p =
+-- The first condition that holds, in the table's order, or 0. Of the layout it looks at the largest life number alone.
+unfoldable pub refusalOf : Layout → Seen → Step → ℕ
+refusalOf y v p =
     pick (malformed p) 20
     (pick (notWaiting v p) 24
     (pick (emptyGroup p) 29
@@ -135,8 +137,8 @@ refusalOf m v p =
     (pick (isGone v p) 22
     (pick (wrongStatus v p) 23
     (pick (unrelatedReceipt v p) 31
-    (pick (allOpened m v p) 25
-    (pick (allWaiting m v p) 26
+    (pick (allOpened v p) 25
+    (pick (allWaiting v p) 26
     (pick (allNumbered v p) 27
-    (pick (allCheckpointed m v p) 30
-    (pick (lastRollsBack m v p) 28 0)))))))))))
+    (pick (allCheckpointed v p) 30
+    (pick (lastRollsBack y v p) 28 0)))))))))))

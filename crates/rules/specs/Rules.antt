@@ -11,7 +11,7 @@ use Rattle.marks.specs.History.{incarnationOf, initialHistory, stabilized, roll
 use Rattle.maps.specs.declared.DependenceMap.{DependenceMap}
 use Rattle.maps.specs.Map.{heldAt, historyAt, emptyMap, withEntry, singleton, joinOf, firstSuperseded, anyUnrelated}
 use Rattle.maps.specs.News.{informedOf}
-use Rattle.rules.specs.Layout.{Layout, Limits}
+use Rattle.rules.specs.Layout.{Layout}
 use Rattle.rules.specs.Status.{ready, busy, annihilated}
 use Rattle.rules.specs.State.{Transactor, Message, State, bare, transactorAt, messageAt, ownHistory, live, withStatus, withValue, withState, withBehaviour, withTransactor, withOpened, withMessage, withoutMessage, placeOf}
 use Rattle.rules.specs.Refusals.{Seen, named, refusalOf}
@@ -180,7 +180,7 @@ checkpointAt y s v t = pick (named v t) (checkpointBy y t (transactorAt s t)) (t
 
 -- signing a volume: every take that it names is signed, the others stay as they are
 unfoldable pub checkpointGroup : Layout → State → ℕ → State
-checkpointGroup y s v = record { opened = s .opened; next = s .next; transactors = tabulate (y .transactors) (checkpointAt y s v); messages = s .messages }
+checkpointGroup y s v = record { limits = s .limits; opened = s .opened; next = s .next; transactors = tabulate (y .transactors) (checkpointAt y s v); messages = s .messages }
 
 -- ---- refusals
 
@@ -200,6 +200,7 @@ receiptUnrelated y s n =
 -- what the table of refusals looks at
 unfoldable pub seen : Layout → State → Seen
 seen y s = record {
+  limits = s .limits;
   opened = s .opened;
   next = s .next;
   waiting = length (s .messages);
@@ -213,8 +214,8 @@ seen y s = record {
   unrelated = receiptUnrelated y s;
 }
 
-unfoldable pub refusal : Layout → Limits → State → Step → ℕ
-refusal y m s p = refusalOf m (seen y s) p
+unfoldable pub refusal : Layout → State → Step → ℕ
+refusal y s p = refusalOf y (seen y s) p
 
 -- ---- the kinds
 
@@ -316,7 +317,7 @@ apply y s p =
     (applyLocal y s p)))))))
 
 -- a step: refused with its number and all else 0, the state untouched; or applied
-unfoldable pub stepOf : Layout → Limits → State → Step → Result
-stepOf y m s p =
-    pick (eqb (refusal y m s p) 0) (apply y s p)
-    (record { reply = answer (refusal y m s p) 0 0 0; state = s })
+unfoldable pub stepOf : Layout → State → Step → Result
+stepOf y s p =
+    pick (eqb (refusal y s p) 0) (apply y s p)
+    (record { reply = answer (refusal y s p) 0 0 0; state = s })

@@ -8,7 +8,7 @@ use Rattle.octets.specs.Bytes.{pick, _or_}
 use Rattle.marks.specs.declared.History.{History}
 use Rattle.maps.specs.declared.DependenceMap.{DependenceMap}
 use Rattle.maps.specs.Map.{historyAt, emptyMap}
-use Rattle.rules.specs.Layout.{Layout}
+use Rattle.rules.specs.Layout.{Layout, Limits}
 use Rattle.rules.specs.Status as status
 
 -- The statuses also under the state's name, for other crates, which no `pub use` reaches.
@@ -40,8 +40,9 @@ pub record Message : Type 0 where
   pub value : ℕ
   pub dependences : DependenceMap
 
--- Takes opened, next parcel number, all takes, the waiting parcels in rising number.
+-- The session's limits, takes opened, next parcel number, all takes, the waiting parcels in rising number.
 pub record State : Type 0 where
+  pub limits : Limits
   pub opened : ℕ
   pub next : ℕ
   pub transactors : List Transactor
@@ -74,9 +75,9 @@ transactorAt s t = getD (s .transactors) t noTransactor
 unfoldable pub messageAt : State → ℕ → Message
 messageAt s k = getD (s .messages) k noMessage
 
--- A fresh session: nothing opened, nothing sent.
-unfoldable pub fresh : Layout → State
-fresh y = record { opened = 0; next = 0; transactors = replicate (y .transactors) (bare y unused); messages = [] }
+-- A fresh session with these limits: nothing opened, nothing sent.
+unfoldable pub fresh : Layout → Limits → State
+fresh y m = record { limits = m; opened = 0; next = 0; transactors = replicate (y .transactors) (bare y unused); messages = [] }
 
 -- the own mark of take t
 abbrev pub ownHistory : ℕ → Transactor → History
@@ -101,14 +102,15 @@ abbrev pub withBehaviour : Transactor → DependenceMap → Transactor
 withBehaviour x m = record { status = x .status; value = x .value; saved = x .saved; state = x .state; creation = x .creation; behaviour = m }
 
 unfoldable pub withTransactor : State → ℕ → Transactor → State
-withTransactor s t x = record { opened = s .opened; next = s .next; transactors = set (s .transactors) t x; messages = s .messages }
+withTransactor s t x = record { limits = s .limits; opened = s .opened; next = s .next; transactors = set (s .transactors) t x; messages = s .messages }
 
 unfoldable pub withOpened : State → ℕ → State
-withOpened s n = record { opened = n; next = s .next; transactors = s .transactors; messages = s .messages }
+withOpened s n = record { limits = s .limits; opened = n; next = s .next; transactors = s .transactors; messages = s .messages }
 
 -- one more parcel, with the next number
 unfoldable pub withMessage : State → ℕ → ℕ → DependenceMap → State
 withMessage s to v m = record {
+  limits = s .limits;
   opened = s .opened;
   next = s .next + 1;
   transactors = s .transactors;
@@ -117,7 +119,7 @@ withMessage s to v m = record {
 
 -- the parcel in place k received or lost
 unfoldable pub withoutMessage : State → ℕ → State
-withoutMessage s k = record { opened = s .opened; next = s .next; transactors = s .transactors; messages = take k (s .messages) ++ drop (k + 1) (s .messages) }
+withoutMessage s k = record { limits = s .limits; opened = s .opened; next = s .next; transactors = s .transactors; messages = take k (s .messages) ++ drop (k + 1) (s .messages) }
 
 -- ---- a parcel by its number
 

@@ -112,3 +112,6 @@ pub const UNRELATED: u8 = 31;
 pub const TOO_WIDE: u8 = 32;
 // width of a window outside 1 to 256
 pub const WRONG_WIDTH: u8 = 35;
+
+// begin: a limit out of range
+pub const OUT_OF_RANGE: u8 = 33;

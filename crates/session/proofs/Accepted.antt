@@ -9,7 +9,7 @@ use lib.Dec.{eqb}
 use borrow.Author.Tests.{eqb-true, eq-eqb}
 use Rattle.octets.specs.Numbers.{bound}
 use Rattle.octets.proofs.Chunks.{sides}
-use Rattle.rules.specs.Layout.{Limits}
+use Rattle.rules.specs.Layout.{Layout}
 use Rattle.rules.specs.declared.Step.{Step}
 use Rattle.rules.specs.Step.{letter, receive, sign}
 use Rattle.rules.specs.State as state
@@ -53,10 +53,10 @@ idle-live ready e = idle
 idle-live busy e = absurd (omega arith)
 idle-live annihilated e = absurd (omega arith)
 
-module _ (l : Ledger) (b : Provenance) (r : Rel l b) (m : Limits) (p : Step) (zero : provenanceRefusal m b p ≡ 0) where
-  pub provenance-accepted : Accepted m (provenanceSeen b) p
+module _ (l : Ledger) (b : Provenance) (r : Rel l b) (y : Layout) (p : Step) (zero : provenanceRefusal y b p ≡ 0) where
+  pub provenance-accepted : Accepted y (provenanceSeen b) p
   unfolding provenanceRefusal
-  provenance-accepted = accepted m (provenanceSeen b) p zero
+  provenance-accepted = accepted y (provenanceSeen b) p zero
 
   pub acting-live : acts (p .kind) ≡ true → Live (b .holders (p .transactor) .status)
   unfolding provenanceSeen

@@ -1,21 +1,22 @@
 -- One call: the book's refusal, what the book makes of it, and the relation after it.
 use Prim.Native.Nat.{ℕ, _-_}
-use mathlib.Core.Bool.{true, false, not}
+use mathlib.Core.Bool.{Bool, true, false, not}
 use mathlib.Core.Path.{_≡_, refl, ap, sym, _∙_, subst}
 use mathlib.Core.List.{List}
 use native.Mathlib.Decide.{ℕ-discrete}
+use native.Mathlib.Omega.{arith}
 use lib.Dec.{eqb, leb}
 use lib.ListN.{length}
 use borrow.Author.Tests.{eq-eqb, ne-eqb}
-use Rattle.octets.specs.Bytes.{pick, part, chunks, zeros, Octets}
+use Rattle.octets.specs.Bytes.{pick, part, chunks, Octets}
 use Rattle.octets.proofs.Put.{octets-part}
-use Rattle.rules.specs.Layout.{Layout, Limits, Allowed, imageBytes}
+use Rattle.rules.specs.Layout.{Layout, Limits, inRange, imageBytes}
 use Rattle.rules.specs.Layout as layout
 use Rattle.rules.specs.State.{State, transactorAt, placeOf}
 use Rattle.rules.specs.Pack.{pack, unpack}
 use Rattle.rules.specs.Form.{wellFormed}
 use Rattle.rules.specs.Internal.Well.{WellFormed}
-use Rattle.rules.specs.Calls.{wrongLength, beginAnswer, beginImage, stateAfter, stepsIn, runAnswer, replyAt, ranImage, ranReplies, runImage, runReplies, queryRefusal, showRefusal}
+use Rattle.rules.specs.Calls.{wrongLength, beginAnswer, freshImage, beginImage, stateAfter, stepsIn, runAnswer, replyAt, ranImage, ranReplies, runImage, runReplies, queryRefusal, showRefusal}
 use Rattle.rules.proofs.Pack.Sizes.{length-pack}
 use Rattle.rules.proofs.Pack.RoundTrip.{unpack-pack}
 use Rattle.rules.proofs.Form.Packed.{formed-pack}
@@ -23,8 +24,8 @@ use Rattle.rules.proofs.Pack.Fresh.{pack-fresh}
 use Rattle.rules.proofs.Keep.State.{well-fresh}
 use Rattle.rules.proofs.Keep.Step.{keeps-after}
 use Rattle.session.specs.Provenance.{Provenance, emptyProvenance, statusNumber, isMissing}
-use Rattle.session.specs.Fed.{Call, run, show, provenanceQueryRefusal, callRefusal, ProvenanceCall, provenance-refuses, provenance-begins, provenance-runs, provenance-offers, provenance-names, provenance-hears, provenance-shows}
-use Rattle.session.specs.Trace.{Answer, ran, refusalIn, Performed, beginning, running, offering, naming, hearing, showing, Matches, CallStepsRight, run-right, begin-right, offer-right, smallest-right, heard-right, show-right, CallRight}
+use Rattle.session.specs.Fed.{Call, begin, run, show, provenanceQueryRefusal, callRefusal, ProvenanceCall, provenance-refuses, provenance-begins, provenance-runs, provenance-offers, provenance-names, provenance-hears, provenance-shows}
+use Rattle.session.specs.Trace.{Answer, begun, ran, refusalIn, Performed, beginning, running, offering, naming, hearing, showing, Matches, CallStepsRight, run-right, begin-right, offer-right, smallest-right, heard-right, show-right, CallRight}
 use Rattle.session.proofs.Model.{view}
 use Rattle.session.proofs.Relation.{Rel, fresh-rel}
 use Rattle.session.proofs.Sign.{rel-sound}
@@ -46,8 +47,8 @@ holds-pack {y} {s} {b} well r =
     let back : unpack y (pack y s) ≡ s = unpack-pack y s (well .packable) in
     record { back = ap (pack y) back; well = rw back well; rel = rw back r }
 
-pub holds-fresh : (y : Layout) → Holds y (zeros (imageBytes y)) emptyProvenance
-holds-fresh y = rw (← pack-fresh y) (holds-pack (well-fresh y) (rw (view-fresh y) fresh-rel))
+pub holds-fresh : {y : Layout} → layout.Fitting y → (m : Limits) → inRange y m ≡ true → Holds y (freshImage y m) (emptyProvenance m)
+holds-fresh {y} z m e = rw (pack-fresh y m) (holds-pack (well-fresh z m e) (rw (view-fresh y m) (fresh-rel m)))
 
 module _ {y : Layout} {img : List ℕ} {b : Provenance} (h : Holds y img b) where
   -- its length is right, so 16 does not arise
@@ -63,7 +64,7 @@ module _ {y : Layout} {img : List ℕ} {b : Provenance} (h : Holds y img b) wher
 
   -- ---- the book's refusals
 
-  pub run-same : (list : List ℕ) (o : Octets list) (start end : ℕ) (replies : List ℕ) → runAnswer y img list start end replies ≡ callRefusal b (run list o start end replies)
+  pub run-same : (list : List ℕ) (o : Octets list) (start end : ℕ) (replies : List ℕ) → runAnswer y img list start end replies ≡ callRefusal y b (run list o start end replies)
   unfolding runAnswer
   run-same list o start end replies = rw (right-length, right-form)
 
@@ -74,7 +75,7 @@ module _ {y : Layout} {img : List ℕ} {b : Provenance} (h : Holds y img b) wher
       let k : transactorAt (unpack y img) t .status ≡ statusNumber (b .holders t .status) = holds-matches t .status in
       rw (right-length, right-form, k, n)
 
-  show-same : (n : ℕ) → showRefusal y img n ≡ callRefusal b (show n)
+  show-same : (n : ℕ) → showRefusal y img n ≡ callRefusal y b (show n)
   unfolding showRefusal
   show-same n =
       let k : leb (length (unpack y img .messages)) (placeOf (unpack y img) n) ≡ isMissing n (b .messages) = sym (view-missing (unpack y img) n) ∙ missing-same n (h .rel .messages) in
@@ -83,29 +84,29 @@ module _ {y : Layout} {img : List ℕ} {b : Provenance} (h : Holds y img b) wher
 -- ---- every call
 
 -- the book after call c: all that is claimed of the call, and an image after it that holds a state related to the book
-pub record Called (y : Layout) (m : Limits) (img : List ℕ) (b : Provenance) (c : Call) (a : Answer) (after : List ℕ) : Type 1 where
+pub record Called (y : Layout) (img : List ℕ) (b : Provenance) (c : Call) (a : Answer) (after : List ℕ) : Type 1 where
   pub provenance : Provenance
-  pub right : CallRight y m img b c a after provenance
+  pub right : CallRight y img b c a after provenance
   pub holds : Holds y after provenance
 
 -- a call that changes nothing in the book, refused or not
-pub kept : {m : Limits} {b : Provenance} {c : Call} → (callRefusal b c ≡ 0 → ProvenanceCall m b c b) → ProvenanceCall m b c b
-kept {m} {b} {c} f = go (ℕ-discrete (callRefusal b c) 0)
+pub kept : {y : Layout} {b : Provenance} {c : Call} → (callRefusal y b c ≡ 0 → ProvenanceCall y b c b) → ProvenanceCall y b c b
+kept {y} {b} {c} f = go (ℕ-discrete (callRefusal y b c) 0)
   where
-    go : Dec (callRefusal b c ≡ 0) → ProvenanceCall m b c b
+    go : Dec (callRefusal y b c ≡ 0) → ProvenanceCall y b c b
     go (yes e) = f e
     go (no n) = provenance-refuses n
 
 -- what is claimed of a call apart from refusal and steps
-module _ {y : Layout} {m : Limits} {img after : List ℕ} {b d : Provenance} {c : Call} {a : Answer} where
-  called-as : ProvenanceCall m b c d → refusalIn a ≡ callRefusal b c → CallStepsRight y m img b d c a → Holds y after d → Called y m img b c a after
+module _ {y : Layout} {img after : List ℕ} {b d : Provenance} {c : Call} {a : Answer} where
+  called-as : ProvenanceCall y b c d → refusalIn a ≡ callRefusal y b c → CallStepsRight y img b d c a → Holds y after d → Called y img b c a after
   called-as provenance refusal steps h = record {
     provenance = d;
     right = record { provenance = provenance; refusal = refusal; steps = steps; matches = holds-matches h; sound = rel-sound (view (unpack y after)) d (h .rel) };
     holds = h;
   }
 
-module _ {y : Layout} {m : Limits} (z : layout.Fitting y) (l : Allowed y m) {img : List ℕ} {b : Provenance} (h : Holds y img b) where
+module _ {y : Layout} (z : layout.Fitting y) {img : List ℕ} {b : Provenance} (h : Holds y img b) where
   module _ (list : List ℕ) (o : Octets list) (start end : ℕ) (replies : List ℕ) where
     abbrev steps-of : List ℕ
     steps-of = part start (end - start) list
@@ -114,32 +115,44 @@ module _ {y : Layout} {m : Limits} (z : layout.Fitting y) (l : Allowed y m) {img
     the-run = run list o start end replies
 
     abbrev the-answer : Answer
-    the-answer = ran (runAnswer y img list start end replies) (runReplies y m img list start end replies)
+    the-answer = ran (runAnswer y img list start end replies) (runReplies y img list start end replies)
 
-    run-called : Called y m img b the-run the-answer (runImage y m img list start end replies)
+    run-called : Called y img b the-run the-answer (runImage y img list start end replies)
     unfolding runImage ranImage runReplies ranReplies
-    run-called = go (ℕ-discrete (callRefusal b the-run) 0)
+    run-called = go (ℕ-discrete (callRefusal y b the-run) 0)
       where
-        same : runAnswer y img list start end replies ≡ callRefusal b the-run
+        same : runAnswer y img list start end replies ≡ callRefusal y b the-run
         same = run-same h list o start end replies
 
         -- the run accepted or not, by its answer: the replies and the image
-        go : Dec (callRefusal b the-run ≡ 0)
-            → Called y m img b the-run (ran (runAnswer y img list start end replies) (pick (eqb (runAnswer y img list start end replies) 0) (chunks (stepsIn steps-of) (replyAt y m (unpack y img) steps-of)) replies))
-            (pick (eqb (runAnswer y img list start end replies) 0) (pack y (stateAfter y m (unpack y img) steps-of (stepsIn steps-of))) img)
+        go : Dec (callRefusal y b the-run ≡ 0)
+            → Called y img b the-run (ran (runAnswer y img list start end replies) (pick (eqb (runAnswer y img list start end replies) 0) (chunks (stepsIn steps-of) (replyAt y (unpack y img) steps-of)) replies))
+            (pick (eqb (runAnswer y img list start end replies) 0) (pack y (stateAfter y (unpack y img) steps-of (stepsIn steps-of))) img)
         go (yes e) =
-            let k : Ran y m (unpack y img) b steps-of (stepsIn steps-of) = steps.run-right z l (h .well) (h .rel) steps-of (octets-part start (end - start) list o) (stepsIn steps-of) in
-            let after : Holds y (pack y (stateAfter y m (unpack y img) steps-of (stepsIn steps-of))) (k .after) =
-            holds-pack (keeps-after z l (h .well) steps-of (octets-part start (end - start) list o) (stepsIn steps-of)) (k .rel) in
+            let k : Ran y (unpack y img) b steps-of (stepsIn steps-of) = steps.run-right z (h .well) (h .rel) steps-of (octets-part start (end - start) list o) (stepsIn steps-of) in
+            let after : Holds y (pack y (stateAfter y (unpack y img) steps-of (stepsIn steps-of))) (k .after) =
+            holds-pack (keeps-after z (h .well) steps-of (octets-part start (end - start) list o) (stepsIn steps-of)) (k .rel) in
             rw (eq-eqb (runAnswer y img list start end replies) 0 (same ∙ e))
-            (called-as (provenance-runs e (steps-provenance (k .right))) same (run-right (λ e. record { right = k .right; given = reply-part y m (unpack y img) steps-of (stepsIn steps-of) })) after)
+            (called-as (provenance-runs e (steps-provenance (k .right))) same (run-right (λ e. record { right = k .right; given = reply-part y (unpack y img) steps-of (stepsIn steps-of) })) after)
         go (no n) =
             rw (ne-eqb (runAnswer y img list start end replies) 0 (λ e. n (sym same ∙ e)))
             (called-as (provenance-refuses n) same (run-right (λ e. absurd (n e))) h)
 
-  pub call-right : {c : Call} {a : Answer} {after : List ℕ} → Performed y m img c a after → Called y m img b c a after
+  -- a begin: accepted, or refused with 33
+  begin-called : (m : Limits) → Called y img b (begin m) (begun (beginAnswer y m img)) (beginImage y m img)
   unfolding beginAnswer beginImage
-  call-right beginning = rw (right-length h) (called-as provenance-begins refl begin-right (holds-fresh y))
+  begin-called m = go (inRange y m) refl
+    where
+      go : (t : Bool) → inRange y m ≡ t
+          → Called y img b (begin m) (begun (pick (wrongLength y img) 16 (pick (not (inRange y m)) 33 0))) (pick (eqb (pick (wrongLength y img) 16 (pick (not (inRange y m)) 33 0)) 0) (freshImage y m) img)
+      go true e = rw (right-length h, e) (called-as (provenance-begins (rw e)) (rw e) begin-right (holds-fresh z m e))
+      go false e = rw (right-length h, e) (called-as (provenance-refuses (λ k. omega (arith, refused k))) (rw e) begin-right h)
+        where
+          refused : callRefusal y b (begin m) ≡ 0 → _≡_ {A = ℕ} 33 0
+          refused k = rw e at k
+
+  pub call-right : {c : Call} {a : Answer} {after : List ℕ} → Performed y img c a after → Called y img b c a after
+  call-right (beginning {m}) = begin-called m
   call-right (running {list} {o} {start} {end} {replies}) = run-called list o start end replies
   call-right (offering {t} f) = called-as (kept provenance-offers) (query-same h t) offer-right h
   call-right (naming {t} f) = called-as (kept provenance-names) (query-same h t) smallest-right h

@@ -12,7 +12,7 @@ use borrow.Author.Tests.{eqb-true, eqb-false, ne-eqb, leb-false}
 use Rattle.octets.specs.Bytes.{_and_, _or_, part, chunks, Octets}
 use Rattle.octets.proofs.Put.{getD-part, octets-part}
 use Rattle.octets.proofs.Numbers.{be-one}
-use Rattle.rules.specs.Layout.{Layout, Limits, base, standard, Allowed, Fitting}
+use Rattle.rules.specs.Layout.{Layout, Limits, inRange, base, Fitting}
 use Rattle.rules.specs.State.{Transactor, Message, State, ownHistory, transactorAt, messageAt, placeOf, withTransactor, withOpened, withMessage, withoutMessage}
 use Rattle.rules.specs.declared.Step.{Step}
 use Rattle.rules.specs.declared.Reply.{Reply}
@@ -23,11 +23,11 @@ use Rattle.rules.specs.Internal.Well.{WellFormed}
 use Rattle.rules.specs.Pack.{pack, unpack}
 use Rattle.rules.specs.Calls.{beginAnswer, beginImage, stateAfter, replyAt, stepsIn, runAnswer, ranImage, ranReplies, runImage, runReplies}
 use Rattle.rules.proofs.Pack.RoundTrip.{unpack-pack}
-use Rattle.rules.proofs.Keep.Step.{keeps-after, replies-fit, fitting-base, allowed-standard}
+use Rattle.rules.proofs.Keep.Step.{keeps-after, replies-fit, fitting-base}
 use Rattle.session.specs.Count.{made, received, lost, once, countSteps, countCall, count, waiting}
 use Rattle.session.specs.Provenance.{Provenance}
-use Rattle.session.specs.Fed.{Call, run}
-use Rattle.session.specs.Trace.{Answer, ran, Performed, beginning, running, offering, naming, hearing, showing, Trace, called}
+use Rattle.session.specs.Fed.{Call, begin, run}
+use Rattle.session.specs.Trace.{Answer, begun, ran, Performed, beginning, running, offering, naming, hearing, showing, Trace, called}
 use Rattle.session.specs.Trace as trace
 use Rattle.session.proofs.Model.{viewMessage, view}
 use Rattle.session.proofs.Relation.{all2-length}
@@ -73,7 +73,7 @@ receipt y t x q =
     pick-view Received (messageSuperseded y x q) _ _ (λ e. refl) λ e0.
     pick-view Received (receiverSuperseded y x q) _ _ (λ e. pick-view Received (eqb (ownHistory t x .count) 0) _ _ (λ e. refl) (λ e. refl)) (λ e. refl)
 
-module _ (y : Layout) (m : Limits) (s : State) (p : Step) (ok : Accepted m (seen y s) p) where
+module _ (y : Layout) (s : State) (p : Step) (ok : Accepted y (seen y s) p) where
   waits : eqb (p .kind) receive or eqb (p .kind) lose ≡ true → placeOf s (p .message) < length (s .messages)
   unfolding seen
   waits e = leb-false (length (s .messages)) (placeOf s (p .message)) (message-waits ok e)
@@ -121,13 +121,13 @@ refused-balanced k s r h e =
     let v : eqb o vanished ≡ false = ne-eqb o vanished (omega arith) in
     record { even = rw (p, q, f, v, and-last (sends k), and-last (eqb k receive), and-last (eqb k lose), e) }
 
-pub step-balanced : (y : Layout) (m : Limits) (s : State) (p : Step) → Balanced (p .kind) s (stepOf y m s p)
+pub step-balanced : (y : Layout) (s : State) (p : Step) → Balanced (p .kind) s (stepOf y s p)
 unfolding stepOf refusal
-step-balanced y m s p =
-    let n : ℕ = refusal y m s p in
+step-balanced y s p =
+    let n : ℕ = refusal y s p in
     pick-view (Balanced (p .kind) s) (eqb n 0) _ _
-    (λ e. apply-balanced y m s p (accepted m (seen y s) p (eqb-true n 0 e)))
-    (λ e. refused-balanced (p .kind) s _ (omega (arith, refusal-range m (seen y s) p (eqb-false n 0 e) .low)) refl)
+    (λ e. apply-balanced y s p (accepted y (seen y s) p (eqb-true n 0 e)))
+    (λ e. refused-balanced (p .kind) s _ (omega (arith, refusal-range y (seen y s) p (eqb-false n 0 e) .low)) refl)
 
 -- ---- the steps of a run
 
@@ -135,23 +135,23 @@ first-packReply : (r : Reply) → r .outcome < 256 → getD (packReply r) 0 0 �
 unfolding packReply
 first-packReply r h = rw (be-one (r .outcome) h)
 
-module _ {y : Layout} {m : Limits} (z : Fitting y) (l : Allowed y m) {s : State} (well : WellFormed y s) (steps : List ℕ) (octets : Octets steps) where
+module _ {y : Layout} (z : Fitting y) {s : State} (well : WellFormed y s) (steps : List ℕ) (octets : Octets steps) where
   -- the first byte of reply i among the n packed ones
-  pub reply-byte : (n i : ℕ) → i < n → getD (chunks n (replyAt y m s steps)) (stepBytes * i) 0 ≡ stepOf y m (stateAfter y m s steps i) (stepAt steps i) .reply .outcome
+  pub reply-byte : (n i : ℕ) → i < n → getD (chunks n (replyAt y s steps)) (stepBytes * i) 0 ≡ stepOf y (stateAfter y s steps i) (stepAt steps i) .reply .outcome
   reply-byte n i h =
-      let r : Reply = stepOf y m (stateAfter y m s steps i) (stepAt steps i) .reply in
-      let all : List ℕ = chunks n (replyAt y m s steps) in
-      let a : part (stepBytes * i) stepBytes all ≡ packReply r = reply-part y m s steps n i h in
+      let r : Reply = stepOf y (stateAfter y s steps i) (stepAt steps i) .reply in
+      let all : List ℕ = chunks n (replyAt y s steps) in
+      let a : part (stepBytes * i) stepBytes all ≡ packReply r = reply-part y s steps n i h in
       let b : getD (part (stepBytes * i) stepBytes all) 0 0 ≡ getD all (stepBytes * i) 0 = rw add-zero at (getD-part (stepBytes * i) stepBytes all 0 (omega arith)) in
-      let c : getD (packReply r) 0 0 ≡ r .outcome = first-packReply r (replies-fit z l well steps octets i .outcome) in
+      let c : getD (packReply r) 0 0 ≡ r .outcome = first-packReply r (replies-fit z well steps octets i .outcome) in
       sym b ∙ ap (λ (b : List ℕ). getD b 0 0) a ∙ c
 
-  steps-balanced : (n i : ℕ) → i ≤ n → let given = chunks n (replyAt y m s steps) in
-      length (s .messages) + countSteps made steps given i ≡ length (stateAfter y m s steps i .messages) + (countSteps received steps given i + countSteps lost steps given i)
+  steps-balanced : (n i : ℕ) → i ≤ n → let given = chunks n (replyAt y s steps) in
+      length (s .messages) + countSteps made steps given i ≡ length (stateAfter y s steps i .messages) + (countSteps received steps given i + countSteps lost steps given i)
   unfolding countSteps stateAfter
   steps-balanced n zero h = refl
   steps-balanced n (suc i) h =
-      rw (reply-byte n i (omega arith)) (omega (arith, steps-balanced n i (omega arith), step-balanced y m (stateAfter y m s steps i) (stepAt steps i) .even))
+      rw (reply-byte n i (omega arith)) (omega (arith, steps-balanced n i (omega arith), step-balanced y (stateAfter y s steps i) (stepAt steps i) .even))
 
 -- ---- calls
 
@@ -163,12 +163,12 @@ waiting-pack : {y : Layout} {s : State} → WellFormed y s → waiting y (pack y
 unfolding waiting
 waiting-pack {y} {s} well = rw (unpack-pack y s (well .packable))
 
-module _ {y : Layout} {m : Limits} (z : Fitting y) (l : Allowed y m) {img : List ℕ} {b : Provenance} (h : Holds y img b) (n k j : ℕ) (before : n ≡ k + j + waiting y img) where
+module _ {y : Layout} (z : Fitting y) {img : List ℕ} {b : Provenance} (h : Holds y img b) (n k j : ℕ) (before : n ≡ k + j + waiting y img) where
   abbrev Even : Call → Answer → List ℕ → Type 0
   Even c a after = countCall made c a n ≡ countCall received c a k + countCall lost c a j + waiting y after
 
   run-counted : (list : List ℕ) (o : Octets list) (start end : ℕ) (replies : List ℕ)
-      → Even (run list o start end replies) (ran (runAnswer y img list start end replies) (runReplies y m img list start end replies)) (runImage y m img list start end replies)
+      → Even (run list o start end replies) (ran (runAnswer y img list start end replies) (runReplies y img list start end replies)) (runImage y img list start end replies)
   unfolding countCall runReplies runImage ranReplies ranImage waiting
   run-counted list o start end replies = go (eqb (runAnswer y img list start end replies) 0) refl
     where
@@ -179,14 +179,23 @@ module _ {y : Layout} {m : Limits} (z : Fitting y) (l : Allowed y m) {img : List
       octets = octets-part start (end - start) list o
 
       go : (t : Bool) → eqb (runAnswer y img list start end replies) 0 ≡ t
-          → Even (run list o start end replies) (ran (runAnswer y img list start end replies) (runReplies y m img list start end replies)) (runImage y m img list start end replies)
-      go true e = rw (e, waiting-pack (keeps-after z l (h .well) steps octets (stepsIn steps)))
-          (omega (arith, steps-balanced z l (h .well) steps octets (stepsIn steps) (stepsIn steps) (omega arith)))
+          → Even (run list o start end replies) (ran (runAnswer y img list start end replies) (runReplies y img list start end replies)) (runImage y img list start end replies)
+      go true e = rw (e, waiting-pack (keeps-after z (h .well) steps octets (stepsIn steps)))
+          (omega (arith, steps-balanced z (h .well) steps octets (stepsIn steps) (stepsIn steps) (omega arith)))
       go false e = rw e before
 
-  call-counted : {c : Call} {a : Answer} {after : List ℕ} → Performed y m img c a after → Even c a after
+  -- an accepted begin counts from 0, and nothing waits; a refused one leaves all as it is
+  begin-counted : (m : Limits) → Even (begin m) (begun (beginAnswer y m img)) (beginImage y m img)
   unfolding countCall beginAnswer beginImage
-  call-counted beginning = rw (right-length h, holds-waiting (holds-fresh y))
+  begin-counted m = go (inRange y m) refl
+    where
+      go : (t : Bool) → inRange y m ≡ t → Even (begin m) (begun (beginAnswer y m img)) (beginImage y m img)
+      go true e = rw (right-length h, e, holds-waiting (holds-fresh z m e))
+      go false e = rw (right-length h, e) before
+
+  call-counted : {c : Call} {a : Answer} {after : List ℕ} → Performed y img c a after → Even c a after
+  unfolding countCall
+  call-counted (beginning {m}) = begin-counted m
   call-counted (running {list} {o} {start} {end} {replies}) = run-counted list o start end replies
   call-counted (offering f) = before
   call-counted (naming f) = before
@@ -195,11 +204,11 @@ module _ {y : Layout} {m : Limits} (z : Fitting y) (l : Allowed y m) {img : List
 
 -- In a session grown from a fresh one, counting only from its last accepted begin, parcels made, counted from the steps, are
 -- those received with outcomes 0, 2, 3, 4, plus those lost, plus those waiting.
-pub messages-counted : (y : Layout) (m : Limits) → Fitting y → Allowed y m → {img : List ℕ} (τ : Trace y m img)
+pub messages-counted : (y : Layout) → Fitting y → {img : List ℕ} (τ : Trace y img)
     → count made τ ≡ count received τ + count lost τ + waiting y img
 unfolding count
-messages-counted y m z l (trace.opened img e) = rw (holds-waiting (begun-fresh y img e))
-messages-counted y m z l (called τ c a p) = call-counted z l (grown z l τ .holds) (count made τ) (count received τ) (count lost τ) (messages-counted y m z l τ) p
+messages-counted y z (trace.opened m img e) = rw (holds-waiting (begun-fresh z m img e))
+messages-counted y z (called τ c a p) = call-counted z (grown z τ .holds) (count made τ) (count received τ) (count lost τ) (messages-counted y z τ) p
 
-pub messages-counted-base : {img : List ℕ} (τ : Trace base standard img) → count made τ ≡ count received τ + count lost τ + waiting base img
-messages-counted-base τ = messages-counted base standard fitting-base allowed-standard τ
+pub messages-counted-base : {img : List ℕ} (τ : Trace base img) → count made τ ≡ count received τ + count lost τ + waiting base img
+messages-counted-base τ = messages-counted base fitting-base τ

@@ -1,14 +1,12 @@
 -- Demand 3 of document 01: one theorem over every list of calls.
 use Prim.Native.Nat.{ℕ}
-use mathlib.Core.Bool.{Bool, true, false}
 use mathlib.Core.Path.{_≡_}
 use mathlib.Core.List.{List}
-use native.Mathlib.Omega.{arith}
-use Rattle.octets.specs.Bytes.{pick, zeros}
-use Rattle.rules.specs.Layout.{Layout, Limits, base, standard, Fitting, Allowed, imageBytes}
+use Rattle.rules.specs.Layout.{Layout, Limits, base, Fitting}
 use Rattle.rules.specs.Pack.{unpack}
-use Rattle.rules.specs.Calls.{wrongLength, beginAnswer, beginImage}
-use Rattle.rules.proofs.Keep.Step.{fitting-base, allowed-standard}
+use Rattle.rules.specs.Calls.{beginAnswer, beginImage}
+use Rattle.rules.proofs.Calls.Begin.{begin-accepted}
+use Rattle.rules.proofs.Keep.Step.{fitting-base}
 use Rattle.session.specs.Provenance.{Provenance, emptyProvenance}
 use Rattle.session.specs.Fed.{ProvenanceOf}
 use Rattle.session.specs.Trace.{Trace, opened, called, callsOf, Right, opened-right, called-right}
@@ -18,34 +16,32 @@ use Rattle.session.proofs.Unique.{right-provenance}
 use Rattle.session.proofs.Calls.{Holds, holds-fresh, holds-matches, call-right}
 
 -- an accepted begin leaves a fresh image
-pub begun-fresh : (y : Layout) (img : List ℕ) → beginAnswer y img ≡ 0 → Holds y (beginImage y img) emptyProvenance
-unfolding beginAnswer beginImage
-begun-fresh y img e = go (wrongLength y img) e
-  where
-    go : (t : Bool) → _≡_ {A = ℕ} (pick t 16 0) 0 → Holds y (pick t img (zeros (imageBytes y))) emptyProvenance
-    go true e = absurd (omega arith)
-    go false e = holds-fresh y
+pub begun-fresh : {y : Layout} → Fitting y → (m : Limits) (img : List ℕ) → beginAnswer y m img ≡ 0 → Holds y (beginImage y m img) (emptyProvenance m)
+begun-fresh {y} z m img e =
+    let a = begin-accepted y img m e in
+    rw (a .1) (holds-fresh z m (a .0))
 
 -- the book of a trace, with the relation that carries the claim from call to call
-pub record Grown (y : Layout) (m : Limits) (img : List ℕ) (τ : Trace y m img) : Type 1 where
+pub record Grown (y : Layout) (img : List ℕ) (τ : Trace y img) : Type 1 where
   pub provenance : Provenance
-  pub right : Right y m img τ provenance
+  pub right : Right y img τ provenance
   pub holds : Holds y img provenance
 
-module _ {y : Layout} {m : Limits} (z : Fitting y) (l : Allowed y m) where
-  pub grown : {img : List ℕ} (τ : Trace y m img) → Grown y m img τ
-  grown (opened img e) =
-      let h : Holds y (beginImage y img) emptyProvenance = begun-fresh y img e in
-      record { provenance = emptyProvenance; right = opened-right (holds-matches h) (rel-sound (view (unpack y (beginImage y img))) emptyProvenance (h .rel)); holds = h }
+module _ {y : Layout} (z : Fitting y) where
+  pub grown : {img : List ℕ} (τ : Trace y img) → Grown y img τ
+  grown (opened m img e) =
+      let h : Holds y (beginImage y m img) (emptyProvenance m) = begun-fresh z m img e in
+      record { provenance = emptyProvenance m; right = opened-right (holds-matches h) (rel-sound (view (unpack y (beginImage y m img))) (emptyProvenance m) (h .rel)); holds = h }
   grown (called τ c a p) =
       let before = grown τ in
-      let k = call-right z l (before .holds) p in
+      let k = call-right z (before .holds) p in
       record { provenance = k .provenance; right = called-right (before .right) (k .right); holds = k .holds }
 
 -- A trace is a session grown from a fresh one: "an accepted begin, then any list of begins, runs, offers and shows on that
 -- image, refused ones included. Each gets the image as the last left it", and with them any that ask which takes to put in the
 -- volume (document 02, W1), or whether all heard is frozen (W4). Its calls are performed by the definitions that the contracts of
--- begin, run, offer, smallest_group, all_heard_stable and show cite. For every layout whose counts fit their fields, all limits that the layout can hold, and every trace there is a
+-- begin, run, offer, smallest_group, all_heard_stable and show cite. Every begin brings its own limits (W7), so one trace may go
+-- through sessions with different ones. For every layout whose counts fit their fields and every trace there is a
 -- book, fed the trace's calls alone (ProvenanceOf; no other book is fed them: provenance-unique), such that at every call, and
 -- at every step of every run:
 -- * "It refuses calls and steps by the table .., judged by what it holds itself; 19 never arises": a call answers the book's
@@ -58,10 +54,10 @@ module _ {y : Layout} {m : Limits} (z : Fitting y) (l : Allowed y m) where
 -- * Live takes and their own marks are the book's, each own mark held in its take's state map, after every step and every call
 --   (matches).
 -- * No text signed since the begin rests on a withdrawn life, where present, signed and withdrawn "go by the book's marks" (sound).
-pub demand3 : (y : Layout) (m : Limits) → Fitting y → Allowed y m → {img : List ℕ} (τ : Trace y m img)
-    → (b : Provenance) × ProvenanceOf m (callsOf τ) b × Right y m img τ b
-demand3 y m z l τ = let k = grown z l τ in (k .provenance, right-provenance (k .right), k .right)
+pub demand3 : (y : Layout) → Fitting y → {img : List ℕ} (τ : Trace y img)
+    → (b : Provenance) × ProvenanceOf y (callsOf τ) b × Right y img τ b
+demand3 y z τ = let k = grown z τ in (k .provenance, right-provenance (k .right), k .right)
 
--- The same at the ledger's own layout and limits: no hypothesis but the trace.
-pub demand3-base : {img : List ℕ} (τ : Trace base standard img) → (b : Provenance) × ProvenanceOf standard (callsOf τ) b × Right base standard img τ b
-demand3-base τ = demand3 base standard fitting-base allowed-standard τ
+-- The same at the ledger's own layout: no hypothesis but the trace.
+pub demand3-base : {img : List ℕ} (τ : Trace base img) → (b : Provenance) × ProvenanceOf base (callsOf τ) b × Right base img τ b
+demand3-base τ = demand3 base fitting-base τ

@@ -12,7 +12,7 @@ use Rattle.octets.specs.Bytes.{pick}
 use Rattle.octets.specs.Numbers.{bound}
 use Rattle.marks.specs.History.{initialView}
 use Rattle.maps.specs.Internal.View.{emptyView}
-use Rattle.rules.specs.Layout.{Limits}
+use Rattle.rules.specs.Layout.{Layout}
 use Rattle.rules.specs.declared.Step.{Step}
 use Rattle.rules.specs.Step.{root, letter, receive, new, send, fail, lose, sign}
 use Rattle.rules.specs.Refusals.{named, acts}
@@ -59,18 +59,18 @@ pub record StepTests (l : Ledger) (p : Step) (d e ok : Bool) : Type 0 where
 acts-between : (k : ℕ) → new ≤ k → k ≤ fail → acts k ≡ true
 acts-between k h g = and-of (leb new k) (leb k fail) (le-leb new k h) (le-leb k fail g)
 
-module _ (w : News) (law : NewsLaw w) (l : Ledger) (b : Provenance) (r : Rel l b) (m : Limits) (p : Step) (zero : provenanceRefusal m b p ≡ 0) (d e ok : Bool) (tests : StepTests l p d e ok) where
+module _ (w : News) (law : NewsLaw w) (l : Ledger) (b : Provenance) (r : Rel l b) (y : Layout) (p : Step) (zero : provenanceRefusal y b p ≡ 0) (d e ok : Bool) (tests : StepTests l p d e ok) where
   applied-rel : (p .kind ≡ sign → ⊥) → Rel (appliedLedger w d e ok l p) (applied b p)
   unfolding appliedLedger applied
   applied-rel other =
       let t = p .transactor in let k = p .kind in
       let x = l .nodes t in let h = b .holders t in
-      let high = kind-known (provenance-accepted l b r m p zero) in
-      let live : new ≤ k → k ≤ fail → Live (h .status) = λ f g. acting-live l b r m p zero (acts-between k f g) in
+      let high = kind-known (provenance-accepted l b r y p zero) in
+      let live : new ≤ k → k ≤ fail → Live (h .status) = λ f g. acting-live l b r y p zero (acts-between k f g) in
       pick-both Rel (eqb k root) (eqb k root) refl _ _ (opensRoot b) _ (λ i. step-root l b r) λ i1.
       pick-both Rel (eqb k letter) (eqb k letter) refl _ _ (withWaitingMessage b t []) _ (λ i. step-letter l b r t) λ i2.
       pick-both Rel (eqb k receive) (eqb k receive) refl _ _ (receives b (p .message)) _
-      (λ i. step-receive w law l b r (p .message) d e (receiving-live l b r m p zero (eqb-true k receive i)) (tests .receipt)) λ i3.
+      (λ i. step-receive w law l b r (p .message) d e (receiving-live l b r y p zero (eqb-true k receive i)) (tests .receipt)) λ i3.
       pick-both Rel (eqb k new) (eqb k new) refl _ _ (opensChild b t) _
       (λ i. let j = eqb-true k new i in step-new l b r t (live (omega arith) (omega arith))) λ i4.
       pick-both Rel (eqb k send) (eqb k send) refl _ _ (withWaitingMessage b (p .other) (carried t h)) _
@@ -86,7 +86,7 @@ module _ (w : News) (law : NewsLaw w) (l : Ledger) (b : Provenance) (r : Rel l b
     pub sign-exact : (ok ≡ true) ↔ Equal b (p .message)
     sign-exact = (
       λ i. ready-equal l b r (p .message) (tests .ready .0 i),
-      λ q. tests .ready .1 (equal-ready l b r (p .message) (named-live l b r m p zero k bits) q),
+      λ q. tests .ready .1 (equal-ready l b r (p .message) (named-live l b r y p zero k bits) q),
     )
 
     -- both sides sign, or neither
@@ -101,39 +101,39 @@ module _ (w : News) (law : NewsLaw w) (l : Ledger) (b : Provenance) (r : Rel l b
 -- ---- every step
 
 -- the book after step p, related to the ledger after it
-pub record Kept (m : Limits) (b : Provenance) (p : Step) (l : Ledger) : Type 1 where
+pub record Kept (y : Layout) (b : Provenance) (p : Step) (l : Ledger) : Type 1 where
   pub after : Provenance
-  pub step : ProvenanceStep m b p after
+  pub step : ProvenanceStep y b p after
   pub rel : Rel l after
 
-module _ (w : News) (law : NewsLaw w) (l : Ledger) (b : Provenance) (r : Rel l b) (m : Limits) (p : Step) (bits : p .message < bound 2) (d e ok : Bool) (tests : StepTests l p d e ok) where
-  applied-kept : provenanceRefusal m b p ≡ 0 → Kept m b p (appliedLedger w d e ok l p)
+module _ (w : News) (law : NewsLaw w) (l : Ledger) (b : Provenance) (r : Rel l b) (y : Layout) (p : Step) (bits : p .message < bound 2) (d e ok : Bool) (tests : StepTests l p d e ok) where
+  applied-kept : provenanceRefusal y b p ≡ 0 → Kept y b p (appliedLedger w d e ok l p)
   applied-kept zero = go (ℕ-discrete (p .kind) sign) ok refl
     where
-      go : Dec (p .kind ≡ sign) → (t : Bool) → ok ≡ t → Kept m b p (appliedLedger w d e ok l p)
-      go (no k) t i = record { after = applied b p; step = applies zero k; rel = applied-rel w law l b r m p zero d e ok tests k }
+      go : Dec (p .kind ≡ sign) → (t : Bool) → ok ≡ t → Kept y b p (appliedLedger w d e ok l p)
+      go (no k) t i = record { after = applied b p; step = applies zero k; rel = applied-rel w law l b r y p zero d e ok tests k }
       go (yes k) true i = record {
         after = signs b (p .message);
-        step = signing zero k (sign-exact w law l b r m p zero d e ok tests k bits .0 i);
-        rel = checkpointed-rel w law l b r m p zero d e ok tests k bits i;
+        step = signing zero k (sign-exact w law l b r y p zero d e ok tests k bits .0 i);
+        rel = checkpointed-rel w law l b r y p zero d e ok tests k bits i;
       }
       go (yes k) false i = record {
         after = b;
-        step = not-ready zero k (λ q. false≢true (sym i ∙ sign-exact w law l b r m p zero d e ok tests k bits .1 q));
-        rel = uncheckpointed-rel w law l b r m p zero d e ok tests k bits i;
+        step = not-ready zero k (λ q. false≢true (sym i ∙ sign-exact w law l b r y p zero d e ok tests k bits .1 q));
+        rel = uncheckpointed-rel w law l b r y p zero d e ok tests k bits i;
       }
 
-  pub step-kept : (n : ℕ) → n ≡ provenanceRefusal m b p → Kept m b p (stepLedger w n d e ok l p)
+  pub step-kept : (n : ℕ) → n ≡ provenanceRefusal y b p → Kept y b p (stepLedger w n d e ok l p)
   unfolding stepLedger
   step-kept n s = go (ℕ-discrete n 0)
     where
-      go : Dec (n ≡ 0) → Kept m b p (pick (eqb n 0) (appliedLedger w d e ok l p) l)
+      go : Dec (n ≡ 0) → Kept y b p (pick (eqb n 0) (appliedLedger w d e ok l p) l)
       go (yes z) = rw (eq-eqb n 0 z) (applied-kept (sym s ∙ z))
       go (no z) = rw (ne-eqb n 0 z) (record { after = b; step = refuses (λ q. z (s ∙ q)); rel = r })
 
 -- ---- the book is determined by the steps it is fed
 
-pub provenance-determined : {m : Limits} {b c c′ : Provenance} {p : Step} → ProvenanceStep m b p c → ProvenanceStep m b p c′ → c ≡ c′
+pub provenance-determined : {y : Layout} {b c c′ : Provenance} {p : Step} → ProvenanceStep y b p c → ProvenanceStep y b p c′ → c ≡ c′
 provenance-determined (refuses z) (refuses z′) = refl
 provenance-determined (refuses z) (applies z′ k′) = absurd (z z′)
 provenance-determined (refuses z) (signing z′ k′ q′) = absurd (z z′)

@@ -42,6 +42,7 @@ module _ (l : Ledger) (b : Provenance) (r : Rel l b) (t : ℕ) (live : Live (b .
     put-rel list k =
         let later = present (updated (b .holders) t h) in
         record {
+          limits = r .limits;
           opened = r .opened;
           next = r .next;
           used = updated-view (λ u z. u < b .opened → z .status ≡ unused → ⊥) (b .holders) t h (λ i. used) (λ u n. r .used u);

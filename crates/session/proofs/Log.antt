@@ -15,7 +15,7 @@ use Rattle.marks.proofs.News.{Shows, by-stable, by-list}
 use Rattle.maps.specs.Table.{updated}
 use Rattle.maps.specs.Internal.View.{MapView, joinEntry, joinView, emptyView, singletonView}
 use Rattle.maps.proofs.Tables.{updated-view}
-use Rattle.rules.specs.Layout.{Limits}
+use Rattle.rules.specs.Layout.{Layout}
 use Rattle.rules.specs.declared.Step.{Step}
 use Rattle.rules.specs.Step.{root, letter, receive, new, send, read, write, freeze, finish, fall, lose, sign}
 use Rattle.rules.specs.Refusals.{named}
@@ -40,9 +40,9 @@ abbrev pub emptyLog : Log
 emptyLog u a = ⊥
 
 -- after step p: what was there, and the present life of the take that p freezes
-pub data LogAfter (m : Limits) (b : Provenance) (p : Step) (f : Log) (u : ℕ) (a : Incarnation) : Type 0 where
-  earlier : f u a → LogAfter m b p f u a
-  just-now : Stabilizes m b p u a → LogAfter m b p f u a
+pub data LogAfter (y : Layout) (b : Provenance) (p : Step) (f : Log) (u : ℕ) (a : Incarnation) : Type 0 where
+  earlier : f u a → LogAfter y b p f u a
+  just-now : Stabilizes y b p u a → LogAfter y b p f u a
 
 -- ---- one entry, one map
 

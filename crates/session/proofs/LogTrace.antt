@@ -1,6 +1,6 @@
--- Document 02, W4: in a session grown from fresh every frozen mark of a map was frozen by an earlier step since the last begin.
+-- Document 02, W4: in a session grown from fresh every frozen mark of a map was frozen by an earlier step since the last accepted begin.
 use Prim.Native.Nat.{ℕ, zero, suc, _-_}
-use mathlib.Core.Bool.{Bool, true, false}
+use mathlib.Core.Bool.{Bool, true, false, not}
 use mathlib.Core.Path.{_≡_, refl, sym, _∙_, subst}
 use mathlib.Core.List.{List, [], _∷_}
 use mathlib.Core.Logic.{_≢_}
@@ -8,34 +8,35 @@ use native.Mathlib.Decide.{ℕ-discrete}
 use native.Mathlib.Omega.{arith}
 use lib.Dec.{eqb}
 use borrow.Author.Tests.{eq-eqb, ne-eqb, eqb-true}
-use Rattle.octets.specs.Bytes.{pick, part, zeros, Octets}
+use Rattle.octets.specs.Bytes.{pick, part, Octets}
 use Rattle.octets.proofs.Put.{octets-part}
 use Rattle.octets.proofs.Zero.{both}
 use Rattle.marks.specs.Incarnation.{Incarnation}
 use Rattle.marks.specs.History.{HistoryView}
 use Rattle.maps.proofs.News.{informedTable}
-use Rattle.rules.specs.Layout.{Layout, Limits, base, standard, Fitting, Allowed, imageBytes}
+use Rattle.rules.specs.Layout.{Layout, Limits, inRange, base, Fitting}
 use Rattle.rules.specs.State.{State, transactorAt}
 use Rattle.rules.specs.declared.Step.{Step}
 use Rattle.rules.specs.Step.{stepAt}
 use Rattle.rules.specs.Rules.{refusal, stepOf}
 use Rattle.rules.specs.Pack.{pack, unpack}
 use Rattle.rules.specs.Internal.Well.{StepOk, WellFormed}
-use Rattle.rules.specs.Calls.{wrongLength, beginAnswer, beginImage, stateAfter, stepsIn, runAnswer, ranImage, runImage, queryRefusal}
+use Rattle.rules.specs.Calls.{wrongLength, beginAnswer, freshImage, beginImage, stateAfter, stepsIn, runAnswer, ranImage, runImage, queryRefusal}
 use Rattle.rules.specs.Heard.{allHeardStable, heardAnswer, Heard, in-state, in-creation}
+use Rattle.rules.proofs.Calls.Begin.{begin-accepted}
 use Rattle.rules.proofs.Calls.Heard.{heard-test}
 use Rattle.rules.proofs.Calls.Query.{query-accepted}
 use Rattle.rules.proofs.Pack.RoundTrip.{unpack-pack}
 use Rattle.rules.proofs.Pack.Fresh.{pack-fresh}
 use Rattle.rules.proofs.Keep.Run.{stepOk-at}
 use Rattle.rules.proofs.Keep.State.{well-fresh}
-use Rattle.rules.proofs.Keep.Step.{keeps-after, fitting-base, allowed-standard}
+use Rattle.rules.proofs.Keep.Step.{keeps-after, fitting-base}
 use Rattle.session.specs.Provenance.{unused, Provenance, emptyProvenance}
 use Rattle.session.specs.Steps.{ProvenanceStep}
 use Rattle.session.specs.Fed as book
 use Rattle.session.specs.Fed.{Call, begin, run, heard, callRefusal, ProvenanceSteps, ProvenanceCall, provenance-refuses, provenance-begins, provenance-runs, provenance-offers, provenance-names, provenance-hears, provenance-shows, ProvenanceOf, new-provenance, fed}
 use Rattle.session.specs.Trace.{Answer, told, Performed, beginning, running, offering, naming, hearing, showing, Trace, opened, called, callsOf}
-use Rattle.session.specs.Stabilized.{StabilizedBy, at-step, isBegin, StabilizedIn, in-run, in-earlier}
+use Rattle.session.specs.Stabilized.{StabilizedBy, at-step, restarts, StabilizedIn, in-run, in-earlier}
 use Rattle.session.proofs.Model.{view}
 use Rattle.session.proofs.Relation.{freshLedger, Rel, nothing-checkpointed}
 use Rattle.session.proofs.News.{informed-law}
@@ -48,67 +49,67 @@ use Rattle.session.proofs.Logged.{Logged, log-kept}
 
 -- ---- one step
 
-module _ {y : Layout} {m : Limits} (l : Allowed y m) {s : State} (well : WellFormed y s) {b : Provenance} (r : Rel (view s) b) {p : Step} (ok : StepOk p) (f : Log) (k : Logged (view s) b f) where
-  state-logged : {c : Provenance} → ProvenanceStep m b p c → Logged (view (stepOf y m s p .state)) c (LogAfter m b p f)
-  state-logged {c} step = subst (λ z. Logged z c (LogAfter m b p f)) (sym (view-step well m l p (ok .message)))
-      (log-kept (view s) b r m p (ok .message) f k informedTable informed-law (droppedAt y s (p .message)) (rolledBackAt y s (p .message)) (readyAt y s (p .message))
-      (refusal y m s p) (same-refusal well m r p) step)
+module _ {y : Layout} {s : State} (well : WellFormed y s) {b : Provenance} (r : Rel (view s) b) {p : Step} (ok : StepOk p) (f : Log) (k : Logged (view s) b f) where
+  state-logged : {c : Provenance} → ProvenanceStep y b p c → Logged (view (stepOf y s p .state)) c (LogAfter y b p f)
+  state-logged {c} step = subst (λ z. Logged z c (LogAfter y b p f)) (sym (view-step well p (ok .message)))
+      (log-kept (view s) b r y p (ok .message) f k informedTable informed-law (droppedAt y s (p .message)) (rolledBackAt y s (p .message)) (readyAt y s (p .message))
+      (refusal y s p) (same-refusal well r p) step)
 
 -- ---- the steps of a part
 
-pub data Since (m : Limits) (b : Provenance) (f : Log) (steps : List ℕ) (i u : ℕ) (a : Incarnation) : Type 1 where
-  old : f u a → Since m b f steps i u a
-  by-step : StabilizedBy m b steps i u a → Since m b f steps i u a
+pub data Since (y : Layout) (b : Provenance) (f : Log) (steps : List ℕ) (i u : ℕ) (a : Incarnation) : Type 1 where
+  old : f u a → Since y b f steps i u a
+  by-step : StabilizedBy y b steps i u a → Since y b f steps i u a
 
-since-more : {m : Limits} {b : Provenance} {f : Log} {steps : List ℕ} {i u : ℕ} {a : Incarnation} → Since m b f steps i u a → Since m b f steps (suc i) u a
+since-more : {y : Layout} {b : Provenance} {f : Log} {steps : List ℕ} {i u : ℕ} {a : Incarnation} → Since y b f steps i u a → Since y b f steps (suc i) u a
 since-more (old h) = old h
 since-more (by-step (at-step j c h s z)) = by-step (at-step j c (omega arith) s z)
 
-pub record RanLog (y : Layout) (m : Limits) (s : State) (b : Provenance) (f : Log) (steps : List ℕ) (i : ℕ) : Type 1 where
+pub record RanLog (y : Layout) (s : State) (b : Provenance) (f : Log) (steps : List ℕ) (i : ℕ) : Type 1 where
   pub after : Provenance
-  pub steps-of : ProvenanceSteps m b steps i after
-  pub rel : Rel (view (stateAfter y m s steps i)) after
+  pub steps-of : ProvenanceSteps y b steps i after
+  pub rel : Rel (view (stateAfter y s steps i)) after
   pub log : Log
-  pub logged : Logged (view (stateAfter y m s steps i)) after log
-  pub true-log : (u : ℕ) (a : Incarnation) → log u a → Since m b f steps i u a
+  pub logged : Logged (view (stateAfter y s steps i)) after log
+  pub true-log : (u : ℕ) (a : Incarnation) → log u a → Since y b f steps i u a
 
-module _ {y : Layout} {m : Limits} (z : Fitting y) (l : Allowed y m) {s : State} (well : WellFormed y s) {b : Provenance} (r : Rel (view s) b) (f : Log) (k : Logged (view s) b f) (steps : List ℕ) (octets : Octets steps) where
-  one-more : (i : ℕ) → RanLog y m s b f steps i → RanLog y m s b f steps (suc i)
+module _ {y : Layout} (z : Fitting y) {s : State} (well : WellFormed y s) {b : Provenance} (r : Rel (view s) b) (f : Log) (k : Logged (view s) b f) (steps : List ℕ) (octets : Octets steps) where
+  one-more : (i : ℕ) → RanLog y s b f steps i → RanLog y s b f steps (suc i)
   unfolding stateAfter
   one-more i before =
-      let w = keeps-after z l well steps octets i in
+      let w = keeps-after z well steps octets i in
       let ok = stepOk-at steps octets i in
-      let n = state-kept w m (before .rel) l (stepAt steps i) (ok .message) in
+      let n = state-kept w (before .rel) (stepAt steps i) (ok .message) in
       record {
         after = n .after;
         steps-of = book.more (before .steps-of) (n .step);
         rel = n .rel;
-        log = LogAfter m (before .after) (stepAt steps i) (before .log);
-        logged = state-logged l w (before .rel) ok (before .log) (before .logged) (n .step);
+        log = LogAfter y (before .after) (stepAt steps i) (before .log);
+        logged = state-logged w (before .rel) ok (before .log) (before .logged) (n .step);
         true-log = told;
       }
     where
-      told : (u : ℕ) (a : Incarnation) → LogAfter m (before .after) (stepAt steps i) (before .log) u a → Since m b f steps (suc i) u a
+      told : (u : ℕ) (a : Incarnation) → LogAfter y (before .after) (stepAt steps i) (before .log) u a → Since y b f steps (suc i) u a
       told u a (earlier h) = since-more (before .true-log u a h)
       told u a (just-now h) = by-step (at-step i (before .after) (omega arith) (before .steps-of) h)
 
-  run-log : (i : ℕ) → RanLog y m s b f steps i
+  run-log : (i : ℕ) → RanLog y s b f steps i
   unfolding stateAfter
   run-log zero = record { after = b; steps-of = book.none; rel = r; log = f; logged = k; true-log = λ u a. old }
   run-log (suc i) = one-more i (run-log i)
 
 -- ---- the calls of a session
 
-pub record GrownLog (y : Layout) (m : Limits) (img : List ℕ) (cs : List Call) : Type 1 where
+pub record GrownLog (y : Layout) (img : List ℕ) (cs : List Call) : Type 1 where
   pub provenance : Provenance
-  pub fed-by : ProvenanceOf m cs provenance
+  pub fed-by : ProvenanceOf y cs provenance
   pub holds : Holds y img provenance
   pub log : Log
   pub logged : Logged (view (unpack y img)) provenance log
-  pub true-log : (u : ℕ) (a : Incarnation) → log u a → StabilizedIn m cs u a
+  pub true-log : (u : ℕ) (a : Incarnation) → log u a → StabilizedIn y cs u a
 
-fresh-logged : Logged freshLedger emptyProvenance emptyLog
-fresh-logged = record {
+fresh-logged : (m : Limits) → Logged (freshLedger m) (emptyProvenance m) emptyLog
+fresh-logged m = record {
   ledger = record { nodes = λ t. record { state = λ u. absent; creation = λ u. absent; behaviour = λ u. absent }; messages = none1 };
   signed = λ u a c. nothing-checkpointed unused _ (λ k. elim k [ ]) c;
 }
@@ -116,22 +117,20 @@ fresh-logged = record {
 pack-logged : {y : Layout} {s : State} {b : Provenance} {f : Log} → WellFormed y s → Logged (view s) b f → Logged (view (unpack y (pack y s))) b f
 pack-logged {y} {s} {b} {f} well k = subst (λ z. Logged (view z) b f) (sym (unpack-pack y s (well .packable))) k
 
-zeros-logged : (y : Layout) → Logged (view (unpack y (zeros (imageBytes y)))) emptyProvenance emptyLog
-zeros-logged y = rw (← pack-fresh y) (pack-logged (well-fresh y) (rw (view-fresh y) fresh-logged))
-
-fresh-grown : (y : Layout) (m : Limits) → GrownLog y m (zeros (imageBytes y)) []
-fresh-grown y m = record {
-  provenance = emptyProvenance;
-  fed-by = new-provenance;
-  holds = holds-fresh y;
+-- an accepted begin: nothing is logged yet
+fresh-grown : {y : Layout} {m : Limits} {cs : List Call} → Fitting y → inRange y m ≡ true → ProvenanceOf y (begin m ∷ cs) (emptyProvenance m) → GrownLog y (freshImage y m) (begin m ∷ cs)
+fresh-grown {y} {m} z e p = record {
+  provenance = emptyProvenance m;
+  fed-by = p;
+  holds = holds-fresh z m e;
   log = emptyLog;
-  logged = zeros-logged y;
+  logged = rw (pack-fresh y m) (pack-logged (well-fresh z m e) (rw (view-fresh y m) (fresh-logged m)));
   true-log = λ u a h. absurd h;
 }
 
-module _ {y : Layout} {m : Limits} {img : List ℕ} {cs : List Call} (g : GrownLog y m img cs) where
+module _ {y : Layout} {img : List ℕ} {cs : List Call} (g : GrownLog y img cs) where
   -- a call that only reads
-  reading : (c : Call) → isBegin c ≡ false → (callRefusal (g .provenance) c ≡ 0 → ProvenanceCall m (g .provenance) c (g .provenance)) → GrownLog y m img (c ∷ cs)
+  reading : (c : Call) → restarts y c ≡ false → (callRefusal y (g .provenance) c ≡ 0 → ProvenanceCall y (g .provenance) c (g .provenance)) → GrownLog y img (c ∷ cs)
   reading c e f = record {
     provenance = g .provenance;
     fed-by = fed (g .fed-by) (kept f);
@@ -141,36 +140,37 @@ module _ {y : Layout} {m : Limits} {img : List ℕ} {cs : List Call} (g : GrownL
     true-log = λ u a h. in-earlier e (g .true-log u a h);
   }
 
-  beginning-anew : GrownLog y m (zeros (imageBytes y)) (begin ∷ cs)
-  beginning-anew = record {
-    provenance = emptyProvenance;
-    fed-by = fed (g .fed-by) provenance-begins;
-    holds = holds-fresh y;
-    log = emptyLog;
-    logged = zeros-logged y;
-    true-log = λ u a h. absurd h;
-  }
+  begin-grown : Fitting y → (m : Limits) → GrownLog y (beginImage y m img) (begin m ∷ cs)
+  unfolding beginAnswer beginImage
+  begin-grown z m = go (inRange y m) refl
+    where
+      go : (t : Bool) → inRange y m ≡ t → GrownLog y (pick (eqb (pick (wrongLength y img) 16 (pick (not (inRange y m)) 33 0)) 0) (freshImage y m) img) (begin m ∷ cs)
+      go true e = rw (right-length (g .holds), e) (fresh-grown z e (fed (g .fed-by) (provenance-begins (rw e))))
+      go false e = rw (right-length (g .holds), e) (reading (begin m) e (λ k. absurd (omega (arith, refused k))))
+        where
+          refused : callRefusal y (g .provenance) (begin m) ≡ 0 → _≡_ {A = ℕ} 33 0
+          refused k = rw e at k
 
-  module _ (z : Fitting y) (l : Allowed y m) (list : List ℕ) (o : Octets list) (start end : ℕ) (replies : List ℕ) where
+  module _ (z : Fitting y) (list : List ℕ) (o : Octets list) (start end : ℕ) (replies : List ℕ) where
     abbrev part-of : List ℕ
     part-of = part start (end - start) list
 
     abbrev the-run : Call
     the-run = run list o start end replies
 
-    run-grown : GrownLog y m (runImage y m img list start end replies) (run list o start end replies ∷ cs)
+    run-grown : GrownLog y (runImage y img list start end replies) (run list o start end replies ∷ cs)
     unfolding runImage ranImage
-    run-grown = go (ℕ-discrete (callRefusal (g .provenance) the-run) 0)
+    run-grown = go (ℕ-discrete (callRefusal y (g .provenance) the-run) 0)
       where
-        same : runAnswer y img list start end replies ≡ callRefusal (g .provenance) the-run
+        same : runAnswer y img list start end replies ≡ callRefusal y (g .provenance) the-run
         same = run-same (g .holds) list o start end replies
 
-        go : Dec (callRefusal (g .provenance) the-run ≡ 0)
-            → GrownLog y m (pick (eqb (runAnswer y img list start end replies) 0) (pack y (stateAfter y m (unpack y img) part-of (stepsIn part-of))) img) (the-run ∷ cs)
+        go : Dec (callRefusal y (g .provenance) the-run ≡ 0)
+            → GrownLog y (pick (eqb (runAnswer y img list start end replies) 0) (pack y (stateAfter y (unpack y img) part-of (stepsIn part-of))) img) (the-run ∷ cs)
         go (yes e) =
-            let w = keeps-after z l (g .holds .well) part-of (octets-part start (end - start) list o) (stepsIn part-of) in
-            let k : RanLog y m (unpack y img) (g .provenance) (g .log) part-of (stepsIn part-of) =
-            run-log z l (g .holds .well) (g .holds .rel) (g .log) (g .logged) part-of (octets-part start (end - start) list o) (stepsIn part-of) in
+            let w = keeps-after z (g .holds .well) part-of (octets-part start (end - start) list o) (stepsIn part-of) in
+            let k : RanLog y (unpack y img) (g .provenance) (g .log) part-of (stepsIn part-of) =
+            run-log z (g .holds .well) (g .holds .rel) (g .log) (g .logged) part-of (octets-part start (end - start) list o) (stepsIn part-of) in
             rw (eq-eqb (runAnswer y img list start end replies) 0 (same ∙ e))
             (record {
               provenance = k .after;
@@ -181,7 +181,7 @@ module _ {y : Layout} {m : Limits} {img : List ℕ} {cs : List Call} (g : GrownL
               true-log = λ u a h. told u a (k .true-log u a h);
             })
           where
-            told : (u : ℕ) (a : Incarnation) → Since m (g .provenance) (g .log) part-of (stepsIn part-of) u a → StabilizedIn m (the-run ∷ cs) u a
+            told : (u : ℕ) (a : Incarnation) → Since y (g .provenance) (g .log) part-of (stepsIn part-of) u a → StabilizedIn y (the-run ∷ cs) u a
             told u a (old h) = in-earlier refl (g .true-log u a h)
             told u a (by-step h) = in-run (g .fed-by) e h
         go (no n) =
@@ -195,52 +195,48 @@ module _ {y : Layout} {m : Limits} {img : List ℕ} {cs : List Call} (g : GrownL
               true-log = λ u a h. in-earlier refl (g .true-log u a h);
             })
 
-begun-grown : (y : Layout) (m : Limits) (img : List ℕ) → beginAnswer y img ≡ 0 → GrownLog y m (beginImage y img) []
-unfolding beginAnswer beginImage
-begun-grown y m img e = go (wrongLength y img) e
-  where
-    go : (t : Bool) → _≡_ {A = ℕ} (pick t 16 0) 0 → GrownLog y m (pick t img (zeros (imageBytes y))) []
-    go true e = absurd (omega arith)
-    go false e = fresh-grown y m
+begun-grown : {y : Layout} → Fitting y → (m : Limits) (img : List ℕ) → beginAnswer y m img ≡ 0 → GrownLog y (beginImage y m img) (begin m ∷ [])
+begun-grown {y} z m img e =
+    let a = begin-accepted y img m e in
+    rw (a .1) (fresh-grown z (a .0) (new-provenance (a .0)))
 
-module _ {y : Layout} {m : Limits} (z : Fitting y) (l : Allowed y m) where
-  performed-grown : {img after : List ℕ} {cs : List Call} {c : Call} {a : Answer} → GrownLog y m img cs → Performed y m img c a after → GrownLog y m after (c ∷ cs)
-  unfolding beginImage
-  performed-grown g beginning = rw (right-length (g .holds)) (beginning-anew g)
-  performed-grown g (running {list} {o} {start} {end} {replies}) = run-grown g z l list o start end replies
+module _ {y : Layout} (z : Fitting y) where
+  performed-grown : {img after : List ℕ} {cs : List Call} {c : Call} {a : Answer} → GrownLog y img cs → Performed y img c a after → GrownLog y after (c ∷ cs)
+  performed-grown g (beginning {m}) = begin-grown g z m
+  performed-grown g (running {list} {o} {start} {end} {replies}) = run-grown g z list o start end replies
   performed-grown g (offering {t} f) = reading g (book.offer t) refl provenance-offers
   performed-grown g (naming {t} f) = reading g (book.smallest t) refl provenance-names
   performed-grown g (hearing {t}) = reading g (book.heard t) refl provenance-hears
   performed-grown g (showing {n}) = reading g (book.show n) refl provenance-shows
 
-  pub grown-log : {img : List ℕ} (τ : Trace y m img) → GrownLog y m img (callsOf τ)
+  pub grown-log : {img : List ℕ} (τ : Trace y img) → GrownLog y img (callsOf τ)
   unfolding callsOf
-  grown-log (opened img e) = begun-grown y m img e
+  grown-log (opened m img e) = begun-grown z m img e
   grown-log (called τ c a p) = performed-grown (grown-log τ) p
 
 -- ---- "all heard frozen"
 
-module _ {y : Layout} {m : Limits} (z : Fitting y) (l : Allowed y m) {img : List ℕ} (τ : Trace y m img) where
+module _ {y : Layout} (z : Fitting y) {img : List ℕ} (τ : Trace y img) where
   -- a frozen mark of a take's two maps was frozen by an earlier step, its own included
-  pub heard-stable : (t u : ℕ) (h : HistoryView) → Heard (unpack y img) t u h → h .stable ≡ true → StabilizedIn m (callsOf τ) u (h .incarnation)
+  pub heard-stable : (t u : ℕ) (h : HistoryView) → Heard (unpack y img) t u h → h .stable ≡ true → StabilizedIn y (callsOf τ) u (h .incarnation)
   unfolding view
-  heard-stable t u h (in-state e) i = let g = grown-log z l τ in g .true-log u (h .incarnation) (backed-has (g .logged .ledger .nodes t .state u) e i)
-  heard-stable t u h (in-creation e) i = let g = grown-log z l τ in g .true-log u (h .incarnation) (backed-has (g .logged .ledger .nodes t .creation u) e i)
+  heard-stable t u h (in-state e) i = let g = grown-log z τ in g .true-log u (h .incarnation) (backed-has (g .logged .ledger .nodes t .state u) e i)
+  heard-stable t u h (in-creation e) i = let g = grown-log z τ in g .true-log u (h .incarnation) (backed-has (g .logged .ledger .nodes t .creation u) e i)
 
   -- "In a session grown from fresh, yes must mean that each such life was frozen at some earlier step": where the query's answer is
-  -- yes, the life of every other entry of the take's two maps was frozen by a step of this session since its last begin.
-  pub yes-means : (t : ℕ) → heardAnswer y img t ≡ true → (u : ℕ) (h : HistoryView) → u ≢ t → Heard (unpack y img) t u h → StabilizedIn m (callsOf τ) u (h .incarnation)
+  -- yes, the life of every other entry of the take's two maps was frozen by a step of this session since its last accepted begin.
+  pub yes-means : (t : ℕ) → heardAnswer y img t ≡ true → (u : ℕ) (h : HistoryView) → u ≢ t → Heard (unpack y img) t u h → StabilizedIn y (callsOf τ) u (h .incarnation)
   unfolding heardAnswer
   yes-means t yes-is u h n k =
       let p = both (eqb (queryRefusal y img t) 0) (allHeardStable y t (transactorAt (unpack y img) t)) yes-is in
       let below = query-accepted y img t (eqb-true (queryRefusal y img t) 0 (p .0)) .below in
-      let ok = grown-log z l τ .holds .well .packable .transactors t below in
+      let ok = grown-log z τ .holds .well .packable .transactors t below in
       heard-stable t u h k (heard-test (unpack y img) t ok .0 (p .1) u h n k)
 
--- The same at the ledger's own layout and limits, said of the call: whatever refusal it gives with its yes.
-pub yes-means-base : {img : List ℕ} (τ : Trace base standard img) {t r : ℕ} {after : List ℕ} → Performed base standard img (heard t) (told r true) after
-    → (u : ℕ) (h : HistoryView) → u ≢ t → Heard (unpack base img) t u h → StabilizedIn standard (callsOf τ) u (h .incarnation)
-yes-means-base τ {t} c = yes-means fitting-base allowed-standard τ t (sym (answered c))
+-- The same at the ledger's own layout, said of the call: whatever refusal it gives with its yes.
+pub yes-means-base : {img : List ℕ} (τ : Trace base img) {t r : ℕ} {after : List ℕ} → Performed base img (heard t) (told r true) after
+    → (u : ℕ) (h : HistoryView) → u ≢ t → Heard (unpack base img) t u h → StabilizedIn base (callsOf τ) u (h .incarnation)
+yes-means-base τ {t} c = yes-means fitting-base τ t (sym (answered c))
   where
-    answered : {img after : List ℕ} {t r : ℕ} {stable : Bool} → Performed base standard img (heard t) (told r stable) after → stable ≡ heardAnswer base img t
+    answered : {img after : List ℕ} {t r : ℕ} {stable : Bool} → Performed base img (heard t) (told r stable) after → stable ≡ heardAnswer base img t
     answered hearing = refl

@@ -13,7 +13,7 @@ use Rattle.marks.specs.History.{HistoryView, initialView}
 use Rattle.marks.proofs.Order.{checkpointed-up, checkpointed-irrefl, checkpointed-split, initial-precedes}
 use Rattle.maps.specs.Table.{updated}
 use Rattle.maps.proofs.Tables.{updated-view}
-use Rattle.rules.specs.Layout.{Limits}
+use Rattle.rules.specs.Layout.{Layout}
 use Rattle.rules.specs.declared.Step.{Step}
 use Rattle.rules.specs.Step.{root, letter, receive, new, send, read, write, freeze, finish, fall, lose, sign, fail}
 use Rattle.rules.specs.Refusals.{named, acts}
@@ -80,7 +80,7 @@ module _ (a : Incarnation) where
 acts-between : (k : ℕ) → new ≤ k → k ≤ fail → acts k ≡ true
 acts-between k h g = and-of (leb new k) (leb k fail) (le-leb new k h) (le-leb k fail g)
 
-module _ (l : Ledger) (b : Provenance) (r : Rel l b) (m : Limits) (p : Step) (zero : provenanceRefusal m b p ≡ 0) (a : Incarnation) where
+module _ (l : Ledger) (b : Provenance) (r : Rel l b) (y : Layout) (p : Step) (zero : provenanceRefusal y b p ≡ 0) (a : Incarnation) where
   abbrev Onto : Provenance → Type 0
   Onto z = (u : ℕ) → Checkpointed a (present (z .holders) u .incarnation) → Checkpointed a (present (b .holders) u .incarnation)
 
@@ -93,15 +93,15 @@ module _ (l : Ledger) (b : Provenance) (r : Rel l b) (m : Limits) (p : Step) (ze
   unfolding applied opensRoot opensChild receives
   applied-past other =
       let t = p .transactor in let k = p .kind in let h = b .holders t in
-      let high = kind-known (provenance-accepted l b r m p zero) in
-      let live : new ≤ k → k ≤ fail → Live (h .status) = λ f g. acting-live l b r m p zero (acts-between k f g) in
+      let high = kind-known (provenance-accepted l b r y p zero) in
+      let live : new ≤ k → k ≤ fail → Live (h .status) = λ f g. acting-live l b r y p zero (acts-between k f g) in
       let opens : (z : Holder) → Checkpointed a (presentOf ready initialView .incarnation) → ⊥ = λ z c. initial-past a (rw (present-live ready initialView idle) at c) in
       pick-view Onto (eqb k root) _ _
       (λ i. updated-view (λ u (z : Holder). Checkpointed a (presentOf (z .status) (z .history) .incarnation) → Checkpointed a (present (b .holders) u .incarnation))
       (b .holders) (b .opened) (anew (b .opened) initialView) (λ c. absurd (opens h c)) (λ u n c. c)) λ i1.
       pick-view Onto (eqb k letter) _ _ (λ i u c. c) λ i2.
       pick-view Onto (eqb k receive) _ _
-      (λ i. let q = find (p .message) (b .messages) in let v = receiving-live l b r m p zero (eqb-true k receive i) in
+      (λ i. let q = find (p .message) (b .messages) in let v = receiving-live l b r y p zero (eqb-true k receive i) in
       put-past (q .addressee) (received (q .addressee) (b .holders (q .addressee)) q) v (received-past a (q .addressee) (b .holders (q .addressee)) v q)) λ i3.
       pick-view Onto (eqb k new) _ _
       (λ i. let j = eqb-true k new i in let v = live (omega arith) (omega arith) in
@@ -126,39 +126,39 @@ pub record Logged (l : Ledger) (b : Provenance) (f : Log) : Type 0 where
 pub present-logged : (l : Ledger) (b : Provenance) → Rel l b → (f : Log) → Logged l b f → (t : ℕ) → Live (b .holders t .status) → b .holders t .history .stable ≡ true → f t (b .holders t .history .incarnation)
 present-logged l b r f k t live e = backed-has (k .ledger .nodes t .state t) (r .holders t .own live) e
 
-module _ (l : Ledger) (b : Provenance) (r : Rel l b) (m : Limits) (p : Step) (bits : p .message < bound 2) (f : Log) (k : Logged l b f) where
-  signed-kept : {c : Provenance} → ProvenanceStep m b p c → (u : ℕ) (a : Incarnation) → Checkpointed a (present (c .holders) u .incarnation) → LogAfter m b p f u a
+module _ (l : Ledger) (b : Provenance) (r : Rel l b) (y : Layout) (p : Step) (bits : p .message < bound 2) (f : Log) (k : Logged l b f) where
+  signed-kept : {c : Provenance} → ProvenanceStep y b p c → (u : ℕ) (a : Incarnation) → Checkpointed a (present (c .holders) u .incarnation) → LogAfter y b p f u a
   unfolding checkpointedAt
   signed-kept (refuses z) u a = λ c. earlier (k .signed u a c)
-  signed-kept (applies z n) u a = λ c. earlier (k .signed u a (applied-past l b r m p z a n u c))
+  signed-kept (applies z n) u a = λ c. earlier (k .signed u a (applied-past l b r y p z a n u c))
   signed-kept (not-ready z n q) u a = λ c. earlier (k .signed u a c)
-  signed-kept (signing z n same) u a = pick-view (λ (h : Holder). Checkpointed a (presentOf (h .status) (h .history) .incarnation) → LogAfter m b p f u a) (named (p .message) u)
+  signed-kept (signing z n same) u a = pick-view (λ (h : Holder). Checkpointed a (presentOf (h .status) (h .history) .incarnation) → LogAfter y b p f u a) (named (p .message) u)
       (anew u (record { stable = false; incarnation = checkpointIncarnation (b .holders u .history .incarnation) })) (b .holders u)
       (λ e c. go (live e) (flag e) (checkpointed-split a (b .holders u .history .incarnation) (rw (present-live ready _ idle) at c)))
       (λ e c. earlier (k .signed u a c))
     where
       live : named (p .message) u ≡ true → Live (b .holders u .status)
-      live = named-live l b r m p z n bits u
+      live = named-live l b r y p z n bits u
 
       flag : named (p .message) u ≡ true → b .holders u .history .stable ≡ true
       flag e = same u (b .holders u .history .incarnation) .0 (own-uncheckpointed b (p .message) u e (own-has l b r u (live e))) .stable
 
-      go : Live (b .holders u .status) → b .holders u .history .stable ≡ true → Checkpointed a (b .holders u .history .incarnation) ⊎ (a ≡ b .holders u .history .incarnation) → LogAfter m b p f u a
+      go : Live (b .holders u .status) → b .holders u .history .stable ≡ true → Checkpointed a (b .holders u .history .incarnation) ⊎ (a ≡ b .holders u .history .incarnation) → LogAfter y b p f u a
       go v i (inl s) = earlier (k .signed u a (rw (present-live (b .holders u .status) (b .holders u .history) v) s))
       go v i (inr s) = earlier (rw s (present-logged l b r f k u v i))
 
   -- every kind of step, refused or not, with the news: whatever Bools stand for the tests at a receipt and at a signing
-  pub log-kept : (w : News) → NewsLaw w → (d e ok : Bool) (n : ℕ) → n ≡ provenanceRefusal m b p → {c : Provenance} → ProvenanceStep m b p c
-      → Logged (stepLedger w n d e ok l p) c (LogAfter m b p f)
+  pub log-kept : (w : News) → NewsLaw w → (d e ok : Bool) (n : ℕ) → n ≡ provenanceRefusal y b p → {c : Provenance} → ProvenanceStep y b p c
+      → Logged (stepLedger w n d e ok l p) c (LogAfter y b p f)
   unfolding stepLedger
   log-kept w law d e ok n s step = record { ledger = part; signed = signed-kept step }
     where
-      more : LedgerLog (LogAfter m b p f) l
+      more : LedgerLog (LogAfter y b p f) l
       more = log-more (λ u a. earlier) (k .ledger)
 
-      part : LedgerLog (LogAfter m b p f) (pick (eqb n 0) (appliedLedger w d e ok l p) l)
-      part = pick-view (LedgerLog (LogAfter m b p f)) (eqb n 0) _ l
-          (λ i. applied-log (LogAfter m b p f) l more w law d e ok p
+      part : LedgerLog (LogAfter y b p f) (pick (eqb n 0) (appliedLedger w d e ok l p) l)
+      part = pick-view (LedgerLog (LogAfter y b p f)) (eqb n 0) _ l
+          (λ i. applied-log (LogAfter y b p f) l more w law d e ok p
           (λ j. just-now (record { accepted = sym s ∙ eqb-true n 0 i; kind = j; transactor = refl; incarnation = ap (λ (z : HistoryView). z .incarnation) (own-history (r .holders (p .transactor))) }))
           (λ u q x a c. earlier (k .signed u a (checkpointed-up c (cell-has x (find-rel (p .message) (r .messages) .incarnations u) .known .incarnation)))))
           (λ i. more)

@@ -72,6 +72,7 @@ module _ {now : ℕ → HistoryView} {t : ℕ} {x : Node} {h : Holder} (r : Hold
 module _ (l : Ledger) (b : Provenance) (r : Rel l b) where
   send-rel : (to : ℕ) (M : MapView) (X : Incarnations) → SetRel (present (b .holders)) M X → Coherent (Members X) → Rel (withMessageView l to M) (withWaitingMessage b to X)
   send-rel to M X h k = record {
+    limits = r .limits;
     opened = r .opened;
     next = ap (λ n. n + 1) (r .next);
     used = r .used;
@@ -92,6 +93,7 @@ module _ (l : Ledger) (b : Provenance) (r : Rel l b) where
 
   pub step-lose : (n : ℕ) → Rel (withoutMessageView l n) (withoutWaitingMessage b n)
   step-lose n = record {
+    limits = r .limits;
     opened = r .opened;
     next = r .next;
     used = r .used;

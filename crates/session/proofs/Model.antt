@@ -9,6 +9,7 @@ use Rattle.octets.specs.Bytes.{pick}
 use Rattle.marks.specs.History.{HistoryView, initialView, stabilizedView, rolledBackView, checkpointedView}
 use Rattle.maps.specs.Table.{updated}
 use Rattle.maps.specs.Internal.View.{MapView, mapView, emptyView, singletonView, joinView}
+use Rattle.rules.specs.Layout.{Limits}
 use Rattle.rules.specs.State.{Transactor, Message, State, transactorAt}
 use Rattle.session.specs.Provenance.{Status, unused, ready, busy, annihilated}
 use Rattle.session.specs.Steps.{isNil}
@@ -27,6 +28,7 @@ pub record MessageView : Type 0 where
   pub dependences : MapView
 
 pub record Ledger : Type 0 where
+  pub limits : Limits
   pub opened : ℕ
   pub next : ℕ
   pub nodes : ℕ → Node
@@ -39,20 +41,20 @@ own t x = Option·getD (x .state t) initialView
 -- ---- operations
 
 abbrev pub withNode : Ledger → ℕ → Node → Ledger
-withNode l t x = record { opened = l .opened; next = l .next; nodes = updated (l .nodes) t x; messages = l .messages }
+withNode l t x = record { limits = l .limits; opened = l .opened; next = l .next; nodes = updated (l .nodes) t x; messages = l .messages }
 
 abbrev pub openNode : Ledger → Node → Ledger
-openNode l x = record { opened = l .opened + 1; next = l .next; nodes = updated (l .nodes) (l .opened) x; messages = l .messages }
+openNode l x = record { limits = l .limits; opened = l .opened + 1; next = l .next; nodes = updated (l .nodes) (l .opened) x; messages = l .messages }
 
 abbrev pub withMessageView : Ledger → ℕ → MapView → Ledger
-withMessageView l to M = record { opened = l .opened; next = l .next + 1; nodes = l .nodes; messages = l .messages ++ (record { number = l .next; addressee = to; dependences = M } ∷ []) }
+withMessageView l to M = record { limits = l .limits; opened = l .opened; next = l .next + 1; nodes = l .nodes; messages = l .messages ++ (record { number = l .next; addressee = to; dependences = M } ∷ []) }
 
 unfoldable pub removeMessage : ℕ → List MessageView → List MessageView
 removeMessage n [] = []
 removeMessage n (q ∷ qs) = pick (eqb (q .number) n) qs (q ∷ removeMessage n qs)
 
 abbrev pub withoutMessageView : Ledger → ℕ → Ledger
-withoutMessageView l n = record { opened = l .opened; next = l .next; nodes = l .nodes; messages = removeMessage n (l .messages) }
+withoutMessageView l n = record { limits = l .limits; opened = l .opened; next = l .next; nodes = l .nodes; messages = removeMessage n (l .messages) }
 
 unfoldable pub findMessage : ℕ → List MessageView → MessageView
 findMessage n [] = record { number = 0; addressee = 0; dependences = emptyView }
@@ -115,7 +117,7 @@ unfoldable pub checkpointedNodes : (ℕ → Bool) → (ℕ → Node) → ℕ →
 checkpointedNodes v N t = pick (v t) (anewNode t (checkpointedView (own t (N t)))) (N t)
 
 abbrev pub signLedger : Ledger → (ℕ → Bool) → Ledger
-signLedger l v = record { opened = l .opened; next = l .next; nodes = checkpointedNodes v (l .nodes); messages = l .messages }
+signLedger l v = record { limits = l .limits; opened = l .opened; next = l .next; nodes = checkpointedNodes v (l .nodes); messages = l .messages }
 
 -- ---- the view of a state
 
@@ -132,4 +134,4 @@ abbrev pub viewMessage : Message → MessageView
 viewMessage m = record { number = m .number; addressee = m .addressee; dependences = mapView (m .dependences) }
 
 unfoldable pub view : State → Ledger
-view s = record { opened = s .opened; next = s .next; nodes = λ t. viewNode (transactorAt s t); messages = map viewMessage (s .messages) }
+view s = record { limits = s .limits; opened = s .opened; next = s .next; nodes = λ t. viewNode (transactorAt s t); messages = map viewMessage (s .messages) }

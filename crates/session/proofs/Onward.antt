@@ -13,7 +13,7 @@ use Rattle.marks.specs.History.{HistoryView, initialView, stabilizedView, rolle
 use Rattle.marks.proofs.Histories.{_⊑_, ⊑-refl, ⊑-trans, ⊑-stabilized, ⊑-rolledBack, ⊑-annihilated}
 use Rattle.maps.specs.Table.{updated}
 use Rattle.maps.proofs.Tables.{updated-view, updated-other}
-use Rattle.rules.specs.Layout.{Limits}
+use Rattle.rules.specs.Layout.{Layout}
 use Rattle.rules.specs.declared.Step.{Step}
 use Rattle.rules.specs.Step.{root, letter, receive, new, send, read, write, freeze, finish, fall, fail, lose, sign}
 use Rattle.rules.proofs.Keep.Accepted.{kind-known}
@@ -108,7 +108,7 @@ module _ (t : ℕ) (h : Holder) (live : Live (h .status)) (first : h .history .i
 
 -- ---- every step that is not refused and no signing
 
-module _ (l : Ledger) (b : Provenance) (r : Rel l b) (m : Limits) (p : Step) (zero : provenanceRefusal m b p ≡ 0) (v : ℕ → Bool)
+module _ (l : Ledger) (b : Provenance) (r : Rel l b) (y : Layout) (p : Step) (zero : provenanceRefusal y b p ≡ 0) (v : ℕ → Bool)
     (lives : (t : ℕ) → v t ≡ true → Live (b .holders t .status))
     (stable : (t : ℕ) → v t ≡ true → b .holders t .history .stable ≡ true)
     (stand : (t : ℕ) → v t ≡ true → (n : ℕ) → isRolledBack (b .holders t) (find n (b .messages)) ≡ false) where
@@ -132,14 +132,14 @@ module _ (l : Ledger) (b : Provenance) (r : Rel l b) (m : Limits) (p : Step) (ze
   unfolding applied opensRoot opensChild receives
   onward other =
       let t = p .transactor in let k = p .kind in let h = H t in
-      let high = kind-known (provenance-accepted l b r m p zero) in
+      let high = kind-known (provenance-accepted l b r y p zero) in
       let P : Provenance → Type 0 = λ c. Onward v H (c .holders) in
-      let live : new ≤ k → k ≤ fail → Live (h .status) = λ f g. acting-live l b r m p zero (and-of (leb new k) (leb k fail) (le-leb new k f) (le-leb k fail g)) in
+      let live : new ≤ k → k ≤ fail → Live (h .status) = λ f g. acting-live l b r y p zero (and-of (leb new k) (leb k fail) (le-leb new k f) (le-leb k fail g)) in
       pick-view P (eqb k root) _ _ (λ e. opened H (onward-refl v H lives) refl _ (present-live ready initialView idle)) λ e0.
       pick-view P (eqb k letter) _ _ (λ e. onward-refl v H lives) λ e1.
       pick-view P (eqb k receive) _ _ (λ e.
       let q = find (p .message) (b .messages) in
-      let w = receiving-live l b r m p zero (eqb-true k receive e) in
+      let w = receiving-live l b r y p zero (eqb-true k receive e) in
       put (q .addressee) _ w (received-grows (q .addressee) _ w (r .holders (q .addressee) .first) q)
       (λ n. received-stays (q .addressee) _ w (r .holders (q .addressee) .first) (stable _ n) q (stand _ n (p .message)))) λ e2.
       pick-view P (eqb k new) _ _ (λ e.
@@ -151,6 +151,18 @@ module _ (l : Ledger) (b : Provenance) (r : Rel l b) (m : Limits) (p : Step) (ze
       let n0 = eqb-false k root e0 in let n1 = eqb-false k letter e1 in let n2 = eqb-false k receive e2 in let n5 = eqb-false k lose e5 in
       let w = live (omega arith) (omega arith) in
       put t _ w (acted-grows t h w (r .holders t .first) k) (λ n. acted-stays t h w (r .holders t .first) (stable t n) k)
+
+-- such a step leaves the limits
+pub limits-stay : (b : Provenance) (p : Step) → applied b p .limits ≡ b .limits
+unfolding applied opensRoot opensChild receives
+limits-stay b p =
+    let P : Provenance → Type 0 = λ c. c .limits ≡ b .limits in
+    pick-view P (eqb (p .kind) root) _ _ (λ e. refl) λ e0.
+    pick-view P (eqb (p .kind) letter) _ _ (λ e. refl) λ e1.
+    pick-view P (eqb (p .kind) receive) _ _ (λ e. refl) λ e2.
+    pick-view P (eqb (p .kind) new) _ _ (λ e. refl) λ e3.
+    pick-view P (eqb (p .kind) send) _ _ (λ e. refl) λ e4.
+    pick-view P (eqb (p .kind) lose) _ _ (λ e. refl) (λ e5. refl)
 
 -- such a step notes nothing and forgets nothing
 pub notes : (b : Provenance) (p : Step) (t : ℕ) (a : Incarnation) (u : ℕ) (c : Incarnation) → (applied b p .noted t a u c → b .noted t a u c) × (b .noted t a u c → applied b p .noted t a u c)

@@ -41,6 +41,7 @@ module _ (l : Ledger) (b : Provenance) (r : Rel l b) (x : Node) (h : Holder) (us
   open-rel k =
       let later = present (updated (b .holders) (b .opened) h) in
       record {
+        limits = r .limits;
         opened = ap (λ n. n + 1) (r .opened);
         next = r .next;
         used = updated-view (λ u z. u < b .opened + 1 → z .status ≡ unused → ⊥) (b .holders) (b .opened) h (λ i. used) (λ u n i. r .used u (omega arith));

@@ -11,7 +11,7 @@ use borrow.Author.Tests.{eqb-true, eqb-false, not-true}
 use Rattle.octets.specs.Bytes.{_and_}
 use Rattle.octets.proofs.Zero.{both}
 use Rattle.marks.specs.Incarnation.{Incarnation}
-use Rattle.rules.specs.Layout.{standard}
+use Rattle.rules.specs.Layout.{base, widest}
 use Rattle.rules.specs.declared.Step.{Step}
 use Rattle.rules.specs.Step.{root, letter, receive, new, send, write, lose, sign}
 use Rattle.rules.specs.Refusals.{named}
@@ -56,12 +56,16 @@ aSign g = stepOf sign 0 0 g 0
 
 pub data Play : Provenance → List Step → Provenance → Type 1 where
   end : {b : Provenance} → Play b [] b
-  then : {b c d : Provenance} {p : Step} {ps : List Step} → ProvenanceStep standard b p c → Play c ps d → Play b (p ∷ ps) d
+  then : {b c d : Provenance} {p : Step} {ps : List Step} → ProvenanceStep base b p c → Play c ps d → Play b (p ∷ ps) d
 
--- an empty book takes the steps ps, and what P says holds of it then
+-- a book begun with the widest limits
+abbrev pub wideProvenance : Provenance
+wideProvenance = emptyProvenance (widest base)
+
+-- it takes the steps ps, and what P says holds of it then
 pub record After (ps : List Step) (P : Provenance → Type 0) : Type 1 where
   pub provenance : Provenance
-  pub play : Play emptyProvenance ps provenance
+  pub play : Play wideProvenance ps provenance
   pub holds : P provenance
 
 pub play-on : {b c d : Provenance} {ps qs : List Step} → Play b ps c → Play c qs d → Play b (ps ++ qs) d
@@ -71,7 +75,7 @@ play-on (then s p) q = then s (play-on p q)
 -- steps of which none is refused and none is a signing
 unfoldable pub quiet : Provenance → List Step → Bool
 quiet b [] = true
-quiet b (p ∷ ps) = eqb (provenanceRefusal standard b p) 0 and (not (eqb (p .kind) sign) and quiet (applied b p) ps)
+quiet b (p ∷ ps) = eqb (provenanceRefusal base b p) 0 and (not (eqb (p .kind) sign) and quiet (applied b p) ps)
 
 -- the book after them
 unfoldable pub played : Provenance → List Step → Provenance
@@ -82,9 +86,9 @@ pub play-quiet : (b : Provenance) (ps : List Step) → quiet b ps ≡ true → P
 unfolding quiet played
 play-quiet b [] e = end
 play-quiet b (p ∷ ps) e =
-    let f = both (eqb (provenanceRefusal standard b p) 0) _ e in
+    let f = both (eqb (provenanceRefusal base b p) 0) _ e in
     let g = both (not (eqb (p .kind) sign)) _ (f .1) in
-    then (applies (eqb-true (provenanceRefusal standard b p) 0 (f .0)) (eqb-false (p .kind) sign (not-true (eqb (p .kind) sign) (g .0)))) (play-quiet (applied b p) ps (g .1))
+    then (applies (eqb-true (provenanceRefusal base b p) 0 (f .0)) (eqb-false (p .kind) sign (not-true (eqb (p .kind) sign) (g .0)))) (play-quiet (applied b p) ps (g .1))
 
 -- they note nothing and forget nothing
 applied-notes : (b : Provenance) (p : Step) (t : ℕ) (a : Incarnation) (u : ℕ) (c : Incarnation) → applied b p .noted t a u c ↔ b .noted t a u c

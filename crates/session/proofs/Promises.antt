@@ -10,7 +10,7 @@ use mathlib.Core.List.{List}
 use mathlib.Core.Logic.{_↔_}
 use mathlib.Core.Option.{Option}
 use Rattle.octets.specs.Bytes.{Octets}
-use Rattle.rules.specs.Layout.{base, standard}
+use Rattle.rules.specs.Layout.{Limits, base}
 use Rattle.rules.specs.Calls.{beginAnswer, beginImage, runAnswer, runImage, runReplies, queryRefusal, Offers, showRefusal, shown}
 use Rattle.rules.specs.Groups.{Smallest}
 use Rattle.rules.specs.Heard.{heardAnswer}
@@ -19,59 +19,59 @@ use Rattle.session.specs.Trace.{begun, ran, offered, grouped, told, show
 
 -- ---- what a performed call gives
 
-begin-gives : {img after : List ℕ} {r : ℕ} → Performed base standard img begin (begun r) after → (r ≡ beginAnswer base img) × (after ≡ beginImage base img)
+begin-gives : {m : Limits} {img after : List ℕ} {r : ℕ} → Performed base img (begin m) (begun r) after → (r ≡ beginAnswer base m img) × (after ≡ beginImage base m img)
 begin-gives beginning = (refl, refl)
 
-run-gives : {img after list replies given : List ℕ} {o : Octets list} {start end r : ℕ} → Performed base standard img (run list o start end replies) (ran r given) after
-    → (r ≡ runAnswer base img list start end replies) × (after ≡ runImage base standard img list start end replies) × (given ≡ runReplies base standard img list start end replies)
+run-gives : {img after list replies given : List ℕ} {o : Octets list} {start end r : ℕ} → Performed base img (run list o start end replies) (ran r given) after
+    → (r ≡ runAnswer base img list start end replies) × (after ≡ runImage base img list start end replies) × (given ≡ runReplies base img list start end replies)
 run-gives running = (refl, refl, refl)
 
-offer-gives : {img after : List ℕ} {t r : ℕ} {message : Option ℕ} → Performed base standard img (offer t) (offered r message) after → (r ≡ queryRefusal base img t) × Offers base img t message
+offer-gives : {img after : List ℕ} {t r : ℕ} {message : Option ℕ} → Performed base img (offer t) (offered r message) after → (r ≡ queryRefusal base img t) × Offers base img t message
 offer-gives (offering f) = (refl, f)
 
-smallest-gives : {img after : List ℕ} {t r : ℕ} {group : Option ℕ} → Performed base standard img (smallest t) (grouped r group) after
-    → (r ≡ queryRefusal base img t) × Smallest base standard img t group
+smallest-gives : {img after : List ℕ} {t r : ℕ} {group : Option ℕ} → Performed base img (smallest t) (grouped r group) after
+    → (r ≡ queryRefusal base img t) × Smallest base img t group
 smallest-gives (naming f) = (refl, f)
 
-heard-gives : {img after : List ℕ} {t r : ℕ} {stable : Bool} → Performed base standard img (heard t) (told r stable) after
+heard-gives : {img after : List ℕ} {t r : ℕ} {stable : Bool} → Performed base img (heard t) (told r stable) after
     → (r ≡ queryRefusal base img t) × (stable ≡ heardAnswer base img t)
 heard-gives hearing = (refl, refl)
 
-show-gives : {img after bytes : List ℕ} {n r : ℕ} → Performed base standard img (show n) (showed r bytes) after → (bytes ≡ shown base img n) × (r ≡ showRefusal base img n)
+show-gives : {img after bytes : List ℕ} {n r : ℕ} → Performed base img (show n) (showed r bytes) after → (bytes ≡ shown base img n) × (r ≡ showRefusal base img n)
 show-gives showing = (refl, refl)
 
 -- ---- the contracts
 
-pub begin-promises : {img after : List ℕ} {r : ℕ}
-    → ((r ≡ beginAnswer base img) × (after ≡ beginImage base img))
-    ↔ Performed base standard img begin (begun r) after
+pub begin-promises : {m : Limits} {img after : List ℕ} {r : ℕ}
+    → ((r ≡ beginAnswer base m img) × (after ≡ beginImage base m img))
+    ↔ Performed base img (begin m) (begun r) after
 begin-promises = (λ e. rw (e .0, e .1) beginning, begin-gives)
 
 pub run-promises : {img after list replies given : List ℕ} {o : Octets list} {start end r : ℕ}
     → ((r ≡ runAnswer base img list start end replies)
-    × (after ≡ runImage base standard img list start end replies)
-    × (given ≡ runReplies base standard img list start end replies))
-    ↔ Performed base standard img (run list o start end replies) (ran r given) after
+    × (after ≡ runImage base img list start end replies)
+    × (given ≡ runReplies base img list start end replies))
+    ↔ Performed base img (run list o start end replies) (ran r given) after
 run-promises = (λ e. rw (e .0, e .1, e .2) running, run-gives)
 
 pub offer-promises : {img : List ℕ} {t r : ℕ} {message : Option ℕ}
     → ((r ≡ queryRefusal base img t) × Offers base img t message)
-    ↔ Performed base standard img (offer t) (offered r message) img
+    ↔ Performed base img (offer t) (offered r message) img
 offer-promises = (λ e. rw (e .0) (offering (e .1)), offer-gives)
 
 pub smallest-promises : {img : List ℕ} {t r : ℕ} {group : Option ℕ}
-    → ((r ≡ queryRefusal base img t) × Smallest base standard img t group)
-    ↔ Performed base standard img (smallest t) (grouped r group) img
+    → ((r ≡ queryRefusal base img t) × Smallest base img t group)
+    ↔ Performed base img (smallest t) (grouped r group) img
 smallest-promises = (λ e. rw (e .0) (naming (e .1)), smallest-gives)
 
 pub heard-promises : {img : List ℕ} {t r : ℕ} {stable : Bool}
     → ((r ≡ queryRefusal base img t) × (stable ≡ heardAnswer base img t))
-    ↔ Performed base standard img (heard t) (told r stable) img
+    ↔ Performed base img (heard t) (told r stable) img
 heard-promises = (λ e. rw (e .0, e .1) hearing, heard-gives)
 
 pub show-promises : {img bytes : List ℕ} {n r : ℕ}
     → ((bytes ≡ shown base img n) × (r ≡ showRefusal base img n))
-    ↔ Performed base standard img (show n) (showed r bytes) img
+    ↔ Performed base img (show n) (showed r bytes) img
 show-promises = (λ e. rw (e .0, e .1) showing, show-gives)
 
 -- the refusal that is claimed to be the book's is the answer itself, or what the lent number takes

@@ -18,7 +18,7 @@ use Rattle.octets.proofs.Tests.{pick-zero, and-off}
 use Rattle.octets.proofs.Zero.{both}
 use Rattle.marks.specs.Incarnation.{Checkpointed}
 use Rattle.marks.specs.History.{HistoryView}
-use Rattle.rules.specs.Layout.{Layout, Limits}
+use Rattle.rules.specs.Layout.{Layout}
 use Rattle.rules.specs.Status.{annihilated}
 use Rattle.rules.specs.State.{State, messageAt}
 use Rattle.rules.specs.Step.{sign, done, notReady}
@@ -160,13 +160,13 @@ unfolding Within
 within-right v i u n = meet-named v i u n .1
 
 -- the refusals of a signing
-signing-refusal : (m : Limits) (v : Seen) (g : ℕ) → refusalOf m v (signing g)
+pub signing-refusal : (y : Layout) (v : Seen) (g : ℕ) → refusalOf y v (signing g)
     ≡ pick (eqb g 0) 29
     (pick (anyNamed g (λ t. leb (v .opened) t)) 21
     (pick (anyNamed g (λ t. eqb (v .status t) annihilated)) 22
-    (pick (anyNamed g (λ t. leb (m .checkpoints) (v .checkpoints t))) 30 0)))
+    (pick (anyNamed g (λ t. leb (v .limits .checkpoints) (v .checkpoints t))) 30 0)))
 unfolding refusalOf malformed notWaiting emptyGroup unopened isGone wrongStatus unrelatedReceipt allOpened allWaiting allNumbered allCheckpointed lastRollsBack
-signing-refusal m v g = refl
+signing-refusal y v g = refl
 
 -- a volume of fewer takes
 fewer : (g h : ℕ) (f : ℕ → Bool) → ((t : ℕ) → named g t ≡ true → named h t ≡ true) → anyNamed h f ≡ false → anyNamed g f ≡ false
@@ -177,45 +177,45 @@ fewer g h f k e = any-off (λ t. named g t and f t) groupBits (λ t l. at t l (n
     at t l false n = refl
     at t l true n = and-off (named h t) (f t) (any-at (λ t. named h t and f t) groupBits t e l) (k t n)
 
-module _ {y : Layout} (m : Limits) {s : State} (well : WellFormed y s) where
+module _ {y : Layout} {s : State} (well : WellFormed y s) where
   -- it is not refused, and ready
-  could-to : (v : ℕ) → stepOf y m s (signing v) .reply .outcome ≡ done → (refusal y m s (signing v) ≡ 0) × (groupReady y s v ≡ true)
+  could-to : (v : ℕ) → stepOf y s (signing v) .reply .outcome ≡ done → (refusal y s (signing v) ≡ 0) × (groupReady y s v ≡ true)
   unfolding applySign
-  could-to v e = go (ℕ-discrete (refusal y m s (signing v)) 0)
+  could-to v e = go (ℕ-discrete (refusal y s (signing v)) 0)
     where
-      ready : refusal y m s (signing v) ≡ 0 → (c : Bool) → groupReady y s v ≡ c → groupReady y s v ≡ true
+      ready : refusal y s (signing v) ≡ 0 → (c : Bool) → groupReady y s v ≡ c → groupReady y s v ≡ true
       ready z true r = r
       ready z false r =
-          let q : stepOf y m s (signing v) .reply .outcome ≡ notReady = rw (applied-same y m s (signing v) z, apply-sign y s (signing v) refl, r) in
+          let q : stepOf y s (signing v) .reply .outcome ≡ notReady = rw (applied-same y s (signing v) z, apply-sign y s (signing v) refl, r) in
           absurd (omega arith)
 
-      go : Dec (refusal y m s (signing v) ≡ 0) → (refusal y m s (signing v) ≡ 0) × (groupReady y s v ≡ true)
+      go : Dec (refusal y s (signing v) ≡ 0) → (refusal y s (signing v) ≡ 0) × (groupReady y s v ≡ true)
       go (yes z) = (z, ready z (groupReady y s v) refl)
-      go (no n) = absurd (n (sym (ap (λ (x : Result). x .reply .outcome) (refused-same y m s (signing v) n)) ∙ e))
+      go (no n) = absurd (n (sym (ap (λ (x : Result). x .reply .outcome) (refused-same y s (signing v) n)) ∙ e))
 
-  could-of : (v : ℕ) → refusal y m s (signing v) ≡ 0 → groupReady y s v ≡ true → stepOf y m s (signing v) .reply .outcome ≡ done
+  could-of : (v : ℕ) → refusal y s (signing v) ≡ 0 → groupReady y s v ≡ true → stepOf y s (signing v) .reply .outcome ≡ done
   unfolding applySign
-  could-of v z r = rw (applied-same y m s (signing v) z, apply-sign y s (signing v) refl, r)
+  could-of v z r = rw (applied-same y s (signing v) z, apply-sign y s (signing v) refl, r)
 
   -- the takes that it names are the layout's
-  among : (v : ℕ) → v < bound 2 → refusal y m s (signing v) ≡ 0 → (t : ℕ) → named v t ≡ true → t < y .transactors
+  among : (v : ℕ) → v < bound 2 → refusal y s (signing v) ≡ 0 → (t : ℕ) → named v t ≡ true → t < y .transactors
   unfolding refusal seen
-  among v h z t n = omega (arith, well .opened, named-opened (accepted m (seen y s) (signing v) z) refl t (named-below v t h n) n)
+  among v h z t n = omega (arith, well .opened, named-opened (accepted y (seen y s) (signing v) z) refl t (named-below v t h n) n)
 
-  module _ (t v w : ℕ) (a : Checkpointable y m s t v) (b : Checkpointable y m s t w) where
-    meet-refusal : refusal y m s (signing (meet v w)) ≡ 0
+  module _ (t v w : ℕ) (a : Checkpointable y s t v) (b : Checkpointable y s t w) where
+    meet-refusal : refusal y s (signing (meet v w)) ≡ 0
     unfolding refusal
     meet-refusal =
-        let z = sym (signing-refusal m (seen y s) v) ∙ could-to v (a .signs) .0 in
+        let z = sym (signing-refusal y (seen y s) v) ∙ could-to v (a .signs) .0 in
         let e1 = pick-zero (eqb v 0) 29 _ (omega arith) z in
         let e2 = pick-zero (anyNamed v (λ t. leb (seen y s .opened) t)) 21 _ (omega arith) (e1 .1) in
         let e3 = pick-zero (anyNamed v (λ t. eqb (seen y s .status t) annihilated)) 22 _ (omega arith) (e2 .1) in
-        let e4 = pick-zero (anyNamed v (λ t. leb (m .checkpoints) (seen y s .checkpoints t))) 30 0 (omega arith) (e3 .1) in
+        let e4 = pick-zero (anyNamed v (λ t. leb (seen y s .limits .checkpoints) (seen y s .checkpoints t))) 30 0 (omega arith) (e3 .1) in
         let within : (u : ℕ) → named (meet v w) u ≡ true → named v u ≡ true = λ u n. meet-named v w u n .0 in
         let there : eqb (meet v w) 0 ≡ false = ne-eqb (meet v w) 0 (λ e. false≢true (sym (named-zero t) ∙ ap (λ g. named g t) (sym e) ∙ named-meet v w t (a .bits) (a .contains) (b .contains))) in
-        signing-refusal m (seen y s) (meet v w) ∙ rw (there, fewer (meet v w) v _ within (e2 .0), fewer (meet v w) v _ within (e3 .0), fewer (meet v w) v _ within (e4 .0))
+        signing-refusal y (seen y s) (meet v w) ∙ rw (there, fewer (meet v w) v _ within (e2 .0), fewer (meet v w) v _ within (e3 .0), fewer (meet v w) v _ within (e4 .0))
 
-    ready-of : (g : ℕ) → Checkpointable y m s t g → Ready (view s) (named g)
+    ready-of : (g : ℕ) → Checkpointable y s t g → Ready (view s) (named g)
     ready-of g c =
         let k = could-to g (c .signs) in
         ready-at well g (c .bits) .0 (sym (ready-same well g (c .bits) (among g (c .bits) (k .0))) ∙ k .1)
@@ -241,7 +241,7 @@ module _ {y : Layout} (m : Limits) {s : State} (well : WellFormed y s) where
         } in
         ready-same well (meet v w) (meet-fits v w) (among (meet v w) (meet-fits v w) meet-refusal) ∙ ready-at well (meet v w) (meet-fits v w) .1 ready
 
-    could-meet : Checkpointable y m s t (meet v w)
+    could-meet : Checkpointable y s t (meet v w)
     could-meet = record {
       bits = meet-fits v w;
       contains = named-meet v w t (a .bits) (a .contains) (b .contains);
@@ -251,13 +251,13 @@ module _ {y : Layout} (m : Limits) {s : State} (well : WellFormed y s) where
   -- ---- the smallest among the volumes below i
 
   data Least (t i : ℕ) : Type 0 where
-    no-group : ((v : ℕ) → v < i → Checkpointable y m s t v → ⊥) → Least t i
-    least : (v : ℕ) → Checkpointable y m s t v → ((w : ℕ) → w < i → Checkpointable y m s t w → Within v w) → Least t i
+    no-group : ((v : ℕ) → v < i → Checkpointable y s t v → ⊥) → Least t i
+    least : (v : ℕ) → Checkpointable y s t v → ((w : ℕ) → w < i → Checkpointable y s t w → Within v w) → Least t i
 
-  could : (t v : ℕ) → Dec (Checkpointable y m s t v)
-  could t v = go (decLt v (bound 2)) (named v t) refl (ℕ-discrete (stepOf y m s (signing v) .reply .outcome) done)
+  could : (t v : ℕ) → Dec (Checkpointable y s t v)
+  could t v = go (decLt v (bound 2)) (named v t) refl (ℕ-discrete (stepOf y s (signing v) .reply .outcome) done)
     where
-      go : Dec (v < bound 2) → (c : Bool) → named v t ≡ c → Dec (stepOf y m s (signing v) .reply .outcome ≡ done) → Dec (Checkpointable y m s t v)
+      go : Dec (v < bound 2) → (c : Bool) → named v t ≡ c → Dec (stepOf y s (signing v) .reply .outcome ≡ done) → Dec (Checkpointable y s t v)
       go (no n) c e d = no (λ k. n (k .bits))
       go (yes h) false e d = no (λ k. false≢true (sym e ∙ k .contains))
       go (yes h) true e (no n) = no (λ k. n (k .signs))
@@ -267,20 +267,20 @@ module _ {y : Layout} (m : Limits) {s : State} (well : WellFormed y s) where
   least-among t zero = no-group (λ v h. absurd (omega arith))
   least-among t (suc i) = go (least-among t i) (could t i)
     where
-      go : Least t i → Dec (Checkpointable y m s t i) → Least t (suc i)
-      go (no-group f) (no n) = no-group (one-more (λ v. Checkpointable y m s t v → ⊥) f n)
-      go (no-group f) (yes c) = least i c (one-more (λ w. Checkpointable y m s t w → Within i w) (λ w h k. absurd (f w h k)) (λ k. within-refl i))
-      go (least v c f) (no n) = least v c (one-more (λ w. Checkpointable y m s t w → Within v w) f (λ k. absurd (n k)))
+      go : Least t i → Dec (Checkpointable y s t i) → Least t (suc i)
+      go (no-group f) (no n) = no-group (one-more (λ v. Checkpointable y s t v → ⊥) f n)
+      go (no-group f) (yes c) = least i c (one-more (λ w. Checkpointable y s t w → Within i w) (λ w h k. absurd (f w h k)) (λ k. within-refl i))
+      go (least v c f) (no n) = least v c (one-more (λ w. Checkpointable y s t w → Within v w) f (λ k. absurd (n k)))
       go (least v c f) (yes k) = least (meet v i) (could-meet t v i c k)
-          (one-more (λ w. Checkpointable y m s t w → Within (meet v i) w) (λ w h d. within-left v i w (f w h d)) (λ d. within-right v i))
+          (one-more (λ w. Checkpointable y s t w → Within (meet v i) w) (λ w h d. within-left v i w (f w h d)) (λ d. within-right v i))
 
-pub smallest-exist : {y : Layout} (m : Limits) {img : List ℕ} → WellFormed y (unpack y img) → (t : ℕ) → (group : Option ℕ) × Smallest y m img t group
-smallest-exist {y} m {img} well t = go (ℕ-discrete (queryRefusal y img t) 0)
+pub smallest-exist : {y : Layout} {img : List ℕ} → WellFormed y (unpack y img) → (t : ℕ) → (group : Option ℕ) × Smallest y img t group
+smallest-exist {y} {img} well t = go (ℕ-discrete (queryRefusal y img t) 0)
   where
-    found : queryRefusal y img t ≡ 0 → Least m well t (bound 2) → (group : Option ℕ) × Smallest y m img t group
+    found : queryRefusal y img t ≡ 0 → Least well t (bound 2) → (group : Option ℕ) × Smallest y img t group
     found e (no-group f) = (none, grouping.nothing e (λ v k. f v (k .bits) k))
     found e (least v c f) = (some v, grouping.smallest e c (λ w k. f w (k .bits) k))
 
-    go : Dec (queryRefusal y img t ≡ 0) → (group : Option ℕ) × Smallest y m img t group
+    go : Dec (queryRefusal y img t ≡ 0) → (group : Option ℕ) × Smallest y img t group
     go (no n) = (none, grouping.refused n)
-    go (yes e) = found e (least-among m well t (bound 2))
+    go (yes e) = found e (least-among well t (bound 2))

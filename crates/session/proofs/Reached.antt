@@ -8,7 +8,7 @@ use Rattle.octets.specs.Bytes.{Octets}
 use Rattle.marks.specs.Incarnation.{Incarnation, Checkpointed}
 use Rattle.marks.proofs.Order.{checkpointed-up, checkpointed-under, under-checkpointed, before-checkpointed}
 use Rattle.marks.proofs.Tests.{decCheckpointed}
-use Rattle.rules.specs.Layout.{Layout, Limits, Fitting, Allowed}
+use Rattle.rules.specs.Layout.{Layout, Fitting}
 use Rattle.rules.specs.Pack.{unpack}
 use Rattle.rules.specs.Calls.{stateAfter}
 use Rattle.rules.specs.Refusals.{named}
@@ -25,28 +25,28 @@ use Rattle.session.proofs.Run.{run-right, steps-provenance}
 use Rattle.session.proofs.Demand3.{grown}
 
 -- The book that is fed the calls of a trace, and after them the first i steps of any part.
-pub record Reached (y : Layout) (m : Limits) (b : Provenance) : Type 1 where
+pub record Reached (y : Layout) (b : Provenance) : Type 1 where
   pub image : List ℕ
-  pub trace : Trace y m image
+  pub trace : Trace y image
   pub fed : Provenance
-  pub calls : ProvenanceOf m (callsOf trace) fed
+  pub calls : ProvenanceOf y (callsOf trace) fed
   pub steps : List ℕ
   pub octets : Octets steps
   pub count : ℕ
-  pub run : ProvenanceSteps m fed steps count b
+  pub run : ProvenanceSteps y fed steps count b
 
-module _ {y : Layout} {m : Limits} (z : Fitting y) (l : Allowed y m) {b : Provenance} (k : Reached y m b) where
+module _ {y : Layout} (z : Fitting y) {b : Provenance} (k : Reached y b) where
   -- the ledger's state then
   abbrev ledger : Ledger
-  ledger = view (stateAfter y m (unpack y (k .image)) (k .steps) (k .count))
+  ledger = view (stateAfter y (unpack y (k .image)) (k .steps) (k .count))
 
   -- it is related to the book
   related : Rel ledger b
   related =
-      let g = grown z l (k .trace) in
+      let g = grown z (k .trace) in
       let e : g .provenance ≡ k .fed = provenance-unique (right-provenance (g .right)) (k .calls) in
       let r : Rel (view (unpack y (k .image))) (k .fed) = subst (λ c. Rel (view (unpack y (k .image))) c) e (g .holds .rel) in
-      let s = run-right z l (g .holds .well) r (k .steps) (k .octets) (k .count) in
+      let s = run-right z (g .holds .well) r (k .steps) (k .octets) (k .count) in
       subst (λ c. Rel ledger c) (steps-determined (steps-provenance (s .right)) (k .run)) (s .rel)
 
   -- ---- the two sets of a signing

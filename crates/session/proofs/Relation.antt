@@ -12,6 +12,7 @@ use Rattle.marks.specs.History.{HistoryView, initialView, stabilizedView}
 use Rattle.marks.proofs.Trail.{Precedes}
 use Rattle.marks.proofs.Order.{checkpointed-up, checkpointed-list, checkpointed-irrefl, initial-precedes}
 use Rattle.marks.proofs.Histories.{_⊑_}
+use Rattle.rules.specs.Layout.{Limits}
 use Rattle.session.specs.Provenance.{Status, unused, ready, busy, annihilated, Live, idle, working, In, Holder, WaitingMessage, Provenance, blank, emptyProvenance}
 use Rattle.session.proofs.Model.{Node, MessageView, Ledger, own, bareNode}
 use Rattle.session.proofs.Sets.{SetRel, set-later, set-known, none-rel, cell-none, Coherent, Members}
@@ -116,6 +117,7 @@ pub record NotedRel (now : ℕ → HistoryView) (noted : ℕ → Incarnation →
 
 pub record Rel (l : Ledger) (b : Provenance) : Type 0 where
   -- F: what is plain is the same; a take is unused exactly if it is not opened
+  pub limits : l .limits ≡ b .limits
   pub opened : l .opened ≡ b .opened
   pub next : l .next ≡ b .next
   pub used : (t : ℕ) → t < b .opened → b .holders t .status ≡ unused → ⊥
@@ -210,16 +212,17 @@ blank-rel now t s k = record {
     nothing u a (in-creation i) = List·Memᴰ·not-nil i
     nothing u a (in-behaviour i) = List·Memᴰ·not-nil i
 
-abbrev pub freshLedger : Ledger
-freshLedger = record { opened = 0; next = 0; nodes = λ t. bareNode unused; messages = [] }
+abbrev pub freshLedger : Limits → Ledger
+freshLedger m = record { limits = m; opened = 0; next = 0; nodes = λ t. bareNode unused; messages = [] }
 
-pub fresh-rel : Rel freshLedger emptyProvenance
-fresh-rel = record {
+pub fresh-rel : (m : Limits) → Rel (freshLedger m) (emptyProvenance m)
+fresh-rel m = record {
+  limits = refl;
   opened = refl;
   next = refl;
   used = λ t h. absurd (omega arith);
   fresh = λ t h. refl;
-  holders = λ t. blank-rel (present (emptyProvenance .holders)) t unused (λ h. elim h [ ]);
+  holders = λ t. blank-rel (present (emptyProvenance m .holders)) t unused (λ h. elim h [ ]);
   messages = none2;
   noted = record { grounds = λ t a u c k. absurd k; keys = λ t a u c k. absurd k; own = λ t a s. absurd (nothing-checkpointed unused initialView (λ h. elim h [ ]) s) };
 }

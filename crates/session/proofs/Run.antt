@@ -6,7 +6,7 @@ use lib.ListN.{length, length-append}
 use Rattle.octets.specs.Bytes.{part, chunks, Octets}
 use Rattle.octets.proofs.Chunks.{part-chunks}
 use Rattle.octets.proofs.Numbers.{length-be}
-use Rattle.rules.specs.Layout.{Layout, Limits, Allowed, Fitting}
+use Rattle.rules.specs.Layout.{Layout, Fitting}
 use Rattle.rules.specs.State.{State}
 use Rattle.rules.specs.declared.Reply.{Reply}
 use Rattle.rules.specs.Step.{stepBytes, stepAt, packReply}
@@ -25,19 +25,19 @@ use Rattle.session.proofs.Relation.{Rel}
 use Rattle.session.proofs.Step.{Stepped, step-right}
 
 -- the book after the first i steps: all that is claimed of each, and the relation after them
-pub record Ran (y : Layout) (m : Limits) (s : State) (b : Provenance) (steps : List ℕ) (i : ℕ) : Type 1 where
+pub record Ran (y : Layout) (s : State) (b : Provenance) (steps : List ℕ) (i : ℕ) : Type 1 where
   pub after : Provenance
-  pub right : StepsRight y m s b steps i after
-  pub rel : Rel (view (stateAfter y m s steps i)) after
+  pub right : StepsRight y s b steps i after
+  pub rel : Rel (view (stateAfter y s steps i)) after
 
-module _ {y : Layout} {m : Limits} (z : Fitting y) (l : Allowed y m) {s : State} (well : WellFormed y s) {b : Provenance} (r : Rel (view s) b) (steps : List ℕ) (octets : Octets steps) where
-  one-more : (i : ℕ) → Ran y m s b steps i → Ran y m s b steps (suc i)
+module _ {y : Layout} (z : Fitting y) {s : State} (well : WellFormed y s) {b : Provenance} (r : Rel (view s) b) (steps : List ℕ) (octets : Octets steps) where
+  one-more : (i : ℕ) → Ran y s b steps i → Ran y s b steps (suc i)
   unfolding stateAfter
   one-more i before =
-      let k : Stepped y m (stateAfter y m s steps i) (before .after) (stepAt steps i) = step-right z l (keeps-after z l well steps octets i) (before .rel) (stepOk-at steps octets i) in
+      let k : Stepped y (stateAfter y s steps i) (before .after) (stepAt steps i) = step-right z (keeps-after z well steps octets i) (before .rel) (stepOk-at steps octets i) in
       record { after = k .after; right = trace.more (before .right) (k .right); rel = k .rel }
 
-  pub run-right : (i : ℕ) → Ran y m s b steps i
+  pub run-right : (i : ℕ) → Ran y s b steps i
   unfolding stateAfter
   run-right zero = record { after = b; right = trace.none; rel = r }
   run-right (suc i) = one-more i (run-right i)
@@ -49,12 +49,12 @@ unfolding packReply
 length-packReply r = simp (length-append, length-be)
 
 -- reply i among n packed ones
-pub reply-part : (y : Layout) (m : Limits) (s : State) (steps : List ℕ) (n i : ℕ) → i < n
-    → part (stepBytes * i) stepBytes (chunks n (replyAt y m s steps)) ≡ packReply (stepOf y m (stateAfter y m s steps i) (stepAt steps i) .reply)
+pub reply-part : (y : Layout) (s : State) (steps : List ℕ) (n i : ℕ) → i < n
+    → part (stepBytes * i) stepBytes (chunks n (replyAt y s steps)) ≡ packReply (stepOf y (stateAfter y s steps i) (stepAt steps i) .reply)
 unfolding replyAt
-reply-part y m s steps n i h = part-chunks stepBytes (replyAt y m s steps) (λ j. length-packReply _) n i h
+reply-part y s steps n i h = part-chunks stepBytes (replyAt y s steps) (λ j. length-packReply _) n i h
 
 -- the book takes these steps
-pub steps-provenance : {y : Layout} {m : Limits} {s : State} {b c : Provenance} {steps : List ℕ} {i : ℕ} → StepsRight y m s b steps i c → ProvenanceSteps m b steps i c
+pub steps-provenance : {y : Layout} {s : State} {b c : Provenance} {steps : List ℕ} {i : ℕ} → StepsRight y s b steps i c → ProvenanceSteps y b steps i c
 steps-provenance trace.none = provenance.none
 steps-provenance (trace.more before right) = provenance.more (steps-provenance before) (right .provenance)

@@ -5,7 +5,7 @@ use mathlib.Core.Path.{_≡_, ap, sym, _∙_}
 use lib.ListN.{length}
 use Rattle.octets.specs.Bytes.{_and_}
 use Rattle.marks.specs.History.{HistoryView}
-use Rattle.rules.specs.Layout.{Limits}
+use Rattle.rules.specs.Layout.{Layout}
 use Rattle.rules.specs.declared.Step.{Step}
 use Rattle.rules.specs.Refusals.{Seen, refusalOf}
 use Rattle.session.specs.Provenance.{statusNumber, Provenance, find}
@@ -17,6 +17,7 @@ use Rattle.session.proofs.Messages.{find-rel, missing-same, ReceiptTest
 
 -- what the table of refusals looks at is the same, field by field
 pub record SameSeen (v w : Seen) : Type 0 where
+  pub limits : v .limits ≡ w .limits
   pub opened : v .opened ≡ w .opened
   pub next : v .next ≡ w .next
   pub waiting : v .waiting ≡ w .waiting
@@ -31,6 +32,7 @@ pub record SameSeen (v w : Seen) : Type 0 where
 
 pub same-seen : {v w : Seen} → SameSeen v w → v ≡ w
 same-seen s = λ i. record {
+  limits = s .limits i;
   opened = s .opened i;
   next = s .next i;
   waiting = s .waiting i;
@@ -48,6 +50,7 @@ same-seen s = λ i. record {
 -- shown is the opening one.
 unfoldable pub seenOf : Ledger → (ℕ → Bool) → (ℕ → Bool) → (ℕ → Bool) → Seen
 seenOf l d e f = record {
+  limits = l .limits;
   opened = l .opened;
   next = l .next;
   waiting = length (l .messages);
@@ -83,6 +86,7 @@ module _ (l : Ledger) (b : Provenance) (r : Rel l b) (d e f : ℕ → Bool)
   pub seen-same : SameSeen (seenOf l d e f) (provenanceSeen b)
   unfolding seenOf provenanceSeen
   seen-same = record {
+    limits = r .limits;
     opened = r .opened;
     next = r .next;
     waiting = all2-length (r .messages);
@@ -96,6 +100,6 @@ module _ (l : Ledger) (b : Provenance) (r : Rel l b) (d e f : ℕ → Bool)
     unrelated = λ n. related n ∙ sym (receipt-related l b r n);
   }
 
-  pub refusal-same : (m : Limits) (p : Step) → refusalOf m (seenOf l d e f) p ≡ provenanceRefusal m b p
+  pub refusal-same : (y : Layout) (p : Step) → refusalOf y (seenOf l d e f) p ≡ provenanceRefusal y b p
   unfolding provenanceRefusal
-  refusal-same m p = ap (λ v. refusalOf m v p) (same-seen seen-same)
+  refusal-same y p = ap (λ v. refusalOf y v p) (same-seen seen-same)

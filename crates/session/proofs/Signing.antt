@@ -72,6 +72,7 @@ module _ (l : Ledger) (b : Provenance) (r : Rel l b) (g : ℕ) (ok : Ready l (na
   pub step-sign : Rel (signLedger l (named g)) (signs b g)
   unfolding checkpointedNodes checkpointedAt
   step-sign = record {
+    limits = r .limits;
     opened = r .opened;
     next = r .next;
     used = λ t k. pick-view (λ (h : Holder). h .status ≡ unused → ⊥) (named g t) (anewAt t) (b .holders t) (λ e. live-used idle) (λ e. r .used t k);

@@ -9,9 +9,7 @@ use mathlib.Core.Option.{Option, none, some}
 use native.Mathlib.Decide.{ℕ-discrete}
 use lib.Dec.{eqb}
 use borrow.Author.Tests.{eq-eqb, eqb-true}
-use Rattle.octets.specs.Bytes.{_and_}
 use Rattle.octets.specs.Numbers.{bound}
-use Rattle.octets.proofs.Zero.{both}
 use Rattle.marks.specs.Incarnation.{Incarnation}
 use Rattle.marks.specs.History.{HistoryView}
 use Rattle.marks.proofs.Trail.{Under}
@@ -22,7 +20,7 @@ use Rattle.rules.specs.Refusals.{groupBits, named}
 use Rattle.rules.proofs.Bits.{named-add, add-fits}
 use Rattle.session.specs.Provenance.{Live, Incarnations, In, Provenance, find}
 use Rattle.session.specs.Grounds.{in-state, in-creation}
-use Rattle.session.specs.Steps.{isRolledBack, signing}
+use Rattle.session.specs.Steps.{isRolledBack}
 use Rattle.session.specs.Waiting.{none}
 use Rattle.session.proofs.Model.{Ledger, own, findMessage, knownMap}
 use Rattle.session.proofs.Tables.{or-to, or-of}

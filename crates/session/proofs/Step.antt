@@ -9,7 +9,7 @@ use borrow.Author.Tests.{eq-eqb}
 use Rattle.marks.specs.History.{HistoryView, viewOf}
 use Rattle.maps.proofs.News.{informedTable}
 use Rattle.maps.proofs.View.{view-some}
-use Rattle.rules.specs.Layout.{Layout, Limits, Allowed}
+use Rattle.rules.specs.Layout.{Layout}
 use Rattle.rules.specs.Layout as layout
 use Rattle.rules.specs.State.{Transactor, Message, State, transactorAt, messageAt, ownHistory, placeOf}
 use Rattle.rules.specs.declared.Step.{Step}
@@ -99,50 +99,50 @@ matches-rel {y} {s} {b} well r t =
 -- ---- every step
 
 -- the book after step p: all that is claimed of the step, and the relation after it
-pub record Stepped (y : Layout) (m : Limits) (s : State) (b : Provenance) (p : Step) : Type 1 where
+pub record Stepped (y : Layout) (s : State) (b : Provenance) (p : Step) : Type 1 where
   pub after : Provenance
-  pub right : StepRight y m s b p after
-  pub rel : Rel (view (stepOf y m s p .state)) after
+  pub right : StepRight y s b p after
+  pub rel : Rel (view (stepOf y s p .state)) after
 
-module _ {y : Layout} {m : Limits} (z : layout.Fitting y) (l : Allowed y m) {s : State} (well : WellFormed y s) {b : Provenance} (r : Rel (view s) b) {p : Step} (ok : StepOk p) where
-  same : refusal y m s p ≡ provenanceRefusal m b p
-  same = same-refusal well m r p
+module _ {y : Layout} (z : layout.Fitting y) {s : State} (well : WellFormed y s) {b : Provenance} (r : Rel (view s) b) {p : Step} (ok : StepOk p) where
+  same : refusal y s p ≡ provenanceRefusal y b p
+  same = same-refusal well r p
 
-  is-refused : (provenanceRefusal m b p ≡ 0 → ⊥) → (stepOf y m s p .reply ≡ answer (provenanceRefusal m b p) 0 0 0) × (stepOf y m s p .state ≡ s)
+  is-refused : (provenanceRefusal y b p ≡ 0 → ⊥) → (stepOf y s p .reply ≡ answer (provenanceRefusal y b p) 0 0 0) × (stepOf y s p .state ≡ s)
   is-refused n =
-      let e : stepOf y m s p ≡ record { reply = answer (refusal y m s p) 0 0 0; state = s } = refused-same y m s p (λ e. n (sym same ∙ e)) in
+      let e : stepOf y s p ≡ record { reply = answer (refusal y s p) 0 0 0; state = s } = refused-same y s p (λ e. n (sym same ∙ e)) in
       (ap (λ (x : Result). x .reply) e ∙ ap (λ (n : ℕ). answer n 0 0 0) same, ap (λ (x : Result). x .state) e)
 
-  module _ (zero : provenanceRefusal m b p ≡ 0) where
-    is-applied : stepOf y m s p ≡ apply y s p
-    is-applied = applied-same y m s p (same ∙ zero)
+  module _ (zero : provenanceRefusal y b p ≡ 0) where
+    is-applied : stepOf y s p ≡ apply y s p
+    is-applied = applied-same y s p (same ∙ zero)
 
-    reply-accepted : stepOf y m s p .reply .outcome ≤ notReady
+    reply-accepted : stepOf y s p .reply .outcome ≤ notReady
     reply-accepted = rw is-applied (apply-outcome y s p)
 
     module _ (k : p .kind ≡ sign) where
-      is-signing : stepOf y m s p ≡ applySign y s p
+      is-signing : stepOf y s p ≡ applySign y s p
       is-signing = is-applied ∙ apply-sign y s p k
 
       -- the ledger's test holds exactly if the two sets are equal
       ready-exact : (groupReady y s (p .message) ≡ true) ↔ Equal b (p .message)
       unfolding refusal
       ready-exact =
-          let a = applicable well l (ok .message) (accepted m (seen y s) p (same ∙ zero)) in
+          let a = applicable well (ok .message) (accepted y (seen y s) p (same ∙ zero)) in
           rw (ready-same well (p .message) (ok .message) (a .among (eq-eqb (p .kind) sign k)))
-          (sign-exact informedTable informed-law (view s) b r m p zero (droppedAt y s (p .message)) (rolledBackAt y s (p .message)) (readyAt y s (p .message)) (step-tests well p (ok .message)) k (ok .message))
+          (sign-exact informedTable informed-law (view s) b r y p zero (droppedAt y s (p .message)) (rolledBackAt y s (p .message)) (readyAt y s (p .message)) (step-tests well p (ok .message)) k (ok .message))
 
-      signing-right : SigningRight y m s b p
+      signing-right : SigningRight y s b p
       unfolding applySign
       signing-right = go (groupReady y s (p .message)) refl
         where
-          go : (t : Bool) → groupReady y s (p .message) ≡ t → SigningRight y m s b p
+          go : (t : Bool) → groupReady y s (p .message) ≡ t → SigningRight y s b p
           go true e = checkpointed (ready-exact .0 e) (rw (is-signing, e)) (rw (is-signing, e))
           go false e = uncheckpointed (λ q. false≢true (sym e ∙ ready-exact .1 q)) (rw (is-signing, e)) (rw (is-signing, e))
 
-  pub step-right : Stepped y m s b p
+  pub step-right : Stepped y s b p
   step-right =
-      let k = state-kept well m r l p (ok .message) in
+      let k = state-kept well r p (ok .message) in
       record {
         after = k .after;
         right = record {
@@ -150,8 +150,8 @@ module _ {y : Layout} {m : Limits} (z : layout.Fitting y) (l : Allowed y m) {s :
           refused = is-refused;
           accepted = reply-accepted;
           signing = signing-right;
-          matches = matches-rel (keeps z l well ok) (k .rel);
-          sound = rel-sound (view (stepOf y m s p .state)) (k .after) (k .rel);
+          matches = matches-rel (keeps z well ok) (k .rel);
+          sound = rel-sound (view (stepOf y s p .state)) (k .after) (k .rel);
         };
         rel = k .rel;
       }

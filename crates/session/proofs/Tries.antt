@@ -6,12 +6,13 @@ use mathlib.Core.List.{List, [], _∷_, _++_, List·Memᴰ·head, List·Memᴰ·
 use mathlib.Core.Logic.{_⊎_, inl, inr, ⊎-elim}
 use native.Mathlib.Omega.{arith}
 use lib.ListN.{length, length-append}
+use Rattle.octets.specs.Numbers.{bound}
 use Rattle.marks.specs.Incarnation.{Incarnation, initialIncarnation, Checkpointed, begins, sameList, beginsWith, strictPrefix, supersededBy}
 use Rattle.marks.specs.Relation.{byNumbers, byNextEntry, relationOf}
 use Rattle.marks.proofs.Order.{checkpointed-irrefl}
 use Rattle.maps.specs.Table.{updated}
 use Rattle.octets.specs.Bytes.{any}
-use Rattle.rules.specs.Layout.{standard}
+use Rattle.rules.specs.Layout.{Limits, base}
 use Rattle.rules.specs.declared.Step.{Step}
 use Rattle.rules.specs.Step.{read, freeze, finish, fail}
 use Rattle.rules.specs.Refusals.{named, anyNamed, malformed, notWaiting, emptyGroup, unopened, isGone, wrongStatus, unrelatedReceipt, allOpened, allWaiting, allNumbered, allCheckpointed, atLast, lastRollsBack, refusalOf}
@@ -20,7 +21,7 @@ use Rattle.session.specs.Grounds.{from-start, from-noted, from-list, Gro
 use Rattle.session.specs.Unrelated.{unrelatedEntry, anyUnrelated, isUnrelatedTo}
 use Rattle.session.specs.Steps.{rolledBackHolder, reads, writes, freezes, finishes, rollsBackOrFinishes, rollsBackOrStays, acted, isDropped, isRolledBack, received, signs, checkpointedAt, NotedBy, before, now-checkpointed, opensRoot, opensChild, receives, applied, provenanceSeen, provenanceRefusal, signing, not-ready}
 use Rattle.session.proofs.Accepted.{named-within}
-use Rattle.session.proofs.Plays.{aRoot, aLetter, aReceive, aNew, aSend, aWrite, aStep, aSign, Play, end, then, After, play-on, quiet, played, play-quiet, played-notes, entry-cases, one-case, ground-state, differs, brings-itself, alone-equal, pair-equal, only-3, only-6}
+use Rattle.session.proofs.Plays.{wideProvenance, aRoot, aLetter, aReceive, aNew, aSend, aWrite, aStep, aSign, Play, end, then, After, play-on, quiet, played, play-quiet, played-notes, entry-cases, one-case, ground-state, differs, brings-itself, alone-equal, pair-equal, only-3, only-6}
 
 -- ---- document 01's session
 
@@ -41,7 +42,7 @@ abbrev pub carriedOn : List Step
 carriedOn = aRoot 3 ∷ aLetter 1 4 ∷ aReceive 2 ∷ aSend 1 2 5 ∷ aReceive 3 ∷ aWrite 2 6 ∷ aStep freeze 2 ∷ aStep freeze 1 ∷ []
 
 provenance9 : Provenance
-provenance9 = played emptyProvenance firstNine
+provenance9 = played wideProvenance firstNine
 
 provenance11 : Provenance
 provenance11 = played provenance9 (aStep freeze 0 ∷ [])
@@ -71,7 +72,7 @@ abbrev pub thenTold : List Step
 thenTold = aLetter 0 5 ∷ aReceive 2 ∷ aSend 0 1 6 ∷ aReceive 3 ∷ aWrite 1 7 ∷ aStep freeze 1 ∷ aStep finish 1 ∷ aStep fail 0 ∷ aLetter 0 8 ∷ aReceive 4 ∷ aSend 0 1 9 ∷ []
 
 uncheckpointedProvenance : Provenance
-uncheckpointedProvenance = played emptyProvenance upToSigning
+uncheckpointedProvenance = played wideProvenance upToSigning
 
 checkpointedProvenance : Provenance
 checkpointedProvenance = signs uncheckpointedProvenance 1
@@ -97,7 +98,7 @@ abbrev pub readSteps : List Step
 readSteps = aStep read 1 ∷ aSend 1 2 9 ∷ []
 
 unreadProvenance : Provenance
-unreadProvenance = played emptyProvenance unreadSteps
+unreadProvenance = played wideProvenance unreadSteps
 
 readProvenance : Provenance
 readProvenance = played unreadProvenance readSteps
@@ -113,10 +114,29 @@ abbrev pub openerSteps : List Step
 openerSteps = childSteps ++ (aSign 2 ∷ aStep freeze 0 ∷ [])
 
 childProvenance : Provenance
-childProvenance = played emptyProvenance childSteps
+childProvenance = played wideProvenance childSteps
 
 openerProvenance : Provenance
 openerProvenance = played childProvenance (aStep freeze 0 ∷ [])
+
+-- ---- a small book (document 02, W7)
+
+abbrev pub smallLimits : Limits
+smallLimits = record { transactors = 2; messages = 1; checkpoints = 1 }
+
+-- root 1; root 2; letter to 0
+abbrev pub smallSteps : List Step
+smallSteps = aRoot 1 ∷ aRoot 2 ∷ aLetter 0 3 ∷ []
+
+-- take 0 receives, is frozen and signed; and once more, up to the second signing
+abbrev pub receiveAndFreeze : ℕ → List Step
+receiveAndFreeze n = aReceive n ∷ aStep freeze 0 ∷ []
+
+pub smallProvenance : Provenance
+smallProvenance = played (emptyProvenance smallLimits) smallSteps
+
+pub usedProvenance : Provenance
+usedProvenance = played (signs (played smallProvenance (receiveAndFreeze 0)) 1) (aLetter 0 4 ∷ receiveAndFreeze 1)
 
 -- ---- what computes
 
@@ -141,14 +161,14 @@ abbrev holder : Status → Bool → Incarnation → Incarnations → Incarnation
 holder s f a state behaviour = child s f a state [] behaviour
 
 record Computed : Type 0 where
-  quiet-9 : quiet emptyProvenance firstNine ≡ true
+  quiet-9 : quiet wideProvenance firstNine ≡ true
   zero-9 : provenance9 .holders 0 ≡ holder busy false incarnation0 (one 0 incarnation0) []
   one-9 : provenance9 .holders 1 ≡ holder busy true incarnation0 (one 0 incarnation0 ++ one 1 incarnation0) (one 0 incarnation0)
-  sign-10 : provenanceRefusal standard provenance9 (aSign 2) ≡ 0
+  sign-10 : provenanceRefusal base provenance9 (aSign 2) ≡ 0
   quiet-11 : quiet provenance9 (aStep freeze 0 ∷ []) ≡ true
   zero-11 : provenance11 .holders 0 ≡ holder busy true incarnation0 (one 0 incarnation0) []
   one-11 : provenance11 .holders 1 ≡ holder busy true incarnation0 (one 0 incarnation0 ++ one 1 incarnation0) (one 0 incarnation0)
-  sign-12 : provenanceRefusal standard provenance11 (aSign 3) ≡ 0
+  sign-12 : provenanceRefusal base provenance11 (aSign 3) ≡ 0
   quiet-13 : quiet (signs provenance11 3) (aStep fail 0 ∷ []) ≡ true
   zero-13 : provenance13 .holders 0 ≡ holder ready false incarnation2 (one 0 incarnation2) []
   one-13 : provenance13 .holders 1 ≡ holder ready false incarnation1 (one 1 incarnation1) []
@@ -156,36 +176,41 @@ record Computed : Type 0 where
   zero-carried : carriedProvenance .holders 0 ≡ holder ready false incarnation1 (one 0 incarnation1) []
   one-carried : carriedProvenance .holders 1 ≡ holder busy true incarnation1 (one 1 incarnation1) []
   two-carried : carriedProvenance .holders 2 ≡ holder busy true incarnation0 (one 1 incarnation1 ++ one 2 incarnation0) (one 1 incarnation1)
-  sign-carried : provenanceRefusal standard carriedProvenance (aSign 6) ≡ 0
-  quiet-uncheckpointed : quiet emptyProvenance upToSigning ≡ true
+  sign-carried : provenanceRefusal base carriedProvenance (aSign 6) ≡ 0
+  quiet-uncheckpointed : quiet wideProvenance upToSigning ≡ true
   zero-uncheckpointed : uncheckpointedProvenance .holders 0 ≡ holder busy true incarnation0 (one 0 incarnation0) []
-  sign-uncheckpointed : provenanceRefusal standard uncheckpointedProvenance (aSign 1) ≡ 0
+  sign-uncheckpointed : provenanceRefusal base uncheckpointedProvenance (aSign 1) ≡ 0
   quiet-old : quiet checkpointedProvenance oldMessage ≡ true
   one-old : oldProvenance .holders 1 ≡ holder busy false incarnation0 (one 0 incarnation2 ++ one 1 incarnation0) (one 0 incarnation0)
   quiet-rolledBack : quiet checkpointedProvenance thenRolledBack ≡ true
   zero-rolledBack : rolledBackProvenance .holders 0 ≡ holder busy true incarnation2 (one 0 incarnation2) []
-  sign-rolledBack : provenanceRefusal standard rolledBackProvenance (aSign 1) ≡ 0
+  sign-rolledBack : provenanceRefusal base rolledBackProvenance (aSign 1) ≡ 0
   zero-again : againProvenance .holders 0 ≡ holder ready false incarnation3 (one 0 incarnation3) []
   one-again : againProvenance .holders 1 ≡ holder busy true incarnation0 (one 0 incarnation1 ++ one 1 incarnation0) (one 0 incarnation1)
   quiet-told : quiet checkpointedProvenance thenTold ≡ true
   one-told : toldProvenance .holders 1 ≡ holder ready true incarnation0 (one 0 incarnation1 ++ one 1 incarnation0) []
   quiet-gone : quiet toldProvenance (aReceive 5 ∷ []) ≡ true
   one-gone : played toldProvenance (aReceive 5 ∷ []) .holders 1 .status ≡ annihilated
-  quiet-unread : quiet emptyProvenance unreadSteps ≡ true
+  quiet-unread : quiet wideProvenance unreadSteps ≡ true
   one-unread : unreadProvenance .holders 1 .state ≡ one 0 incarnation0 ++ one 1 incarnation0
   sent-unread : find 3 (unreadProvenance .messages) .incarnations ≡ one 1 incarnation0
   quiet-read : quiet unreadProvenance readSteps ≡ true
   sent-read : find 4 (readProvenance .messages) .incarnations ≡ one 0 incarnation0 ++ one 1 incarnation0 ++ one 1 incarnation0
-  quiet-child : quiet emptyProvenance childSteps ≡ true
+  quiet-child : quiet wideProvenance childSteps ≡ true
   zero-child : childProvenance .holders 0 ≡ holder busy false incarnation0 (one 0 incarnation0) (one 1 incarnation0)
   one-child : childProvenance .holders 1 ≡ child busy true incarnation0 (one 1 incarnation0) (one 0 incarnation0) []
-  sign-child : provenanceRefusal standard childProvenance (aSign 2) ≡ 0
+  sign-child : provenanceRefusal base childProvenance (aSign 2) ≡ 0
   quiet-opener : quiet childProvenance (aStep freeze 0 ∷ []) ≡ true
   zero-opener : openerProvenance .holders 0 ≡ holder busy true incarnation0 (one 0 incarnation0) (one 1 incarnation0)
   one-opener : openerProvenance .holders 1 ≡ child busy true incarnation0 (one 1 incarnation0) (one 0 incarnation0) []
+  quiet-small : quiet (emptyProvenance smallLimits) smallSteps ≡ true
+  third-take : provenanceRefusal base smallProvenance (aRoot 4) ≡ 25
+  second-message : provenanceRefusal base smallProvenance (aLetter 0 5) ≡ 26
+  first-checkpoint : provenanceRefusal base (played smallProvenance (receiveAndFreeze 0)) (aSign 1) ≡ 0
+  second-checkpoint : provenanceRefusal base usedProvenance (aSign 1) ≡ 30
 
 computed : Computed
-unfolding quiet played provenanceRefusal provenanceSeen refusalOf malformed notWaiting emptyGroup unopened isGone wrongStatus unrelatedReceipt allOpened allWaiting allNumbered allCheckpointed atLast lastRollsBack any named anyNamed updated remove find isMissing anyEntry supersededEntry anySuperseded sameList beginsWith strictPrefix supersededBy rolledBackHolder reads writes freezes finishes rollsBackOrFinishes rollsBackOrStays acted isDropped isRolledBack received opensRoot opensChild receives applied checkpointedAt provenance9 provenance11 provenance13 carriedProvenance uncheckpointedProvenance checkpointedProvenance oldProvenance rolledBackProvenance againProvenance toldProvenance unreadProvenance readProvenance childProvenance openerProvenance isUnrelatedTo unrelatedEntry anyUnrelated relationOf byNumbers byNextEntry
+unfolding bound smallProvenance usedProvenance quiet played provenanceRefusal provenanceSeen refusalOf malformed notWaiting emptyGroup unopened isGone wrongStatus unrelatedReceipt allOpened allWaiting allNumbered allCheckpointed atLast lastRollsBack any named anyNamed updated remove find isMissing anyEntry supersededEntry anySuperseded sameList beginsWith strictPrefix supersededBy rolledBackHolder reads writes freezes finishes rollsBackOrFinishes rollsBackOrStays acted isDropped isRolledBack received opensRoot opensChild receives applied checkpointedAt provenance9 provenance11 provenance13 carriedProvenance uncheckpointedProvenance checkpointedProvenance oldProvenance rolledBackProvenance againProvenance toldProvenance unreadProvenance readProvenance childProvenance openerProvenance isUnrelatedTo unrelatedEntry anyUnrelated relationOf byNumbers byNextEntry
 computed = record {
   quiet-9 = refl;
   zero-9 = refl;
@@ -229,6 +254,11 @@ computed = record {
   quiet-opener = refl;
   zero-opener = refl;
   one-opener = refl;
+  quiet-small = refl;
+  third-take = refl;
+  second-message = refl;
+  first-checkpoint = refl;
+  second-checkpoint = refl;
 }
 
 -- ---- document 01's session, through the book
@@ -240,7 +270,7 @@ differ-2 b g e = differs 1 refl (from-start g) (λ s. checkpointed-irrefl (rw e 
 
 none-11 : (t : ℕ) (a : Incarnation) (u : ℕ) (c : Incarnation) → provenance11 .noted t a u c → ⊥
 unfolding provenance9 provenance11
-none-11 t a u c x = played-notes emptyProvenance firstNine t a u c .0 (played-notes provenance9 (aStep freeze 0 ∷ []) t a u c .0 x)
+none-11 t a u c x = played-notes wideProvenance firstNine t a u c .0 (played-notes provenance9 (aStep freeze 0 ∷ []) t a u c .0 x)
 
 -- both takes are frozen, and rest on nothing but the two
 equal-3 : Equal provenance11 3
@@ -253,15 +283,15 @@ equal-3 = pair-equal only-3 refl refl (λ t a u c x. absurd (none-11 t a u c x))
 differ-9 : Equal provenance9 2 → ⊥
 differ-9 = differ-2 provenance9 (rw (computed .one-9) (in-state (List·Memᴰ·head refl))) (rw (computed .zero-9))
 
-play-9 : Play emptyProvenance firstNine provenance9
+play-9 : Play wideProvenance firstNine provenance9
 unfolding provenance9
-play-9 = play-quiet emptyProvenance firstNine (computed .quiet-9)
+play-9 = play-quiet wideProvenance firstNine (computed .quiet-9)
 
-play-11 : Play emptyProvenance firstEleven provenance11
+play-11 : Play wideProvenance firstEleven provenance11
 unfolding provenance11
 play-11 = play-on play-9 (then (not-ready (computed .sign-10) refl differ-9) (play-quiet provenance9 (aStep freeze 0 ∷ []) (computed .quiet-11)))
 
-play-13 : Play emptyProvenance thirteen provenance13
+play-13 : Play wideProvenance thirteen provenance13
 unfolding provenance13
 play-13 = play-on play-11 (then (signing (computed .sign-12) refl equal-3) (play-quiet (signs provenance11 3) (aStep fail 0 ∷ []) (computed .quiet-13)))
 
@@ -362,7 +392,7 @@ value-rests = record {
 
 none-uncheckpointed : (t : ℕ) (a : Incarnation) (u : ℕ) (c : Incarnation) → uncheckpointedProvenance .noted t a u c → ⊥
 unfolding uncheckpointedProvenance
-none-uncheckpointed t a u c x = played-notes emptyProvenance upToSigning t a u c .0 x
+none-uncheckpointed t a u c x = played-notes wideProvenance upToSigning t a u c .0 x
 
 -- take 0 rested on its opening life alone
 only-0 : (t : ℕ) → named 1 t ≡ true → (u : ℕ) (c : Incarnation) → RestsOn uncheckpointedProvenance t u c → (u ≡ 0) × (c ≡ incarnation0)
@@ -376,9 +406,9 @@ only-0 t n u c r = opening u c (brings-itself none-uncheckpointed (λ u a g. ap 
 equal-uncheckpointed : Equal uncheckpointedProvenance 1
 equal-uncheckpointed = alone-equal (computed .zero-uncheckpointed) refl refl working refl (λ t a u c x. absurd (none-uncheckpointed t a u c x))
 
-play-checkpointed : Play emptyProvenance (upToSigning ++ (aSign 1 ∷ [])) checkpointedProvenance
+play-checkpointed : Play wideProvenance (upToSigning ++ (aSign 1 ∷ [])) checkpointedProvenance
 unfolding uncheckpointedProvenance checkpointedProvenance
-play-checkpointed = play-on (play-quiet emptyProvenance upToSigning (computed .quiet-uncheckpointed)) (then (signing (computed .sign-uncheckpointed) refl equal-uncheckpointed) end)
+play-checkpointed = play-on (play-quiet wideProvenance upToSigning (computed .quiet-uncheckpointed)) (then (signing (computed .sign-uncheckpointed) refl equal-uncheckpointed) end)
 
 -- what was noted at the first signing is signed
 noted-checkpointed : (t : ℕ) (a : Incarnation) (u : ℕ) (c : Incarnation) → rolledBackProvenance .noted t a u c → CheckpointedNow rolledBackProvenance u c
@@ -442,11 +472,11 @@ not-spared = record {
 -- that life only once it has read.
 pub unread-sent : After unreadSteps (λ b. (b .holders 1 .state ≡ one 0 incarnation0 ++ one 1 incarnation0) × (find 3 (b .messages) .incarnations ≡ one 1 incarnation0))
 unfolding unreadProvenance
-unread-sent = record { provenance = unreadProvenance; play = play-quiet emptyProvenance unreadSteps (computed .quiet-unread); holds = (computed .one-unread, computed .sent-unread) }
+unread-sent = record { provenance = unreadProvenance; play = play-quiet wideProvenance unreadSteps (computed .quiet-unread); holds = (computed .one-unread, computed .sent-unread) }
 
 pub read-sent : After (unreadSteps ++ readSteps) (λ b. find 4 (b .messages) .incarnations ≡ one 0 incarnation0 ++ one 1 incarnation0 ++ one 1 incarnation0)
 unfolding unreadProvenance readProvenance
-read-sent = record { provenance = readProvenance; play = play-on (play-quiet emptyProvenance unreadSteps (computed .quiet-unread)) (play-quiet unreadProvenance readSteps (computed .quiet-read)); holds = computed .sent-read }
+read-sent = record { provenance = readProvenance; play = play-on (play-quiet wideProvenance unreadSteps (computed .quiet-unread)) (play-quiet unreadProvenance readSteps (computed .quiet-read)); holds = computed .sent-read }
 
 -- "Signing a take alone because each of its grounds is frozen." In document 01's session after step 11 both takes are frozen;
 -- take 1 alone can't be signed.
@@ -460,7 +490,7 @@ differ-child = differ-2 childProvenance (rw (computed .one-child) (in-creation (
 
 none-opener : (t : ℕ) (a : Incarnation) (u : ℕ) (c : Incarnation) → openerProvenance .noted t a u c → ⊥
 unfolding childProvenance openerProvenance
-none-opener t a u c x = played-notes emptyProvenance childSteps t a u c .0 (played-notes childProvenance (aStep freeze 0 ∷ []) t a u c .0 x)
+none-opener t a u c x = played-notes wideProvenance childSteps t a u c .0 (played-notes childProvenance (aStep freeze 0 ∷ []) t a u c .0 x)
 
 -- the child rests on its own life, and on its opener's by its creation set
 child-rests : (u : ℕ) (a : Incarnation) → Ground (child busy true incarnation0 (one 1 incarnation0) (one 0 incarnation0) []) u a → ((u ≡ 0) × (a ≡ incarnation0)) ⊎ ((u ≡ 1) × (a ≡ incarnation0))
@@ -474,9 +504,9 @@ equal-opener = pair-equal only-3 refl refl (λ t a u c x. absurd (none-opener t 
     (record { is = computed .one-opener; live = working; stable = refl; own = List·Memᴰ·head refl })
     (λ u a. ⊎-elim (λ g. inl (one-case (ground-state refl u a g))) (child-rests u a))
 
-play-child : Play emptyProvenance childSteps childProvenance
+play-child : Play wideProvenance childSteps childProvenance
 unfolding childProvenance
-play-child = play-quiet emptyProvenance childSteps (computed .quiet-child)
+play-child = play-quiet wideProvenance childSteps (computed .quiet-child)
 
 -- The child is frozen and its state set is its own life, but its opener, in its creation set, is not signed: it can't be signed alone.
 pub child-alone : After childSteps (λ b. (b .holders 1 .state ≡ one 1 incarnation0) × (Equal b 2 → ⊥))
@@ -490,3 +520,10 @@ child-with-opener = record {
   play = play-on play-child (then (not-ready (computed .sign-child) refl differ-child) (play-quiet childProvenance (aStep freeze 0 ∷ []) (computed .quiet-opener)));
   holds = equal-opener;
 }
+
+-- ---- the limits that a session begins with
+
+-- With two takes, one parcel and one signing: the third take gets 25, the second parcel 26, the second signing 30.
+pub small-book : (provenanceRefusal base smallProvenance (aRoot 4) ≡ 25) × (provenanceRefusal base smallProvenance (aLetter 0 5) ≡ 26)
+    × (provenanceRefusal base (played smallProvenance (receiveAndFreeze 0)) (aSign 1) ≡ 0) × (provenanceRefusal base usedProvenance (aSign 1) ≡ 30)
+small-book = (computed .third-take, computed .second-message, computed .first-checkpoint, computed .second-checkpoint)

@@ -13,7 +13,7 @@ use Rattle.marks.specs.Relation.{relationOf, isUnrelated}
 use Rattle.marks.proofs.Related.{related-before}
 use Rattle.maps.specs.Internal.View.{MapView}
 use Rattle.maps.proofs.News.{informedTable}
-use Rattle.rules.specs.Layout.{Layout, Limits, base, standard, Fitting, Allowed}
+use Rattle.rules.specs.Layout.{Layout, Limits, inRange, base, Fitting}
 use Rattle.rules.specs.State.{State, fresh}
 use Rattle.rules.specs.declared.Step.{Step}
 use Rattle.rules.specs.Step.{stepAt}
@@ -23,7 +23,7 @@ use Rattle.rules.specs.Internal.Well.{WellFormed}
 use Rattle.rules.specs.Calls.{stateAfter}
 use Rattle.rules.proofs.Keep.Run.{stepOk-at}
 use Rattle.rules.proofs.Keep.State.{well-fresh}
-use Rattle.rules.proofs.Keep.Step.{keeps-after, fitting-base, allowed-standard}
+use Rattle.rules.proofs.Keep.Step.{keeps-after, fitting-base}
 use Rattle.session.specs.Provenance.{Provenance, emptyProvenance, find}
 use Rattle.session.specs.Steps.{isDropped, isRolledBack, provenanceRefusal}
 use Rattle.session.specs.Fed as provenance
@@ -83,10 +83,10 @@ pub record Tests (l : Ledger) (d e f : ℕ → Bool) : Type 0 where
   pub unrelated : (n : ℕ) → (f n ≡ true) ↔ UnrelatedView (findMessage n (l .messages) .dependences) (knownMap (l .nodes (findMessage n (l .messages) .addressee)))
 
 -- the ledger after the first i steps of a part, from the ledger l on, with the news w: refusals and tests are its own
-pub data Played (w : News) (m : Limits) (l : Ledger) (steps : List ℕ) : ℕ → Ledger → Type 0 where
-  none : Played w m l steps 0 l
-  more : {i : ℕ} {k : Ledger} → Played w m l steps i k → (d e f : ℕ → Bool) (ok : Bool) → Tests k d e f → (ok ≡ true) ↔ Ready k (named (stepAt steps i .message))
-      → Played w m l steps (suc i) (stepLedger w (refusalOf m (seenOf k d e f) (stepAt steps i)) (d (stepAt steps i .message)) (e (stepAt steps i .message)) ok k (stepAt steps i))
+pub data Played (w : News) (y : Layout) (l : Ledger) (steps : List ℕ) : ℕ → Ledger → Type 0 where
+  none : Played w y l steps 0 l
+  more : {i : ℕ} {k : Ledger} → Played w y l steps i k → (d e f : ℕ → Bool) (ok : Bool) → Tests k d e f → (ok ≡ true) ↔ Ready k (named (stepAt steps i .message))
+      → Played w y l steps (suc i) (stepLedger w (refusalOf y (seenOf k d e f) (stepAt steps i)) (d (stepAt steps i .message)) (e (stepAt steps i .message)) ok k (stepAt steps i))
 
 -- beside a book no pair is unrelated
 no-pair : (l : Ledger) (b : Provenance) → Rel l b → (n : ℕ) → UnrelatedView (findMessage n (l .messages) .dependences) (knownMap (l .nodes (findMessage n (l .messages) .addressee))) → ⊥
@@ -102,30 +102,30 @@ never true g n = absurd (n (g refl))
 never false g n = refl
 
 -- the book after them, related to the ledger after them
-pub record Beside (m : Limits) (b : Provenance) (steps : List ℕ) (i : ℕ) (l : Ledger) : Type 1 where
+pub record Beside (y : Layout) (b : Provenance) (steps : List ℕ) (i : ℕ) (l : Ledger) : Type 1 where
   pub after : Provenance
-  pub fed : ProvenanceSteps m b steps i after
+  pub fed : ProvenanceSteps y b steps i after
   pub rel : Rel l after
 
-module _ (m : Limits) (steps : List ℕ) (octets : Octets steps) where
+module _ (y : Layout) (steps : List ℕ) (octets : Octets steps) where
   one-more : {w : News} → NewsLaw w → {k : Ledger} {b : Provenance} {i : ℕ} (d e f : ℕ → Bool) (ok : Bool) → Tests k d e f → (ok ≡ true) ↔ Ready k (named (stepAt steps i .message))
-      → Beside m b steps i k
-      → Beside m b steps (suc i) (stepLedger w (refusalOf m (seenOf k d e f) (stepAt steps i)) (d (stepAt steps i .message)) (e (stepAt steps i .message)) ok k (stepAt steps i))
+      → Beside y b steps i k
+      → Beside y b steps (suc i) (stepLedger w (refusalOf y (seenOf k d e f) (stepAt steps i)) (d (stepAt steps i .message)) (e (stepAt steps i .message)) ok k (stepAt steps i))
   one-more {w} law {k} {b} {i} d e f ok t z before =
       let c = before .after in
       let p : Step = stepAt steps i in
       let related : (n : ℕ) → f n ≡ false = λ n. never (f n) (t .unrelated n .0) (no-pair k c (before .rel) n) in
-      let same : refusalOf m (seenOf k d e f) p ≡ provenanceRefusal m c p = refusal-same k c (before .rel) d e f (t .receipt) related m p in
-      let n : Kept m c p (stepLedger w (refusalOf m (seenOf k d e f) p) (d (p .message)) (e (p .message)) ok k p) =
-      step-kept w law k c (before .rel) m p (stepOk-at steps octets i .message) (d (p .message)) (e (p .message)) ok (record { receipt = t .receipt (p .message); ready = z }) (refusalOf m (seenOf k d e f) p) same in
+      let same : refusalOf y (seenOf k d e f) p ≡ provenanceRefusal y c p = refusal-same k c (before .rel) d e f (t .receipt) related y p in
+      let n : Kept y c p (stepLedger w (refusalOf y (seenOf k d e f) p) (d (p .message)) (e (p .message)) ok k p) =
+      step-kept w law k c (before .rel) y p (stepOk-at steps octets i .message) (d (p .message)) (e (p .message)) ok (record { receipt = t .receipt (p .message); ready = z }) (refusalOf y (seenOf k d e f) p) same in
       record { after = n .after; fed = provenance.more (before .fed) (n .step); rel = n .rel }
 
-  beside : {w : News} → NewsLaw w → {l k : Ledger} {b : Provenance} → Rel l b → {i : ℕ} → Played w m l steps i k → Beside m b steps i k
+  beside : {w : News} → NewsLaw w → {l k : Ledger} {b : Provenance} → Rel l b → {i : ℕ} → Played w y l steps i k → Beside y b steps i k
   beside law {b = b} r none = record { after = b; fed = provenance.none; rel = r }
   beside law r (more before d e f ok t z) = one-more law d e f ok t z (beside law r before)
 
   -- the same steps with one news and with another
-  pub unchanged : {w v : News} → NewsLaw w → NewsLaw v → {l k l' k' : Ledger} {b : Provenance} → Rel l b → Rel k b → {i : ℕ} → Played w m l steps i l' → Played v m k steps i k'
+  pub unchanged : {w v : News} → NewsLaw w → NewsLaw v → {l k l' k' : Ledger} {b : Provenance} → Rel l b → Rel k b → {i : ℕ} → Played w y l steps i l' → Played v y k steps i k'
       → (g : ℕ) → Ready l' (named g) ↔ Ready k' (named g)
   unchanged law law' {l' = l'} {k' = k'} r s p q g =
       let x = beside law r p in
@@ -135,37 +135,37 @@ module _ (m : Limits) (steps : List ℕ) (octets : Octets steps) where
 
 -- ---- the ledger with its news is one of them
 
-module _ {y : Layout} {m : Limits} (z : Fitting y) (l : Allowed y m) {s : State} (well : WellFormed y s) {b : Provenance} (r : Rel (view s) b) (steps : List ℕ) (octets : Octets steps) where
-  pub state-played : (i : ℕ) → Played informedTable m (view s) steps i (view (stateAfter y m s steps i))
+module _ {y : Layout} (z : Fitting y) {s : State} (well : WellFormed y s) {b : Provenance} (r : Rel (view s) b) (steps : List ℕ) (octets : Octets steps) where
+  pub state-played : (i : ℕ) → Played informedTable y (view s) steps i (view (stateAfter y s steps i))
   unfolding stateAfter
   state-played zero = none
   state-played (suc i) =
-      let now : State = stateAfter y m s steps i in
+      let now : State = stateAfter y s steps i in
       let p : Step = stepAt steps i in
       let bits : p .message < bound 2 = stepOk-at steps octets i .message in
-      let w = keeps-after z l well steps octets i in
+      let w = keeps-after z well steps octets i in
       let before = state-played i in
-      let c = beside m steps octets informed-law r before in
+      let c = beside y steps octets informed-law r before in
       let tests : Tests (view now) (droppedAt y now) (rolledBackAt y now) (receiptUnrelated y now) = record {
         receipt = receipt-tests w;
         unrelated = λ n. (λ e. absurd (false≢true (sym (state-related now (c .after) (c .rel) y n) ∙ e)), λ k. absurd (no-pair (view now) (c .after) (c .rel) n k));
       } in
-      rw (view-step w m l p bits, view-refusal w m p) (more before (droppedAt y now) (rolledBackAt y now) (receiptUnrelated y now) (readyAt y now (p .message)) tests (ready-at w (p .message) bits))
+      rw (view-step w p bits, view-refusal w p) (more before (droppedAt y now) (rolledBackAt y now) (receiptUnrelated y now) (readyAt y now (p .message)) tests (ready-at w (p .message) bits))
 
   -- and with any other news, or none, the same steps can be played from a ledger related to the same book
   module _ {w : News} (law : NewsLaw w) {k : Ledger} (t : Rel k b) where
-    pub played-too : (i : ℕ) → (after : Ledger) × Played w m k steps i after
+    pub played-too : (i : ℕ) → (after : Ledger) × Played w y k steps i after
     played-too zero = (k, none)
     played-too (suc i) =
         let before = played-too i in
         let x : Ledger = before .0 in
-        let now : State = stateAfter y m s steps i in
+        let now : State = stateAfter y s steps i in
         let g : ℕ = stepAt steps i .message in
-        let c = beside m steps octets informed-law r (state-played i) in
-        let o = beside m steps octets law t (before .1) in
+        let c = beside y steps octets informed-law r (state-played i) in
+        let o = beside y steps octets law t (before .1) in
         let a : Provenance = o .after in
         let e : Rel (view now) a = subst (λ d. Rel (view now) d) (steps-determined (c .fed) (o .fed)) (c .rel) in
-        let ready : (readyAt y now g ≡ true) ↔ Ready (view now) (named g) = ready-at (keeps-after z l well steps octets i) g (stepOk-at steps octets i .message) in (
+        let ready : (readyAt y now g ≡ true) ↔ Ready (view now) (named g) = ready-at (keeps-after z well steps octets i) g (stepOk-at steps octets i .message) in (
           _,
           more (before .1)
               (λ n. isDropped (a .holders (findMessage n (x .messages) .addressee)) (find n (a .messages)))
@@ -181,22 +181,23 @@ module _ {y : Layout} {m : Limits} (z : Fitting y) (l : Allowed y m) {s : State}
               (λ h. signs-same (view now) x a e (o .rel) g (ready .0 h), λ h. ready .1 (signs-same x (view now) a (o .rel) e g h)),
         )
 
-abbrev fresh-related : (y : Layout) → Rel (view (fresh y)) emptyProvenance
-fresh-related y = subst (λ (k : Ledger). Rel k emptyProvenance) (sym (view-fresh y)) fresh-rel
+module _ {y : Layout} (z : Fitting y) (m : Limits) (r : inRange y m ≡ true) (steps : List ℕ) (octets : Octets steps) (i : ℕ) where
+  fresh-related : Rel (view (fresh y m)) (emptyProvenance m)
+  fresh-related = subst (λ (k : Ledger). Rel k (emptyProvenance m)) (sym (view-fresh y m)) (fresh-rel m)
 
--- Every list of steps can be played without news, from a fresh ledger.
-pub without-news : {y : Layout} {m : Limits} → Fitting y → Allowed y m → (steps : List ℕ) → Octets steps → (i : ℕ) → (k : Ledger) × Played silent m freshLedger steps i k
-without-news {y} z l steps octets = played-too z l (well-fresh y) (fresh-related y) steps octets silent-law fresh-rel
+  -- Every list of steps can be played without news, from a fresh ledger.
+  pub without-news : (k : Ledger) × Played silent y (freshLedger m) steps i k
+  without-news = played-too z (well-fresh z m r) fresh-related steps octets silent-law (fresh-rel m) i
 
--- From a fresh session, after any steps: the volumes that sign are those that sign in the ledger that had no news.
-pub signs-unchanged : {y : Layout} {m : Limits} → Fitting y → Allowed y m → (steps : List ℕ) → Octets steps → (i : ℕ) {k : Ledger} → Played silent m freshLedger steps i k
-    → (g : ℕ) → g < bound 2 → (readyAt y (stateAfter y m (fresh y) steps i) g ≡ true) ↔ Ready k (named g)
-signs-unchanged {y} {m} z l steps octets i p g bits =
-    let q = state-played z l (well-fresh y) (fresh-related y) steps octets i in
-    let u = unchanged m steps octets informed-law silent-law (fresh-related y) fresh-rel q p g in
-    let t = ready-at (keeps-after z l (well-fresh y) steps octets i) g bits in
-    (λ e. u .0 (t .0 e), λ k. t .1 (u .1 k))
+  -- From a fresh session, after any steps: the volumes that sign are those that sign in the ledger that had no news.
+  pub signs-unchanged : {k : Ledger} → Played silent y (freshLedger m) steps i k
+      → (g : ℕ) → g < bound 2 → (readyAt y (stateAfter y (fresh y m) steps i) g ≡ true) ↔ Ready k (named g)
+  signs-unchanged p g bits =
+      let q = state-played z (well-fresh z m r) fresh-related steps octets i in
+      let u = unchanged y steps octets informed-law silent-law fresh-related (fresh-rel m) q p g in
+      let t = ready-at (keeps-after z (well-fresh z m r) steps octets i) g bits in
+      (λ e. u .0 (t .0 e), λ k. t .1 (u .1 k))
 
-pub signs-unchanged-base : (steps : List ℕ) → Octets steps → (i : ℕ) {k : Ledger} → Played silent standard freshLedger steps i k
-    → (g : ℕ) → g < bound 2 → (readyAt base (stateAfter base standard (fresh base) steps i) g ≡ true) ↔ Ready k (named g)
-signs-unchanged-base = signs-unchanged fitting-base allowed-standard
+pub signs-unchanged-base : (m : Limits) → inRange base m ≡ true → (steps : List ℕ) → Octets steps → (i : ℕ) {k : Ledger} → Played silent base (freshLedger m) steps i k
+    → (g : ℕ) → g < bound 2 → (readyAt base (stateAfter base (fresh base m) steps i) g ≡ true) ↔ Ready k (named g)
+signs-unchanged-base = signs-unchanged fitting-base

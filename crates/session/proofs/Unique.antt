@@ -1,9 +1,10 @@
 -- The book is determined by the calls it is fed.
 use Prim.Native.Nat.{ℕ}
 use mathlib.Core.Path.{_≡_, refl, subst}
-use mathlib.Core.List.{List}
-use Rattle.rules.specs.Layout.{Layout, Limits}
+use mathlib.Core.List.{List, []}
+use Rattle.rules.specs.Layout.{Layout}
 use Rattle.rules.specs.Step.{stepAt}
+use Rattle.rules.proofs.Calls.Begin.{begin-accepted}
 use Rattle.session.specs.Provenance.{Provenance}
 use Rattle.session.specs.Steps.{ProvenanceStep}
 use Rattle.session.specs.Fed as provenance
@@ -11,21 +12,21 @@ use Rattle.session.specs.Fed.{Call, ProvenanceSteps, ProvenanceCall, pro
 use Rattle.session.specs.Trace.{Trace, callsOf, Right, opened-right, called-right}
 use Rattle.session.proofs.Kept.{provenance-determined}
 
-pub steps-determined : {m : Limits} {b c d : Provenance} {steps : List ℕ} {i : ℕ} → ProvenanceSteps m b steps i c → ProvenanceSteps m b steps i d → c ≡ d
+pub steps-determined : {y : Layout} {b c d : Provenance} {steps : List ℕ} {i : ℕ} → ProvenanceSteps y b steps i c → ProvenanceSteps y b steps i d → c ≡ d
 steps-determined provenance.none provenance.none = refl
-steps-determined {m} {b} {c} {d} {steps} (provenance.more {i} p q) (provenance.more r s) =
-    provenance-determined (subst (λ x. ProvenanceStep m x (stepAt steps i) c) (steps-determined p r) q) s
+steps-determined {y} {b} {c} {d} {steps} (provenance.more {i} p q) (provenance.more r s) =
+    provenance-determined (subst (λ x. ProvenanceStep y x (stepAt steps i) c) (steps-determined p r) q) s
 
-call-determined : {m : Limits} {b d e : Provenance} {c : Call} → ProvenanceCall m b c d → ProvenanceCall m b c e → d ≡ e
+call-determined : {y : Layout} {b d e : Provenance} {c : Call} → ProvenanceCall y b c d → ProvenanceCall y b c e → d ≡ e
 call-determined (provenance-refuses n) (provenance-refuses k) = refl
-call-determined (provenance-refuses n) provenance-begins = absurd (n refl)
+call-determined (provenance-refuses n) (provenance-begins z) = absurd (n z)
 call-determined (provenance-refuses n) (provenance-runs z p) = absurd (n z)
 call-determined (provenance-refuses n) (provenance-offers z) = refl
 call-determined (provenance-refuses n) (provenance-names z) = refl
 call-determined (provenance-refuses n) (provenance-hears z) = refl
 call-determined (provenance-refuses n) (provenance-shows z) = refl
-call-determined provenance-begins (provenance-refuses n) = absurd (n refl)
-call-determined provenance-begins provenance-begins = refl
+call-determined (provenance-begins z) (provenance-refuses n) = absurd (n z)
+call-determined (provenance-begins z) (provenance-begins k) = refl
 call-determined (provenance-runs z p) (provenance-refuses n) = absurd (n z)
 call-determined (provenance-runs z p) (provenance-runs y q) = steps-determined p q
 call-determined (provenance-offers z) (provenance-refuses n) = refl
@@ -37,13 +38,19 @@ call-determined (provenance-hears z) (provenance-hears y) = refl
 call-determined (provenance-shows z) (provenance-refuses n) = refl
 call-determined (provenance-shows z) (provenance-shows y) = refl
 
+-- no book is fed no call: the first one is a begin
+nothing-fed : {y : Layout} {b : Provenance} → ProvenanceOf y [] b → ⊥
+nothing-fed p = elim p [ ]
+
 -- Two books that are fed the same calls are equal.
-pub provenance-unique : {m : Limits} {cs : List Call} {b c : Provenance} → ProvenanceOf m cs b → ProvenanceOf m cs c → b ≡ c
-provenance-unique new-provenance new-provenance = refl
-provenance-unique {m} {b = b} (fed {c = k} p q) (fed r s) = call-determined (subst (λ x. ProvenanceCall m x k b) (provenance-unique p r) q) s
+pub provenance-unique : {y : Layout} {cs : List Call} {b c : Provenance} → ProvenanceOf y cs b → ProvenanceOf y cs c → b ≡ c
+provenance-unique (new-provenance r) (new-provenance s) = refl
+provenance-unique (new-provenance r) (fed p q) = absurd (nothing-fed p)
+provenance-unique (fed p q) (new-provenance r) = absurd (nothing-fed p)
+provenance-unique {y} {b = b} (fed {c = k} p q) (fed r s) = call-determined (subst (λ x. ProvenanceCall y x k b) (provenance-unique p r) q) s
 
 -- The book that is right of a trace is the one that is fed its calls.
-pub right-provenance : {y : Layout} {m : Limits} {img : List ℕ} {τ : Trace y m img} {b : Provenance} → Right y m img τ b → ProvenanceOf m (callsOf τ) b
+pub right-provenance : {y : Layout} {img : List ℕ} {τ : Trace y img} {b : Provenance} → Right y img τ b → ProvenanceOf y (callsOf τ) b
 unfolding callsOf
-right-provenance (opened-right h s) = new-provenance
+right-provenance {y} (opened-right {m} {img} {e} h s) = new-provenance (begin-accepted y img m e .0)
 right-provenance (called-right r k) = fed (right-provenance r) (k .provenance)

@@ -36,6 +36,7 @@ module _ {y : Layout} {s : State} (well : WellFormed y s) where
   pub view-seen : seen y s ≡ seenOf (view s) (droppedAt y s) (rolledBackAt y s) (receiptUnrelated y s)
   unfolding seen seenOf view receiptRollsBack droppedAt rolledBackAt
   view-seen = λ i. record {
+    limits = s .limits;
     opened = s .opened;
     next = s .next;
     waiting = sym (length-map (s .messages) viewMessage) i;

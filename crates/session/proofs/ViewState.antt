@@ -23,7 +23,7 @@ use Rattle.maps.specs.Internal.View.{mapView}
 use Rattle.maps.proofs.Map.{outside}
 use Rattle.maps.proofs.Tables.{updated-is}
 use Rattle.maps.proofs.View.{roomy-entry, within-ok, view-past, view-empty, view-singleton}
-use Rattle.rules.specs.Layout.{Layout}
+use Rattle.rules.specs.Layout.{Layout, Limits}
 use Rattle.rules.specs.State.{Transactor, Message, State, bare, noMap, noTransactor, noMessage, transactorAt, messageAt, fresh, ownHistory, withTransactor, withOpened, withMessage, withoutMessage, placeFrom, numbered, placeOf}
 use Rattle.rules.specs.State as state
 use Rattle.rules.specs.Refusals.{named}
@@ -74,15 +74,15 @@ module _ (s : State) (t : ℕ) (x : Transactor) (below : t < length (s .transact
 
   pub view-withTransactor : view (withTransactor s t x) ≡ withNode (view s) t (viewNode x)
   unfolding view withTransactor transactorAt
-  view-withTransactor = λ i. record { opened = s .opened; next = s .next; nodes = λ u. nodes-with u i; messages = map viewMessage (s .messages) }
+  view-withTransactor = λ i. record { limits = s .limits; opened = s .opened; next = s .next; nodes = λ u. nodes-with u i; messages = map viewMessage (s .messages) }
 
 pub view-opened : (s : State) (x : Transactor) → s .opened < length (s .transactors) → view (opened s x) ≡ openNode (view s) (viewNode x)
 unfolding opened view withOpened withTransactor transactorAt
-view-opened s x below = λ i. record { opened = s .opened + 1; next = s .next; nodes = λ u. nodes-with s (s .opened) x below u i; messages = map viewMessage (s .messages) }
+view-opened s x below = λ i. record { limits = s .limits; opened = s .opened + 1; next = s .next; nodes = λ u. nodes-with s (s .opened) x below u i; messages = map viewMessage (s .messages) }
 
-pub view-fresh : (y : Layout) → view (fresh y) ≡ freshLedger
+pub view-fresh : (y : Layout) (m : Limits) → view (fresh y m) ≡ freshLedger m
 unfolding view fresh transactorAt statusOf
-view-fresh y = λ i. record { opened = 0; next = 0; nodes = λ t. each t i; messages = [] }
+view-fresh y m = λ i. record { limits = m; opened = 0; next = 0; nodes = λ t. each t i; messages = [] }
   where
     each : (t : ℕ) → viewNode (getD (replicate (y .transactors) (bare y state.unused)) t noTransactor) ≡ bareNode unused
     each t = ⊎-elim
@@ -129,6 +129,7 @@ module _ {y : Layout} {s : State} (well : WellFormed y s) where
 pub view-withMessage : (s : State) (to v : ℕ) (m : DependenceMap) → view (withMessage s to v m) ≡ withMessageView (view s) to (mapView m)
 unfolding view withMessage transactorAt
 view-withMessage s to v m = λ i. record {
+  limits = s .limits;
   opened = s .opened;
   next = s .next + 1;
   nodes = λ t. viewNode (getD (s .transactors) t noTransactor);
@@ -203,7 +204,7 @@ module _ (s : State) (p : ℕ) where
 
   pub view-withoutMessage : view (withoutMessage s (placeOf s p)) ≡ withoutMessageView (view s) p
   unfolding view withoutMessage transactorAt
-  view-withoutMessage = rw place-in (λ i. record { opened = s .opened; next = s .next; nodes = λ t. viewNode (getD (s .transactors) t noTransactor); messages = remove-in p (s .messages) i })
+  view-withoutMessage = rw place-in (λ i. record { limits = s .limits; opened = s .opened; next = s .next; nodes = λ t. viewNode (getD (s .transactors) t noTransactor); messages = remove-in p (s .messages) i })
 
 -- ---- sign
 
@@ -242,4 +243,4 @@ module _ {y : Layout} {s : State} (well : WellFormed y s) (g : ℕ) where
 
     pub view-checkpointGroup : view (checkpointGroup y s g) ≡ signLedger (view s) (named g)
     unfolding view checkpointGroup transactorAt
-    view-checkpointGroup = λ i. record { opened = s .opened; next = s .next; nodes = λ t. checkpointed-at t i; messages = map viewMessage (s .messages) }
+    view-checkpointGroup = λ i. record { limits = s .limits; opened = s .opened; next = s .next; nodes = λ t. checkpointed-at t i; messages = map viewMessage (s .messages) }

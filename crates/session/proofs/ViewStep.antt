@@ -13,7 +13,7 @@ use Rattle.octets.proofs.Chunks.{sides}
 use Rattle.octets.proofs.Zero.{both, every-all, every-at}
 use Rattle.marks.specs.History.{HistoryView}
 use Rattle.maps.proofs.News.{informedTable}
-use Rattle.rules.specs.Layout.{Layout, Limits, Allowed}
+use Rattle.rules.specs.Layout.{Layout}
 use Rattle.rules.specs.State.{Transactor, State, transactorAt, ownHistory, placeOf}
 use Rattle.rules.specs.declared.Step.{Step}
 use Rattle.rules.specs.Step.{root, letter, receive, new, send, fail, lose, sign}
@@ -136,39 +136,39 @@ module _ {y : Layout} {s : State} {p : Step} (well : WellFormed y s) (bits : p .
       let high : k ≤ fail = omega (arith, a .kind, eqb-false k lose e5, eqb-false k sign e6) in
       view-acted well p (acting low high)
 
-module _ {y : Layout} {m : Limits} {s : State} {p : Step} (well : WellFormed y s) (allowed : Allowed y m) (bits : p .message < bound 2) (ok : Accepted m (seen y s) p) where
+module _ {y : Layout} {s : State} {p : Step} (well : WellFormed y s) (bits : p .message < bound 2) (ok : Accepted y (seen y s) p) where
   pub applicable : Applicable y s p
   unfolding seen
   applicable = record {
     kind = kind-known ok;
-    opens = λ e. omega (arith, allowed .transactors-high, one-unopened ok e);
+    opens = λ e. omega (arith, well .limits .transactors-high, one-unopened ok e);
     acting = λ e. omega (arith, well .opened, transactor-opened ok (or-of (eqb (p .kind) letter) (acts (p .kind)) (inr e)));
     waits = λ e. leb-false (length (s .messages)) (placeOf s (p .message)) (message-waits ok (or-of (eqb (p .kind) receive) (eqb (p .kind) lose) (inl e)));
     among = λ e t n. omega (arith, well .opened, named-opened ok e t (named-below (p .message) t bits n) n);
-    room = λ e t n. omega (arith, allowed .checkpoints-high, named-room ok e t (named-below (p .message) t bits n) n);
+    room = λ e t n. omega (arith, well .limits .checkpoints-high, named-room ok e t (named-below (p .message) t bits n) n);
   }
 
 -- ---- every step
 
-module _ {y : Layout} {s : State} (well : WellFormed y s) (m : Limits) where
-  pub view-refusal : (p : Step) → refusal y m s p ≡ refusalOf m (seenOf (view s) (droppedAt y s) (rolledBackAt y s) (receiptUnrelated y s)) p
+module _ {y : Layout} {s : State} (well : WellFormed y s) where
+  pub view-refusal : (p : Step) → refusal y s p ≡ refusalOf y (seenOf (view s) (droppedAt y s) (rolledBackAt y s) (receiptUnrelated y s)) p
   unfolding refusal
-  view-refusal p = ap (λ v. refusalOf m v p) (view-seen well)
+  view-refusal p = ap (λ v. refusalOf y v p) (view-seen well)
 
-  pub view-step : Allowed y m → (p : Step) → p .message < bound 2
-      → view (stepOf y m s p .state) ≡ stepLedger informedTable (refusal y m s p) (droppedAt y s (p .message)) (rolledBackAt y s (p .message)) (readyAt y s (p .message)) (view s) p
+  pub view-step : (p : Step) → p .message < bound 2
+      → view (stepOf y s p .state) ≡ stepLedger informedTable (refusal y s p) (droppedAt y s (p .message)) (rolledBackAt y s (p .message)) (readyAt y s (p .message)) (view s) p
   unfolding stepOf stepLedger refusal
-  view-step allowed p bits =
-      let n : ℕ = refusal y m s p in
+  view-step p bits =
+      let n : ℕ = refusal y s p in
       pick-both Leaves (eqb n 0) (eqb n 0) refl _ _ _ _
-      (λ e. view-apply well bits (applicable well allowed bits (accepted m (seen y s) p (eqb-true n 0 e))))
+      (λ e. view-apply well bits (applicable well bits (accepted y (seen y s) p (eqb-true n 0 e))))
       (λ e. refl)
 
   -- beside a book that is related to the view: refused with the same number, and related again after
   module _ {b : Provenance} (r : Rel (view s) b) where
-    pub same-refusal : (p : Step) → refusal y m s p ≡ provenanceRefusal m b p
-    same-refusal p = view-refusal p ∙ refusal-same (view s) b r (droppedAt y s) (rolledBackAt y s) (receiptUnrelated y s) (receipt-tests well) (state-related s b r y) m p
+    pub same-refusal : (p : Step) → refusal y s p ≡ provenanceRefusal y b p
+    same-refusal p = view-refusal p ∙ refusal-same (view s) b r (droppedAt y s) (rolledBackAt y s) (receiptUnrelated y s) (receipt-tests well) (state-related s b r y) y p
 
-    pub state-kept : Allowed y m → (p : Step) → p .message < bound 2 → Kept m b p (view (stepOf y m s p .state))
-    state-kept allowed p bits = rw (view-step allowed p bits)
-        (step-kept informedTable informed-law (view s) b r m p bits (droppedAt y s (p .message)) (rolledBackAt y s (p .message)) (readyAt y s (p .message)) (step-tests well p bits) (refusal y m s p) (same-refusal p))
+    pub state-kept : (p : Step) → p .message < bound 2 → Kept y b p (view (stepOf y s p .state))
+    state-kept p bits = rw (view-step p bits)
+        (step-kept informedTable informed-law (view s) b r y p bits (droppedAt y s (p .message)) (rolledBackAt y s (p .message)) (readyAt y s (p .message)) (step-tests well p bits) (refusal y s p) (same-refusal p))

@@ -16,7 +16,7 @@ use Rattle.maps.specs.declared.DependenceMap.{DependenceMap}
 use Rattle.maps.specs.Map.{heldAt, historyAt}
 use Rattle.maps.specs.Internal.View.{mapView, SupersededView}
 use Rattle.maps.proofs.View.{view-some}
-use Rattle.rules.specs.Layout.{Layout, Limits, Fitting, Allowed, base, standard}
+use Rattle.rules.specs.Layout.{Layout, Fitting, base}
 use Rattle.rules.specs.State.{Message, State, transactorAt, messageAt, placeOf}
 use Rattle.rules.specs.declared.Step.{Step}
 use Rattle.rules.specs.declared.Reply.{Reply}
@@ -30,8 +30,8 @@ use Rattle.rules.specs.Internal.Well.{StepOk, WellFormed}
 use Rattle.rules.proofs.ByKind.Applied.{applies}
 use Rattle.rules.proofs.Pack.RoundTrip.{unpack-pack}
 use Rattle.rules.proofs.Keep.Run.{stepOk-at}
-use Rattle.rules.proofs.Keep.Step.{refused-same, applied-same, keeps, keeps-after, fitting-base, allowed-standard}
-use Rattle.session.specs.Provenance.{ready, Live, Holder, Provenance}
+use Rattle.rules.proofs.Keep.Step.{refused-same, applied-same, keeps, keeps-after, fitting-base}
+use Rattle.session.specs.Provenance.{Live, Holder, Provenance}
 use Rattle.session.specs.Grounds.{Equal}
 use Rattle.session.specs.Steps.{provenanceRefusal, signing}
 use Rattle.session.specs.Fed.{Call}
@@ -39,7 +39,7 @@ use Rattle.session.specs.Trace.{Answer, Performed, beginning, running, o
 use Rattle.session.specs.Waiting.{ReadyGroup, Grounded, Falls, falls-back, vanishes, falls-last, Stands, NoSigning, Waits, Waiting, none, one-more}
 use Rattle.session.proofs.Model.{MessageView, own, findMessage, knownMap, view}
 use Rattle.session.proofs.Tables.{pick-view}
-use Rattle.session.proofs.Relation.{live-or-not, present, Rel, own-history}
+use Rattle.session.proofs.Relation.{live-or-not, Rel, own-history}
 use Rattle.session.proofs.Accepted.{named-live}
 use Rattle.session.proofs.Sign.{EntryReady, Ready, ready-live, equal-ready}
 use Rattle.session.proofs.ViewState.{own-view, view-find}
@@ -58,9 +58,9 @@ module _ (x : ℕ) (free : 0 ≡ x → ⊥) (others : (n : ℕ) → 20 ≤ n →
   other true n r h k i = others n h k
   other false n r h k i = i
 
-  refusal-else : (m : Limits) (w : Seen) (p : Step) → lastRollsBack m w p ≡ false → refusalOf m w p ≡ x → ⊥
+  refusal-else : (y : Layout) (w : Seen) (p : Step) → lastRollsBack y w p ≡ false → refusalOf y w p ≡ x → ⊥
   unfolding refusalOf
-  refusal-else m w p e =
+  refusal-else y w p e =
       other (malformed p) 20 _ (omega arith) (omega arith)
       (other (notWaiting w p) 24 _ (omega arith) (omega arith)
       (other (emptyGroup p) 29 _ (omega arith) (omega arith)
@@ -68,16 +68,16 @@ module _ (x : ℕ) (free : 0 ≡ x → ⊥) (others : (n : ℕ) → 20 ≤ n →
       (other (isGone w p) 22 _ (omega arith) (omega arith)
       (other (wrongStatus w p) 23 _ (omega arith) (omega arith)
       (other (unrelatedReceipt w p) 31 _ (omega arith) (omega arith)
-      (other (allOpened m w p) 25 _ (omega arith) (omega arith)
-      (other (allWaiting m w p) 26 _ (omega arith) (omega arith)
+      (other (allOpened w p) 25 _ (omega arith) (omega arith)
+      (other (allWaiting w p) 26 _ (omega arith) (omega arith)
       (other (allNumbered w p) 27 _ (omega arith) (omega arith)
-      (other (allCheckpointed m w p) 30 _ (omega arith) (omega arith)
-      (last (lastRollsBack m w p) e)))))))))))
+      (other (allCheckpointed w p) 30 _ (omega arith) (omega arith)
+      (last (lastRollsBack y w p) e)))))))))))
     where
       last : (c : Bool) → c ≡ false → pick c 28 0 ≡ x → ⊥
       last c f = rw f free
 
-falls-no-refusal : {x : ℕ} → Falls x → (m : Limits) (w : Seen) (p : Step) → lastRollsBack m w p ≡ false → refusalOf m w p ≡ x → ⊥
+falls-no-refusal : {x : ℕ} → Falls x → (y : Layout) (w : Seen) (p : Step) → lastRollsBack y w p ≡ false → refusalOf y w p ≡ x → ⊥
 falls-no-refusal falls-back = refusal-else 3 (λ e. omega arith) (λ n h k e. omega arith)
 falls-no-refusal vanishes = refusal-else 4 (λ e. omega arith) (λ n h k e. omega arith)
 falls-no-refusal falls-last = refusal-else 28 (λ e. omega arith) (λ n h k e. k e)
@@ -87,13 +87,13 @@ falls-high falls-back = omega arith
 falls-high vanishes = omega arith
 falls-high falls-last = omega arith
 
-module _ (y : Layout) (m : Limits) (s : State) (p : Step) (k : p .kind ≡ receive) (e : rolledBackAt y s (p .message) ≡ false) where
+module _ (y : Layout) (s : State) (p : Step) (k : p .kind ≡ receive) (e : rolledBackAt y s (p .message) ≡ false) where
   -- 28 asks for a fall
-  no-28 : lastRollsBack m (seen y s) p ≡ false
+  no-28 : lastRollsBack y (seen y s) p ≡ false
   unfolding lastRollsBack seen receiptRollsBack rolledBackAt
   no-28 =
       let q : Message = messageAt s (placeOf s (p .message)) in
-      rw (k, e) (go (not (messageSuperseded y (transactorAt s (q .addressee)) q)) (atLast m (seen y s) (q .addressee)))
+      rw (k, e) (go (not (messageSuperseded y (transactorAt s (q .addressee)) q)) (atLast y (seen y s) (q .addressee)))
     where
       go : (c d : Bool) → (c and false) and d ≡ false
       go true d = refl
@@ -104,59 +104,59 @@ module _ (y : Layout) (m : Limits) (s : State) (p : Step) (k : p .kind ≡ recei
   accepted-low = rw (applies y s p .receive k, e) (pick-view (λ (x : Effect). x .outcome ≤ 2)
       (messageSuperseded y (transactorAt s (messageAt s (placeOf s (p .message)) .addressee)) (messageAt s (placeOf s (p .message)))) _ _ (λ f. omega arith) (λ f. omega arith))
 
-  receipt-stands : Falls (stepOf y m s p .reply .outcome) → ⊥
+  receipt-stands : Falls (stepOf y s p .reply .outcome) → ⊥
   unfolding refusal
-  receipt-stands f = go (ℕ-discrete (refusal y m s p) 0)
+  receipt-stands f = go (ℕ-discrete (refusal y s p) 0)
     where
-      go : Dec (refusal y m s p ≡ 0) → ⊥
-      go (yes q) = omega (arith, falls-high f, accepted-low, ap (λ (x : Result). x .reply .outcome) (applied-same y m s p q))
-      go (no n) = falls-no-refusal f m (seen y s) p no-28 (sym (ap (λ (x : Result). x .reply .outcome) (refused-same y m s p n)))
+      go : Dec (refusal y s p ≡ 0) → ⊥
+      go (yes q) = omega (arith, falls-high f, accepted-low, ap (λ (x : Result). x .reply .outcome) (applied-same y s p q))
+      go (no n) = falls-no-refusal f y (seen y s) p no-28 (sym (ap (λ (x : Result). x .reply .outcome) (refused-same y s p n)))
 
 -- ---- states beside a book
 
-module _ {y : Layout} {m : Limits} (z : Fitting y) (l : Allowed y m) {s : State} (well : WellFormed y s) {b : Provenance} (r : Rel (view s) b) where
+module _ {y : Layout} (z : Fitting y) {s : State} (well : WellFormed y s) {b : Provenance} (r : Rel (view s) b) where
   module _ (v : ℕ) (bits : v < bound 2) where
     signing-ok : StepOk (groups.signing v)
     unfolding bound
     signing-ok = record { kind = omega arith; transactor = omega arith; other = omega arith; zero = omega arith; message = bits; value = omega arith }
 
     -- the signing of volume v would reply 0 exactly if the book signs it
-    signs-exactly : (stepOf y m s (groups.signing v) .reply .outcome ≡ done) ↔ Signs m b v
-    signs-exactly = (λ e. to e (ℕ-discrete (provenanceRefusal m b (groups.signing v)) 0), λ k. of (k .same) (right .signing (k .zero) refl))
+    signs-exactly : (stepOf y s (groups.signing v) .reply .outcome ≡ done) ↔ Signs y b v
+    signs-exactly = (λ e. to e (ℕ-discrete (provenanceRefusal y b (groups.signing v)) 0), λ k. of (k .same) (right .signing (k .zero) refl))
       where
-        right : StepRight y m s b (groups.signing v) (step-right z l well r signing-ok .after)
-        right = step-right z l well r signing-ok .right
+        right : StepRight y s b (groups.signing v) (step-right z well r signing-ok .after)
+        right = step-right z well r signing-ok .right
 
-        to : stepOf y m s (groups.signing v) .reply .outcome ≡ done → Dec (provenanceRefusal m b (groups.signing v) ≡ 0) → Signs m b v
+        to : stepOf y s (groups.signing v) .reply .outcome ≡ done → Dec (provenanceRefusal y b (groups.signing v) ≡ 0) → Signs y b v
         to e (no n) = absurd (n (sym (ap (λ (x : Reply). x .outcome) (right .refused n .0)) ∙ e))
         to e (yes q) = go (right .signing q refl)
           where
-            go : SigningRight y m s b (groups.signing v) → Signs m b v
+            go : SigningRight y s b (groups.signing v) → Signs y b v
             go (checkpointed k f g) = record { zero = q; same = k }
             go (uncheckpointed k f g) = let h : _≡_ {A = ℕ} notReady done = sym (ap (λ (x : Reply). x .outcome) f) ∙ e in absurd (omega arith)
 
-        of : Equal b v → SigningRight y m s b (groups.signing v) → stepOf y m s (groups.signing v) .reply .outcome ≡ done
+        of : Equal b v → SigningRight y s b (groups.signing v) → stepOf y s (groups.signing v) .reply .outcome ≡ done
         of k (checkpointed q f g) = ap (λ (x : Reply). x .outcome) f
         of k (uncheckpointed n f g) = absurd (n k)
 
-module _ {y : Layout} {m : Limits} (z : Fitting y) (l : Allowed y m) {s : State} (well : WellFormed y s) {b : Provenance} (r : Rel (view s) b) where
-  ready-on : {p : Step} → StepOk p → (p .kind ≡ sign → ⊥) → {v : ℕ} → ReadyGroup y m s v → ReadyGroup y m (stepOf y m s p .state) v
+module _ {y : Layout} (z : Fitting y) {s : State} (well : WellFormed y s) {b : Provenance} (r : Rel (view s) b) where
+  ready-on : {p : Step} → StepOk p → (p .kind ≡ sign → ⊥) → {v : ℕ} → ReadyGroup y s v → ReadyGroup y (stepOf y s p .state) v
   ready-on {p} fits other {v} before =
-      let k = state-kept well m r l p (fits .message) in
-      let now = signs-exactly z l well r v (before .bits) .0 (before .signs) in
-      let after = signs-on (view s) b r m v (before .bits) now (view (stepOf y m s p .state)) (k .rel) p other (k .step) in
-      record { bits = before .bits; signs = signs-exactly z l (keeps z l well fits) (k .rel) v (before .bits) .1 after }
+      let k = state-kept well r p (fits .message) in
+      let now = signs-exactly z well r v (before .bits) .0 (before .signs) in
+      let after = signs-on (view s) b r y v (before .bits) now (view (stepOf y s p .state)) (k .rel) p other (k .step) in
+      record { bits = before .bits; signs = signs-exactly z (keeps z well fits) (k .rel) v (before .bits) .1 after }
 
   -- meeting the signing rule stays too, whatever the refusals
-  rule-stays : (v : ℕ) {p : Step} → StepOk p → (p .kind ≡ sign → ⊥) → Ready (view s) (named v) → Ready (view (stepOf y m s p .state)) (named v)
+  rule-stays : (v : ℕ) {p : Step} → StepOk p → (p .kind ≡ sign → ⊥) → Ready (view s) (named v) → Ready (view (stepOf y s p .state)) (named v)
   rule-stays v {p} fits other now =
-      let k = state-kept well m r l p (fits .message) in
-      rule-on (view s) b r m v now (view (stepOf y m s p .state)) (k .rel) p other (k .step)
+      let k = state-kept well r p (fits .message) in
+      rule-on (view s) b r y v now (view (stepOf y s p .state)) (k .rel) p other (k .step)
 
-  ready-rule : {v : ℕ} → ReadyGroup y m s v → Ready (view s) (named v)
+  ready-rule : {v : ℕ} → ReadyGroup y s v → Ready (view s) (named v)
   ready-rule {v} before =
-      let k = signs-exactly z l well r v (before .bits) .0 (before .signs) in
-      equal-ready (view s) b r v (named-live (view s) b r m (groups.signing v) (k .zero) refl (before .bits)) (k .same)
+      let k = signs-exactly z well r v (before .bits) .0 (before .signs) in
+      equal-ready (view s) b r v (named-live (view s) b r y (groups.signing v) (k .zero) refl (before .bits)) (k .same)
 
   -- parcel n shows take t, its addressee, no fall
   unshown : (t n : ℕ) → messageAt s (placeOf s n) .addressee ≡ t → (SupersededView (knownMap (view s .nodes t)) (findMessage n (view s .messages) .dependences) → ⊥) → rolledBackAt y s n ≡ false
@@ -167,8 +167,8 @@ module _ {y : Layout} {m : Limits} (z : Fitting y) (l : Allowed y m) {s : State}
       go true q = absurd (f (subst (λ u. SupersededView (knownMap (view s .nodes u)) (findMessage n (view s .messages) .dependences)) (ap (λ (x : MessageView). x .addressee) (view-find s n) ∙ e) (rolledBack-test well n .0 q)))
 
   -- to a named take of a volume that meets the rule
-  rule-stands : (v : ℕ) → Ready (view s) (named v) → (t : ℕ) → named v t ≡ true → Stands y m s t
-  rule-stands v rule t k p kind e = receipt-stands y m s p kind (unshown t (p .message) e
+  rule-stands : (v : ℕ) → Ready (view s) (named v) → (t : ℕ) → named v t ≡ true → Stands y s t
+  rule-stands v rule t k p kind e = receipt-stands y s p kind (unshown t (p .message) e
       (stands (view s) b r (named v) t (ready-live (view s) b r v rule t k) (λ u x q. rule .state t k u x) (λ u x q. rule .creation t k u x) (p .message)))
 
   -- ---- the fact, in a state
@@ -191,8 +191,8 @@ module _ {y : Layout} {m : Limits} (z : Fitting y) (l : Allowed y m) {s : State}
     unfolding view
     no-message = stands (view s) b r (named v) t grounded-live (passes (transactorAt s t .state) (g .state)) (passes (transactorAt s t .creation) (g .creation))
 
-    grounded-stands : Stands y m s t
-    grounded-stands p k e = receipt-stands y m s p k (unshown t (p .message) e (no-message (p .message)))
+    grounded-stands : Stands y s t
+    grounded-stands p k e = receipt-stands y s p k (unshown t (p .message) e (no-message (p .message)))
 
     -- with a ready volume: the volume with this take meets the rule
     grounded-with : v < bound 2 → Ready (view s) (named v) → (g : ℕ) × With v t g × Ready (view s) (named g)
@@ -209,16 +209,16 @@ module _ {y : Layout} {m : Limits} (z : Fitting y) (l : Allowed y m) {s : State}
 
 -- ---- every session
 
-module _ (y : Layout) (m : Limits) (z : Fitting y) (l : Allowed y m) {img : List ℕ} (τ : Trace y m img) where
+module _ (y : Layout) (z : Fitting y) {img : List ℕ} (τ : Trace y img) where
   module _ (steps : List ℕ) (octets : Octets steps) where
     abbrev after : ℕ → State
-    after i = stateAfter y m (unpack y img) steps i
+    after i = stateAfter y (unpack y img) steps i
 
-    well-after : (i : ℕ) → WellFormed y (stateAfter y m (unpack y img) steps i)
-    well-after = keeps-after z l (grown z l τ .holds .well) steps octets
+    well-after : (i : ℕ) → WellFormed y (stateAfter y (unpack y img) steps i)
+    well-after = keeps-after z (grown z τ .holds .well) steps octets
 
-    ran : (i : ℕ) → Ran y m (unpack y img) (grown z l τ .provenance) steps i
-    ran = run-right z l (grown z l τ .holds .well) (grown z l τ .holds .rel) steps octets
+    ran : (i : ℕ) → Ran y (unpack y img) (grown z τ .provenance) steps i
+    ran = run-right z (grown z τ .holds .well) (grown z τ .holds .rel) steps octets
 
     -- what each step that is no signing keeps holds after all of them
     keep-on : (P : State → Type 0) → ((i : ℕ) → (stepAt steps i .kind ≡ sign → ⊥) → P (after i) → P (after (suc i))) → (i j : ℕ) → i ≤ j → NoSigning steps i j → P (after i) → P (after j)
@@ -232,51 +232,51 @@ module _ (y : Layout) (m : Limits) (z : Fitting y) (l : Allowed y m) {img : List
             at (yes q) g = subst (λ (n : ℕ). P (after n)) q now
             at (no n) g = next k (f k (omega arith) (omega arith)) (g (omega arith))
 
-    rule-after : (i j v : ℕ) → i ≤ j → NoSigning steps i j → Ready (view (stateAfter y m (unpack y img) steps i)) (named v) → Ready (view (stateAfter y m (unpack y img) steps j)) (named v)
+    rule-after : (i j v : ℕ) → i ≤ j → NoSigning steps i j → Ready (view (stateAfter y (unpack y img) steps i)) (named v) → Ready (view (stateAfter y (unpack y img) steps j)) (named v)
     unfolding stateAfter
-    rule-after i j v h others = keep-on (λ s. Ready (view s) (named v)) (λ k other. rule-stays z l (well-after k) (ran k .rel) v (stepOk-at steps octets k) other) i j h others
+    rule-after i j v h others = keep-on (λ s. Ready (view s) (named v)) (λ k other. rule-stays z (well-after k) (ran k .rel) v (stepOk-at steps octets k) other) i j h others
 
     -- "A frozen take whose marks in state and creation, its own apart, are all of signed lives or of present lives of takes in the ready
     -- volume can't be made to fall by any parcel of that session, and that is the fact to show first." For every layout whose counts fit
-    -- their fields, all limits that the layout can hold, every trace, and after each step of whatever part comes next; the volume
+    -- their fields, every trace, whatever limits its session began with, and after each step of whatever part comes next; the volume
     -- need not be ready for this.
-    pub cannot-fall : (i v t : ℕ) → Grounded (stateAfter y m (unpack y img) steps i) v t → Stands y m (stateAfter y m (unpack y img) steps i) t
+    pub cannot-fall : (i v t : ℕ) → Grounded (stateAfter y (unpack y img) steps i) v t → Stands y (stateAfter y (unpack y img) steps i) t
     cannot-fall i v t g p k e =
         let r = ran i in
-        grounded-stands z l (well-after i) (r .rel) g p k e
+        grounded-stands z (well-after i) (r .rel) g p k e
 
     -- And it stays so as long as nothing is signed: with the volume ready, no parcel makes it fall that is sent later either.
-    pub never-falls : (i j v t : ℕ) → i ≤ j → NoSigning steps i j → ReadyGroup y m (stateAfter y m (unpack y img) steps i) v → Grounded (stateAfter y m (unpack y img) steps i) v t
-        → Stands y m (stateAfter y m (unpack y img) steps j) t
+    pub never-falls : (i j v t : ℕ) → i ≤ j → NoSigning steps i j → ReadyGroup y (stateAfter y (unpack y img) steps i) v → Grounded (stateAfter y (unpack y img) steps i) v t
+        → Stands y (stateAfter y (unpack y img) steps j) t
     never-falls i j v t h others before g =
         let r = ran i in
-        let w = grounded-with z l (well-after i) (r .rel) g (before .bits) (ready-rule z l (well-after i) (r .rel) before) in
-        rule-stands z l (well-after j) (ran j .rel) (w .0) (rule-after i j (w .0) h others (w .2)) t (w .1 .own)
+        let w = grounded-with z (well-after i) (r .rel) g (before .bits) (ready-rule z (well-after i) (r .rel) before) in
+        rule-stands z (well-after j) (ran j .rel) (w .0) (rule-after i j (w .0) h others (w .2)) t (w .1 .own)
 
     -- For a volume that is ready, and where "the next step is no signing, it must still be ready afterwards", refused or not.
-    pub still-ready : (i v : ℕ) → ReadyGroup y m (stateAfter y m (unpack y img) steps i) v → (stepAt steps i .kind ≡ sign → ⊥) → ReadyGroup y m (stateAfter y m (unpack y img) steps (suc i)) v
+    pub still-ready : (i v : ℕ) → ReadyGroup y (stateAfter y (unpack y img) steps i) v → (stepAt steps i .kind ≡ sign → ⊥) → ReadyGroup y (stateAfter y (unpack y img) steps (suc i)) v
     unfolding stateAfter
     still-ready i v before other =
         let r = ran i in
-        ready-on z l (well-after i) (r .rel) (stepOk-at steps octets i) other before
+        ready-on z (well-after i) (r .rel) (stepOk-at steps octets i) other before
 
     -- The same over any steps of a part, from i up to j, without a signing.
-    pub still-ready-steps : (i j v : ℕ) → i ≤ j → NoSigning steps i j → ReadyGroup y m (stateAfter y m (unpack y img) steps i) v → ReadyGroup y m (stateAfter y m (unpack y img) steps j) v
-    still-ready-steps i j v h others before = keep-on (λ s. ReadyGroup y m s v) (λ k other now. still-ready k v now other) i j h others before
+    pub still-ready-steps : (i j v : ℕ) → i ≤ j → NoSigning steps i j → ReadyGroup y (stateAfter y (unpack y img) steps i) v → ReadyGroup y (stateAfter y (unpack y img) steps j) v
+    still-ready-steps i j v h others before = keep-on (λ s. ReadyGroup y s v) (λ k other now. still-ready k v now other) i j h others before
 
-module _ (y : Layout) (m : Limits) (z : Fitting y) (l : Allowed y m) where
-  on-trace : {img after : List ℕ} → Trace y m img → Waiting y m img after → Trace y m after
+module _ (y : Layout) (z : Fitting y) where
+  on-trace : {img after : List ℕ} → Trace y img → Waiting y img after → Trace y after
   on-trace τ none = τ
   on-trace τ (one-more {c = c} {a = a} k w p) = called (on-trace τ k) c a p
 
   -- what every part without a signing keeps, in every session, is kept by calls that sign nothing, refused ones included
   module _ (P : State → Type 0)
-      (part-keeps : (img : List ℕ) → Trace y m img → (b : List ℕ) → Octets b → NoSigning b 0 (stepsIn b) → P (stateAfter y m (unpack y img) b 0) → P (stateAfter y m (unpack y img) b (stepsIn b))) where
-    run-keeps : {img : List ℕ} → Trace y m img → (list : List ℕ) → Octets list → (start end : ℕ) (lent : List ℕ) → NoSigning (part start (end - start) list) 0 (stepsIn (part start (end - start) list))
-        → P (unpack y img) → P (unpack y (runImage y m img list start end lent))
+      (part-keeps : (img : List ℕ) → Trace y img → (b : List ℕ) → Octets b → NoSigning b 0 (stepsIn b) → P (stateAfter y (unpack y img) b 0) → P (stateAfter y (unpack y img) b (stepsIn b))) where
+    run-keeps : {img : List ℕ} → Trace y img → (list : List ℕ) → Octets list → (start end : ℕ) (lent : List ℕ) → NoSigning (part start (end - start) list) 0 (stepsIn (part start (end - start) list))
+        → P (unpack y img) → P (unpack y (runImage y img list start end lent))
     unfolding runImage ranImage stateAfter
     run-keeps {img} τ list o start end lent f before = pick-view (λ (i : List ℕ). P (unpack y i)) (eqb (runAnswer y img list start end lent) 0) _ img
-        (λ e. rw (unpack-pack y (stateAfter y m (unpack y img) b n) (keeps-after z l (grown z l τ .holds .well) b octets n .packable)) (part-keeps img τ b octets f before))
+        (λ e. rw (unpack-pack y (stateAfter y (unpack y img) b n) (keeps-after z (grown z τ .holds .well) b octets n .packable)) (part-keeps img τ b octets f before))
         (λ e. before)
       where
         b : List ℕ
@@ -288,7 +288,7 @@ module _ (y : Layout) (m : Limits) (z : Fitting y) (l : Allowed y m) where
         octets : Octets b
         octets = octets-part start (end - start) list o
 
-    call-keeps : {img after : List ℕ} {c : Call} {a : Answer} → Trace y m img → Waits c → Performed y m img c a after → P (unpack y img) → P (unpack y after)
+    call-keeps : {img after : List ℕ} {c : Call} {a : Answer} → Trace y img → Waits c → Performed y img c a after → P (unpack y img) → P (unpack y after)
     call-keeps τ f (running {list} {o} {start} {end} {replies}) before = run-keeps τ list o start end replies f before
     call-keeps τ w beginning before = absurd w
     call-keeps τ w (offering q) before = before
@@ -296,43 +296,43 @@ module _ (y : Layout) (m : Limits) (z : Fitting y) (l : Allowed y m) where
     call-keeps τ w hearing before = before
     call-keeps τ w showing before = before
 
-    calls-keep : {img after : List ℕ} → Trace y m img → Waiting y m img after → P (unpack y img) → P (unpack y after)
+    calls-keep : {img after : List ℕ} → Trace y img → Waiting y img after → P (unpack y img) → P (unpack y after)
     calls-keep τ none before = before
     calls-keep τ (one-more k w p) before = call-keeps (on-trace τ k) w p (calls-keep τ k before)
 
   -- The same over any list of calls that sign nothing: runs without a signing, offers, shows and queries, refused ones included.
-  pub still-ready-calls : {img after : List ℕ} → Trace y m img → Waiting y m img after → (v : ℕ) → ReadyGroup y m (unpack y img) v → ReadyGroup y m (unpack y after) v
-  still-ready-calls τ k v = calls-keep (λ s. ReadyGroup y m s v) (λ i σ b o f. still-ready-steps y m z l σ b o 0 (stepsIn b) v (omega arith) f) τ k
+  pub still-ready-calls : {img after : List ℕ} → Trace y img → Waiting y img after → (v : ℕ) → ReadyGroup y (unpack y img) v → ReadyGroup y (unpack y after) v
+  still-ready-calls τ k v = calls-keep (λ s. ReadyGroup y s v) (λ i σ b o f. still-ready-steps y z σ b o 0 (stepsIn b) v (omega arith) f) τ k
 
   -- And of the fact: no parcel that such calls send makes the take fall.
-  pub never-falls-calls : {img after : List ℕ} → Trace y m img → Waiting y m img after → (v t : ℕ) → ReadyGroup y m (unpack y img) v → Grounded (unpack y img) v t → Stands y m (unpack y after) t
+  pub never-falls-calls : {img after : List ℕ} → Trace y img → Waiting y img after → (v t : ℕ) → ReadyGroup y (unpack y img) v → Grounded (unpack y img) v t → Stands y (unpack y after) t
   never-falls-calls τ k v t before g p =
-      let r = grown z l τ in
-      let q = grown z l (on-trace τ k) in
-      let w = grounded-with z l (r .holds .well) (r .holds .rel) g (before .bits) (ready-rule z l (r .holds .well) (r .holds .rel) before) in
-      rule-stands z l (q .holds .well) (q .holds .rel) (w .0)
-      (calls-keep (λ s. Ready (view s) (named (w .0))) (λ i σ b o f. rule-after y m z l σ b o 0 (stepsIn b) (w .0) (omega arith) f) τ k (w .2)) t (w .1 .own) p
+      let r = grown z τ in
+      let q = grown z (on-trace τ k) in
+      let w = grounded-with z (r .holds .well) (r .holds .rel) g (before .bits) (ready-rule z (r .holds .well) (r .holds .rel) before) in
+      rule-stands z (q .holds .well) (q .holds .rel) (w .0)
+      (calls-keep (λ s. Ready (view s) (named (w .0))) (λ i σ b o f. rule-after y z σ b o 0 (stepsIn b) (w .0) (omega arith) f) τ k (w .2)) t (w .1 .own) p
 
--- At document 01's own layout and limits: no hypothesis but the trace.
-module _ {img : List ℕ} (τ : Trace base standard img) where
-  pub cannot-fall-base : (steps : List ℕ) → Octets steps → (i v t : ℕ) → Grounded (stateAfter base standard (unpack base img) steps i) v t → Stands base standard (stateAfter base standard (unpack base img) steps i) t
-  cannot-fall-base = cannot-fall base standard fitting-base allowed-standard τ
+-- At the ledger's own layout: no hypothesis but the trace.
+module _ {img : List ℕ} (τ : Trace base img) where
+  pub cannot-fall-base : (steps : List ℕ) → Octets steps → (i v t : ℕ) → Grounded (stateAfter base (unpack base img) steps i) v t → Stands base (stateAfter base (unpack base img) steps i) t
+  cannot-fall-base = cannot-fall base fitting-base τ
 
-  pub never-falls-base : (steps : List ℕ) → Octets steps → (i j v t : ℕ) → i ≤ j → NoSigning steps i j → ReadyGroup base standard (stateAfter base standard (unpack base img) steps i) v
-      → Grounded (stateAfter base standard (unpack base img) steps i) v t → Stands base standard (stateAfter base standard (unpack base img) steps j) t
-  never-falls-base = never-falls base standard fitting-base allowed-standard τ
+  pub never-falls-base : (steps : List ℕ) → Octets steps → (i j v t : ℕ) → i ≤ j → NoSigning steps i j → ReadyGroup base (stateAfter base (unpack base img) steps i) v
+      → Grounded (stateAfter base (unpack base img) steps i) v t → Stands base (stateAfter base (unpack base img) steps j) t
+  never-falls-base = never-falls base fitting-base τ
 
-  pub still-ready-base : (steps : List ℕ) → Octets steps → (i v : ℕ) → ReadyGroup base standard (stateAfter base standard (unpack base img) steps i) v
-      → (stepAt steps i .kind ≡ sign → ⊥) → ReadyGroup base standard (stateAfter base standard (unpack base img) steps (suc i)) v
-  still-ready-base = still-ready base standard fitting-base allowed-standard τ
+  pub still-ready-base : (steps : List ℕ) → Octets steps → (i v : ℕ) → ReadyGroup base (stateAfter base (unpack base img) steps i) v
+      → (stepAt steps i .kind ≡ sign → ⊥) → ReadyGroup base (stateAfter base (unpack base img) steps (suc i)) v
+  still-ready-base = still-ready base fitting-base τ
 
-  pub still-ready-steps-base : (steps : List ℕ) → Octets steps → (i j v : ℕ) → i ≤ j → NoSigning steps i j → ReadyGroup base standard (stateAfter base standard (unpack base img) steps i) v
-      → ReadyGroup base standard (stateAfter base standard (unpack base img) steps j) v
-  still-ready-steps-base = still-ready-steps base standard fitting-base allowed-standard τ
+  pub still-ready-steps-base : (steps : List ℕ) → Octets steps → (i j v : ℕ) → i ≤ j → NoSigning steps i j → ReadyGroup base (stateAfter base (unpack base img) steps i) v
+      → ReadyGroup base (stateAfter base (unpack base img) steps j) v
+  still-ready-steps-base = still-ready-steps base fitting-base τ
 
-  pub never-falls-calls-base : {after : List ℕ} → Waiting base standard img after → (v t : ℕ) → ReadyGroup base standard (unpack base img) v → Grounded (unpack base img) v t
-      → Stands base standard (unpack base after) t
-  never-falls-calls-base = never-falls-calls base standard fitting-base allowed-standard τ
+  pub never-falls-calls-base : {after : List ℕ} → Waiting base img after → (v t : ℕ) → ReadyGroup base (unpack base img) v → Grounded (unpack base img) v t
+      → Stands base (unpack base after) t
+  never-falls-calls-base = never-falls-calls base fitting-base τ
 
-  pub still-ready-calls-base : {after : List ℕ} → Waiting base standard img after → (v : ℕ) → ReadyGroup base standard (unpack base img) v → ReadyGroup base standard (unpack base after) v
-  still-ready-calls-base = still-ready-calls base standard fitting-base allowed-standard τ
+  pub still-ready-calls-base : {after : List ℕ} → Waiting base img after → (v : ℕ) → ReadyGroup base (unpack base img) v → ReadyGroup base (unpack base after) v
+  still-ready-calls-base = still-ready-calls base fitting-base τ

@@ -6,7 +6,7 @@ use mathlib.Core.List.{List, []}
 use lib.ListN.{length, getD}
 use lib.Dec.{eqb}
 use Rattle.octets.specs.Bytes.{pick, _and_, _or_, part}
-use Rattle.rules.specs.Layout.{Layout, Limits}
+use Rattle.rules.specs.Layout.{Layout}
 use Rattle.rules.specs.Step.{stepBytes, stepAt, receive, lose, done, dropped, fallenBack, vanished}
 use Rattle.rules.specs.Refusals.{sends}
 use Rattle.rules.specs.Pack.{unpack}
@@ -49,7 +49,7 @@ repliesIn (showed r bytes) = []
 
 -- a call, n counted before it: an accepted begin counts from 0, an accepted run adds its steps
 unfoldable pub countCall : (ℕ → ℕ → Bool) → Call → Answer → ℕ → ℕ
-countCall f begin a n = pick (eqb (refusalIn a) 0) 0 n
+countCall f (begin m) a n = pick (eqb (refusalIn a) 0) 0 n
 countCall f (run list o start end lent) a n =
     pick (eqb (refusalIn a) 0) (n + countSteps f (part start (end - start) list) (repliesIn a) (stepsIn (part start (end - start) list))) n
 countCall f (offer t) a n = n
@@ -58,8 +58,8 @@ countCall f (heard t) a n = n
 countCall f (show k) a n = n
 
 -- the whole session
-unfoldable pub count : {y : Layout} {m : Limits} {img : List ℕ} → (ℕ → ℕ → Bool) → Trace y m img → ℕ
-count f (opened img e) = 0
+unfoldable pub count : {y : Layout} {img : List ℕ} → (ℕ → ℕ → Bool) → Trace y img → ℕ
+count f (opened m img e) = 0
 count f (called τ c a p) = countCall f c a (count f τ)
 
 -- parcels waiting in an image

@@ -1,12 +1,12 @@
 -- Document 01, "The book of demand 3": the calls that it is fed, and what it does at each. Document 02, W1 and W4: one call more each.
 use Prim.Native.Nat.{ℕ, suc, _-_}
-use mathlib.Core.Bool.{not}
+use mathlib.Core.Bool.{true, not}
 use mathlib.Core.Path.{_≡_}
 use mathlib.Core.List.{List, [], _∷_}
 use lib.ListN.{length}
 use lib.Dec.{eqb, leb}
 use Rattle.octets.specs.Bytes.{pick, part, Octets}
-use Rattle.rules.specs.Layout.{Limits}
+use Rattle.rules.specs.Layout.{Layout, Limits, inRange}
 use Rattle.rules.specs.Step.{stepAt}
 -- both are about the caller's list alone
 use Rattle.rules.specs.Calls.{wrongPart, stepsIn}
@@ -15,7 +15,8 @@ use Rattle.session.specs.Steps.{ProvenanceStep}
 
 -- a call, with all that a caller can choose; lent: the bytes lent for the replies, as they stand before the call
 pub data Call : Type 0 where
-  begin : Call
+  -- with any three numbers (document 02, W7)
+  begin : Limits → Call
   run : (list : List ℕ) → Octets list → (start end : ℕ) → (lent : List ℕ) → Call
   offer : (transactor : ℕ) → Call
   -- "Which takes to put in the volume": given a take, the smallest volume containing it that could be signed now
@@ -31,34 +32,34 @@ abbrev pub provenanceQueryRefusal : Provenance → ℕ → ℕ
 provenanceQueryRefusal b t = pick (leb (b .opened) t) 21 (pick (eqb (statusNumber (b .holders t .status)) (statusNumber annihilated)) 22 0)
 
 -- It refuses by the same table, judged by what it holds itself; 19 never arises, nor 16 on an image that was begun.
-abbrev pub callRefusal : Provenance → Call → ℕ
-callRefusal b begin = 0
-callRefusal b (run list o start end lent) = pick (wrongPart list start end) 17 (pick (not (eqb (length lent) (end - start))) 18 0)
-callRefusal b (offer t) = provenanceQueryRefusal b t
-callRefusal b (smallest t) = provenanceQueryRefusal b t
-callRefusal b (heard t) = provenanceQueryRefusal b t
-callRefusal b (show n) = pick (isMissing n (b .messages)) 24 0
+abbrev pub callRefusal : Layout → Provenance → Call → ℕ
+callRefusal y b (begin m) = pick (not (inRange y m)) 33 0
+callRefusal y b (run list o start end lent) = pick (wrongPart list start end) 17 (pick (not (eqb (length lent) (end - start))) 18 0)
+callRefusal y b (offer t) = provenanceQueryRefusal b t
+callRefusal y b (smallest t) = provenanceQueryRefusal b t
+callRefusal y b (heard t) = provenanceQueryRefusal b t
+callRefusal y b (show n) = pick (isMissing n (b .messages)) 24 0
 
 -- the first i steps of a part
-pub data ProvenanceSteps (m : Limits) (b : Provenance) (steps : List ℕ) : ℕ → Provenance → Type 1 where
-  none : ProvenanceSteps m b steps 0 b
-  more : {i : ℕ} {c d : Provenance} → ProvenanceSteps m b steps i c → ProvenanceStep m c (stepAt steps i) d → ProvenanceSteps m b steps (suc i) d
+pub data ProvenanceSteps (y : Layout) (b : Provenance) (steps : List ℕ) : ℕ → Provenance → Type 1 where
+  none : ProvenanceSteps y b steps 0 b
+  more : {i : ℕ} {c d : Provenance} → ProvenanceSteps y b steps i c → ProvenanceStep y c (stepAt steps i) d → ProvenanceSteps y b steps (suc i) d
 
 -- Offer, show and whatever is refused change nothing in it, nor do naming a volume and asking what was heard: the image is only read.
--- An accepted begin empties it.
-pub data ProvenanceCall (m : Limits) (b : Provenance) : Call → Provenance → Type 1 where
-  provenance-refuses : {c : Call} → (callRefusal b c ≡ 0 → ⊥) → ProvenanceCall m b c b
-  provenance-begins : ProvenanceCall m b begin emptyProvenance
+-- An accepted begin empties it and sets its limits.
+pub data ProvenanceCall (y : Layout) (b : Provenance) : Call → Provenance → Type 1 where
+  provenance-refuses : {c : Call} → (callRefusal y b c ≡ 0 → ⊥) → ProvenanceCall y b c b
+  provenance-begins : {m : Limits} → callRefusal y b (begin m) ≡ 0 → ProvenanceCall y b (begin m) (emptyProvenance m)
   provenance-runs : {list : List ℕ} {o : Octets list} {start end : ℕ} {lent : List ℕ} {c : Provenance}
-      → callRefusal b (run list o start end lent) ≡ 0
-      → ProvenanceSteps m b (part start (end - start) list) (stepsIn (part start (end - start) list)) c
-      → ProvenanceCall m b (run list o start end lent) c
-  provenance-offers : {t : ℕ} → callRefusal b (offer t) ≡ 0 → ProvenanceCall m b (offer t) b
-  provenance-names : {t : ℕ} → callRefusal b (smallest t) ≡ 0 → ProvenanceCall m b (smallest t) b
-  provenance-hears : {t : ℕ} → callRefusal b (heard t) ≡ 0 → ProvenanceCall m b (heard t) b
-  provenance-shows : {n : ℕ} → callRefusal b (show n) ≡ 0 → ProvenanceCall m b (show n) b
+      → callRefusal y b (run list o start end lent) ≡ 0
+      → ProvenanceSteps y b (part start (end - start) list) (stepsIn (part start (end - start) list)) c
+      → ProvenanceCall y b (run list o start end lent) c
+  provenance-offers : {t : ℕ} → callRefusal y b (offer t) ≡ 0 → ProvenanceCall y b (offer t) b
+  provenance-names : {t : ℕ} → callRefusal y b (smallest t) ≡ 0 → ProvenanceCall y b (smallest t) b
+  provenance-hears : {t : ℕ} → callRefusal y b (heard t) ≡ 0 → ProvenanceCall y b (heard t) b
+  provenance-shows : {n : ℕ} → callRefusal y b (show n) ≡ 0 → ProvenanceCall y b (show n) b
 
--- the book that is fed these calls, the last one first, and nothing else
-pub data ProvenanceOf (m : Limits) : List Call → Provenance → Type 1 where
-  new-provenance : ProvenanceOf m [] emptyProvenance
-  fed : {cs : List Call} {c : Call} {b d : Provenance} → ProvenanceOf m cs b → ProvenanceCall m b c d → ProvenanceOf m (c ∷ cs) d
+-- the book that is fed these calls, the last one first, and nothing else; the first one is an accepted begin
+pub data ProvenanceOf (y : Layout) : List Call → Provenance → Type 1 where
+  new-provenance : {m : Limits} → inRange y m ≡ true → ProvenanceOf y (begin m ∷ []) (emptyProvenance m)
+  fed : {cs : List Call} {c : Call} {b d : Provenance} → ProvenanceOf y cs b → ProvenanceCall y b c d → ProvenanceOf y (c ∷ cs) d

@@ -1,5 +1,5 @@
 -- Document 01, "The book of demand 3": what it holds. It is fed the calls alone: no definition here or in Grounds, Unrelated, Steps and
--- Fed mentions an image, a reply or a dependence map.
+-- Fed mentions an image, a reply or a dependence map. Of the layout it knows the counts, for 33, and the largest life number, for 28.
 use Prim.Native.Nat.{ℕ, _+_}
 use mathlib.Core.Bool.{Bool, true, false}
 use mathlib.Core.List.{List, [], _∷_, _++_, List·Memᴰ}
@@ -8,6 +8,7 @@ use Rattle.octets.specs.Bytes.{pick, _and_, _or_}
 use Rattle.marks.specs.Incarnation.{Incarnation, supersededBy}
 use Rattle.marks.specs.History.{HistoryView, initialView}
 use Rattle.maps.specs.Table.{updated}
+use Rattle.rules.specs.Layout.{Limits}
 use Rattle.rules.specs.Status as number
 
 -- A life with its take.
@@ -57,8 +58,10 @@ pub record WaitingMessage : Type 0 where
   pub addressee : ℕ
   pub incarnations : Incarnations
 
--- The book: how many takes were opened, the next parcel number, every take, the waiting parcels, and what was noted at signings.
+-- The book: the session's limits (document 02, W7), how many takes were opened, the next parcel number, every take, the waiting
+-- parcels, and what was noted at signings.
 pub record Provenance : Type 1 where
+  pub limits : Limits
   pub opened : ℕ
   pub next : ℕ
   pub holders : ℕ → Holder
@@ -70,23 +73,24 @@ pub record Provenance : Type 1 where
 abbrev pub blank : Status → Holder
 blank status = record { status = status; history = initialView; state = []; creation = []; behaviour = [] }
 
--- "An accepted begin empties it, with all that was noted and signed."
-abbrev pub emptyProvenance : Provenance
-emptyProvenance = record { opened = 0; next = 0; holders = λ t. blank unused; messages = []; noted = λ t a u c. ⊥ }
+-- "An accepted begin empties it, with all that was noted and signed", and sets its limits.
+abbrev pub emptyProvenance : Limits → Provenance
+emptyProvenance m = record { limits = m; opened = 0; next = 0; holders = λ t. blank unused; messages = []; noted = λ t a u c. ⊥ }
 
 -- ---- changes
 
 -- take t changed
 abbrev pub withHolder : Provenance → ℕ → Holder → Provenance
-withHolder b t h = record { opened = b .opened; next = b .next; holders = updated (b .holders) t h; messages = b .messages; noted = b .noted }
+withHolder b t h = record { limits = b .limits; opened = b .opened; next = b .next; holders = updated (b .holders) t h; messages = b .messages; noted = b .noted }
 
 -- one more take opened
 abbrev pub withOpened : Provenance → Holder → Provenance
-withOpened b h = record { opened = b .opened + 1; next = b .next; holders = updated (b .holders) (b .opened) h; messages = b .messages; noted = b .noted }
+withOpened b h = record { limits = b .limits; opened = b .opened + 1; next = b .next; holders = updated (b .holders) (b .opened) h; messages = b .messages; noted = b .noted }
 
 -- one more parcel, with the next number
 abbrev pub withWaitingMessage : Provenance → ℕ → Incarnations → Provenance
 withWaitingMessage b to incarnations = record {
+  limits = b .limits;
   opened = b .opened;
   next = b .next + 1;
   holders = b .holders;
@@ -101,7 +105,7 @@ remove n (q ∷ qs) = pick (eqb (q .number) n) qs (q ∷ remove n qs)
 
 -- "The parcel goes."
 abbrev pub withoutWaitingMessage : Provenance → ℕ → Provenance
-withoutWaitingMessage b n = record { opened = b .opened; next = b .next; holders = b .holders; messages = remove n (b .messages); noted = b .noted }
+withoutWaitingMessage b n = record { limits = b .limits; opened = b .opened; next = b .next; holders = b .holders; messages = remove n (b .messages); noted = b .noted }
 
 -- ---- a parcel by its number; past them, one that nobody sent
 

@@ -8,7 +8,7 @@ use lib.Dec.{eqb}
 use Rattle.octets.specs.Bytes.{pick, _and_}
 use Rattle.marks.specs.Incarnation.{Incarnation}
 use Rattle.marks.specs.History.{HistoryView, initialView, stabilizedView, rolledBackView, checkpointedView}
-use Rattle.rules.specs.Layout.{Limits}
+use Rattle.rules.specs.Layout.{Layout}
 use Rattle.rules.specs.declared.Step.{Step}
 use Rattle.rules.specs.Step.{root, letter, receive, new, send, read, write, freeze, finish, fall, lose, sign}
 use Rattle.rules.specs.Refusals.{Seen, named, refusalOf}
@@ -112,7 +112,7 @@ pub data NotedBy (b : Provenance) (g t : ℕ) (a : Incarnation) (u : ℕ) (c : I
 -- "Sign, if the two sets are equal: what each named take rests on is noted for its present life. Then each has its new mark, its
 -- life alone in state, the rest empty."
 abbrev pub signs : Provenance → ℕ → Provenance
-signs b g = record { opened = b .opened; next = b .next; holders = checkpointedAt b g; messages = b .messages; noted = NotedBy b g }
+signs b g = record { limits = b .limits; opened = b .opened; next = b .next; holders = checkpointedAt b g; messages = b .messages; noted = NotedBy b g }
 
 -- ---- the kinds but for sign
 
@@ -152,6 +152,7 @@ applied b p =
 -- what the table looks at
 unfoldable pub provenanceSeen : Provenance → Seen
 provenanceSeen b = record {
+  limits = b .limits;
   opened = b .opened;
   next = b .next;
   waiting = length (b .messages);
@@ -168,12 +169,12 @@ provenanceSeen b = record {
 }
 
 -- "It refuses calls and steps by the table .., judged by what it holds itself."
-unfoldable pub provenanceRefusal : Limits → Provenance → Step → ℕ
-provenanceRefusal m b p = refusalOf m (provenanceSeen b) p
+unfoldable pub provenanceRefusal : Layout → Provenance → Step → ℕ
+provenanceRefusal y b p = refusalOf y (provenanceSeen b) p
 
 -- What one step does: refused steps change nothing, nor does a signing whose sets differ.
-pub data ProvenanceStep (m : Limits) (b : Provenance) (p : Step) : Provenance → Type 1 where
-  refuses : (provenanceRefusal m b p ≡ 0 → ⊥) → ProvenanceStep m b p b
-  applies : provenanceRefusal m b p ≡ 0 → (p .kind ≡ sign → ⊥) → ProvenanceStep m b p (applied b p)
-  signing : provenanceRefusal m b p ≡ 0 → p .kind ≡ sign → Equal b (p .message) → ProvenanceStep m b p (signs b (p .message))
-  not-ready : provenanceRefusal m b p ≡ 0 → p .kind ≡ sign → (Equal b (p .message) → ⊥) → ProvenanceStep m b p b
+pub data ProvenanceStep (y : Layout) (b : Provenance) (p : Step) : Provenance → Type 1 where
+  refuses : (provenanceRefusal y b p ≡ 0 → ⊥) → ProvenanceStep y b p b
+  applies : provenanceRefusal y b p ≡ 0 → (p .kind ≡ sign → ⊥) → ProvenanceStep y b p (applied b p)
+  signing : provenanceRefusal y b p ≡ 0 → p .kind ≡ sign → Equal b (p .message) → ProvenanceStep y b p (signs b (p .message))
+  not-ready : provenanceRefusal y b p ≡ 0 → p .kind ≡ sign → (Equal b (p .message) → ⊥) → ProvenanceStep y b p b

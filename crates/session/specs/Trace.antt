@@ -42,25 +42,25 @@ refusalIn (showed r bytes) = r
 
 -- A call performed on an image: what it gives back and leaves, by the definitions that the contracts of begin, run, offer,
 -- smallest_group, all_heard_stable and show cite.
-pub data Performed (y : Layout) (m : Limits) (img : List ℕ) : Call → Answer → List ℕ → Type 0 where
-  beginning : Performed y m img begin (begun (beginAnswer y img)) (beginImage y img)
+pub data Performed (y : Layout) (img : List ℕ) : Call → Answer → List ℕ → Type 0 where
+  beginning : {m : Limits} → Performed y img (begin m) (begun (beginAnswer y m img)) (beginImage y m img)
   running : {list : List ℕ} {o : Octets list} {start end : ℕ} {replies : List ℕ}
-      → Performed y m img (run list o start end replies)
-      (ran (runAnswer y img list start end replies) (runReplies y m img list start end replies))
-      (runImage y m img list start end replies)
-  offering : {t : ℕ} {message : Option ℕ} → Offers y img t message → Performed y m img (offer t) (offered (queryRefusal y img t) message) img
-  naming : {t : ℕ} {group : Option ℕ} → Smallest y m img t group → Performed y m img (smallest t) (grouped (queryRefusal y img t) group) img
-  hearing : {t : ℕ} → Performed y m img (heard t) (told (queryRefusal y img t) (heardAnswer y img t)) img
-  showing : {n : ℕ} → Performed y m img (show n) (showed (showRefusal y img n) (shown y img n)) img
+      → Performed y img (run list o start end replies)
+      (ran (runAnswer y img list start end replies) (runReplies y img list start end replies))
+      (runImage y img list start end replies)
+  offering : {t : ℕ} {message : Option ℕ} → Offers y img t message → Performed y img (offer t) (offered (queryRefusal y img t) message) img
+  naming : {t : ℕ} {group : Option ℕ} → Smallest y img t group → Performed y img (smallest t) (grouped (queryRefusal y img t) group) img
+  hearing : {t : ℕ} → Performed y img (heard t) (told (queryRefusal y img t) (heardAnswer y img t)) img
+  showing : {n : ℕ} → Performed y img (show n) (showed (showRefusal y img n) (shown y img n)) img
 
 -- A session grown from a fresh one: an accepted begin, then any list of calls, each on the image that the last one left.
-pub data Trace (y : Layout) (m : Limits) : List ℕ → Type 0 where
-  opened : (img : List ℕ) → beginAnswer y img ≡ 0 → Trace y m (beginImage y img)
-  called : {img after : List ℕ} → Trace y m img → (c : Call) (a : Answer) → Performed y m img c a after → Trace y m after
+pub data Trace (y : Layout) : List ℕ → Type 0 where
+  opened : (m : Limits) (img : List ℕ) → beginAnswer y m img ≡ 0 → Trace y (beginImage y m img)
+  called : {img after : List ℕ} → Trace y img → (c : Call) (a : Answer) → Performed y img c a after → Trace y after
 
--- the calls of a trace after its first begin, the last one first
-unfoldable pub callsOf : {y : Layout} {m : Limits} {img : List ℕ} → Trace y m img → List Call
-callsOf (opened img e) = []
+-- the calls of a trace, the last one first
+unfoldable pub callsOf : {y : Layout} {img : List ℕ} → Trace y img → List Call
+callsOf (opened m img e) = begin m ∷ []
 callsOf (called τ c a p) = c ∷ callsOf τ
 
 -- ---- what is claimed
@@ -80,53 +80,53 @@ abbrev pub Matches : State → Provenance → Type 0
 Matches s b = (t : ℕ) → MatchesAt (transactorAt s t) t (b .holders t)
 
 -- A signing that is not refused replies 0 and signs its volume exactly if the two sets are equal; else 5, and nothing changes.
-pub data SigningRight (y : Layout) (m : Limits) (s : State) (b : Provenance) (p : Step) : Type 0 where
-  checkpointed : Equal b (p .message) → stepOf y m s p .reply ≡ answer done 0 0 0 → stepOf y m s p .state ≡ checkpointGroup y s (p .message) → SigningRight y m s b p
-  uncheckpointed : (Equal b (p .message) → ⊥) → stepOf y m s p .reply ≡ answer notReady 0 0 0 → stepOf y m s p .state ≡ s → SigningRight y m s b p
+pub data SigningRight (y : Layout) (s : State) (b : Provenance) (p : Step) : Type 0 where
+  checkpointed : Equal b (p .message) → stepOf y s p .reply ≡ answer done 0 0 0 → stepOf y s p .state ≡ checkpointGroup y s (p .message) → SigningRight y s b p
+  uncheckpointed : (Equal b (p .message) → ⊥) → stepOf y s p .reply ≡ answer notReady 0 0 0 → stepOf y s p .state ≡ s → SigningRight y s b p
 
 -- One step, from the state s and the book b to the book c.
-pub record StepRight (y : Layout) (m : Limits) (s : State) (b : Provenance) (p : Step) (c : Provenance) : Type 1 where
-  pub provenance : ProvenanceStep m b p c
+pub record StepRight (y : Layout) (s : State) (b : Provenance) (p : Step) (c : Provenance) : Type 1 where
+  pub provenance : ProvenanceStep y b p c
   -- refused exactly where the book refuses it, with the same number, and nothing changes
-  pub refused : (provenanceRefusal m b p ≡ 0 → ⊥) → (stepOf y m s p .reply ≡ answer (provenanceRefusal m b p) 0 0 0) × (stepOf y m s p .state ≡ s)
-  pub accepted : provenanceRefusal m b p ≡ 0 → stepOf y m s p .reply .outcome ≤ notReady
-  pub signing : provenanceRefusal m b p ≡ 0 → p .kind ≡ sign → SigningRight y m s b p
-  pub matches : Matches (stepOf y m s p .state) c
+  pub refused : (provenanceRefusal y b p ≡ 0 → ⊥) → (stepOf y s p .reply ≡ answer (provenanceRefusal y b p) 0 0 0) × (stepOf y s p .state ≡ s)
+  pub accepted : provenanceRefusal y b p ≡ 0 → stepOf y s p .reply .outcome ≤ notReady
+  pub signing : provenanceRefusal y b p ≡ 0 → p .kind ≡ sign → SigningRight y s b p
+  pub matches : Matches (stepOf y s p .state) c
   pub sound : Sound c
 
 -- The first i steps of a run, each from the state that the last one left.
-pub data StepsRight (y : Layout) (m : Limits) (s : State) (b : Provenance) (steps : List ℕ) : ℕ → Provenance → Type 1 where
-  none : StepsRight y m s b steps 0 b
-  more : {i : ℕ} {c d : Provenance} → StepsRight y m s b steps i c → StepRight y m (stateAfter y m s steps i) c (stepAt steps i) d
-      → StepsRight y m s b steps (suc i) d
+pub data StepsRight (y : Layout) (s : State) (b : Provenance) (steps : List ℕ) : ℕ → Provenance → Type 1 where
+  none : StepsRight y s b steps 0 b
+  more : {i : ℕ} {c d : Provenance} → StepsRight y s b steps i c → StepRight y (stateAfter y s steps i) c (stepAt steps i) d
+      → StepsRight y s b steps (suc i) d
 
 -- An accepted run: all its steps, and of the bytes handed back every eight are the reply to their step.
-pub record RunRight (y : Layout) (m : Limits) (s : State) (b : Provenance) (steps replies : List ℕ) (c : Provenance) : Type 1 where
-  pub right : StepsRight y m s b steps (stepsIn steps) c
-  pub given : (i : ℕ) → i < stepsIn steps → part (stepBytes * i) stepBytes replies ≡ packReply (stepOf y m (stateAfter y m s steps i) (stepAt steps i) .reply)
+pub record RunRight (y : Layout) (s : State) (b : Provenance) (steps replies : List ℕ) (c : Provenance) : Type 1 where
+  pub right : StepsRight y s b steps (stepsIn steps) c
+  pub given : (i : ℕ) → i < stepsIn steps → part (stepBytes * i) stepBytes replies ≡ packReply (stepOf y (stateAfter y s steps i) (stepAt steps i) .reply)
 
 -- the steps of a call: a run alone has any
-pub data CallStepsRight (y : Layout) (m : Limits) (img : List ℕ) (b : Provenance) (c : Provenance) : Call → Answer → Type 1 where
+pub data CallStepsRight (y : Layout) (img : List ℕ) (b : Provenance) (c : Provenance) : Call → Answer → Type 1 where
   run-right : {list : List ℕ} {o : Octets list} {start end : ℕ} {lent : List ℕ} {r : ℕ} {replies : List ℕ}
-      → (callRefusal b (run list o start end lent) ≡ 0 → RunRight y m (unpack y img) b (part start (end - start) list) replies c)
-      → CallStepsRight y m img b c (run list o start end lent) (ran r replies)
-  begin-right : {a : Answer} → CallStepsRight y m img b c begin a
-  offer-right : {t : ℕ} {a : Answer} → CallStepsRight y m img b c (offer t) a
-  smallest-right : {t : ℕ} {a : Answer} → CallStepsRight y m img b c (smallest t) a
-  heard-right : {t : ℕ} {a : Answer} → CallStepsRight y m img b c (heard t) a
-  show-right : {n : ℕ} {a : Answer} → CallStepsRight y m img b c (show n) a
+      → (callRefusal y b (run list o start end lent) ≡ 0 → RunRight y (unpack y img) b (part start (end - start) list) replies c)
+      → CallStepsRight y img b c (run list o start end lent) (ran r replies)
+  begin-right : {m : Limits} {a : Answer} → CallStepsRight y img b c (begin m) a
+  offer-right : {t : ℕ} {a : Answer} → CallStepsRight y img b c (offer t) a
+  smallest-right : {t : ℕ} {a : Answer} → CallStepsRight y img b c (smallest t) a
+  heard-right : {t : ℕ} {a : Answer} → CallStepsRight y img b c (heard t) a
+  show-right : {n : ℕ} {a : Answer} → CallStepsRight y img b c (show n) a
 
 -- One call, from the image and the book b to the image after and the book d.
-pub record CallRight (y : Layout) (m : Limits) (img : List ℕ) (b : Provenance) (c : Call) (a : Answer) (after : List ℕ) (d : Provenance) : Type 1 where
-  pub provenance : ProvenanceCall m b c d
-  pub refusal : refusalIn a ≡ callRefusal b c
-  pub steps : CallStepsRight y m img b d c a
+pub record CallRight (y : Layout) (img : List ℕ) (b : Provenance) (c : Call) (a : Answer) (after : List ℕ) (d : Provenance) : Type 1 where
+  pub provenance : ProvenanceCall y b c d
+  pub refusal : refusalIn a ≡ callRefusal y b c
+  pub steps : CallStepsRight y img b d c a
   pub matches : Matches (unpack y after) d
   pub sound : Sound d
 
 -- Every call of a trace, with the book fed the same calls.
-pub data Right (y : Layout) (m : Limits) : (img : List ℕ) → Trace y m img → Provenance → Type 1 where
-  opened-right : {img : List ℕ} {e : beginAnswer y img ≡ 0} → Matches (unpack y (beginImage y img)) emptyProvenance → Sound emptyProvenance
-      → Right y m (beginImage y img) (opened img e) emptyProvenance
-  called-right : {img after : List ℕ} {τ : Trace y m img} {c : Call} {a : Answer} {p : Performed y m img c a after} {b d : Provenance}
-      → Right y m img τ b → CallRight y m img b c a after d → Right y m after (called τ c a p) d
+pub data Right (y : Layout) : (img : List ℕ) → Trace y img → Provenance → Type 1 where
+  opened-right : {m : Limits} {img : List ℕ} {e : beginAnswer y m img ≡ 0} → Matches (unpack y (beginImage y m img)) (emptyProvenance m) → Sound (emptyProvenance m)
+      → Right y (beginImage y m img) (opened m img e) (emptyProvenance m)
+  called-right : {img after : List ℕ} {τ : Trace y img} {c : Call} {a : Answer} {p : Performed y img c a after} {b d : Provenance}
+      → Right y img τ b → CallRight y img b c a after d → Right y after (called τ c a p) d

@@ -4,10 +4,10 @@ use Prim.Native.Nat.{ℕ, _-_, _≤_, _<_}
 use mathlib.Core.Bool.{true}
 use mathlib.Core.Path.{_≡_}
 use mathlib.Core.List.{List}
-use Rattle.octets.specs.Bytes.{part, Octets}
+use Rattle.octets.specs.Bytes.{part}
 use Rattle.octets.specs.Numbers.{bound}
 use Rattle.maps.specs.Map.{heldAt, historyAt}
-use Rattle.rules.specs.Layout.{Layout, Limits}
+use Rattle.rules.specs.Layout.{Layout}
 use Rattle.rules.specs.State.{State, transactorAt, messageAt, ownHistory, placeOf}
 use Rattle.rules.specs.declared.Step.{Step}
 use Rattle.rules.specs.Step.{stepAt, receive, sign, done, fallenBack, vanished}
@@ -18,9 +18,9 @@ use Rattle.session.specs.Fed.{Call, begin, run, offer, smallest, heard, 
 use Rattle.session.specs.Trace.{Answer, Performed}
 
 -- volume v is ready: the step that signs it would reply 0
-pub record ReadyGroup (y : Layout) (m : Limits) (s : State) (v : ℕ) : Type 0 where
+pub record ReadyGroup (y : Layout) (s : State) (v : ℕ) : Type 0 where
   pub bits : v < bound 2
-  pub signs : stepOf y m s (signing v) .reply .outcome ≡ done
+  pub signs : stepOf y s (signing v) .reply .outcome ≡ done
 
 -- ---- the fact to show first
 
@@ -38,8 +38,8 @@ pub data Falls : ℕ → Type 0 where
   falls-last : Falls 28
 
 -- "can't be made to fall by any parcel of that session": no receipt of a parcel addressed to take t has such a reply
-abbrev pub Stands : Layout → Limits → State → ℕ → Type 0
-Stands y m s t = (p : Step) → p .kind ≡ receive → messageAt s (placeOf s (p .message)) .addressee ≡ t → Falls (stepOf y m s p .reply .outcome) → ⊥
+abbrev pub Stands : Layout → State → ℕ → Type 0
+Stands y s t = (p : Step) → p .kind ≡ receive → messageAt s (placeOf s (p .message)) .addressee ≡ t → Falls (stepOf y s p .reply .outcome) → ⊥
 
 -- ---- lists of steps and of calls without a signing
 
@@ -47,9 +47,9 @@ Stands y m s t = (p : Step) → p .kind ≡ receive → messageAt s (placeOf s (
 abbrev pub NoSigning : List ℕ → ℕ → ℕ → Type 0
 NoSigning steps i j = (k : ℕ) → i ≤ k → k < j → stepAt steps k .kind ≡ sign → ⊥
 
--- a call that signs nothing: a run without a signing, or one that only reads; a begin is not among them, since it is a new session
+-- a call that signs nothing: a run without a signing, or one that only reads; no begin is among them, since an accepted one is a new session
 abbrev pub Waits : Call → Type 0
-Waits begin = ⊥
+Waits (begin m) = ⊥
 Waits (run list o start end lent) = NoSigning (part start (end - start) list) 0 (stepsIn (part start (end - start) list))
 Waits (offer t) = Unit
 Waits (smallest t) = Unit
@@ -57,6 +57,6 @@ Waits (heard t) = Unit
 Waits (show n) = Unit
 
 -- such calls, one after the other, from the image img to the one after them
-pub data Waiting (y : Layout) (m : Limits) (img : List ℕ) : List ℕ → Type 0 where
-  none : Waiting y m img img
-  one-more : {now after : List ℕ} {c : Call} {a : Answer} → Waiting y m img now → Waits c → Performed y m now c a after → Waiting y m img after
+pub data Waiting (y : Layout) (img : List ℕ) : List ℕ → Type 0 where
+  none : Waiting y img img
+  one-more : {now after : List ℕ} {c : Call} {a : Answer} → Waiting y img now → Waits c → Performed y now c a after → Waiting y img after

@@ -8,7 +8,7 @@ use borrow.Author.Tests.{ne-eqb}
 use Rattle.octets.specs.Bytes.{pick, _and_, _or_}
 use Rattle.marks.specs.History.{rolledBack}
 use Rattle.maps.specs.Map.{firstSuperseded, anyUnrelated}
-use Rattle.rules.specs.Layout.{Layout, Limits}
+use Rattle.rules.specs.Layout.{Layout}
 use Rattle.rules.specs.Status.{busy, annihilated}
 use Rattle.rules.specs.State.{Transactor, Message, bare, ownHistory}
 use Rattle.rules.specs.Step.{done, dropped, fallenBack, vanished, read, write, freeze, finish, fall, fail}
@@ -58,10 +58,10 @@ module _ {r : ℕ} {x : Transactor} {l e : Effect} where
   judged-applied (refused n a b) h = absurd (omega arith)
   judged-applied (applied n a b) h = (a, b)
 
-pub act-judged : (y : Layout) (m : Limits) (k t v : ℕ) (x : Transactor) → Judged (localRefusal m k t x) x (localBy y k t v x) (actBy y m k t v x)
+pub act-judged : (y : Layout) (k t v : ℕ) (x : Transactor) → Judged (localRefusal y k t x) x (localBy y k t v x) (actBy y k t v x)
 unfolding actBy
-act-judged y m k t v x =
-    go (eqb (x .status) annihilated) (leb k fall and not (eqb (x .status) busy)) ((eqb k fall or eqb k fail) and not (ownHistory t x .stable) and isLastIncarnation m t x) (localBy y k t v x) (local-small y k t v x)
+act-judged y k t v x =
+    go (eqb (x .status) annihilated) (leb k fall and not (eqb (x .status) busy)) ((eqb k fall or eqb k fail) and not (ownHistory t x .stable) and isLastIncarnation y t x) (localBy y k t v x) (local-small y k t v x)
   where
     go : (a b c : Bool) (l : Effect) → l .outcome < 20
         → Judged (pick a 22 (pick b 23 (pick c 28 0))) x l (pick a (unchanged 22 x) (pick b (unchanged 23 x) (pick c (unchanged 28 x) l)))
@@ -74,11 +74,11 @@ act-judged y m k t v x =
 abbrev pub answering : ℕ → Effect → Effect
 answering v e = record { outcome = e .outcome; value = pick (eqb (e .outcome) done) v 0; transactor = e .transactor }
 
-pub receipt-judged : (y : Layout) (m : Limits) (t : ℕ) (x : Transactor) (p : Message)
-    → Judged (pick (messageUnrelated y x p) 31 (pick ((not (messageSuperseded y x p) and receiverSuperseded y x p) and isLastIncarnation m t x) 28 0)) x (receiveBy y t x p) (answering (p .value) (acceptBy y m t x (p .dependences)))
+pub receipt-judged : (y : Layout) (t : ℕ) (x : Transactor) (p : Message)
+    → Judged (pick (messageUnrelated y x p) 31 (pick ((not (messageSuperseded y x p) and receiverSuperseded y x p) and isLastIncarnation y t x) 28 0)) x (receiveBy y t x p) (answering (p .value) (acceptBy y t x (p .dependences)))
 unfolding acceptBy takenIn rollbackOr28 messageUnrelated messageSuperseded receiverSuperseded receiveBy
-receipt-judged y m t x p =
-    go (anyUnrelated (y .transactors) (p .dependences) (known y x)) (isSome (firstSuperseded (y .transactors) (p .dependences) (known y x))) (isSome (firstSuperseded (y .transactors) (known y x) (p .dependences))) (isLastIncarnation m t x) (rollback y t x) (fell y t x)
+receipt-judged y t x p =
+    go (anyUnrelated (y .transactors) (p .dependences) (known y x)) (isSome (firstSuperseded (y .transactors) (p .dependences) (known y x))) (isSome (firstSuperseded (y .transactors) (known y x) (p .dependences))) (isLastIncarnation y t x) (rollback y t x) (fell y t x)
   where
     go : (u a b c : Bool) (e : Effect) → Fell e
         → Judged (pick u 31 (pick ((not a and b) and c) 28 0)) x (pick a (unchanged dropped x) (pick b e (record { outcome = done; value = p .value; transactor = taken y t x (p .dependences) })))

@@ -10,7 +10,7 @@ use Rattle.octets.specs.Bytes.{pick}
 use Rattle.octets.specs.Numbers.{bound}
 use Rattle.maps.specs.declared.DependenceMap.{DependenceMap}
 use Rattle.maps.specs.Internal.Fitting.{Bounded}
-use Rattle.rules.specs.Layout.{base, standard, lastNumber}
+use Rattle.rules.specs.Layout.{base, lastNumber}
 use Rattle.rules.specs.State.{Transactor, State, transactorAt, withTransactor, withMessage, withoutMessage, placeOf}
 use Rattle.rules.specs.declared.Step.{Step}
 use Rattle.rules.specs.declared.Reply.{Reply}
@@ -31,12 +31,12 @@ use Rattle.rules.proofs.ByKind.Applied.{applies}
 use Rattle.steps.proofs.Stepped.{stepped-refused, stepped-applied}
 
 -- not crowded: a place and a number are free for one more message
-pub free-place : (img : List ℕ) (n to : ℕ) (m : DependenceMap) → Good img → n ≡ waitingIn base img → crowdedRefusal standard (unpack base img) ≡ 0 → to < 16 → Bounded (base .places) m
+pub free-place : (img : List ℕ) (n to : ℕ) (m : DependenceMap) → Good img → n ≡ waitingIn base img → crowdedRefusal (unpack base img) ≡ 0 → to < 16 → Bounded (base .places) m
     → Good img × (n ≡ waitingIn base img) × (n < base .messages) × (to < 16) × (unpack base img .next < lastNumber) × Bounded (base .places) m
 unfolding bound
 free-place img n to m good w z small b =
-    let f = free standard (unpack base img) z in
-    (good, w, omega (arith, unpack-waiting base img, f .room), small, omega (arith, good .well .packable .next, f .number), b)
+    let f = free (unpack base img) z in
+    (good, w, omega (arith, unpack-waiting base img, f .room, good .well .limits .messages-high), small, omega (arith, good .well .packable .next, f .number), b)
 
 module _ (img : List ℕ) (p : Step) where
   -- what the image says
@@ -44,24 +44,24 @@ module _ (img : List ℕ) (p : Step) where
   s = unpack base img
 
   pub stepped-malformed : (r : Reply) → Good img → malformed p ≡ true → r ≡ answer 20 0 0 0 → Stepped img p r img
-  stepped-malformed r good e = stepped-refused img p r good 20 (refusal-malformed base standard s p e) (λ z. omega arith)
+  stepped-malformed r good e = stepped-refused img p r good 20 (refusal-malformed base s p e) (λ z. omega arith)
 
-  refused-by : {k : ℕ} → Asked k img p → Refuses base standard s p
-  refused-by a = refuses base standard s p (a .formed)
+  refused-by : {k : ℕ} → Asked k img p → Refuses base s p
+  refused-by a = refuses base s p (a .formed)
 
   -- ---- root
 
   module _ (a : Asked root img p) where
-    pub root-full : (r : Reply) → base .transactors ≤ s .opened → r ≡ answer 25 0 0 0 → Stepped img p r img
-    root-full r h = stepped-refused img p r (a .good) 25 (refused-by a .root (a .kind) ∙ rw (le-leb (standard .transactors) (s .opened) h)) (λ z. omega arith)
+    pub root-full : (r : Reply) → s .limits .transactors ≤ s .opened → r ≡ answer 25 0 0 0 → Stepped img p r img
+    root-full r h = stepped-refused img p r (a .good) 25 (refused-by a .root (a .kind) ∙ rw (le-leb (s .limits .transactors) (s .opened) h)) (λ z. omega arith)
 
     -- n is the take opened
-    pub root-done : (n : ℕ) (after : List ℕ) → n ≡ s .opened → n < base .transactors → after ≡ openBytes base img n (p .value) (noDependences base) → Stepped img p (answer done n 0 0) after
+    pub root-done : (n : ℕ) (after : List ℕ) → n ≡ s .opened → n < s .limits .transactors → after ≡ openBytes base img n (p .value) (noDependences base) → Stepped img p (answer done n 0 0) after
     unfolding applyRoot
     root-done n after e h i = stepped-applied img p (answer done n 0 0) after (applyRoot base s p)
-        (refused-by a .root (a .kind) ∙ rw (← e, lt-leb (standard .transactors) n h))
+        (refused-by a .root (a .kind) ∙ rw (← e, lt-leb (s .limits .transactors) n h))
         (applies base s p .root (a .kind)) (rw (← e))
-        (i ∙ rw e (ap (λ (l : List ℕ). openBytes base l (s .opened) (p .value) (noDependences base)) (sym (a .good .back)) ∙ open-pack base s (p .value) (noDependences base) (omega arith) (unpack-many base img)))
+        (i ∙ rw e (ap (λ (l : List ℕ). openBytes base l (s .opened) (p .value) (noDependences base)) (sym (a .good .back)) ∙ open-pack base s (p .value) (noDependences base) (omega (arith, a .good .well .limits .transactors-high)) (unpack-many base img)))
 
   -- ---- letter
 
@@ -70,13 +70,13 @@ module _ (img : List ℕ) (p : Step) where
     letter-unopened r h = stepped-refused img p r (a .good) 21 (refused-by a .letter (a .kind) ∙ rw (le-leb (s .opened) (p .transactor) h)) (λ z. omega arith)
 
     module _ (h : p .transactor < s .opened) where
-      letter-left : refusal base standard s p ≡ crowdedRefusal standard s
+      letter-left : refusal base s p ≡ crowdedRefusal s
       letter-left = refused-by a .letter (a .kind) ∙ rw (lt-leb (s .opened) (p .transactor) h)
 
-      pub letter-crowded : (r : Reply) → (crowdedRefusal standard s ≡ 0 → ⊥) → r ≡ answer (crowdedRefusal standard s) 0 0 0 → Stepped img p r img
-      letter-crowded r = stepped-refused img p r (a .good) (crowdedRefusal standard s) letter-left
+      pub letter-crowded : (r : Reply) → (crowdedRefusal s ≡ 0 → ⊥) → r ≡ answer (crowdedRefusal s) 0 0 0 → Stepped img p r img
+      letter-crowded r = stepped-refused img p r (a .good) (crowdedRefusal s) letter-left
 
-      pub letter-done : crowdedRefusal standard s ≡ 0 → (number : ℕ) (after : List ℕ) → number ≡ s .next → after ≡ pack base (withMessage s (p .transactor) (p .value) (noDependences base))
+      pub letter-done : crowdedRefusal s ≡ 0 → (number : ℕ) (after : List ℕ) → number ≡ s .next → after ≡ pack base (withMessage s (p .transactor) (p .value) (noDependences base))
           → Stepped img p (answer done (p .transactor) number 0) after
       unfolding applyLetter
       letter-done z number after e i = stepped-applied img p (answer done (p .transactor) number 0) after (applyLetter base s p) (letter-left ∙ z) (applies base s p .letter (a .kind))
@@ -93,20 +93,20 @@ module _ (img : List ℕ) (p : Step) where
     send-unopened r h = stepped-refused img p r (a .good) 21 (refused-by a .send (a .kind) ∙ rw (le-leb (s .opened) (p .other) h)) (λ z. omega arith)
 
     module _ (h : p .other < s .opened) where
-      send-first : refusal base standard s p ≡ first (busyRefusal s (p .transactor)) (crowdedRefusal standard s)
+      send-first : refusal base s p ≡ first (busyRefusal s (p .transactor)) (crowdedRefusal s)
       send-first = refused-by a .send (a .kind) ∙ rw (lt-leb (s .opened) (p .other) h)
 
       pub send-idle : (r : Reply) → (busyRefusal s (p .transactor) ≡ 0 → ⊥) → r ≡ answer (busyRefusal s (p .transactor)) 0 0 0 → Stepped img p r img
-      send-idle r n = stepped-refused img p r (a .good) (busyRefusal s (p .transactor)) (send-first ∙ first-taken (busyRefusal s (p .transactor)) (crowdedRefusal standard s) _ refl n) n
+      send-idle r n = stepped-refused img p r (a .good) (busyRefusal s (p .transactor)) (send-first ∙ first-taken (busyRefusal s (p .transactor)) (crowdedRefusal s) _ refl n) n
 
       module _ (works : busyRefusal s (p .transactor) ≡ 0) where
-        send-left : refusal base standard s p ≡ crowdedRefusal standard s
-        send-left = send-first ∙ first-left (busyRefusal s (p .transactor)) (crowdedRefusal standard s) _ refl works
+        send-left : refusal base s p ≡ crowdedRefusal s
+        send-left = send-first ∙ first-left (busyRefusal s (p .transactor)) (crowdedRefusal s) _ refl works
 
-        pub send-crowded : (r : Reply) → (crowdedRefusal standard s ≡ 0 → ⊥) → r ≡ answer (crowdedRefusal standard s) 0 0 0 → Stepped img p r img
-        send-crowded r = stepped-refused img p r (a .good) (crowdedRefusal standard s) send-left
+        pub send-crowded : (r : Reply) → (crowdedRefusal s ≡ 0 → ⊥) → r ≡ answer (crowdedRefusal s) 0 0 0 → Stepped img p r img
+        send-crowded r = stepped-refused img p r (a .good) (crowdedRefusal s) send-left
 
-        pub send-done : crowdedRefusal standard s ≡ 0 → (number : ℕ) (after : List ℕ) (m : DependenceMap) → number ≡ s .next → m ≡ carries → after ≡ pack base (withMessage s (p .other) (p .value) m)
+        pub send-done : crowdedRefusal s ≡ 0 → (number : ℕ) (after : List ℕ) (m : DependenceMap) → number ≡ s .next → m ≡ carries → after ≡ pack base (withMessage s (p .other) (p .value) m)
             → Stepped img p (answer done (p .transactor) number 0) after
         unfolding applySend
         send-done z number after m e k i =
@@ -121,14 +121,14 @@ module _ (img : List ℕ) (p : Step) where
     new-idle r n = stepped-refused img p r (a .good) (busyRefusal s (p .transactor)) (refused-by a .new (a .kind) ∙ first-taken (busyRefusal s (p .transactor)) _ _ refl n) n
 
     module _ (works : busyRefusal s (p .transactor) ≡ 0) where
-      new-left : refusal base standard s p ≡ pick (leb (standard .transactors) (s .opened)) 25 0
+      new-left : refusal base s p ≡ pick (leb (s .limits .transactors) (s .opened)) 25 0
       new-left = refused-by a .new (a .kind) ∙ first-left (busyRefusal s (p .transactor)) _ _ refl works
 
-      pub new-full : (r : Reply) → base .transactors ≤ s .opened → r ≡ answer 25 0 0 0 → Stepped img p r img
-      new-full r h = stepped-refused img p r (a .good) 25 (new-left ∙ rw (le-leb (standard .transactors) (s .opened) h)) (λ z. omega arith)
+      pub new-full : (r : Reply) → s .limits .transactors ≤ s .opened → r ≡ answer 25 0 0 0 → Stepped img p r img
+      new-full r h = stepped-refused img p r (a .good) 25 (new-left ∙ rw (le-leb (s .limits .transactors) (s .opened) h)) (λ z. omega arith)
 
       -- n is the take opened, bs the opener's bytes
-      pub new-done : (n : ℕ) (bs after : List ℕ) (m : DependenceMap) → n ≡ s .opened → n < base .transactors
+      pub new-done : (n : ℕ) (bs after : List ℕ) (m : DependenceMap) → n ≡ s .opened → n < s .limits .transactors
           → bs ≡ packTransactor base (adopts base n (unpackTransactor base (lent base img (p .transactor))))
           → m ≡ carries → after ≡ openBytes base (back base img (p .transactor) bs) n (p .value) m → Stepped img p (answer done n 0 0) after
       unfolding applyNew adopts withTransactor
@@ -138,9 +138,9 @@ module _ (img : List ℕ) (p : Step) where
           let e : unpackTransactor base (lent base img t) ≡ x = unpack-lent base img t (a .step .transactor) in
           let g : back base img t bs ≡ pack base (withTransactor s t (adopts base (s .opened) x)) = good-back img (a .good) t (a .step .transactor) (adopts base (s .opened) x) bs (rw (e, o) at b) in
           stepped-applied img p (answer done n 0 0) after (applyNew base s p)
-          (new-left ∙ rw (← o, lt-leb (standard .transactors) n h))
+          (new-left ∙ rw (← o, lt-leb (s .limits .transactors) n h))
           (applies base s p .new (a .kind)) (rw (← o))
-          (i ∙ rw (g, k, e, o) (open-pack base (withTransactor s t (adopts base (s .opened) x)) (p .value) (carried base t x) (omega arith) (withTransactor-many s t (adopts base (s .opened) x) ∙ unpack-many base img)))
+          (i ∙ rw (g, k, e, o) (open-pack base (withTransactor s t (adopts base (s .opened) x)) (p .value) (carried base t x) (omega (arith, a .good .well .limits .transactors-high)) (withTransactor-many s t (adopts base (s .opened) x) ∙ unpack-many base img)))
 
   -- ---- lose
 
@@ -157,13 +157,13 @@ module _ (img : List ℕ) (p : Step) where
   -- ---- sign
 
   module _ (a : Asked sign img p) where
-    sign-refusal : refusal base standard s p ≡ groupRefusal standard s (p .message)
+    sign-refusal : refusal base s p ≡ groupRefusal s (p .message)
     sign-refusal = refused-by a .sign (a .kind)
 
-    pub sign-refused : (r : Reply) → (groupRefusal standard s (p .message) ≡ 0 → ⊥) → r ≡ answer (groupRefusal standard s (p .message)) 0 0 0 → Stepped img p r img
-    sign-refused r = stepped-refused img p r (a .good) (groupRefusal standard s (p .message)) sign-refusal
+    pub sign-refused : (r : Reply) → (groupRefusal s (p .message) ≡ 0 → ⊥) → r ≡ answer (groupRefusal s (p .message)) 0 0 0 → Stepped img p r img
+    sign-refused r = stepped-refused img p r (a .good) (groupRefusal s (p .message)) sign-refusal
 
-    module _ (z : groupRefusal standard s (p .message) ≡ 0) where
+    module _ (z : groupRefusal s (p .message) ≡ 0) where
       pub sign-unready : (r : Reply) → not (groupReady base s (p .message)) ≡ true → r ≡ answer notReady 0 0 0 → Stepped img p r img
       unfolding applySign
       sign-unready r g q = stepped-applied img p r img (applySign base s p) (sign-refusal ∙ z) (applies base s p .sign (a .kind)) (q ∙ rw (not-true (groupReady base s (p .message)) g)) (sym (a .good .back) ∙ rw (not-true (groupReady base s (p .message)) g))

@@ -5,7 +5,7 @@ use mathlib.Core.Path.{_≡_, sym, _∙_}
 use mathlib.Core.List.{List}
 use native.Mathlib.Omega.{arith}
 use borrow.Author.Tests.{le-leb, lt-leb}
-use Rattle.rules.specs.Layout.{base, standard}
+use Rattle.rules.specs.Layout.{base}
 use Rattle.rules.specs.State.{Transactor, State, transactorAt}
 use Rattle.rules.specs.declared.Step.{Step}
 use Rattle.rules.specs.declared.Reply.{Reply}
@@ -30,26 +30,26 @@ module _ (img : List ℕ) (p : Step) (good : Good img) (formed : malformed p ≡
   t = p .transactor
 
   pub local-unopened : (r : Reply) → s .opened ≤ t → r ≡ answer 21 0 0 0 → Stepped img p r img
-  local-unopened r h = stepped-refused img p r good 21 (refuses base standard s p formed .local low high ∙ rw (le-leb (s .opened) t h)) (λ z. omega arith)
+  local-unopened r h = stepped-refused img p r good 21 (refuses base s p formed .local low high ∙ rw (le-leb (s .opened) t h)) (λ z. omega arith)
 
-  module _ (h : t < s .opened) (o v : ℕ) (bs : List ℕ) (acts : Acts (actBy base standard (p .kind) t (p .value) (unpackTransactor base (lent base img t))) o v bs) where
+  module _ (h : t < s .opened) (o v : ℕ) (bs : List ℕ) (acts : Acts (actBy base (p .kind) t (p .value) (unpackTransactor base (lent base img t))) o v bs) where
     within : t < base .transactors
-    within = omega (arith, good .well .opened)
+    within = omega (arith, good .well .opened, good .well .limits .transactors-high)
 
     abbrev x : Transactor
     x = transactorAt s t
 
     abbrev effect : Effect
-    effect = actBy base standard (p .kind) t (p .value) x
+    effect = actBy base (p .kind) t (p .value) x
 
     acted : Acts effect o v bs
     acted = rw (unpack-lent base img t within) at acts
 
-    left : refusal base standard s p ≡ localRefusal standard (p .kind) t x
-    left = refuses base standard s p formed .local low high ∙ rw (lt-leb (s .opened) t h)
+    left : refusal base s p ≡ localRefusal base (p .kind) t x
+    left = refuses base s p formed .local low high ∙ rw (lt-leb (s .opened) t h)
 
-    judged : Judged (localRefusal standard (p .kind) t x) x (localBy base (p .kind) t (p .value) x) effect
-    judged = act-judged base standard (p .kind) t (p .value) x
+    judged : Judged (localRefusal base (p .kind) t x) x (localBy base (p .kind) t (p .value) x) effect
+    judged = act-judged base (p .kind) t (p .value) x
 
     pub local-refused : (r : Reply) → 20 ≤ o → r ≡ answer o 0 0 0 → Stepped img p r (back base img t bs)
     local-refused r b q =

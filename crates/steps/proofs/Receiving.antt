@@ -8,7 +8,7 @@ use lib.Dec.{eqb, leb}
 use lib.ListN.{length}
 use borrow.Author.Tests.{le-leb, lt-leb, eq-eqb, ne-eqb}
 use Rattle.octets.specs.Bytes.{pick, _and_}
-use Rattle.rules.specs.Layout.{base, standard}
+use Rattle.rules.specs.Layout.{base}
 use Rattle.rules.specs.Status.{ready, annihilated}
 use Rattle.rules.specs.State.{Transactor, Message, State, transactorAt, messageAt, withTransactor, withoutMessage, placeOf}
 use Rattle.rules.specs.declared.Step.{Step}
@@ -31,7 +31,7 @@ use Rattle.rules.proofs.Pack.Loads.{unpack-waiting}
 use Rattle.rules.proofs.Pack.RoundTrip.{waiting-pack, unpack-pack}
 use Rattle.rules.proofs.Keep.Accepted.{accepted}
 use Rattle.rules.proofs.Keep.Kinds.{well-received}
-use Rattle.rules.proofs.Keep.Step.{fitting-base, allowed-standard}
+use Rattle.rules.proofs.Keep.Step.{fitting-base}
 
 -- the text is replied only for outcome 0
 module _ (o v text : ℕ) where
@@ -45,7 +45,7 @@ module _ (o v text : ℕ) where
 abbrev lastFalls : State → ℕ → ℕ → Bool
 lastFalls s k t =
     (not (messageSuperseded base (transactorAt s t) (messageAt s k)) and receiverSuperseded base (transactorAt s t) (messageAt s k))
-    and isLastIncarnation standard t (transactorAt s t)
+    and isLastIncarnation base t (transactorAt s t)
 
 -- why take t, being idle, does not receive it
 abbrev refusalFor : State → ℕ → ℕ → ℕ
@@ -57,10 +57,10 @@ refusalTo s k t = pick (eqb (transactorAt s t .status) annihilated) 22 (pick (no
 
 -- the parcel named stands in place k, or nowhere
 module _ (img : List ℕ) (p : Step) (a : Asked receive img p) (k : ℕ) (place : k ≡ placeOf (unpack base img) (p .message)) where
-  receive-refusal : refusal base standard (unpack base img) p
+  receive-refusal : refusal base (unpack base img) p
       ≡ pick (leb (length (unpack base img .messages)) k) 24 (refusalTo (unpack base img) k (messageAt (unpack base img) k .addressee))
   unfolding receiptRollsBack receiptUnrelated
-  receive-refusal = rw place (refuses base standard (unpack base img) p (a .formed) .receive (a .kind))
+  receive-refusal = rw place (refuses base (unpack base img) p (a .formed) .receive (a .kind))
 
   pub receive-missing : (r : Reply) → waitingIn base img ≤ k → r ≡ answer 24 0 0 0 → Stepped img p r img
   receive-missing r h = stepped-refused img p r (a .good) 24 (receive-refusal ∙ rw (le-leb (length (unpack base img .messages)) k (omega (arith, unpack-waiting base img)))) (λ z. omega arith)
@@ -88,7 +88,7 @@ module _ {img : List ℕ} {p : Step} {k t : ℕ} (found : Found img p k t) where
   waits : k < length (s .messages)
   waits = omega (arith, found .waits, unpack-waiting base img)
 
-  found-refusal : refusal base standard s p ≡ refusalTo s k t
+  found-refusal : refusal base s p ≡ refusalTo s k t
   found-refusal = rw (found .to) (receive-refusal img p (found .asked) k (found .place) ∙ rw (lt-leb (length (s .messages)) k waits))
 
   pub receive-gone : (r : Reply) → x .status ≡ annihilated → r ≡ answer 22 0 0 0 → Stepped img p r img
@@ -105,15 +105,15 @@ module _ {img : List ℕ} {p : Step} {k t : ℕ} (found : Found img p k t) where
   receive-applies = applies base s p .receive (found .asked .kind) ∙ rw (found .to, found .place)
 
   abbrev taken : Effect
-  taken = acceptBy base standard t x (parcel .dependences)
+  taken = acceptBy base t x (parcel .dependences)
 
   -- the addressee is idle
   module _ (idle : x .status ≡ ready) {o v : ℕ} {after : List ℕ} (acts : ActsAt img t taken o v after) where
-    receive-left : refusal base standard s p ≡ refusalFor s k t
+    receive-left : refusal base s p ≡ refusalFor s k t
     receive-left = found-refusal ∙ rw idle
 
     judged : Judged (refusalFor s k t) x received (answering (parcel .value) taken)
-    judged = receipt-judged base standard t x parcel
+    judged = receipt-judged base t x parcel
 
     -- 31 or 28
     pub receive-refused : (r : Reply) → 20 ≤ o → r ≡ answer o 0 0 0 → Stepped img p r after
@@ -126,7 +126,7 @@ module _ {img : List ℕ} {p : Step} {k t : ℕ} (found : Found img p k t) where
       small : taken .outcome < 20
       small = omega (arith, acts .outcome)
 
-      accepts : refusal base standard s p ≡ 0
+      accepts : refusal base s p ≡ 0
       accepts = receive-left ∙ judged-applied judged small .0
 
       same : answering (parcel .value) taken ≡ received
@@ -139,7 +139,7 @@ module _ {img : List ℕ} {p : Step} {k t : ℕ} (found : Found img p k t) where
       unfolding refusal
       well-changed =
           let e : taken .transactor ≡ received .transactor = ap (λ (e : Effect). e .transactor) same in
-          rw (e, found .to, found .place) (well-received fitting-base allowed-standard (good .well) (found .asked .step) (accepted standard (seen base s) p accepts) (eq-eqb (p .kind) receive (found .asked .kind)))
+          rw (e, found .to, found .place) (well-received fitting-base (good .well) (found .asked .step) (accepted base (seen base s) p accepts) (eq-eqb (p .kind) receive (found .asked .kind)))
 
       there : unpack base after ≡ changed
       there = ap (unpack base) (acts .image) ∙ unpack-pack base changed (well-changed .packable)

@@ -1,6 +1,6 @@
 // The steps on an image, kind by kind: each refuses in the table's order, or replies and changes the image.
 use image::head;
-use image::layout::HEAD;
+use image::layout::FIRST_TRANSACTOR;
 use image::layout::OPENED;
 use image::layout::TRANSACTOR;
 use image::limits;
@@ -17,7 +17,7 @@ ghost use lib.ListN.{length};
 ghost use lib.Dec.{eqb};
 ghost use Rattle.octets.specs.Bytes.{_or_};
 ghost use Rattle.maps.specs.Internal.Fitting.{Bounded};
-ghost use Rattle.rules.specs.Layout.{base, standard, imageBytes};
+ghost use Rattle.rules.specs.Layout.{base, imageBytes};
 ghost use Rattle.rules.specs.Step.{root, letter, receive, new, send, lose, sign};
 ghost use Rattle.rules.specs.Refusals as refusals;
 ghost use Rattle.rules.specs.Rules.{answer};
@@ -134,9 +134,9 @@ fn busy_refusal(image: &[u8], t: usize) -> u8
 
 fn crowded(image: &[u8], n: usize) -> u8
     requires { ⌜ (length (now image) ≡ imageBytes base) × (n ≡ waitingIn base (now image)) ⌝ }
-    ensures { λ r. ⌜ r ≡ crowdedRefusal standard (unpack base (now (image .entry))) ⌝ }
+    ensures { λ r. ⌜ r ≡ crowdedRefusal (unpack base (now (image .entry))) ⌝ }
 {
-    if limits::MESSAGES <= n {
+    if limits::messages(image) as usize <= n {
         return numbers::ALL_WAITING;
     }
     if head::next(image) == limits::LAST_NUMBER {
@@ -153,7 +153,7 @@ fn open(image: &mut [u8], c: u8, value: u32, creation: DependenceMap)
     ensures { λ _. ⌜ now (image .exit) ≡ openBytes base (now (image .entry)) c value creation ⌝ }
 {
     let t = c as usize;
-    let at = HEAD + TRANSACTOR * t;
+    let at = FIRST_TRANSACTOR + TRANSACTOR * t;
     let end = at + TRANSACTOR;
     transactor::open(&mut image[at..end], t, value, creation);
     image[OPENED] = c + 1;
@@ -164,7 +164,7 @@ fn root(image: &mut [u8], p: Step) -> Reply
     ensures { λ r. ⌜ Stepped (now (image .entry)) p r (now (image .exit)) ⌝ }
 {
     let c = head::opened(image);
-    if limits::TRANSACTORS <= c as usize {
+    if limits::transactors(image) <= c {
         return answered(numbers::ALL_OPENED);
     }
     open(image, c, p.value, DependenceMap::empty());
@@ -243,10 +243,10 @@ fn new(image: &mut [u8], p: Step) -> Reply
         return answered(r);
     }
     let c = head::opened(image);
-    if limits::TRANSACTORS <= c as usize {
+    if limits::transactors(image) <= c {
         return answered(numbers::ALL_OPENED);
     }
-    let at = HEAD + TRANSACTOR * t;
+    let at = FIRST_TRANSACTOR + TRANSACTOR * t;
     let end = at + TRANSACTOR;
     let creation = transactor::carry(&image[at..end], t);
     transactor::adopt(&mut image[at..end], c as usize);
@@ -277,7 +277,7 @@ fn send(image: &mut [u8], p: Step) -> Reply
     if r != 0 {
         return answered(r);
     }
-    let at = HEAD + TRANSACTOR * t;
+    let at = FIRST_TRANSACTOR + TRANSACTOR * t;
     let end = at + TRANSACTOR;
     let m = transactor::carry(&image[at..end], t);
     let number = head::next(image);
@@ -299,7 +299,7 @@ fn local(image: &mut [u8], p: Step) -> Reply
     if (head::opened(image) as usize) <= t {
         return answered(numbers::UNOPENED);
     }
-    let at = HEAD + TRANSACTOR * t;
+    let at = FIRST_TRANSACTOR + TRANSACTOR * t;
     let end = at + TRANSACTOR;
     let a = transactor::act(&mut image[at..end], p.kind, t, p.value);
     let outcome = a.outcome;

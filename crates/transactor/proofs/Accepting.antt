@@ -16,7 +16,7 @@ use Rattle.maps.specs.declared.Comparison.{Comparison}
 use Rattle.maps.specs.declared.Comparison.the-variants.{Superseded, Current}
 use Rattle.maps.specs.Map.{firstSuperseded, answerOf, anyUnrelated}
 use Rattle.maps.proofs.Packed.{length-packMap}
-use Rattle.rules.specs.Layout.{Layout, Limits, base, mapBytes, stateAt, creationAt, behaviourAt, transactorBytes, dependencesAt, messageBytes, transactorAddress, messageAddress, imageBytes}
+use Rattle.rules.specs.Layout.{Layout, base, mapBytes, stateAt, creationAt, behaviourAt, transactorBytes, dependencesAt, messageBytes, transactorAddress, messageAddress, imageBytes}
 use Rattle.rules.specs.Status.{busy}
 use Rattle.rules.specs.State.{Transactor, Message, State, transactorAt, messageAt, withStatus, withTransactor}
 use Rattle.rules.specs.Step.{done, dropped}
@@ -109,11 +109,11 @@ module _ (y : Layout) (img : List ℕ) (t : ℕ) (below : t < y .transactors) (k
   abbrev packedKnown : DependenceMap
   packedKnown = join y (unpackDependences y (transactorAddress y t + stateAt) img) (unpackDependences y (transactorAddress y t + creationAt y) img)
 
-  module _ (m : Limits) (u : Bool) (d : u ≡ anyUnrelated (y .transactors) packedDeps packedKnown) where
+  module _ (u : Bool) (d : u ≡ anyUnrelated (y .transactors) packedDeps packedKnown) where
     some-unrelated : anyUnrelated (y .transactors) deps (known y x) ≡ u
     some-unrelated = rw (read-dependences y img k waits, read-state y img t below, read-creation y img t below) (sym d)
 
-    pub accepts-unrelated : u ≡ true → acceptBy y m t x deps ≡ unchanged 31 x
+    pub accepts-unrelated : u ≡ true → acceptBy y t x deps ≡ unchanged 31 x
     unfolding acceptBy
     accepts-unrelated o = rw (some-unrelated, o)
 
@@ -121,7 +121,7 @@ module _ (y : Layout) (img : List ℕ) (t : ℕ) (below : t < y .transactors) (k
       message-superseded : firstSuperseded (y .transactors) deps (known y x) ≡ answerOf f
       message-superseded = rw (read-dependences y img k waits, read-state y img t below, read-creation y img t below) (sym e)
 
-      pub accepts-dropped : {i : ℕ} → f ≡ Superseded i → acceptBy y m t x deps ≡ unchanged dropped x
+      pub accepts-dropped : {i : ℕ} → f ≡ Superseded i → acceptBy y t x deps ≡ unchanged dropped x
       unfolding acceptBy
       accepts-dropped p = rw (some-unrelated, o, message-superseded, p)
 
@@ -129,11 +129,11 @@ module _ (y : Layout) (img : List ℕ) (t : ℕ) (below : t < y .transactors) (k
         receiver-superseded : firstSuperseded (y .transactors) (known y x) deps ≡ answerOf g
         receiver-superseded = rw (read-dependences y img k waits, read-state y img t below, read-creation y img t below) (sym q)
 
-        pub accepts-rollback : {i : ℕ} → g ≡ Superseded i → acceptBy y m t x deps ≡ rollbackOr28 y m t x
+        pub accepts-rollback : {i : ℕ} → g ≡ Superseded i → acceptBy y t x deps ≡ rollbackOr28 y t x
         unfolding acceptBy
         accepts-rollback r = rw (some-unrelated, o, message-superseded, p, receiver-superseded, r)
 
-        pub accepts-done : g ≡ Current → acceptBy y m t x deps ≡ unchanged done (takenIn (informedBy y t x deps) deps)
+        pub accepts-done : g ≡ Current → acceptBy y t x deps ≡ unchanged done (takenIn (informedBy y t x deps) deps)
         unfolding acceptBy
         accepts-done r = rw (some-unrelated, o, message-superseded, p, receiver-superseded, r)
 

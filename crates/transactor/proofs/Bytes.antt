@@ -23,7 +23,7 @@ use Rattle.maps.specs.Packed.{unpackMap}
 use Rattle.maps.specs.Internal.Fitting.{Exact}
 use Rattle.maps.proofs.Map.{Sized}
 use Rattle.maps.proofs.Packed.{length-packMap, pack-emptyMap, bounded-at, bounded-unpack}
-use Rattle.rules.specs.Layout.{Layout, Limits, base, historyBytes, mapBytes, valueAt, savedAt, stateAt, creationAt, behaviourAt, transactorBytes}
+use Rattle.rules.specs.Layout.{Layout, largest, base, historyBytes, mapBytes, valueAt, savedAt, stateAt, creationAt, behaviourAt, transactorBytes}
 use Rattle.rules.specs.Step.{done, held, fallenBack, vanished, read, write, freeze, finish, fall, fail}
 use Rattle.rules.specs.Status.{unused, busy, annihilated}
 use Rattle.rules.specs.State.{Transactor, bare, ownHistory, withStatus, withValue, withState, withBehaviour}
@@ -140,9 +140,9 @@ acted q r s = acts-as q (record { outcome = r .0; value = r .1; bytes = s })
 
 -- ---- the rules by case, h being the own mark
 
-module _ (y : Layout) (m : Limits) (t : ℕ) (x : Transactor) {h : History} (own : h ≡ ownHistory t x) where
+module _ (y : Layout) (t : ℕ) (x : Transactor) {h : History} (own : h ≡ ownHistory t x) where
   -- never signed
-  pub rollback-uncheckpointed : h .count ≡ 0 → rollbackOr28 y m t x ≡ record { outcome = vanished; value = 0; transactor = bare y annihilated }
+  pub rollback-uncheckpointed : h .count ≡ 0 → rollbackOr28 y t x ≡ record { outcome = vanished; value = 0; transactor = bare y annihilated }
   unfolding rollbackOr28 isLastIncarnation rollback
   rollback-uncheckpointed z =
       let n : ownHistory t x .count ≡ 0 = ap (λ (g : History). g .count) (sym own) ∙ z in
@@ -156,34 +156,34 @@ module _ (y : Layout) (m : Limits) (t : ℕ) (x : Transactor) {h : History} (own
     counted = rw (← own) (ne-eqb (h .count) 0 signed)
 
     -- at the largest life number
-    pub rollback-last : h .incarnation ≡ m .incarnation → rollbackOr28 y m t x ≡ unchanged 28 x
+    pub rollback-last : h .incarnation ≡ largest y → rollbackOr28 y t x ≡ unchanged 28 x
     unfolding rollbackOr28 isLastIncarnation
     rollback-last e =
-        let l : leb (m .incarnation) (ownHistory t x .incarnation) ≡ true = rw (← own) (le-leb (m .incarnation) (h .incarnation) (omega arith)) in
+        let l : leb (largest y) (ownHistory t x .incarnation) ≡ true = rw (← own) (le-leb (largest y) (h .incarnation) (omega arith)) in
         rw (positive, l)
 
     -- the next life, g
-    pub rollback-next : h .incarnation < m .incarnation → {g : History} {v : ℕ} → g ≡ rolledBack h → v ≡ x .saved
-        → rollbackOr28 y m t x ≡ record { outcome = fallenBack; value = 0; transactor = renewed y t g v v }
+    pub rollback-next : h .incarnation < largest y → {g : History} {v : ℕ} → g ≡ rolledBack h → v ≡ x .saved
+        → rollbackOr28 y t x ≡ record { outcome = fallenBack; value = 0; transactor = renewed y t g v v }
     unfolding rollbackOr28 isLastIncarnation rollback
     rollback-next k e f =
-        let l : leb (m .incarnation) (ownHistory t x .incarnation) ≡ false = rw (← own) (lt-leb (m .incarnation) (h .incarnation) k) in
+        let l : leb (largest y) (ownHistory t x .incarnation) ≡ false = rw (← own) (lt-leb (largest y) (h .incarnation) k) in
         rw (positive, l, counted, e, f, own)
 
   own-stable : (z : Bool) → h .stable ≡ z → ownHistory t x .stable ≡ z
   own-stable z e = ap (λ (g : History). g .stable) (sym own) ∙ e
 
   module _ (k : ℕ) where
-    pub unstable-loose : h .stable ≡ false → rollbackUnlessStable y m k t x ≡ rollbackOr28 y m t x
+    pub unstable-loose : h .stable ≡ false → rollbackUnlessStable y k t x ≡ rollbackOr28 y t x
     unfolding rollbackUnlessStable
     unstable-loose e = rw (own-stable false e)
 
     module _ (e : h .stable ≡ true) where
-      pub unstable-fall : k ≡ fall → rollbackUnlessStable y m k t x ≡ unchanged held (finishBy y x .transactor)
+      pub unstable-fall : k ≡ fall → rollbackUnlessStable y k t x ≡ unchanged held (finishBy y x .transactor)
       unfolding rollbackUnlessStable finishBy
       unstable-fall f = rw (own-stable true e, eq-eqb k fall f)
 
-      pub unstable-fail : (k ≡ fall → ⊥) → rollbackUnlessStable y m k t x ≡ unchanged held x
+      pub unstable-fail : (k ≡ fall → ⊥) → rollbackUnlessStable y k t x ≡ unchanged held x
       unfolding rollbackUnlessStable
       unstable-fail n = rw (own-stable true e, ne-eqb k fall n)
 
@@ -203,8 +203,8 @@ swap : {A : Type 0} (s l : Bool) (a b c : A) → pick (not s and l) b (pick s a 
 swap true l a b c = refl
 swap false l a b c = refl
 
-module _ (y : Layout) (m : Limits) (k t v : ℕ) (x : Transactor) where
-  pub act-gone : x .status ≡ annihilated → actBy y m k t v x ≡ unchanged 22 x
+module _ (y : Layout) (k t v : ℕ) (x : Transactor) where
+  pub act-gone : x .status ≡ annihilated → actBy y k t v x ≡ unchanged 22 x
   unfolding actBy
   act-gone e = rw (eq-eqb (x .status) annihilated e)
 
@@ -212,7 +212,7 @@ module _ (y : Layout) (m : Limits) (k t v : ℕ) (x : Transactor) where
     left : eqb (x .status) annihilated ≡ false
     left = ne-eqb (x .status) annihilated there
 
-    pub act-idle : k ≤ fall → not (eqb (x .status) busy) ≡ true → actBy y m k t v x ≡ unchanged 23 x
+    pub act-idle : k ≤ fall → not (eqb (x .status) busy) ≡ true → actBy y k t v x ≡ unchanged 23 x
     unfolding actBy
     act-idle h e = rw (left, le-leb k fall h, e)
 
@@ -225,21 +225,21 @@ module _ (y : Layout) (m : Limits) (k t v : ℕ) (x : Transactor) where
           came
 
       -- kind 5 to 8
-      pub act-early : {n : ℕ} {e : Effect} → k ≡ n → n < fall → localBy y n t v x ≡ e → actBy y m k t v x ≡ e
+      pub act-early : {n : ℕ} {e : Effect} → k ≡ n → n < fall → localBy y n t v x ≡ e → actBy y k t v x ≡ e
       unfolding actBy
       act-early p h q =
-          let a : actBy y m k t v x ≡ localBy y k t v x = rw (left, work, ne-eqb k fall (omega arith), ne-eqb k fail (omega arith)) in
+          let a : actBy y k t v x ≡ localBy y k t v x = rw (left, work, ne-eqb k fall (omega arith), ne-eqb k fail (omega arith)) in
           a ∙ ap (λ (i : ℕ). localBy y i t v x) p ∙ q
 
       -- any other
-      pub act-late : read ≤ k → k ≤ fail → (k ≡ read → ⊥) → (k ≡ write → ⊥) → (k ≡ freeze → ⊥) → (k ≡ finish → ⊥) → actBy y m k t v x ≡ rollbackUnlessStable y m k t x
+      pub act-late : read ≤ k → k ≤ fail → (k ≡ read → ⊥) → (k ≡ write → ⊥) → (k ≡ freeze → ⊥) → (k ≡ finish → ⊥) → actBy y k t v x ≡ rollbackUnlessStable y k t x
       unfolding actBy localBy fallBy failBy rollbackUnlessStable rollbackOr28
       act-late low high n5 n6 n7 n8 =
           let late : eqb k fall or eqb k fail ≡ true =
           pick-view (λ (z : Bool). z ≡ true) (eqb k fall) true (eqb k fail) (λ e. refl) (λ e. let n : k ≡ fall → ⊥ = eqb-false k fall e in eq-eqb k fail (omega arith)) in
           rw (left, work, late, ne-eqb k read n5, ne-eqb k write n6, ne-eqb k freeze n7, ne-eqb k finish n8) (go (eqb k fall))
         where
-          go : (z : Bool) → pick (not (ownHistory t x .stable) and isLastIncarnation m t x) (unchanged 28 x) (pick z (fallBy y t x) (failBy y t x))
-              ≡ pick (ownHistory t x .stable) (unchanged held (pick z (madeReady y x) x)) (pick (isLastIncarnation m t x) (unchanged 28 x) (rollback y t x))
-          go true = swap (ownHistory t x .stable) (isLastIncarnation m t x) _ _ _
-          go false = swap (ownHistory t x .stable) (isLastIncarnation m t x) _ _ _
+          go : (z : Bool) → pick (not (ownHistory t x .stable) and isLastIncarnation y t x) (unchanged 28 x) (pick z (fallBy y t x) (failBy y t x))
+              ≡ pick (ownHistory t x .stable) (unchanged held (pick z (madeReady y x) x)) (pick (isLastIncarnation y t x) (unchanged 28 x) (rollback y t x))
+          go true = swap (ownHistory t x .stable) (isLastIncarnation y t x) _ _ _
+          go false = swap (ownHistory t x .stable) (isLastIncarnation y t x) _ _ _

@@ -92,7 +92,7 @@ bounded-carried b t =
     let ok : (at : ℕ) → Bounded l (unpackDependences base at b) = λ at. bounded-unpack (base .width) l n (part at (mapBytes base) b) (omega arith) in
     bounded-join l n (join base (x .creation) (x .behaviour)) (only base t (ownHistory t x))
     (bounded-join l n (x .creation) (x .behaviour) (ok (creationAt base)) (ok (behaviourAt base)))
-    (bounded-singleton l n t (ownHistory t x) (bounded-at l (x .state) (ok stateAt) t))
+    (bounded-singleton l l n t (ownHistory t x) (bounded-at l (x .state) (ok stateAt) t))
 
 -- after a function on it
 module _ (img : List ℕ) (good : Good img) (t : ℕ) (below : t < base .transactors) (e : Effect) {o v : ℕ} {bs : List ℕ} (acts : Acts e o v bs) where

@@ -16,7 +16,7 @@ ghost use mathlib.Core.Path.{_≡_};
 ghost use Prim.Native.Nat.{_≤_, _<_};
 ghost use lib.ListN.{length};
 ghost use Rattle.maps.specs.Internal.Fitting.{Bounded};
-ghost use Rattle.rules.specs.Layout.{base, standard, transactorBytes};
+ghost use Rattle.rules.specs.Layout.{base, transactorBytes};
 ghost use Rattle.rules.specs.State.{bare, ownHistory};
 ghost use Rattle.rules.specs.Rules.{renewed, opening, carried, readBy, writeBy, freezeBy, finishBy, checkpointBy};
 ghost use Rattle.rules.specs.Pack.{packTransactor, unpackTransactor};
@@ -102,7 +102,7 @@ pub fn carry(part: &[u8], t: usize) -> DependenceMap
 // Falls: annihilated if never checkpointed, else the next incarnation; 28 at the last one.
 pub fn roll_back(part: &mut [u8], t: usize) -> Acted
     requires { ⌜ GoodPart (now part) × (t < base .transactors) ⌝ }
-    ensures { λ r. ⌜ Acts (rollbackOr28 base standard t (unpackTransactor base (now (part .entry)))) (r .outcome) (r .value) (now (part .exit)) ⌝ }
+    ensures { λ r. ⌜ Acts (rollbackOr28 base t (unpackTransactor base (now (part .entry)))) (r .outcome) (r .value) (now (part .exit)) ⌝ }
 {
     let h = own(part, t);
     if h.count == 0 {
@@ -165,7 +165,7 @@ fn freeze(part: &mut [u8], t: usize) -> Acted
 // Fall and fail: a stable transactor is held, and a fall makes it idle; any other falls, or 28.
 fn roll_back_unless_stable(part: &mut [u8], t: usize, kind: u8) -> Acted
     requires { ⌜ GoodPart (now part) × (t < base .transactors) × (kind < 16) ⌝ }
-    ensures { λ r. ⌜ Acts (rollbackUnlessStable base standard kind t (unpackTransactor base (now (part .entry)))) (r .outcome) (r .value) (now (part .exit)) ⌝ }
+    ensures { λ r. ⌜ Acts (rollbackUnlessStable base kind t (unpackTransactor base (now (part .entry)))) (r .outcome) (r .value) (now (part .exit)) ⌝ }
 {
     let h = own(part, t);
     if !h.stable {
@@ -180,7 +180,7 @@ fn roll_back_unless_stable(part: &mut [u8], t: usize, kind: u8) -> Acted
 // Kinds 5 to 10.
 pub fn act(part: &mut [u8], kind: u8, t: usize, value: u32) -> Acted
     requires { ⌜ GoodPart (now part) × (t < base .transactors) × (5 ≤ kind) × (kind ≤ 10) ⌝ }
-    ensures { λ r. ⌜ Acts (actBy base standard kind t value (unpackTransactor base (now (part .entry)))) (r .outcome) (r .value) (now (part .exit)) ⌝ }
+    ensures { λ r. ⌜ Acts (actBy base kind t value (unpackTransactor base (now (part .entry)))) (r .outcome) (r .value) (now (part .exit)) ⌝ }
 {
     let status = part[0] / 64;
     if status == numbers::ANNIHILATED {

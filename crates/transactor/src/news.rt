@@ -3,7 +3,7 @@
 use image::layout::CREATION;
 use image::layout::DEPENDENCES;
 use image::layout::FIRST_MESSAGE;
-use image::layout::HEAD;
+use image::layout::FIRST_TRANSACTOR;
 use image::layout::MESSAGE;
 use image::layout::STATE;
 use image::layout::TRANSACTOR;
@@ -22,7 +22,7 @@ pub fn hear(image: &mut [u8], t: usize, k: usize)
     ensures { λ _. ⌜ now (image .exit) ≡ pack base (withTransactor (unpack base (now (image .entry))) t
         (informedBy base t (transactorAt (unpack base (now (image .entry))) t) (messageAt (unpack base (now (image .entry))) k .dependences))) ⌝ }
 {
-    let at = HEAD + TRANSACTOR * t;
+    let at = FIRST_TRANSACTOR + TRANSACTOR * t;
     let from = FIRST_MESSAGE + MESSAGE * k + DEPENDENCES;
     stability::inform(image, from, at + STATE, t);
     stability::inform(image, from, at + CREATION, t);

@@ -5,7 +5,7 @@ use image::layout::BEHAVIOUR;
 use image::layout::CREATION;
 use image::layout::DEPENDENCES;
 use image::layout::FIRST_MESSAGE;
-use image::layout::HEAD;
+use image::layout::FIRST_TRANSACTOR;
 use image::layout::MESSAGE;
 use image::layout::STATE;
 use image::layout::TRANSACTOR;
@@ -14,7 +14,7 @@ use maps::DependenceMap;
 use rules::numbers;
 ghost use mathlib.Core.Path.{_≡_};
 ghost use Prim.Native.Nat.{_<_};
-ghost use Rattle.rules.specs.Layout.{base, standard};
+ghost use Rattle.rules.specs.Layout.{base};
 ghost use Rattle.rules.specs.State.{transactorAt, messageAt, withTransactor};
 ghost use Rattle.rules.specs.Pack.{waitingIn, pack, unpack};
 ghost use Rattle.rules.specs.Internal.Good.{Good};
@@ -26,7 +26,7 @@ fn take_in(image: &mut [u8], t: usize, k: usize)
     ensures { λ _. ⌜ now (image .exit) ≡ pack base (withTransactor (unpack base (now (image .entry))) t
         (takenIn (transactorAt (unpack base (now (image .entry))) t) (messageAt (unpack base (now (image .entry))) k .dependences))) ⌝ }
 {
-    let at = HEAD + TRANSACTOR * t;
+    let at = FIRST_TRANSACTOR + TRANSACTOR * t;
     let to = at + BEHAVIOUR;
     let from = FIRST_MESSAGE + MESSAGE * k + DEPENDENCES;
     image[at] = 64 * numbers::BUSY;
@@ -37,10 +37,10 @@ fn take_in(image: &mut [u8], t: usize, k: usize)
 pub fn accept(image: &mut [u8], t: usize, k: usize) -> Acted
     requires { ⌜ Good (now image) × (t < base .transactors) × (k < waitingIn base (now image)) ⌝ }
     ensures { λ r. ⌜ ActsAt (now (image .entry)) t
-        (acceptBy base standard t (transactorAt (unpack base (now (image .entry))) t) (messageAt (unpack base (now (image .entry))) k .dependences))
+        (acceptBy base t (transactorAt (unpack base (now (image .entry))) t) (messageAt (unpack base (now (image .entry))) k .dependences))
         (r .outcome) (r .value) (now (image .exit)) ⌝ }
 {
-    let at = HEAD + TRANSACTOR * t;
+    let at = FIRST_TRANSACTOR + TRANSACTOR * t;
     let end = at + TRANSACTOR;
     let state = at + STATE;
     let creation = at + CREATION;

@@ -14,7 +14,7 @@ use Rattle.convert.proofs.forward.Statement.{statement}
 use Rattle.convert.proofs.forward.Tie as tie
 
 image-requires : tie.Need-image-requires
-image-requires c κs = (search needs, search needs, zero-buffer 42612)
+image-requires c κs = (search needs, search needs, zero-buffer 42616)
 
 returns-3 : tie.Need-returns-3
 returns-3 c =

@@ -3,7 +3,7 @@ use Prim.Native.Nat.{_-_}
 use mathlib.Core.Logic.{⊎-elim}
 use mathlib.Core.Path.{sym, _∙_}
 use borrow.Author.Needs.{needs}
-use Rattle.rules.specs.Layout.{base, standard}
+use Rattle.rules.specs.Layout.{base}
 use Rattle.rules.specs.Pack.{unpack}
 use Rattle.rules.specs.Internal.Guards.{blocksAt}
 use Rattle.rules.proofs.Groups.Ready.{NoneNamed, none-first, none-unnamed, none-more, none-found, none-all}
@@ -11,7 +11,7 @@ use Rattle.group.proofs.blocked.Statement.{statement}
 use Rattle.group.proofs.blocked.Tie as tie
 
 abbrev Inv-loop : tie.InvT-loop
-Inv-loop image group number t₀ t = NoneNamed group (blocksAt standard (unpack base image) number) t
+Inv-loop image group number t₀ t = NoneNamed group (blocksAt (unpack base image) number) t
 
 abbrev μ-loop : tie.MeasureT-loop
 μ-loop image group number t₀ t = base .transactors - t

@@ -10,8 +10,9 @@ blocks-spec =
     (tie.spec
     (λ c κs. search needs)
     (λ c. search needs)
-    (λ c. rw (c .opened .ensures) (blocks-unopened _ _ _ _ (search needs)))
+    (λ c. rw (c .opened .ensures) (blocks-unopened _ _ _ (search needs)))
     (λ c κs. search needs)
-    (λ c. rw (c .status .ensures) (blocks-gone _ _ _ _ (search needs) (search needs)))
+    (λ c. rw (c .status .ensures) (blocks-gone _ _ _ (search needs) (search needs)))
     (λ c κs. search needs)
-    (λ c. blocks-full _ _ _ _ (search needs) (search needs) _ (c .before .own .ensures)))
+    (λ c κs. search needs)
+    (λ c. rw (c .before .checkpoints .ensures) (blocks-full _ _ _ (search needs) (search needs) _ (c .before .before .own .ensures))))

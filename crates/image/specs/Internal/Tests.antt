@@ -7,10 +7,10 @@ use lib.Dec.{eqb, ltb, leb}
 use Rattle.octets.specs.Bytes.{pick, _and_, _or_, part, every, allZero}
 use Rattle.octets.specs.Numbers.{ofBe}
 use Rattle.marks.specs.Packed.{unpackHistory, presentIn}
-use Rattle.rules.specs.Layout.{Layout, historyBytes, mapBytes, savedAt, stateAt, creationAt, behaviourAt, dependencesAt, transactorBytes, messageBytes, transactorAddress, messageAddress}
+use Rattle.rules.specs.Layout.{Layout, inRange, historyBytes, mapBytes, savedAt, stateAt, creationAt, behaviourAt, dependencesAt, transactorBytes, messageBytes, transactorAddress, messageAddress}
 use Rattle.rules.specs.Status.{unused, ready, annihilated}
 use Rattle.rules.specs.Pack.{waitingIn, unpack}
-use Rattle.rules.specs.Form.{mapFormed}
+use Rattle.rules.specs.Form.{mapFormed, limitsZero}
 
 -- where the own mark of take t stands
 abbrev pub ownAt : Layout → ℕ → ℕ
@@ -26,11 +26,11 @@ formedOwnAt y img t =
 -- take t, idle or at work
 unfoldable pub formedLiveAt : Layout → List ℕ → ℕ → Bool
 formedLiveAt y img t =
-    mapFormed y (unpack y img .opened) (transactorAddress y t + stateAt) img
-    and mapFormed y (unpack y img .opened) (transactorAddress y t + creationAt y) img
+    mapFormed y (unpack y img) (transactorAddress y t + stateAt) img
+    and mapFormed y (unpack y img) (transactorAddress y t + creationAt y) img
     and formedOwnAt y img t
     and pick (eqb (getD img (transactorAddress y t) 0 / 64) ready) (allZero (part (transactorAddress y t + behaviourAt y) (mapBytes y) img))
-    (mapFormed y (unpack y img .opened) (transactorAddress y t + behaviourAt y) img)
+    (mapFormed y (unpack y img) (transactorAddress y t + behaviourAt y) img)
 
 -- take t: unopened, vanished, idle or at work
 unfoldable pub formedTransactorAt : Layout → List ℕ → ℕ → Bool
@@ -54,11 +54,19 @@ formedMessageAt y img k =
     and ltb (getD img (messageAddress y k) 0 % 16) (unpack y img .opened)
     and ltb (ofBe 2 (part (messageAddress y k + 1) 2 img)) (unpack y img .next)
     and leb (leastAt y img k) (ofBe 2 (part (messageAddress y k + 1) 2 img))
-    and mapFormed y (unpack y img .opened) (messageAddress y k + dependencesAt) img)
+    and mapFormed y (unpack y img) (messageAddress y k + dependencesAt) img)
+
+-- the head and the limits: zero bytes, limits in range, no more takes opened or parcels waiting than they allow
+unfoldable pub formedFront : Layout → List ℕ → Bool
+formedFront y img =
+    eqb (getD img 3 0) 0
+    and limitsZero y img
+    and inRange y (unpack y img .limits)
+    and leb (unpack y img .opened) (unpack y img .limits .transactors)
+    and leb (waitingIn y img) (unpack y img .limits .messages)
 
 unfoldable pub formedImage : Layout → List ℕ → Bool
 formedImage y img =
-    eqb (getD img 3 0) 0
-    and leb (unpack y img .opened) (y .transactors)
+    formedFront y img
     and every (y .transactors) (formedTransactorAt y img)
     and every (y .messages) (formedMessageAt y img)

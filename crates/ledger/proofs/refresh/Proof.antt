@@ -6,7 +6,7 @@ use borrow.Author.Needs.{needs}
 use lib.ListN.{length}
 use Rattle.octets.specs.Bytes.{put, zeros}
 use Rattle.octets.proofs.Zero.{length-zeros}
-use Rattle.rules.specs.Layout.{base, headBytes, transactorAddress}
+use Rattle.rules.specs.Layout.{base, transactorAddress}
 use Rattle.ledger.proofs.Refreshing.{put-again, fresh-transactor, fresh-all}
 use Rattle.ledger.proofs.refresh.Statement.{statement}
 use Rattle.ledger.proofs.refresh.Tie as tie
@@ -18,7 +18,7 @@ abbrev μ-loop : tie.MeasureT-loop
 μ-loop image₀ t₀ image t = base .transactors - t
 
 loop-holds : tie.Need-loop-holds Inv-loop μ-loop
-loop-holds c = (search needs, put-again 0 (zeros headBytes) _ _ (rw length-zeros (omega arith)) (c .before .before .clear .ensures), refl)
+loop-holds c = (search needs, put-again 0 (zeros (transactorAddress base 0)) _ _ (rw length-zeros (omega arith)) (c .before .before .clear .ensures), refl)
 
 loop-again : tie.Need-loop-again Inv-loop μ-loop
 loop-again c = let l = c .before .before .before .before .before .loop in (omega arith, fresh-transactor base _ (omega arith) (l .t) _ _ (l .inv .1) (omega arith) (c .before .before .strip .ensures), c .before .image2 .given .1 ∙ l .inv .2)

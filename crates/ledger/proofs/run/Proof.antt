@@ -5,7 +5,7 @@ use borrow.Author.Tests.{not-false}
 use borrow.Author.Needs.{needs}
 use Rattle.octets.specs.Bytes.{part}
 use Rattle.octets.proofs.Put.{octets-of}
-use Rattle.rules.specs.Layout.{base, standard}
+use Rattle.rules.specs.Layout.{base}
 use Rattle.rules.specs.Form.{wellFormed}
 use Rattle.rules.proofs.Good.{good-formed}
 use Rattle.rules.proofs.Calls.Run.{part-reversed, part-past, part-broken, part-long, part-fine, part-steps, ran-16, ran-17, ran-18, ran-19, ran-0}
@@ -29,22 +29,22 @@ run-steps-requires c κs =
 returns-8 : tie.Need-returns-8
 unfolding part
 returns-8 c =
-    ran-0 base standard _ _ _ _ _ (search needs) (part-fine _ _ _ (search needs) (search needs) (search needs) (search needs)) (search needs) _ _ (formed (c .before .before .before .before .before .before .before .before))
+    ran-0 base _ _ _ _ _ (search needs) (part-fine _ _ _ (search needs) (search needs) (search needs) (search needs)) (search needs) _ _ (formed (c .before .before .before .before .before .before .before .before))
     (c .before .before .before .before .run-steps .ensures .0) (c .before .before .before .before .run-steps .ensures .1)
 
 pub run-spec : {M : Type 1} → statement M
 run-spec =
     tie.close
     (tie.spec
-    (λ c. ran-16 base standard _ _ _ _ _ (search needs))
-    (λ c. ran-17 base standard _ _ _ _ _ (search needs) (part-reversed _ _ _ (search needs)))
-    (λ c. ran-17 base standard _ _ _ _ _ (search needs) (part-past _ _ _ (search needs) (search needs)))
-    (λ c. ran-17 base standard _ _ _ _ _ (search needs) (part-broken _ _ _ (search needs) (search needs) (search needs)))
-    (λ c. ran-17 base standard _ _ _ _ _ (search needs) (part-long _ _ _ (search needs) (search needs) (search needs) (search needs)))
-    (λ c. ran-18 base standard _ _ _ _ _ (search needs) (part-fine _ _ _ (search needs) (search needs) (search needs) (search needs)) (search needs))
+    (λ c. ran-16 base _ _ _ _ _ (search needs))
+    (λ c. ran-17 base _ _ _ _ _ (search needs) (part-reversed _ _ _ (search needs)))
+    (λ c. ran-17 base _ _ _ _ _ (search needs) (part-past _ _ _ (search needs) (search needs)))
+    (λ c. ran-17 base _ _ _ _ _ (search needs) (part-broken _ _ _ (search needs) (search needs) (search needs)))
+    (λ c. ran-17 base _ _ _ _ _ (search needs) (part-long _ _ _ (search needs) (search needs) (search needs) (search needs)))
+    (λ c. ran-18 base _ _ _ _ _ (search needs) (part-fine _ _ _ (search needs) (search needs) (search needs) (search needs)) (search needs))
     (λ c κs. search needs)
     (λ c. search needs)
-    (λ c. ran-19 base standard _ _ _ _ _ (search needs) (part-fine _ _ _ (search needs) (search needs) (search needs) (search needs)) (search needs) (ap not (sym (c .before .formed .ensures)) ∙ c .if7 .taken))
+    (λ c. ran-19 base _ _ _ _ _ (search needs) (part-fine _ _ _ (search needs) (search needs) (search needs) (search needs)) (search needs) (ap not (sym (c .before .formed .ensures)) ∙ c .if7 .taken))
     (λ c. search needs)
     (λ c. search needs)
     run-steps-requires

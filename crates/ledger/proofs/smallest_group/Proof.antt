@@ -4,7 +4,7 @@ use mathlib.Core.Path.{refl, sym, _∙_}
 use borrow.Author.Needs.{needs}
 use Rattle.octets.specs.Numbers.{bound}
 use Rattle.octets.proofs.Put.{octets-of}
-use Rattle.rules.specs.Layout.{base, standard}
+use Rattle.rules.specs.Layout.{base}
 use Rattle.rules.specs.Internal.Good.{Good}
 use Rattle.rules.proofs.Good.{good-formed}
 use Rattle.rules.proofs.Calls.Query.{query-accepted}
@@ -13,7 +13,7 @@ use Rattle.ledger.proofs.smallest_group.Statement.{statement}
 use Rattle.ledger.proofs.smallest_group.Tie as tie
 
 returns : tie.Need-returns
-returns c = grouped-refused base standard _ _ _ (c .before .query-refusal .ensures) (c .if1 .taken)
+returns c = grouped-refused base _ _ _ (c .before .query-refusal .ensures) (c .if1 .taken)
 
 -- not refused
 accepted : (c : tie.Else1) → Good (c .before .before .before .args .image .now) × (c .before .before .before .args .transactor < base .transactors)
@@ -31,12 +31,12 @@ returns-2 : tie.Need-returns-2
 unfolding bound
 returns-2 c =
     let p = c .before .before in
-    grouped-some base standard _ _ _ (p .before .before .query-refusal .ensures) (p .before .if1 .left) refl _ (p .closure .ensures) _ (c .before .can-checkpoint .ensures) (search needs) (c .if2 .taken)
+    grouped-some base _ _ _ (p .before .before .query-refusal .ensures) (p .before .if1 .left) refl _ (p .closure .ensures) _ (c .before .can-checkpoint .ensures) (search needs) (c .if2 .taken)
 
 returns-3 : tie.Need-returns-3
 returns-3 c =
     let p = c .before .before in
-    grouped-none base standard _ _ _ (p .before .before .query-refusal .ensures) (p .before .if1 .left) refl _ (p .closure .ensures) _ (c .before .can-checkpoint .ensures) (c .if2 .left)
+    grouped-none base _ _ _ (p .before .before .query-refusal .ensures) (p .before .if1 .left) refl _ (p .closure .ensures) _ (c .before .can-checkpoint .ensures) (c .if2 .left)
 
 pub smallest-group-spec : {M : Type 1} → statement M
 smallest-group-spec =

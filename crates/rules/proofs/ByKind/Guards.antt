@@ -11,7 +11,7 @@ use Rattle.octets.specs.Bytes.{pick}
 use Rattle.octets.specs.Numbers.{bound}
 use Rattle.octets.proofs.Chunks.{sides}
 use Rattle.octets.proofs.Tests.{never, pick-zero}
-use Rattle.rules.specs.Layout.{Limits, lastNumber}
+use Rattle.rules.specs.Layout.{lastNumber}
 use Rattle.rules.specs.Status.{busy, annihilated}
 use Rattle.rules.specs.State.{State, transactorAt, ownHistory}
 use Rattle.rules.specs.Refusals.{groupBits, anyNamed}
@@ -81,66 +81,66 @@ module _ (s : State) (t : ℕ) where
 
 -- ---- 26, 27
 
-module _ (m : Limits) (s : State) where
-  pub crowded-full : m .messages ≤ length (s .messages) → 26 ≡ crowdedRefusal m s
+module _ (s : State) where
+  pub crowded-full : s .limits .messages ≤ length (s .messages) → 26 ≡ crowdedRefusal s
   unfolding crowdedRefusal
-  crowded-full h = rw (le-leb (m .messages) (length (s .messages)) h)
+  crowded-full h = rw (le-leb (s .limits .messages) (length (s .messages)) h)
 
-  module _ (room : length (s .messages) < m .messages) where
-    pub crowded-numbered : s .next ≡ lastNumber → 27 ≡ crowdedRefusal m s
+  module _ (room : length (s .messages) < s .limits .messages) where
+    pub crowded-numbered : s .next ≡ lastNumber → 27 ≡ crowdedRefusal s
     unfolding crowdedRefusal
-    crowded-numbered e = rw (lt-leb (m .messages) (length (s .messages)) room, eq-eqb (s .next) lastNumber e)
+    crowded-numbered e = rw (lt-leb (s .limits .messages) (length (s .messages)) room, eq-eqb (s .next) lastNumber e)
 
-    pub crowded-free : (s .next ≡ lastNumber → ⊥) → 0 ≡ crowdedRefusal m s
+    pub crowded-free : (s .next ≡ lastNumber → ⊥) → 0 ≡ crowdedRefusal s
     unfolding crowdedRefusal
-    crowded-free n = rw (lt-leb (m .messages) (length (s .messages)) room, ne-eqb (s .next) lastNumber n)
+    crowded-free n = rw (lt-leb (s .limits .messages) (length (s .messages)) room, ne-eqb (s .next) lastNumber n)
 
   -- no refusal: a place and a number are free
   pub record Free : Type 0 where
-    pub room : length (s .messages) < m .messages
+    pub room : length (s .messages) < s .limits .messages
     pub number : s .next ≡ lastNumber → ⊥
 
-  pub free : crowdedRefusal m s ≡ 0 → Free
+  pub free : crowdedRefusal s ≡ 0 → Free
   unfolding crowdedRefusal
-  free = go (leb (m .messages) (length (s .messages))) refl (eqb (s .next) lastNumber) refl
+  free = go (leb (s .limits .messages) (length (s .messages))) refl (eqb (s .next) lastNumber) refl
     where
-      go : (a : Bool) → leb (m .messages) (length (s .messages)) ≡ a → (b : Bool) → eqb (s .next) lastNumber ≡ b → _≡_ {A = ℕ} (pick a 26 (pick b 27 0)) 0 → Free
+      go : (a : Bool) → leb (s .limits .messages) (length (s .messages)) ≡ a → (b : Bool) → eqb (s .next) lastNumber ≡ b → _≡_ {A = ℕ} (pick a 26 (pick b 27 0)) 0 → Free
       go true p b q e = absurd (omega arith)
       go false p true q e = absurd (omega arith)
-      go false p false q e = record { room = leb-false (m .messages) (length (s .messages)) p; number = eqb-false (s .next) lastNumber q }
+      go false p false q e = record { room = leb-false (s .limits .messages) (length (s .messages)) p; number = eqb-false (s .next) lastNumber q }
 
 -- ---- 29, 21, 22, 30
 
-module _ (m : Limits) (s : State) (g : ℕ) where
+module _ (s : State) (g : ℕ) where
   -- a named take blocks, by its number
   abbrev blocked : ℕ → Bool
-  blocked n = anyNamed g (blocksAt m s n)
+  blocked n = anyNamed g (blocksAt s n)
 
-  pub group-empty : g ≡ 0 → 29 ≡ groupRefusal m s g
+  pub group-empty : g ≡ 0 → 29 ≡ groupRefusal s g
   unfolding groupRefusal
   group-empty e = rw (eq-eqb g 0 e)
 
   module _ (names : g ≡ 0 → ⊥) where
-    pub group-unopened : blocked 21 ≡ true → 21 ≡ groupRefusal m s g
+    pub group-unopened : blocked 21 ≡ true → 21 ≡ groupRefusal s g
     unfolding groupRefusal
     group-unopened e = rw (ne-eqb g 0 names, e)
 
     module _ (opened : blocked 21 ≡ false) where
-      pub group-gone : blocked 22 ≡ true → 22 ≡ groupRefusal m s g
+      pub group-gone : blocked 22 ≡ true → 22 ≡ groupRefusal s g
       unfolding groupRefusal
       group-gone e = rw (ne-eqb g 0 names, opened, e)
 
       module _ (there : blocked 22 ≡ false) where
-        pub group-full : blocked 30 ≡ true → 30 ≡ groupRefusal m s g
+        pub group-full : blocked 30 ≡ true → 30 ≡ groupRefusal s g
         unfolding groupRefusal
         group-full e = rw (ne-eqb g 0 names, opened, there, e)
 
-        pub group-free : blocked 30 ≡ false → 0 ≡ groupRefusal m s g
+        pub group-free : blocked 30 ≡ false → 0 ≡ groupRefusal s g
         unfolding groupRefusal
         group-free e = rw (ne-eqb g 0 names, opened, there, e)
 
   -- no refusal: every named take has room
-  pub group-room : g < bound 2 → groupRefusal m s g ≡ 0 → Room m s g
+  pub group-room : g < bound 2 → groupRefusal s g ≡ 0 → Room s g
   unfolding groupRefusal Room blocksAt bound
   group-room fits z t n =
       let a = pick-zero (eqb g 0) 29 _ (omega arith) z in
@@ -148,6 +148,6 @@ module _ (m : Limits) (s : State) (g : ℕ) where
       let c = pick-zero (blocked 22) 22 _ (omega arith) (b .1) in
       let d = pick-zero (blocked 30) 30 0 (omega arith) (c .1) in
       ⊎-elim
-      (λ (h : t < groupBits). leb-false (m .checkpoints) (ownHistory t (transactorAt s t) .count) (named-at g (blocksAt m s 30) t (d .0) h n))
+      (λ (h : t < groupBits). leb-false (s .limits .checkpoints) (ownHistory t (transactorAt s t) .count) (named-at g (blocksAt s 30) t (d .0) h n))
       (λ (h : groupBits ≤ t). never (sym n ∙ named-past g t groupBits fits h))
       (sides t groupBits)

@@ -7,7 +7,7 @@ use lib.Dec.{eqb, ltb, leb}
 use lib.ListN.{length}
 use borrow.Author.Tests.{le-leb, ltb-false, ne-eqb}
 use Rattle.octets.specs.Bytes.{pick, _and_, _or_}
-use Rattle.rules.specs.Layout.{Layout, Limits}
+use Rattle.rules.specs.Layout.{Layout}
 use Rattle.rules.specs.Status.{ready, busy, annihilated}
 use Rattle.rules.specs.State.{Transactor, State, ownHistory, transactorAt, messageAt, placeOf}
 use Rattle.rules.specs.Step.{Step, root, letter, receive, new, send, read, fall, fail, lose, sign}
@@ -17,9 +17,9 @@ use Rattle.rules.specs.Internal.Guards.{isLastIncarnation, busyRefusal, 
 use Rattle.octets.proofs.Tests.{or-none, or-off}
 use Rattle.rules.proofs.ByKind.Guards.{first, working-first}
 
-pub refusal-malformed : (y : Layout) (m : Limits) (s : State) (p : Step) → malformed p ≡ true → refusal y m s p ≡ 20
+pub refusal-malformed : (y : Layout) (s : State) (p : Step) → malformed p ≡ true → refusal y s p ≡ 20
 unfolding refusal refusalOf
-refusal-malformed y m s p e = rw e
+refusal-malformed y s p e = rw e
 
 pub kind-formed : (p : Step) → malformed p ≡ false → p .kind ≤ sign
 unfolding malformed
@@ -32,11 +32,11 @@ either true false n r = refl
 either false b n r = refl
 
 -- kind k of 5 to 10, the take t being opened
-abbrev pub localRefusal : Limits → ℕ → ℕ → Transactor → ℕ
-localRefusal m k t x =
+abbrev pub localRefusal : Layout → ℕ → ℕ → Transactor → ℕ
+localRefusal y k t x =
     pick (eqb (x .status) annihilated) 22
     (pick (leb k fall and not (eqb (x .status) busy)) 23
-    (pick ((eqb k fall or eqb k fail) and not (ownHistory t x .stable) and isLastIncarnation m t x) 28 0))
+    (pick ((eqb k fall or eqb k fail) and not (ownHistory t x .stable) and isLastIncarnation y t x) 28 0))
 
 -- the tests of the other kinds
 pub record Otherwise (k : ℕ) : Type 0 where
@@ -67,25 +67,25 @@ otherwise k low high = record {
 abbrev pub receiver : State → ℕ → ℕ
 receiver s n = messageAt s (placeOf s n) .addressee
 
-pub record Refuses (y : Layout) (m : Limits) (s : State) (p : Step) : Type 0 where
-  pub root : p .kind ≡ root → refusal y m s p ≡ pick (leb (m .transactors) (s .opened)) 25 0
-  pub letter : p .kind ≡ letter → refusal y m s p ≡ pick (leb (s .opened) (p .transactor)) 21 (crowdedRefusal m s)
-  pub receive : p .kind ≡ receive → refusal y m s p
+pub record Refuses (y : Layout) (s : State) (p : Step) : Type 0 where
+  pub root : p .kind ≡ root → refusal y s p ≡ pick (leb (s .limits .transactors) (s .opened)) 25 0
+  pub letter : p .kind ≡ letter → refusal y s p ≡ pick (leb (s .opened) (p .transactor)) 21 (crowdedRefusal s)
+  pub receive : p .kind ≡ receive → refusal y s p
       ≡ pick (leb (length (s .messages)) (placeOf s (p .message))) 24
       (pick (eqb (transactorAt s (receiver s (p .message)) .status) annihilated) 22
       (pick (not (eqb (transactorAt s (receiver s (p .message)) .status) ready)) 23
       (pick (receiptUnrelated y s (p .message)) 31
-      (pick (receiptRollsBack y s (p .message) and isLastIncarnation m (receiver s (p .message)) (transactorAt s (receiver s (p .message)))) 28 0))))
-  pub new : p .kind ≡ new → refusal y m s p ≡ first (busyRefusal s (p .transactor)) (pick (leb (m .transactors) (s .opened)) 25 0)
-  pub send : p .kind ≡ send → refusal y m s p ≡ pick (leb (s .opened) (p .other)) 21 (first (busyRefusal s (p .transactor)) (crowdedRefusal m s))
-  pub local : read ≤ p .kind → p .kind ≤ fail → refusal y m s p
-      ≡ pick (leb (s .opened) (p .transactor)) 21 (localRefusal m (p .kind) (p .transactor) (transactorAt s (p .transactor)))
-  pub lose : p .kind ≡ lose → refusal y m s p ≡ pick (leb (length (s .messages)) (placeOf s (p .message))) 24 0
-  pub sign : p .kind ≡ sign → refusal y m s p ≡ groupRefusal m s (p .message)
+      (pick (receiptRollsBack y s (p .message) and isLastIncarnation y (receiver s (p .message)) (transactorAt s (receiver s (p .message)))) 28 0))))
+  pub new : p .kind ≡ new → refusal y s p ≡ first (busyRefusal s (p .transactor)) (pick (leb (s .limits .transactors) (s .opened)) 25 0)
+  pub send : p .kind ≡ send → refusal y s p ≡ pick (leb (s .opened) (p .other)) 21 (first (busyRefusal s (p .transactor)) (crowdedRefusal s))
+  pub local : read ≤ p .kind → p .kind ≤ fail → refusal y s p
+      ≡ pick (leb (s .opened) (p .transactor)) 21 (localRefusal y (p .kind) (p .transactor) (transactorAt s (p .transactor)))
+  pub lose : p .kind ≡ lose → refusal y s p ≡ pick (leb (length (s .messages)) (placeOf s (p .message))) 24 0
+  pub sign : p .kind ≡ sign → refusal y s p ≡ groupRefusal s (p .message)
 
-pub refuses : (y : Layout) (m : Limits) (s : State) (p : Step) → malformed p ≡ false → Refuses y m s p
+pub refuses : (y : Layout) (s : State) (p : Step) → malformed p ≡ false → Refuses y s p
 unfolding refusal refusalOf notWaiting emptyGroup unopened isGone wrongStatus unrelatedReceipt allOpened allWaiting allNumbered allCheckpointed atLast lastRollsBack seen isLastIncarnation crowdedRefusal groupRefusal blocksAt
-refuses y m s p formed = record {
+refuses y s p formed = record {
   root = λ e. rw (formed, e);
   letter = λ e. simp (formed, e, or-none);
   receive = λ e. simp (formed, e, or-none);

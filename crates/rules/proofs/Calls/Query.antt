@@ -13,13 +13,16 @@ use Rattle.rules.specs.Form.{wellFormed}
 use Rattle.rules.specs.Calls.{wrongLength, queryRefusal}
 use Rattle.rules.specs.Internal.Guards.{actingRefusal}
 use Rattle.octets.proofs.Tests.{pick-zero}
+use Rattle.rules.proofs.Ranges.{allowed-of}
 use Rattle.rules.proofs.Form.Clauses.{clauses-of}
 use Rattle.rules.proofs.Calls.Begin.{wrong-length, right-length}
 
 module _ (y : Layout) (img : List ℕ) where
   -- a well-formed image has no more takes opened than there are
   pub few-opened : not (wellFormed y img) ≡ false → unpack y img .opened ≤ y .transactors
-  few-opened e = clauses-of y img (not-false (wellFormed y img) e) .opened
+  few-opened e =
+      let c = clauses-of y img (not-false (wellFormed y img) e) in
+      omega (arith, c .opened, allowed-of (c .limits) .transactors-high)
 
   module _ (t : ℕ) where
     pub query-16 : (length img ≡ imageBytes y → ⊥) → 16 ≡ queryRefusal y img t
@@ -52,5 +55,5 @@ module _ (y : Layout) (img : List ℕ) where
         record {
           long = eqb-true (length img) (imageBytes y) (not-false _ (a .0));
           formed = formed;
-          below = omega (arith, clauses-of y img formed .opened, leb-false (unpack y img .opened) t (c .0));
+          below = omega (arith, few-opened (b .0), leb-false (unpack y img .opened) t (c .0));
         }

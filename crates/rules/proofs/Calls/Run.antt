@@ -9,7 +9,7 @@ use lib.Dec.{eqb}
 use lib.ListN.{length}
 use Rattle.octets.specs.Bytes.{part}
 use Rattle.octets.proofs.Put.{length-part}
-use Rattle.rules.specs.Layout.{Layout, Limits, imageBytes}
+use Rattle.rules.specs.Layout.{Layout, imageBytes}
 use Rattle.rules.specs.Step.{stepBytes}
 use Rattle.rules.specs.Form.{wellFormed}
 use Rattle.rules.specs.Calls.{longest, wrongPart, runAnswer, ranImage, ranReplies, runImage, runReplies}
@@ -50,10 +50,10 @@ module _ (list : List ℕ) (start end : ℕ) where
 
 -- ---- the answer, the image and the replies
 
-module _ (y : Layout) (m : Limits) (img list : List ℕ) (start end : ℕ) (replies : List ℕ) where
+module _ (y : Layout) (img list : List ℕ) (start end : ℕ) (replies : List ℕ) where
   -- r, the image l and the replies rs are right
   abbrev pub Ran : ℕ → List ℕ → List ℕ → Type 0
-  Ran r l rs = (r ≡ runAnswer y img list start end replies) × (l ≡ runImage y m img list start end replies) × (rs ≡ runReplies y m img list start end replies)
+  Ran r l rs = (r ≡ runAnswer y img list start end replies) × (l ≡ runImage y img list start end replies) × (rs ≡ runReplies y img list start end replies)
 
   refused : (r : ℕ) → r ≡ runAnswer y img list start end replies → (r ≡ 0 → ⊥) → Ran r img replies
   unfolding runImage runReplies
@@ -80,7 +80,7 @@ module _ (y : Layout) (m : Limits) (img list : List ℕ) (start end : ℕ) (repl
         unfolding runAnswer
         ran-19 e = refused 19 (rw (right-length y img long, fine, eq-eqb (length replies) (end - start) same, e)) (λ e. omega arith)
 
-        pub ran-0 : (l rs : List ℕ) → not (wellFormed y img) ≡ false → l ≡ ranImage y m img (part start (end - start) list) → rs ≡ ranReplies y m img (part start (end - start) list) → Ran 0 l rs
+        pub ran-0 : (l rs : List ℕ) → not (wellFormed y img) ≡ false → l ≡ ranImage y img (part start (end - start) list) → rs ≡ ranReplies y img (part start (end - start) list) → Ran 0 l rs
         unfolding runImage runReplies runAnswer
         ran-0 l rs e f g =
             let a : runAnswer y img list start end replies ≡ 0 = rw (right-length y img long, fine, eq-eqb (length replies) (end - start) same, e) in

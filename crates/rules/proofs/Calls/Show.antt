@@ -47,7 +47,7 @@ module _ (y : Layout) (img : List ℕ) (n : ℕ) where
       let a : Accepted = accepted e in
       let f = form-image y img o (a .formed) .messages .taken k (a .waits) .dependences in
       let l : length b ≡ messageBytes y = length-messagePart y img (a .long) k (omega (arith, a .waits, waiting-few y img)) in
-      let back = pack-unpackMap (y .width) (y .places) (y .transactors) (unpack y img .opened) (part dependencesAt (mapBytes y) b)
+      let back = pack-unpackMap (y .width) (y .places) (y .transactors) (unpack y img .limits .checkpoints) (unpack y img .opened) (part dependencesAt (mapBytes y) b)
       (length-part dependencesAt (mapBytes y) b (omega arith)) (octets-part dependencesAt (mapBytes y) b (octets-messagePart y img o k)) f in
       let here = part-message y img k dependencesAt (mapBytes y) (omega arith) in
       rw e (sym (ap (packDependences y) (read-dependences y img k (a .waits))

@@ -9,7 +9,7 @@ use borrow.Author.Tests.{ltb-false, eqb-true, not-false}
 use lib.ListN.{length, length-append}
 use Rattle.octets.specs.Bytes.{part, chunks, Octets}
 use Rattle.octets.proofs.Put.{part-add, length-part, octets-part}
-use Rattle.rules.specs.Layout.{Layout, Limits, Allowed, Fitting, imageBytes}
+use Rattle.rules.specs.Layout.{Layout, Fitting, imageBytes}
 use Rattle.rules.specs.Step.{stepBytes}
 use Rattle.rules.specs.Pack.{pack, unpack}
 use Rattle.rules.specs.Form.{wellFormed}
@@ -26,22 +26,22 @@ use Rattle.rules.proofs.Calls.Run.{Ran, part-fine, ran-0}
 
 -- The list from start to end, run at once, with room all for the replies; or up to mid, with room first, and from there on, on
 -- the image that the first run leaves, with room second.
-pub record InParts (y : Layout) (m : Limits) (img list : List ℕ) (start mid end : ℕ) (all first second : List ℕ) : Type 0 where
+pub record InParts (y : Layout) (img list : List ℕ) (start mid end : ℕ) (all first second : List ℕ) : Type 0 where
   -- both runs are accepted
   pub begun : runAnswer y img list start mid first ≡ 0
-  pub resumed : runAnswer y (runImage y m img list start mid first) list mid end second ≡ 0
+  pub resumed : runAnswer y (runImage y img list start mid first) list mid end second ≡ 0
   -- they leave the same image
-  pub image : runImage y m (runImage y m img list start mid first) list mid end second ≡ runImage y m img list start end all
+  pub image : runImage y (runImage y img list start mid first) list mid end second ≡ runImage y img list start end all
   -- and give the same replies, one after the other
-  pub replies : runReplies y m img list start mid first ++ runReplies y m (runImage y m img list start mid first) list mid end second ≡ runReplies y m img list start end all
+  pub replies : runReplies y img list start mid first ++ runReplies y (runImage y img list start mid first) list mid end second ≡ runReplies y img list start end all
 
-ran-image : (y : Layout) (m : Limits) (img b : List ℕ) → ranImage y m img b ≡ pack y (stateAfter y m (unpack y img) b (stepsIn b))
+ran-image : (y : Layout) (img b : List ℕ) → ranImage y img b ≡ pack y (stateAfter y (unpack y img) b (stepsIn b))
 unfolding ranImage
-ran-image y m img b = refl
+ran-image y img b = refl
 
-ran-replies : (y : Layout) (m : Limits) (img b : List ℕ) → ranReplies y m img b ≡ chunks (stepsIn b) (replyAt y m (unpack y img) b)
+ran-replies : (y : Layout) (img b : List ℕ) → ranReplies y img b ≡ chunks (stepsIn b) (replyAt y (unpack y img) b)
 unfolding ranReplies
-ran-replies y m img b = refl
+ran-replies y img b = refl
 
 -- ---- what an accepted run says
 
@@ -75,15 +75,15 @@ accepted y img list start end replies e =
     }
 
 -- such a run leaves the image after its steps, and replies to each
-module _ {y : Layout} {img list : List ℕ} {start end : ℕ} {replies : List ℕ} (m : Limits) (a : Accepted y img list start end replies) where
-  ran : Ran y m img list start end replies 0 (ranImage y m img (part start (end - start) list)) (ranReplies y m img (part start (end - start) list))
-  ran = ran-0 y m img list start end replies (a .long) (part-fine list start end (a .forth) (a .within) (a .steps) (a .short)) (a .room) _ _ (ap not (a .formed)) refl refl
+module _ {y : Layout} {img list : List ℕ} {start end : ℕ} {replies : List ℕ} (a : Accepted y img list start end replies) where
+  ran : Ran y img list start end replies 0 (ranImage y img (part start (end - start) list)) (ranReplies y img (part start (end - start) list))
+  ran = ran-0 y img list start end replies (a .long) (part-fine list start end (a .forth) (a .within) (a .steps) (a .short)) (a .room) _ _ (ap not (a .formed)) refl refl
 
 -- ---- i steps and then j, from a well-formed image
 
-module _ {y : Layout} {m : Limits} (z : Fitting y) (l : Allowed y m) (img b c : List ℕ) (i j : ℕ) (w : WellFormed y (unpack y img)) (o : Octets b) (few : length b ≡ stepBytes * i) (more : length c ≡ stepBytes * j) where
-  well : WellFormed y (stateAfter y m (unpack y img) b i)
-  well = keeps-after z l w b o i
+module _ {y : Layout} (z : Fitting y) (img b c : List ℕ) (i j : ℕ) (w : WellFormed y (unpack y img)) (o : Octets b) (few : length b ≡ stepBytes * i) (more : length c ≡ stepBytes * j) where
+  well : WellFormed y (stateAfter y (unpack y img) b i)
+  well = keeps-after z w b o i
 
   count-first : stepsIn b ≡ i
   count-first = omega arith
@@ -94,36 +94,36 @@ module _ {y : Layout} {m : Limits} (z : Fitting y) (l : Allowed y m) (img b c : 
   count-all : stepsIn (b ++ c) ≡ i + j
   count-all = rw length-append (omega arith)
 
-  left : ranImage y m img b ≡ pack y (stateAfter y m (unpack y img) b i)
+  left : ranImage y img b ≡ pack y (stateAfter y (unpack y img) b i)
   unfolding ranImage
-  left = ap (λ (n : ℕ). pack y (stateAfter y m (unpack y img) b n)) count-first
+  left = ap (λ (n : ℕ). pack y (stateAfter y (unpack y img) b n)) count-first
 
-  says : unpack y (ranImage y m img b) ≡ stateAfter y m (unpack y img) b i
-  says = ap (unpack y) left ∙ unpack-pack y (stateAfter y m (unpack y img) b i) (well .packable)
+  says : unpack y (ranImage y img b) ≡ stateAfter y (unpack y img) b i
+  says = ap (unpack y) left ∙ unpack-pack y (stateAfter y (unpack y img) b i) (well .packable)
 
-  left-long : length (ranImage y m img b) ≡ imageBytes y
-  left-long = rw left (length-pack y (stateAfter y m (unpack y img) b i))
+  left-long : length (ranImage y img b) ≡ imageBytes y
+  left-long = rw left (length-pack y (stateAfter y (unpack y img) b i))
 
-  left-formed : wellFormed y (ranImage y m img b) ≡ true
-  left-formed = rw left (formed-pack y (stateAfter y m (unpack y img) b i) well)
+  left-formed : wellFormed y (ranImage y img b) ≡ true
+  left-formed = rw left (formed-pack y (stateAfter y (unpack y img) b i) well)
 
-  image-parts : ranImage y m (ranImage y m img b) c ≡ ranImage y m img (b ++ c)
+  image-parts : ranImage y (ranImage y img b) c ≡ ranImage y img (b ++ c)
   image-parts =
-      ran-image y m (ranImage y m img b) c
-      ∙ rw (says, count-second, ← after-append b c i few y m (unpack y img) j, ← count-all)
-      (sym (ran-image y m img (b ++ c)))
+      ran-image y (ranImage y img b) c
+      ∙ rw (says, count-second, ← after-append b c i few y (unpack y img) j, ← count-all)
+      (sym (ran-image y img (b ++ c)))
 
-  replies-parts : ranReplies y m img b ++ ranReplies y m (ranImage y m img b) c ≡ ranReplies y m img (b ++ c)
+  replies-parts : ranReplies y img b ++ ranReplies y (ranImage y img b) c ≡ ranReplies y img (b ++ c)
   replies-parts =
-      rw (ran-replies y m img b, ran-replies y m (ranImage y m img b) c, ran-replies y m img (b ++ c), says, count-first, count-second, count-all)
-      (sym (replies-append b c i few y m (unpack y img) j))
+      rw (ran-replies y img b, ran-replies y (ranImage y img b) c, ran-replies y img (b ++ c), says, count-first, count-second, count-all)
+      (sym (replies-append b c i few y (unpack y img) j))
 
 -- ---- calls
 
 -- An accepted run may be split after any of its steps.
-module _ {y : Layout} {m : Limits} (z : Fitting y) (l : Allowed y m) (img list : List ℕ) (start mid end : ℕ) (all first second : List ℕ) where
+module _ {y : Layout} (z : Fitting y) (img list : List ℕ) (start mid end : ℕ) (all first second : List ℕ) where
   pub stored : Octets img → Octets list → start ≤ mid → mid ≤ end → (mid - start) % stepBytes ≡ 0 → length first ≡ mid - start → length second ≡ end - mid
-      → runAnswer y img list start end all ≡ 0 → InParts y m img list start mid end all first second
+      → runAnswer y img list start end all ≡ 0 → InParts y img list start mid end all first second
   stored oi ol low high whole one two e =
       let a = accepted y img list start end all e in
       let b : List ℕ = part start (mid - start) list in
@@ -138,21 +138,21 @@ module _ {y : Layout} {m : Limits} (z : Fitting y) (l : Allowed y m) (img list :
       let q : start + (mid - start) ≡ mid = omega arith in
       let parts : b ++ c ≡ part start (end - start) list = ap (λ (n : ℕ). b ++ part n (end - mid) list) (sym q) ∙ sym (part-add start (mid - start) (end - mid) list) ∙ ap (λ (n : ℕ). part start n list) k in
       let a₁ : Accepted y img list start mid first = record { long = a .long; forth = low; within = omega (arith, a .within); steps = whole; short = omega (arith, a .short); room = one; formed = a .formed } in
-      let r = ran m a in
-      let r₁ = ran m a₁ in
-      let a₂ : Accepted y (ranImage y m img b) list mid end second = record {
-        long = left-long z l img b c i j w o few more;
+      let r = ran a in
+      let r₁ = ran a₁ in
+      let a₂ : Accepted y (ranImage y img b) list mid end second = record {
+        long = left-long z img b c i j w o few more;
         forth = high;
         within = a .within;
         steps = omega (arith, a .steps);
         short = omega (arith, a .short);
         room = two;
-        formed = left-formed z l img b c i j w o few more;
+        formed = left-formed z img b c i j w o few more;
       } in
-      let r₂ = ran m a₂ in
+      let r₂ = ran a₂ in
       record {
         begun = sym (r₁ .0);
         resumed = rw (← (r₁ .1)) (sym (r₂ .0));
-        image = rw (← (r₁ .1), ← (r₂ .1), ← (r .1), ← parts) (image-parts z l img b c i j w o few more);
-        replies = rw (← (r₁ .1), ← (r₁ .2), ← (r₂ .2), ← (r .2), ← parts) (replies-parts z l img b c i j w o few more);
+        image = rw (← (r₁ .1), ← (r₂ .1), ← (r .1), ← parts) (image-parts z img b c i j w o few more);
+        replies = rw (← (r₁ .1), ← (r₁ .2), ← (r₂ .2), ← (r .2), ← parts) (replies-parts z img b c i j w o few more);
       }

@@ -9,11 +9,11 @@ use lib.ListN.{length, getD}
 use borrow.Author.Tests.{leb-true, le-leb, eqb-true, eq-eqb}
 use Rattle.octets.specs.Bytes.{pick, _and_, _or_, part, every, Octets}
 use Rattle.octets.specs.Numbers.{ofBe}
-use Rattle.octets.proofs.Tests.{same-test}
+use Rattle.octets.proofs.Tests.{same-test, and-assoc}
 use Rattle.octets.proofs.Put.{getD-part, octet}
 use Rattle.octets.proofs.Zero.{every-same}
 use Rattle.octets.proofs.Chunks.{getD-tabulate}
-use Rattle.octets.proofs.Runs.{and-assoc, every-add}
+use Rattle.octets.proofs.Runs.{every-add}
 use Rattle.marks.specs.Packed.{loadNumberAt, unpackHistory, presentIn}
 use Rattle.maps.specs.Map.{heldAt, historyAt}
 use Rattle.rules.specs.Layout.{Layout, historyBytes, mapBytes, stateAt, creationAt, behaviourAt, dependencesAt, transactorAddress, messageAddress}

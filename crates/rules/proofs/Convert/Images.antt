@@ -7,22 +7,24 @@ use native.Mathlib.Omega.{arith}
 use lib.Dec.{eqb}
 use lib.ListN.{length}
 use borrow.Author.Tests.{not-true, not-false, eq-eqb, eqb-true}
-use Rattle.octets.specs.Bytes.{pick, Octets}
+use Rattle.octets.specs.Bytes.{pick, _and_, Octets}
 use Rattle.octets.specs.Numbers.{bound}
 use Rattle.octets.proofs.Tests.{pick-zero, never}
-use Rattle.rules.specs.Layout.{Layout, Fitting, Allowed, historyBytes, mapBytes, transactorBytes, messageBytes, imageBytes, narrow, narrowLimits, base, standard}
+use Rattle.octets.proofs.Zero.{both}
+use Rattle.rules.specs.Layout.{Layout, Limits, widest, imageBytes, narrow, base}
 use Rattle.rules.specs.State.{State}
 use Rattle.rules.specs.Pack.{pack, unpack}
 use Rattle.rules.specs.Form.{wellFormed}
-use Rattle.rules.specs.Internal.Well.{WellFormed}
+use Rattle.rules.specs.Internal.Well.{Allowed, WellFormed}
 use Rattle.rules.proofs.Pack.Sizes.{length-pack, octets-pack}
 use Rattle.rules.proofs.Pack.RoundTrip.{unpack-pack}
 use Rattle.rules.proofs.Pack.RoundTrip.{pack-unpack-formed}
 use Rattle.rules.proofs.Form.State.{formed-state}
 use Rattle.rules.proofs.Form.Packed.{formed-pack}
-use Rattle.rules.specs.Convert.{largestNarrow, stateWithin, tooWide, forward, back, forwardAnswer, forwardImage, backAnswer, backImage}
+use Rattle.rules.specs.Convert.{largestNarrow, limitsAre, stateWithin, tooWide, forward, back, forwardAnswer, forwardImage, backAnswer, backImage}
 use Rattle.rules.specs.Internal.Widths.{resized, rewritten}
-use Rattle.rules.proofs.Convert.Resized.{LowState, low-state, state-resized, state-low, low-stateWithin}
+use Rattle.rules.proofs.Keep.Step.{fitting-base, fitting-narrow}
+use Rattle.rules.proofs.Convert.Resized.{counted-limits, LowState, low-state, state-resized, state-low, low-stateWithin}
 
 bound-one : bound 1 ≡ largestNarrow + 1
 unfolding bound
@@ -32,17 +34,58 @@ pub bounds : bound 1 ≤ bound 2
 unfolding bound
 bounds = omega arith
 
+-- ---- limits: 16, 32 and 15
+
+pub are-on : (a b : Limits) → limitsAre a b ≡ true → a ≡ b
+unfolding limitsAre
+are-on a b e =
+    let p = both (eqb (a .transactors) (b .transactors)) _ e in
+    let q = both (eqb (a .messages) (b .messages)) _ (p .1) in
+    let t : a .transactors ≡ b .transactors = eqb-true (a .transactors) (b .transactors) (p .0) in
+    let m : a .messages ≡ b .messages = eqb-true (a .messages) (b .messages) (q .0) in
+    let c : a .checkpoints ≡ b .checkpoints = eqb-true (a .checkpoints) (b .checkpoints) (q .1) in
+    λ i. record { transactors = t i; messages = m i; checkpoints = c i }
+
+pub are-same : (a b : Limits) → a ≡ b → limitsAre a b ≡ true
+unfolding limitsAre
+are-same a b e = rw (
+  eq-eqb (a .transactors) (b .transactors) (ap (λ m. m .transactors) e),
+  eq-eqb (a .messages) (b .messages) (ap (λ m. m .messages) e),
+  eq-eqb (a .checkpoints) (b .checkpoints) (ap (λ m. m .checkpoints) e),
+)
+
+-- those of the old form
+pub narrow-limits : {s : State} → WellFormed narrow s → s .limits ≡ widest base
+narrow-limits f = counted-limits narrow refl (f .packable .limits)
+
+-- both layouts have room for them
+pub allowed-base : {m : Limits} → m ≡ widest base → Allowed base m
+allowed-base e = subst (Allowed base) (sym e) (omega arith)
+
+pub allowed-narrow : {m : Limits} → m ≡ widest base → Allowed narrow m
+allowed-narrow e = subst (Allowed narrow) (sym e) (omega arith)
+
 -- ---- states
 
 pub formed-wide : {s : State} → WellFormed narrow s → WellFormed base s
-formed-wide f = state-resized 1 2 narrow f (low-state 1 2 bounds narrow f)
+formed-wide f = state-resized 1 2 false true narrow fitting-base f (low-state 1 2 bounds narrow false f) (allowed-base (narrow-limits f))
 
-pub formed-narrow : {s : State} → WellFormed base s → stateWithin largestNarrow base s ≡ true → WellFormed narrow s
-formed-narrow {s} f e = state-resized 2 1 narrow f (subst (λ (b : ℕ). LowState b 16 s) (sym bound-one) (state-low largestNarrow base 2 f e))
+-- what the old form has room for
+unfoldable pub fitsNarrow : State → Bool
+fitsNarrow s = limitsAre (s .limits) (widest base) and stateWithin largestNarrow base s
 
--- what the old form holds is within its bounds
-pub narrow-within : {s : State} → WellFormed narrow s → stateWithin largestNarrow base s ≡ true
-narrow-within {s} f = low-stateWithin largestNarrow base s (subst (λ (b : ℕ). LowState b 16 s) bound-one (low-state 1 1 (omega arith) narrow f))
+pub formed-narrow : {s : State} → WellFormed base s → fitsNarrow s ≡ true → WellFormed narrow s
+unfolding fitsNarrow
+formed-narrow {s} f e =
+    let z = both (limitsAre (s .limits) (widest base)) _ e in
+    state-resized 2 1 true false narrow fitting-narrow f (subst (λ (b : ℕ). LowState b 16 s) (sym bound-one) (state-low largestNarrow base 2 true f (z .1)))
+    (allowed-narrow (are-on (s .limits) (widest base) (z .0)))
+
+-- what the old form holds it has room for
+pub narrow-fits : {s : State} → WellFormed narrow s → fitsNarrow s ≡ true
+unfolding fitsNarrow
+narrow-fits {s} f = rw (are-same (s .limits) (widest base) (narrow-limits f))
+    (low-stateWithin largestNarrow base s (subst (λ (b : ℕ). LowState b 16 s) bound-one (low-state 1 1 (omega arith) narrow false f)))
 
 -- ---- an image of layout y rewritten to layout z, which holds its state
 
@@ -94,8 +137,8 @@ module _ (img : List ℕ) where
 
     -- the way back never answers 32
     pub forward-fits : tooWide (forward img) ≡ false
-    unfolding tooWide
-    forward-fits = rw (forward-state, narrow-within (formed-state narrow img n o e))
+    unfolding tooWide fitsNarrow
+    forward-fits = ap (λ s. not (fitsNarrow s)) forward-state ∙ ap not (narrow-fits (formed-state narrow img n o e))
 
     -- old to new to old
     pub back-forward : back (forward img) ≡ img
@@ -116,8 +159,8 @@ module _ (img : List ℕ) where
   module _ (n : length img ≡ imageBytes base) (o : Octets img) (e : wellFormed base img ≡ true) where
     module _ (t : tooWide img ≡ false) where
       back-well : WellFormed narrow (unpack base img)
-      unfolding tooWide
-      back-well = formed-narrow (formed-state base img n o e) (not-false (stateWithin largestNarrow base (unpack base img)) t)
+      unfolding tooWide fitsNarrow
+      back-well = formed-narrow (formed-state base img n o e) (not-false (fitsNarrow (unpack base img)) t)
 
       pub back-state : unpack narrow (back img) ≡ unpack base img
       unfolding back rewritten
@@ -134,10 +177,10 @@ module _ (img : List ℕ) where
 
     -- 32 is answered only where no old image says the same
     pub no-way-back : tooWide img ≡ true → (old : List ℕ) → length old ≡ imageBytes narrow → Octets old → wellFormed narrow old ≡ true → unpack narrow old ≡ unpack base img → ⊥
-    unfolding tooWide
+    unfolding tooWide fitsNarrow
     no-way-back t old p q f same =
-        let a : stateWithin largestNarrow base (unpack base img) ≡ true = ap (stateWithin largestNarrow base) (sym same) ∙ narrow-within (formed-state narrow old p q f) in
-        let b : stateWithin largestNarrow base (unpack base img) ≡ false = not-true (stateWithin largestNarrow base (unpack base img)) t in
+        let a : fitsNarrow (unpack base img) ≡ true = ap fitsNarrow (sym same) ∙ narrow-fits (formed-state narrow old p q f) in
+        let b : fitsNarrow (unpack base img) ≡ false = not-true (fitsNarrow (unpack base img)) t in
         never (sym a ∙ b)
 
 -- ---- the calls

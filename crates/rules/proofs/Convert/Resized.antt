@@ -1,7 +1,7 @@
--- A well-formed state is well-formed at every width that holds its numbers.
+-- A well-formed state is well-formed in every layout that has room for its numbers and its limits.
 use Prim.Native.Nat.{ℕ, suc, _+_, _≤_, _<_}
 use mathlib.Core.Bool.{Bool, true, false, not}
-use mathlib.Core.Path.{_≡_, refl, sym, ap}
+use mathlib.Core.Path.{_≡_, refl, sym, ap, _∙_}
 use native.Mathlib.Omega.{arith}
 use lib.ListN.{length, getD}
 use lib.Dec.{leb}
@@ -18,11 +18,17 @@ use Rattle.marks.specs.Packed.{Packable}
 use Rattle.maps.specs.declared.DependenceMap.{DependenceMap}
 use Rattle.maps.specs.Map.{heldAt, historyAt}
 use Rattle.maps.specs.Internal.Fitting.{EntryOk, present, absent, MapOk}
-use Rattle.rules.specs.Layout.{Layout}
+use Rattle.rules.specs.Layout.{Layout, Limits, widest, Fitting}
 use Rattle.rules.specs.State.{Transactor, Message, State, transactorAt, messageAt}
-use Rattle.rules.specs.Internal.Well.{DependencesOk, TransactorOk, MessageOk, Packable as Storable, Alive, TransactorFormed, not-opened, gone, alive, WellFormed}
+use Rattle.rules.specs.Internal.Well.{DependencesOk, TransactorOk, MessageOk, Packable as Storable, Alive, LimitsOk, stored, counted, Allowed, TransactorFormed, not-opened, gone, alive, WellFormed}
 use Rattle.rules.specs.Convert.{historyWithin, mapWithin, transactorWithin, messageWithin, stateWithin}
 use Rattle.rules.specs.Internal.Widths.{resized}
+use Rattle.rules.proofs.Ranges.{allowed-ok}
+
+-- limits that are not stored are the widest
+pub counted-limits : (y : Layout) {m : Limits} → y .limited ≡ false → LimitsOk y m → m ≡ widest y
+counted-limits y e (stored f a b c) = never (sym f ∙ e)
+counted-limits y e (counted f q) = q
 
 -- ---- numbers of a mark below a bound
 
@@ -56,15 +62,15 @@ module _ (v w : ℕ) (more : bound v ≤ bound w) where
   unfolding LowMap
   low-map o i h e = low-entry (o .each i h) e
 
-  pub low-state : (y : Layout) {s : State} → WellFormed (resized y v) s → LowState (bound w) (y .transactors) s
-  low-state y f = record {
+  pub low-state : (y : Layout) (old : Bool) {s : State} → WellFormed (resized y v old) s → LowState (bound w) (y .transactors) s
+  low-state y old f = record {
     transactors = λ t h. let o = f .packable .transactors t h in record { state = low-map (o .state); creation = low-map (o .creation); behaviour = low-map (o .behaviour) };
     messages = λ k h. low-map (f .packable .messages k h .dependences);
   }
 
 -- ---- what is low fits
 
-module _ (v w : ℕ) where
+module _ (v w : ℕ) (old new : Bool) where
   entry-fits : {l : ℕ} {p : Bool} {h : History} → EntryOk v l p h → (p ≡ true → Low (bound w) h) → EntryOk w l p h
   entry-fits (present r k) f = let z = f refl in present r (record { incarnation = z .incarnation; checkpoints = z .checkpoints; count = k .count })
   entry-fits absent f = absent
@@ -74,7 +80,7 @@ module _ (v w : ℕ) where
   map-fits o f = record { helds = o .helds; histories = o .histories; each = λ i h. entry-fits (o .each i h) (f i h) }
 
   module _ (y : Layout) where
-    transactor-fits : {x : Transactor} → TransactorOk (resized y v) x → LowTransactor (bound w) (y .transactors) x → TransactorOk (resized y w) x
+    transactor-fits : {x : Transactor} → TransactorOk (resized y v old) x → LowTransactor (bound w) (y .transactors) x → TransactorOk (resized y w new) x
     transactor-fits o f = record {
       status = o .status;
       value = o .value;
@@ -84,11 +90,11 @@ module _ (v w : ℕ) where
       behaviour = map-fits (o .behaviour) (f .behaviour);
     }
 
-    message-fits : {x : Message} → MessageOk (resized y v) x → LowMap (bound w) (y .transactors) (x .dependences) → MessageOk (resized y w) x
+    message-fits : {x : Message} → MessageOk (resized y v old) x → LowMap (bound w) (y .transactors) (x .dependences) → MessageOk (resized y w new) x
     message-fits o f = record { addressee = o .addressee; number = o .number; value = o .value; dependences = map-fits (o .dependences) f }
 
-    -- the clauses do not speak of the width
-    formed-resized : {opened t : ℕ} {x : Transactor} → TransactorFormed (resized y v) opened t x → TransactorFormed (resized y w) opened t x
+    -- the clauses do not speak of the width, nor of where the limits are
+    formed-resized : {c opened t : ℕ} {x : Transactor} → TransactorFormed (resized y v old) c opened t x → TransactorFormed (resized y w new) c opened t x
     formed-resized (not-opened p) = not-opened p
     formed-resized (gone p) = gone p
     formed-resized (alive p a) = alive p (record {
@@ -101,9 +107,10 @@ module _ (v w : ℕ) where
       behaves = a .behaves;
     })
 
-    pub state-resized : {s : State} → WellFormed (resized y v) s → LowState (bound w) (y .transactors) s → WellFormed (resized y w) s
-    state-resized f z = record {
+    pub state-resized : Fitting (resized y w new) → {s : State} → WellFormed (resized y v old) s → LowState (bound w) (y .transactors) s → Allowed (resized y w new) (s .limits) → WellFormed (resized y w new) s
+    state-resized r f z l = record {
       packable = record {
+        limits = allowed-ok r l;
         opened = f .packable .opened;
         next = f .packable .next;
         many = f .packable .many;
@@ -111,7 +118,9 @@ module _ (v w : ℕ) where
         transactors = λ t h. transactor-fits (f .packable .transactors t h) (z .transactors t h);
         messages = λ k h. message-fits (f .packable .messages k h) (z .messages k h);
       };
+      limits = l;
       opened = f .opened;
+      waiting = f .waiting;
       transactors = λ t h. formed-resized (f .transactors t h);
       known = f .known;
       order = f .order;
@@ -144,7 +153,7 @@ module _ (n l : ℕ) where
 
 module _ (n : ℕ) (y : Layout) where
   -- over the maps of any width v
-  module _ (v : ℕ) where
+  module _ (v : ℕ) (old : Bool) where
     entry-low : {p : Bool} {h : History} → EntryOk v (y .places) p h → p ≡ true → historyWithin n (y .places) h ≡ true → Low (n + 1) h
     entry-low (present r k) e f = within-low n (y .places) r f
     entry-low absent e f = never (sym e)
@@ -154,7 +163,7 @@ module _ (n : ℕ) (y : Layout) where
     map-low {m} o e i h p = entry-low (o .each i h) p
         (implied (heldAt m i) (historyWithin n (y .places) (historyAt m i)) (every-at (λ i. not (heldAt m i) or historyWithin n (y .places) (historyAt m i)) (y .transactors) i e h) p)
 
-    pub state-low : {s : State} → WellFormed (resized y v) s → stateWithin n y s ≡ true → LowState (n + 1) (y .transactors) s
+    pub state-low : {s : State} → WellFormed (resized y v old) s → stateWithin n y s ≡ true → LowState (n + 1) (y .transactors) s
     unfolding stateWithin transactorWithin messageWithin
     state-low {s} f e =
         let z = both (every (y .transactors) (λ t. transactorWithin n y (transactorAt s t))) _ e in

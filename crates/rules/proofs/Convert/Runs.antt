@@ -9,12 +9,12 @@ use lib.ListN.{length, getD, length-append}
 use native.Mathlib.Nat.{add-zero}
 use borrow.Author.Tests.{eq-eqb}
 use Rattle.octets.specs.Bytes.{pick, chunks, part, Octets}
-use Rattle.octets.specs.Numbers.{be}
+use Rattle.octets.specs.Numbers.{be, bound}
 use Rattle.octets.proofs.Tests.{pick-view}
 use Rattle.octets.proofs.Chunks.{chunks-same, part-chunks}
 use Rattle.octets.proofs.Put.{getD-part, octets-part}
 use Rattle.octets.proofs.Numbers.{length-be}
-use Rattle.rules.specs.Layout.{Layout, Limits, imageBytes, narrow, base, narrowLimits, standard}
+use Rattle.rules.specs.Layout.{Layout, largest, imageBytes, narrow, base}
 use Rattle.rules.specs.State.{State}
 use Rattle.rules.specs.Step.{stepBytes, stepAt, packReply}
 use Rattle.rules.specs.Rules.{stepOf}
@@ -27,56 +27,57 @@ use Rattle.rules.proofs.Pack.RoundTrip.{unpack-pack}
 use Rattle.rules.proofs.Pack.Sizes.{length-pack, octets-pack}
 use Rattle.rules.proofs.Form.Packed.{formed-pack}
 use Rattle.rules.proofs.Form.State.{formed-state}
-use Rattle.rules.proofs.Keep.Step.{keeps-after, replies-fit, fitting-narrow, allowed-narrow}
+use Rattle.rules.proofs.Keep.Step.{keeps-after, replies-fit, fitting-narrow}
 use Rattle.rules.specs.Convert.{forward}
-use Rattle.rules.specs.Internal.Widths.{resized, upTo}
+use Rattle.rules.specs.Internal.Widths.{resized}
 use Rattle.rules.proofs.Convert.Steps.{same-step}
 use Rattle.rules.proofs.Convert.Images.{forward-state, forward-formed, length-forward}
 
 -- none of the first n replies is 28
-pub record No28 (y : Layout) (m : Limits) (s : State) (b : List ℕ) (n : ℕ) : Type 0 where
-  pub none : (i : ℕ) → i < n → stepOf y m (stateAfter y m s b i) (stepAt b i) .reply .outcome ≡ 28 → ⊥
+pub record No28 (y : Layout) (s : State) (b : List ℕ) (n : ℕ) : Type 0 where
+  pub none : (i : ℕ) → i < n → stepOf y (stateAfter y s b i) (stepAt b i) .reply .outcome ≡ 28 → ⊥
 
 -- ---- lists of steps, from any state at all
 
-module _ (y : Layout) (w : ℕ) (m : Limits) (last : ℕ) (more : m .incarnation ≤ last) (s : State) (b : List ℕ) where
-  module _ (n : ℕ) (q : No28 y m s b n) where
-    pub same-after : (i : ℕ) → i ≤ n → stateAfter (resized y w) (upTo m last) s b i ≡ stateAfter y m s b i
+module _ (y : Layout) (w : ℕ) (stored : Bool) (more : largest y ≤ largest (resized y w stored)) (s : State) (b : List ℕ) where
+  module _ (n : ℕ) (q : No28 y s b n) where
+    pub same-after : (i : ℕ) → i ≤ n → stateAfter (resized y w stored) s b i ≡ stateAfter y s b i
     unfolding stateAfter
     same-after zero h = refl
     same-after (suc i) h =
-        ap (λ r. stepOf (resized y w) (upTo m last) r (stepAt b i) .state) (same-after i (omega arith))
-        ∙ ap (λ r. r .state) (same-step y w m last more (stateAfter y m s b i) (stepAt b i) (q .none i (omega arith)))
+        ap (λ r. stepOf (resized y w stored) r (stepAt b i) .state) (same-after i (omega arith))
+        ∙ ap (λ r. r .state) (same-step y w stored more (stateAfter y s b i) (stepAt b i) (q .none i (omega arith)))
 
-    pub same-reply : (i : ℕ) → i < n → replyAt (resized y w) (upTo m last) s b i ≡ replyAt y m s b i
+    pub same-reply : (i : ℕ) → i < n → replyAt (resized y w stored) s b i ≡ replyAt y s b i
     unfolding replyAt
     same-reply i h =
-        ap (λ r. packReply (stepOf (resized y w) (upTo m last) r (stepAt b i) .reply)) (same-after i (omega arith))
-        ∙ ap (λ r. packReply (r .reply)) (same-step y w m last more (stateAfter y m s b i) (stepAt b i) (q .none i h))
+        ap (λ r. packReply (stepOf (resized y w stored) r (stepAt b i) .reply)) (same-after i (omega arith))
+        ∙ ap (λ r. packReply (r .reply)) (same-step y w stored more (stateAfter y s b i) (stepAt b i) (q .none i h))
 
 -- ---- runs on images
 
-more : narrowLimits .incarnation ≤ standard .incarnation
+more : largest narrow ≤ largest base
+unfolding bound
 more = omega arith
 
 module _ (img b : List ℕ) (n : length img ≡ imageBytes narrow) (o : Octets img) (e : wellFormed narrow img ≡ true) (p : Octets b)
-    (q : No28 narrow narrowLimits (unpack narrow img) b (stepsIn b)) where
-  pub ran-replies : ranReplies base standard (forward img) b ≡ ranReplies narrow narrowLimits img b
+    (q : No28 narrow (unpack narrow img) b (stepsIn b)) where
+  pub ran-replies : ranReplies base (forward img) b ≡ ranReplies narrow img b
   unfolding ranReplies
   ran-replies =
-      ap (λ s. chunks (stepsIn b) (replyAt base standard s b)) (forward-state img n o e)
-      ∙ chunks-same (stepsIn b) (replyAt base standard (unpack narrow img) b) (replyAt narrow narrowLimits (unpack narrow img) b)
-      (same-reply narrow 2 narrowLimits 65535 more (unpack narrow img) b (stepsIn b) q)
+      ap (λ s. chunks (stepsIn b) (replyAt base s b)) (forward-state img n o e)
+      ∙ chunks-same (stepsIn b) (replyAt base (unpack narrow img) b) (replyAt narrow (unpack narrow img) b)
+      (same-reply narrow 2 true more (unpack narrow img) b (stepsIn b) q)
 
   -- stepped and then carried forward is carried forward and then stepped
-  pub ran-image : ranImage base standard (forward img) b ≡ forward (ranImage narrow narrowLimits img b)
+  pub ran-image : ranImage base (forward img) b ≡ forward (ranImage narrow img b)
   unfolding ranImage forward
   ran-image =
       let s : State = unpack narrow img in
-      let f : WellFormed narrow (stateAfter narrow narrowLimits s b (stepsIn b)) = keeps-after fitting-narrow allowed-narrow (formed-state narrow img n o e) b p (stepsIn b) in
-      ap (λ s. pack base (stateAfter base standard s b (stepsIn b))) (forward-state img n o e)
-      ∙ ap (pack base) (same-after narrow 2 narrowLimits 65535 more s b (stepsIn b) q (stepsIn b) (omega arith))
-      ∙ ap (pack base) (sym (unpack-pack narrow (stateAfter narrow narrowLimits s b (stepsIn b)) (f .packable)))
+      let f : WellFormed narrow (stateAfter narrow s b (stepsIn b)) = keeps-after fitting-narrow (formed-state narrow img n o e) b p (stepsIn b) in
+      ap (λ s. pack base (stateAfter base s b (stepsIn b))) (forward-state img n o e)
+      ∙ ap (pack base) (same-after narrow 2 true more s b (stepsIn b) q (stepsIn b) (omega arith))
+      ∙ ap (pack base) (sym (unpack-pack narrow (stateAfter narrow s b (stepsIn b)) (f .packable)))
 
 -- ---- the premise on the bytes of the replies
 
@@ -93,18 +94,18 @@ unfolding packReply be
 first-packReply r h = omega arith
 
 module _ (img b : List ℕ) (n : length img ≡ imageBytes narrow) (o : Octets img) (e : wellFormed narrow img ≡ true) (p : Octets b) where
-  first-reply : (i : ℕ) → i < stepsIn b → getD (ranReplies narrow narrowLimits img b) (stepBytes * i) 0 ≡ stepOf narrow narrowLimits (stateAfter narrow narrowLimits (unpack narrow img) b i) (stepAt b i) .reply .outcome
+  first-reply : (i : ℕ) → i < stepsIn b → getD (ranReplies narrow img b) (stepBytes * i) 0 ≡ stepOf narrow (stateAfter narrow (unpack narrow img) b i) (stepAt b i) .reply .outcome
   unfolding ranReplies replyAt
   first-reply i h =
       let s : State = unpack narrow img in
-      let f : ℕ → List ℕ = replyAt narrow narrowLimits s b in
-      let c : part (stepBytes * i) stepBytes (chunks (stepsIn b) f) ≡ f i = part-chunks stepBytes f (λ k. length-packReply (stepOf narrow narrowLimits (stateAfter narrow narrowLimits s b k) (stepAt b k) .reply)) (stepsIn b) i h in
+      let f : ℕ → List ℕ = replyAt narrow s b in
+      let c : part (stepBytes * i) stepBytes (chunks (stepsIn b) f) ≡ f i = part-chunks stepBytes f (λ k. length-packReply (stepOf narrow (stateAfter narrow s b k) (stepAt b k) .reply)) (stepsIn b) i h in
       ap (λ (k : ℕ). getD (chunks (stepsIn b) f) k 0) (sym (add-zero (stepBytes * i)))
       ∙ sym (getD-part (stepBytes * i) stepBytes (chunks (stepsIn b) f) 0 (omega arith))
       ∙ ap (λ (x : List ℕ). getD x 0 0) c
-      ∙ first-packReply (stepOf narrow narrowLimits (stateAfter narrow narrowLimits s b i) (stepAt b i) .reply) (replies-fit fitting-narrow allowed-narrow (formed-state narrow img n o e) b p i .outcome)
+      ∙ first-packReply (stepOf narrow (stateAfter narrow s b i) (stepAt b i) .reply) (replies-fit fitting-narrow (formed-state narrow img n o e) b p i .outcome)
 
-  pub no28 : NoneIs28 (ranReplies narrow narrowLimits img b) (stepsIn b) → No28 narrow narrowLimits (unpack narrow img) b (stepsIn b)
+  pub no28 : NoneIs28 (ranReplies narrow img b) (stepsIn b) → No28 narrow (unpack narrow img) b (stepsIn b)
   unfolding NoneIs28
   no28 q = record { none = λ i h z. q i h (first-reply i h ∙ z) }
 
@@ -120,23 +121,23 @@ module _ (img list : List ℕ) (start end : ℕ) (replies : List ℕ) (n : lengt
     e,
   )
 
-  module _ (p : Octets list) (q : NoneIs28 (runReplies narrow narrowLimits img list start end replies) (stepsIn (part start (end - start) list))) where
+  module _ (p : Octets list) (q : NoneIs28 (runReplies narrow img list start end replies) (stepsIn (part start (end - start) list))) where
     abbrev b : List ℕ
     b = part start (end - start) list
 
-    ran : (c : Bool) → NoneIs28 (pick c (ranReplies narrow narrowLimits img b) replies) (stepsIn b) → pick c (ranReplies base standard (forward img) b) replies ≡ pick c (ranReplies narrow narrowLimits img b) replies
+    ran : (c : Bool) → NoneIs28 (pick c (ranReplies narrow img b) replies) (stepsIn b) → pick c (ranReplies base (forward img) b) replies ≡ pick c (ranReplies narrow img b) replies
     ran true z = ran-replies img b n o e (octets-part start (end - start) list p) (no28 img b n o e (octets-part start (end - start) list p) z)
     ran false z = refl
 
-    left : (c : Bool) → NoneIs28 (pick c (ranReplies narrow narrowLimits img b) replies) (stepsIn b) → pick c (ranImage base standard (forward img) b) (forward img) ≡ forward (pick c (ranImage narrow narrowLimits img b) img)
+    left : (c : Bool) → NoneIs28 (pick c (ranReplies narrow img b) replies) (stepsIn b) → pick c (ranImage base (forward img) b) (forward img) ≡ forward (pick c (ranImage narrow img b) img)
     left true z = ran-image img b n o e (octets-part start (end - start) list p) (no28 img b n o e (octets-part start (end - start) list p) z)
     left false z = refl
 
-    pub run-replies : runReplies base standard (forward img) list start end replies ≡ runReplies narrow narrowLimits img list start end replies
+    pub run-replies : runReplies base (forward img) list start end replies ≡ runReplies narrow img list start end replies
     unfolding runReplies
     run-replies = rw run-answer (ran (eqb (runAnswer narrow img list start end replies) 0) q)
 
-    pub run-image : runImage base standard (forward img) list start end replies ≡ forward (runImage narrow narrowLimits img list start end replies)
+    pub run-image : runImage base (forward img) list start end replies ≡ forward (runImage narrow img list start end replies)
     unfolding runImage runReplies
     run-image = rw run-answer (left (eqb (runAnswer narrow img list start end replies) 0) q)
 
@@ -149,21 +150,21 @@ pub record Asked : Type 0 where
   pub replies : List ℕ
 
 -- the image after the first i runs
-unfoldable pub imageAfter : Layout → Limits → List ℕ → (ℕ → Asked) → ℕ → List ℕ
-imageAfter y m img r zero = img
-imageAfter y m img r (suc i) = runImage y m (imageAfter y m img r i) (r i .list) (r i .start) (r i .end) (r i .replies)
+unfoldable pub imageAfter : Layout → List ℕ → (ℕ → Asked) → ℕ → List ℕ
+imageAfter y img r zero = img
+imageAfter y img r (suc i) = runImage y (imageAfter y img r i) (r i .list) (r i .start) (r i .end) (r i .replies)
 
 -- what run i answers, and the replies that it leaves
-abbrev pub answerOf : Layout → Limits → List ℕ → (ℕ → Asked) → ℕ → ℕ
-answerOf y m img r i = runAnswer y (imageAfter y m img r i) (r i .list) (r i .start) (r i .end) (r i .replies)
+abbrev pub answerOf : Layout → List ℕ → (ℕ → Asked) → ℕ → ℕ
+answerOf y img r i = runAnswer y (imageAfter y img r i) (r i .list) (r i .start) (r i .end) (r i .replies)
 
-abbrev pub repliesOf : Layout → Limits → List ℕ → (ℕ → Asked) → ℕ → List ℕ
-repliesOf y m img r i = runReplies y m (imageAfter y m img r i) (r i .list) (r i .start) (r i .end) (r i .replies)
+abbrev pub repliesOf : Layout → List ℕ → (ℕ → Asked) → ℕ → List ℕ
+repliesOf y img r i = runReplies y (imageAfter y img r i) (r i .list) (r i .start) (r i .end) (r i .replies)
 
 -- lists of bytes, and no 28 among the replies of the old image's first n runs
 pub record Without28 (img : List ℕ) (r : ℕ → Asked) (n : ℕ) : Type 0 where
   pub bytes : (i : ℕ) → i < n → Octets (r i .list)
-  pub none28 : (i : ℕ) → i < n → NoneIs28 (repliesOf narrow narrowLimits img r i) (stepsIn (part (r i .start) (r i .end - r i .start) (r i .list)))
+  pub none28 : (i : ℕ) → i < n → NoneIs28 (repliesOf narrow img r i) (stepsIn (part (r i .start) (r i .end - r i .start) (r i .list)))
 
 -- a well-formed old image
 record Old (img : List ℕ) : Type 0 where
@@ -171,39 +172,39 @@ record Old (img : List ℕ) : Type 0 where
   pub octets : Octets img
   pub formed : wellFormed narrow img ≡ true
 
-old-run : {img : List ℕ} → Old img → (a : Asked) → Octets (a .list) → Old (runImage narrow narrowLimits img (a .list) (a .start) (a .end) (a .replies))
+old-run : {img : List ℕ} → Old img → (a : Asked) → Octets (a .list) → Old (runImage narrow img (a .list) (a .start) (a .end) (a .replies))
 unfolding runImage ranImage
 old-run {img} z a o =
     let b : List ℕ = part (a .start) (a .end - a .start) (a .list) in
-    let f : WellFormed narrow (stateAfter narrow narrowLimits (unpack narrow img) b (stepsIn b)) =
-    keeps-after fitting-narrow allowed-narrow (formed-state narrow img (z .long) (z .octets) (z .formed)) b (octets-part (a .start) (a .end - a .start) (a .list) o) (stepsIn b) in
+    let f : WellFormed narrow (stateAfter narrow (unpack narrow img) b (stepsIn b)) =
+    keeps-after fitting-narrow (formed-state narrow img (z .long) (z .octets) (z .formed)) b (octets-part (a .start) (a .end - a .start) (a .list) o) (stepsIn b) in
     pick-view Old (eqb (runAnswer narrow img (a .list) (a .start) (a .end) (a .replies)) 0) _ _
     (λ e. record { long = length-pack narrow _; octets = octets-pack narrow _; formed = formed-pack narrow _ f })
     (λ e. z)
 
 module _ (img : List ℕ) (n : length img ≡ imageBytes narrow) (o : Octets img) (e : wellFormed narrow img ≡ true) (r : ℕ → Asked) (k : ℕ) (q : Without28 img r k) where
-  old-after : (i : ℕ) → i ≤ k → Old (imageAfter narrow narrowLimits img r i)
+  old-after : (i : ℕ) → i ≤ k → Old (imageAfter narrow img r i)
   unfolding imageAfter
   old-after zero h = record { long = n; octets = o; formed = e }
   old-after (suc i) h = old-run (old-after i (omega arith)) (r i) (q .bytes i (omega arith))
 
   -- the images stay each other's
-  pub runs-image : (i : ℕ) → i ≤ k → imageAfter base standard (forward img) r i ≡ forward (imageAfter narrow narrowLimits img r i)
+  pub runs-image : (i : ℕ) → i ≤ k → imageAfter base (forward img) r i ≡ forward (imageAfter narrow img r i)
   unfolding imageAfter
   runs-image zero h = refl
   runs-image (suc i) h =
-      let z : Old (imageAfter narrow narrowLimits img r i) = old-after i (omega arith) in
-      ap (λ (x : List ℕ). runImage base standard x (r i .list) (r i .start) (r i .end) (r i .replies)) (runs-image i (omega arith))
-      ∙ run-image (imageAfter narrow narrowLimits img r i) (r i .list) (r i .start) (r i .end) (r i .replies) (z .long) (z .octets) (z .formed) (q .bytes i (omega arith)) (q .none28 i (omega arith))
+      let z : Old (imageAfter narrow img r i) = old-after i (omega arith) in
+      ap (λ (x : List ℕ). runImage base x (r i .list) (r i .start) (r i .end) (r i .replies)) (runs-image i (omega arith))
+      ∙ run-image (imageAfter narrow img r i) (r i .list) (r i .start) (r i .end) (r i .replies) (z .long) (z .octets) (z .formed) (q .bytes i (omega arith)) (q .none28 i (omega arith))
 
-  pub runs-answers : (i : ℕ) → i < k → answerOf base standard (forward img) r i ≡ answerOf narrow narrowLimits img r i
+  pub runs-answers : (i : ℕ) → i < k → answerOf base (forward img) r i ≡ answerOf narrow img r i
   runs-answers i h =
-      let z : Old (imageAfter narrow narrowLimits img r i) = old-after i (omega arith) in
+      let z : Old (imageAfter narrow img r i) = old-after i (omega arith) in
       ap (λ (x : List ℕ). runAnswer base x (r i .list) (r i .start) (r i .end) (r i .replies)) (runs-image i (omega arith))
-      ∙ run-answer (imageAfter narrow narrowLimits img r i) (r i .list) (r i .start) (r i .end) (r i .replies) (z .long) (z .octets) (z .formed)
+      ∙ run-answer (imageAfter narrow img r i) (r i .list) (r i .start) (r i .end) (r i .replies) (z .long) (z .octets) (z .formed)
 
-  pub runs-replies : (i : ℕ) → i < k → repliesOf base standard (forward img) r i ≡ repliesOf narrow narrowLimits img r i
+  pub runs-replies : (i : ℕ) → i < k → repliesOf base (forward img) r i ≡ repliesOf narrow img r i
   runs-replies i h =
-      let z : Old (imageAfter narrow narrowLimits img r i) = old-after i (omega arith) in
-      ap (λ (x : List ℕ). runReplies base standard x (r i .list) (r i .start) (r i .end) (r i .replies)) (runs-image i (omega arith))
-      ∙ run-replies (imageAfter narrow narrowLimits img r i) (r i .list) (r i .start) (r i .end) (r i .replies) (z .long) (z .octets) (z .formed) (q .bytes i h) (q .none28 i h)
+      let z : Old (imageAfter narrow img r i) = old-after i (omega arith) in
+      ap (λ (x : List ℕ). runReplies base x (r i .list) (r i .start) (r i .end) (r i .replies)) (runs-image i (omega arith))
+      ∙ run-replies (imageAfter narrow img r i) (r i .list) (r i .start) (r i .end) (r i .replies) (z .long) (z .octets) (z .formed) (q .bytes i h) (q .none28 i h)

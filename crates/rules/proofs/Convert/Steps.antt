@@ -1,4 +1,4 @@
--- The rules look at a layout's counts and not at its width: a step at another width, with a higher largest life number, is the same unless 28.
+-- The rules look at a layout's counts and, for 28, at its largest life number: a step in a layout where that is higher is the same unless 28.
 use Prim.Native.Nat.{ℕ, _≤_, _<_}
 use mathlib.Core.Bool.{Bool, true, false, not}
 use mathlib.Core.Path.{_≡_, refl, ap, sym, _∙_}
@@ -6,25 +6,26 @@ use native.Mathlib.Omega.{arith}
 use native.Mathlib.Decide.{ℕ-discrete}
 use lib.Dec.{eqb, ltb, leb}
 use borrow.Author.Tests.{leb-false, lt-leb}
+use Rattle.octets.specs.Numbers.{bound}
 use Rattle.octets.specs.Bytes.{pick, _and_, _or_}
 use Rattle.octets.proofs.Tests.{or-off, never}
-use Rattle.rules.specs.Layout.{Layout, Limits}
+use Rattle.rules.specs.Layout.{Layout, largest}
 use Rattle.rules.specs.State.{State}
 use Rattle.rules.specs.declared.Step.{Step}
 use Rattle.rules.specs.Step.{receive, fall, fail}
 use Rattle.rules.specs.Refusals.{Seen, malformed, notWaiting, emptyGroup, unopened, isGone, wrongStatus, unrelatedReceipt, allOpened, allWaiting, allNumbered, allCheckpointed, atLast, lastRollsBack, refusalOf}
 use Rattle.rules.specs.Rules.{messageSuperseded, receiverSuperseded, receiptRollsBack, messageUnrelated, receiptUnrelated, seen, refusal, rollback, carried, readBy, writeBy, finishBy, fallBy, failBy, localBy, receiveBy, mapReady, transactorReady, groupReady, checkpointBy, checkpointAt, checkpointGroup, applyRoot, applyLetter, applyReceive, applyNew, applySend, applyLocal, applySign, apply, stepOf, answer}
 use Rattle.rules.proofs.Keep.Step.{refused-same}
-use Rattle.rules.specs.Internal.Widths.{resized, upTo}
+use Rattle.rules.specs.Internal.Widths.{resized}
 
--- ---- by computation: no rule reads the width
+-- ---- by computation: no rule reads the width, nor whether limits are stored
 
-module _ (y : Layout) (w : ℕ) (s : State) where
-  pub same-seen : seen (resized y w) s ≡ seen y s
+module _ (y : Layout) (w : ℕ) (stored : Bool) (s : State) where
+  pub same-seen : seen (resized y w stored) s ≡ seen y s
   unfolding seen receiptRollsBack receiptUnrelated messageSuperseded receiverSuperseded messageUnrelated
   same-seen = refl
 
-  pub same-apply : (p : Step) → apply (resized y w) s p ≡ apply y s p
+  pub same-apply : (p : Step) → apply (resized y w stored) s p ≡ apply y s p
   unfolding apply applyRoot applyLetter applyReceive applyNew applySend applyLocal applySign rollback carried readBy writeBy finishBy fallBy failBy localBy receiveBy messageSuperseded receiverSuperseded mapReady transactorReady groupReady checkpointBy checkpointAt checkpointGroup
   same-apply p = refl
 
@@ -46,37 +47,37 @@ and-less false b c e f = refl
 or-less : (a b c d : Bool) → a or b ≡ false → (a ≡ false → c ≡ false) → (b ≡ false → d ≡ false) → c or d ≡ false
 or-less a b c d e f g = let z = or-off a b e in rw (f (z .0), g (z .1))
 
-module _ (m : Limits) (n : ℕ) (more : m .incarnation ≤ n) (v : Seen) where
-  last-less : (t : ℕ) → atLast m v t ≡ false → atLast (upTo m n) v t ≡ false
+module _ (y : Layout) (w : ℕ) (stored : Bool) (more : largest y ≤ largest (resized y w stored)) (v : Seen) where
+  last-less : (t : ℕ) → atLast y v t ≡ false → atLast (resized y w stored) v t ≡ false
   unfolding atLast
-  last-less t e = and-less (ltb 0 (v .checkpoints t)) (leb (m .incarnation) (v .incarnation t)) (leb n (v .incarnation t)) e
-      (λ (f : leb (m .incarnation) (v .incarnation t) ≡ false).
-      let g : v .incarnation t < m .incarnation = leb-false (m .incarnation) (v .incarnation t) f in
-      lt-leb n (v .incarnation t) (omega arith))
+  last-less t e = and-less (ltb 0 (v .checkpoints t)) (leb (largest y) (v .incarnation t)) (leb (largest (resized y w stored)) (v .incarnation t)) e
+      (λ (f : leb (largest y) (v .incarnation t) ≡ false).
+      let g : v .incarnation t < largest y = leb-false (largest y) (v .incarnation t) f in
+      lt-leb (largest (resized y w stored)) (v .incarnation t) (omega arith))
 
   module _ (p : Step) where
-    rolls-less : lastRollsBack m v p ≡ false → lastRollsBack (upTo m n) v p ≡ false
+    rolls-less : lastRollsBack y v p ≡ false → lastRollsBack (resized y w stored) v p ≡ false
     unfolding lastRollsBack
     rolls-less e =
         let t : ℕ = p .transactor in
         let u : ℕ = v .addressee (p .message) in
         let a : Bool = eqb (p .kind) fall or eqb (p .kind) fail in
-        or-less (a and not (v .stable t) and atLast m v t) (eqb (p .kind) receive and v .falls (p .message) and atLast m v u)
-        (a and not (v .stable t) and atLast (upTo m n) v t) (eqb (p .kind) receive and v .falls (p .message) and atLast (upTo m n) v u)
+        or-less (a and not (v .stable t) and atLast y v t) (eqb (p .kind) receive and v .falls (p .message) and atLast y v u)
+        (a and not (v .stable t) and atLast (resized y w stored) v t) (eqb (p .kind) receive and v .falls (p .message) and atLast (resized y w stored) v u)
         e
-        (λ f. and-less a (not (v .stable t) and atLast m v t) (not (v .stable t) and atLast (upTo m n) v t) f
-        (λ g. and-less (not (v .stable t)) (atLast m v t) (atLast (upTo m n) v t) g (last-less t)))
-        (λ f. and-less (eqb (p .kind) receive) (v .falls (p .message) and atLast m v u) (v .falls (p .message) and atLast (upTo m n) v u) f
-        (λ g. and-less (v .falls (p .message)) (atLast m v u) (atLast (upTo m n) v u) g (last-less u)))
+        (λ f. and-less a (not (v .stable t) and atLast y v t) (not (v .stable t) and atLast (resized y w stored) v t) f
+        (λ g. and-less (not (v .stable t)) (atLast y v t) (atLast (resized y w stored) v t) g (last-less t)))
+        (λ f. and-less (eqb (p .kind) receive) (v .falls (p .message) and atLast y v u) (v .falls (p .message) and atLast (resized y w stored) v u) f
+        (λ g. and-less (v .falls (p .message)) (atLast y v u) (atLast (resized y w stored) v u) g (last-less u)))
 
-    last-one : (asked (lastRollsBack m v p) ≡ 28 → ⊥) → asked (lastRollsBack (upTo m n) v p) ≡ asked (lastRollsBack m v p)
-    last-one h = go (lastRollsBack m v p) refl h
+    last-one : (asked (lastRollsBack y v p) ≡ 28 → ⊥) → asked (lastRollsBack (resized y w stored) v p) ≡ asked (lastRollsBack y v p)
+    last-one h = go (lastRollsBack y v p) refl h
       where
-        go : (c : Bool) → lastRollsBack m v p ≡ c → (asked c ≡ 28 → ⊥) → asked (lastRollsBack (upTo m n) v p) ≡ asked c
+        go : (c : Bool) → lastRollsBack y v p ≡ c → (asked c ≡ 28 → ⊥) → asked (lastRollsBack (resized y w stored) v p) ≡ asked c
         go true e h = absurd (h refl)
         go false e h = rw (rolls-less e)
 
-    pub same-refusalOf : (refusalOf m v p ≡ 28 → ⊥) → refusalOf (upTo m n) v p ≡ refusalOf m v p
+    pub same-refusalOf : (refusalOf y v p ≡ 28 → ⊥) → refusalOf (resized y w stored) v p ≡ refusalOf y v p
     unfolding refusalOf allOpened allWaiting allCheckpointed
     same-refusalOf h0 =
         before (malformed p) 20 _ _ h0 (λ h1.
@@ -86,21 +87,21 @@ module _ (m : Limits) (n : ℕ) (more : m .incarnation ≤ n) (v : Seen) where
         before (isGone v p) 22 _ _ h4 (λ h5.
         before (wrongStatus v p) 23 _ _ h5 (λ h6.
         before (unrelatedReceipt v p) 31 _ _ h6 (λ h7.
-        before (allOpened m v p) 25 _ _ h7 (λ h8.
-        before (allWaiting m v p) 26 _ _ h8 (λ h9.
+        before (allOpened v p) 25 _ _ h7 (λ h8.
+        before (allWaiting v p) 26 _ _ h8 (λ h9.
         before (allNumbered v p) 27 _ _ h9 (λ h10.
-        before (allCheckpointed m v p) 30 _ _ h10 last-one))))))))))
+        before (allCheckpointed v p) 30 _ _ h10 last-one))))))))))
 
 -- ---- a step
 
-module _ (y : Layout) (w : ℕ) (m : Limits) (n : ℕ) (more : m .incarnation ≤ n) (s : State) (p : Step) where
+module _ (y : Layout) (w : ℕ) (stored : Bool) (more : largest y ≤ largest (resized y w stored)) (s : State) (p : Step) where
   -- a step that the table refuses with 28 answers 28
-  answers-28 : refusal y m s p ≡ 28 → stepOf y m s p .reply .outcome ≡ 28
-  answers-28 e = ap (λ r. r .reply .outcome) (refused-same y m s p (λ z. let q : _≡_ {A = ℕ} 28 0 = sym e ∙ z in omega arith)) ∙ e
+  answers-28 : refusal y s p ≡ 28 → stepOf y s p .reply .outcome ≡ 28
+  answers-28 e = ap (λ r. r .reply .outcome) (refused-same y s p (λ z. let q : _≡_ {A = ℕ} 28 0 = sym e ∙ z in omega arith)) ∙ e
 
-  pub same-step : (stepOf y m s p .reply .outcome ≡ 28 → ⊥) → stepOf (resized y w) (upTo m n) s p ≡ stepOf y m s p
+  pub same-step : (stepOf y s p .reply .outcome ≡ 28 → ⊥) → stepOf (resized y w stored) s p ≡ stepOf y s p
   unfolding stepOf refusal
   same-step h =
-      let e : refusalOf (upTo m n) (seen (resized y w) s) p ≡ refusalOf m (seen y s) p =
-      ap (λ v. refusalOf (upTo m n) v p) (same-seen y w s) ∙ same-refusalOf m n more (seen y s) p (λ z. h (answers-28 z)) in
-      rw (e, same-apply y w s p)
+      let e : refusalOf (resized y w stored) (seen (resized y w stored) s) p ≡ refusalOf y (seen y s) p =
+      ap (λ v. refusalOf (resized y w stored) v p) (same-seen y w stored s) ∙ same-refusalOf y w stored more (seen y s) p (λ z. h (answers-28 z)) in
+      rw (e, same-apply y w stored s p)

@@ -14,7 +14,7 @@ use Rattle.octets.specs.Bytes.{put, part, chunks}
 use Rattle.octets.proofs.Put.{put-def, part-def, length-part, length-put, put-part, put-left, put-right, put-mid, part-left, part-right, part-part, part-add, part-whole}
 use Rattle.octets.proofs.Numbers.{length-be}
 use Rattle.octets.proofs.Chunks.{sides, length-chunks}
-use Rattle.rules.specs.Layout.{Layout, Limits}
+use Rattle.rules.specs.Layout.{Layout}
 use Rattle.rules.specs.State.{State}
 use Rattle.rules.specs.Step.{Step, Reply, stepBytes, unpackStep, stepAt, packReply}
 use Rattle.rules.specs.Rules.{stepOf}
@@ -111,22 +111,22 @@ part-exchanged start n k list h w =
 
 -- ---- steps i and i + 1 of a packed list
 
-after-two : (y : Layout) (m : Limits) (s : State) (l : List ℕ) → stateAfter y m s l 2 ≡ stepOf y m (stepOf y m s (stepAt l 0) .state) (stepAt l 1) .state
+after-two : (y : Layout) (s : State) (l : List ℕ) → stateAfter y s l 2 ≡ stepOf y (stepOf y s (stepAt l 0) .state) (stepAt l 1) .state
 unfolding stateAfter
-after-two y m s l = refl
+after-two y s l = refl
 
-replies-two : (y : Layout) (m : Limits) (s : State) (l : List ℕ)
-    → chunks 2 (replyAt y m s l) ≡ packReply (stepOf y m s (stepAt l 0) .reply) ++ packReply (stepOf y m (stepOf y m s (stepAt l 0) .state) (stepAt l 1) .reply)
+replies-two : (y : Layout) (s : State) (l : List ℕ)
+    → chunks 2 (replyAt y s l) ≡ packReply (stepOf y s (stepAt l 0) .reply) ++ packReply (stepOf y (stepOf y s (stepAt l 0) .state) (stepAt l 1) .reply)
 unfolding chunks replyAt stateAfter
-replies-two y m s l = refl
+replies-two y s l = refl
 
 length-packReply : (r : Reply) → length (packReply r) ≡ stepBytes
 unfolding packReply
 length-packReply r = simp (length-append, length-be)
 
-length-replies : (y : Layout) (m : Limits) (s : State) (b : List ℕ) (n : ℕ) → length (chunks n (replyAt y m s b)) ≡ stepBytes * n
+length-replies : (y : Layout) (s : State) (b : List ℕ) (n : ℕ) → length (chunks n (replyAt y s b)) ≡ stepBytes * n
 unfolding replyAt
-length-replies y m s b n = length-chunks stepBytes (replyAt y m s b) (λ i. length-packReply _) n
+length-replies y s b n = length-chunks stepBytes (replyAt y s b) (λ i. length-packReply _) n
 
 module _ (p q : List ℕ) (hp : length p ≡ stepBytes) (hq : length q ≡ stepBytes) where
   pair-first : stepAt (p ++ q) 0 ≡ unpackStep p
@@ -143,76 +143,76 @@ module _ (p q : List ℕ) (hp : length p ≡ stepBytes) (hq : length q ≡ stepB
   length-pair = length-append p q ∙ omega arith
 
 -- l, then two steps, then r
-module _ (y : Layout) (m : Limits) (s : State) (l c r : List ℕ) (i j : ℕ) (hl : length l ≡ stepBytes * i) (hc : length c ≡ stepBytes * 2) (hr : length r ≡ stepBytes * j) where
+module _ (y : Layout) (s : State) (l c r : List ℕ) (i j : ℕ) (hl : length l ≡ stepBytes * i) (hc : length c ≡ stepBytes * 2) (hr : length r ≡ stepBytes * j) where
   count : stepsIn (l ++ c ++ r) ≡ i + (2 + j)
   count = rw (length-append (l ++ c) r, length-append l c) (omega arith)
 
   abbrev upto : State
-  upto = stateAfter y m s l i
+  upto = stateAfter y s l i
 
-  state-three : stateAfter y m s (l ++ c ++ r) (stepsIn (l ++ c ++ r)) ≡ stateAfter y m (stateAfter y m upto c 2) r j
+  state-three : stateAfter y s (l ++ c ++ r) (stepsIn (l ++ c ++ r)) ≡ stateAfter y (stateAfter y upto c 2) r j
   state-three =
-      ap (stateAfter y m s (l ++ c ++ r)) count
-      ∙ ap (λ (b : List ℕ). stateAfter y m s b (i + (2 + j))) (append-assoc l c r)
-      ∙ after-append l (c ++ r) i hl y m s (2 + j)
-      ∙ after-append c r 2 hc y m upto j
+      ap (stateAfter y s (l ++ c ++ r)) count
+      ∙ ap (λ (b : List ℕ). stateAfter y s b (i + (2 + j))) (append-assoc l c r)
+      ∙ after-append l (c ++ r) i hl y s (2 + j)
+      ∙ after-append c r 2 hc y upto j
 
-  replies-three : chunks (stepsIn (l ++ c ++ r)) (replyAt y m s (l ++ c ++ r))
-      ≡ chunks i (replyAt y m s l) ++ (chunks 2 (replyAt y m upto c) ++ chunks j (replyAt y m (stateAfter y m upto c 2) r))
+  replies-three : chunks (stepsIn (l ++ c ++ r)) (replyAt y s (l ++ c ++ r))
+      ≡ chunks i (replyAt y s l) ++ (chunks 2 (replyAt y upto c) ++ chunks j (replyAt y (stateAfter y upto c 2) r))
   replies-three =
-      ap (λ (n : ℕ). chunks n (replyAt y m s (l ++ c ++ r))) count
-      ∙ ap (λ (b : List ℕ). chunks (i + (2 + j)) (replyAt y m s b)) (append-assoc l c r)
-      ∙ replies-append l (c ++ r) i hl y m s (2 + j)
-      ∙ ap {B = List ℕ} (λ (x : List ℕ). chunks i (replyAt y m s l) ++ x) (replies-append c r 2 hc y m upto j)
+      ap (λ (n : ℕ). chunks n (replyAt y s (l ++ c ++ r))) count
+      ∙ ap (λ (b : List ℕ). chunks (i + (2 + j)) (replyAt y s b)) (append-assoc l c r)
+      ∙ replies-append l (c ++ r) i hl y s (2 + j)
+      ∙ ap {B = List ℕ} (λ (x : List ℕ). chunks i (replyAt y s l) ++ x) (replies-append c r 2 hc y upto j)
 
 -- the image and the replies of a list b, and of b with two places exchanged
-record Ran (y : Layout) (m : Limits) (img b : List ℕ) (k : ℕ) : Type 0 where
-  image : ranImage y m img (exchangedAt k b) ≡ ranImage y m img b
-  replies : ranReplies y m img (exchangedAt k b) ≡ exchangedAt k (ranReplies y m img b)
+record Ran (y : Layout) (img b : List ℕ) (k : ℕ) : Type 0 where
+  image : ranImage y img (exchangedAt k b) ≡ ranImage y img b
+  replies : ranReplies y img (exchangedAt k b) ≡ exchangedAt k (ranReplies y img b)
 
 -- both orders of p and q between l and r
-module _ (y : Layout) (m : Limits) (img l p q r : List ℕ) (i j : ℕ) (hl : length l ≡ stepBytes * i) (hr : length r ≡ stepBytes * j) (hp : length p ≡ stepBytes) (hq : length q ≡ stepBytes) (w : EditsApart (unpackStep p) (unpackStep q)) where
-  ran-mid : Ran y m img (l ++ (p ++ q) ++ r) (stepBytes * i)
+module _ (y : Layout) (img l p q r : List ℕ) (i j : ℕ) (hl : length l ≡ stepBytes * i) (hr : length r ≡ stepBytes * j) (hp : length p ≡ stepBytes) (hq : length q ≡ stepBytes) (w : EditsApart (unpackStep p) (unpackStep q)) where
+  ran-mid : Ran y img (l ++ (p ++ q) ++ r) (stepBytes * i)
   unfolding ranImage ranReplies
   ran-mid =
       let fresh : State = unpack y img in
-      let s : State = stateAfter y m fresh l i in
+      let s : State = stateAfter y fresh l i in
       let P : Step = unpackStep p in
       let Q : Step = unpackStep q in
-      let x : Exchanged y m s P Q = exchanged y m s P Q w in
+      let x : Exchanged y s P Q = exchanged y s P Q w in
       let one : length (p ++ q) ≡ stepBytes * 2 = length-pair p q hp hq in
       let two : length (q ++ p) ≡ stepBytes * 2 = length-pair q p hq hp in
       let mid : exchangedAt (stepBytes * i) (l ++ (p ++ q) ++ r) ≡ l ++ (q ++ p) ++ r = exchanged-mid (stepBytes * i) l p q r hl hp hq in
-      let there : stateAfter y m s (p ++ q) 2 ≡ stepOf y m (stepOf y m s P .state) Q .state = after-two y m s (p ++ q) ∙ rw (pair-first p q hp hq, pair-second p q hp hq) in
-      let back : stateAfter y m s (q ++ p) 2 ≡ stepOf y m (stepOf y m s Q .state) P .state = after-two y m s (q ++ p) ∙ rw (pair-first q p hq hp, pair-second q p hq hp) in
-      let same : stateAfter y m s (q ++ p) 2 ≡ stateAfter y m s (p ++ q) 2 = back ∙ sym (x .state) ∙ sym there in
-      let a : List ℕ = packReply (stepOf y m s P .reply) in
-      let c : List ℕ = packReply (stepOf y m s Q .reply) in
-      let first : List ℕ = chunks i (replyAt y m fresh l) in
-      let last : State → List ℕ = λ z. chunks j (replyAt y m z r) in
-      let z : State = stateAfter y m s (p ++ q) 2 in
-      let to : chunks 2 (replyAt y m s (p ++ q)) ≡ a ++ c =
-      replies-two y m s (p ++ q) ∙ rw (pair-first p q hp hq, pair-second p q hp hq) (ap {B = List ℕ} (λ (v : Reply). a ++ packReply v) (x .second)) in
-      let fro : chunks 2 (replyAt y m s (q ++ p)) ≡ c ++ a =
-      replies-two y m s (q ++ p) ∙ rw (pair-first q p hq hp, pair-second q p hq hp) (ap {B = List ℕ} (λ (v : Reply). c ++ packReply v) (sym (x .first))) in
-      let given : ranReplies y m img (l ++ (p ++ q) ++ r) ≡ first ++ (a ++ c) ++ last z =
-      replies-three y m fresh l (p ++ q) r i j hl one hr ∙ (λ t. first ++ (to t ++ last z)) ∙ sym (append-assoc first (a ++ c) (last z)) in
-      let turned : ranReplies y m img (l ++ (q ++ p) ++ r) ≡ first ++ (c ++ a) ++ last z =
-      replies-three y m fresh l (q ++ p) r i j hl two hr ∙ (λ t. first ++ (fro t ++ last (same t))) ∙ sym (append-assoc first (c ++ a) (last z)) in
+      let there : stateAfter y s (p ++ q) 2 ≡ stepOf y (stepOf y s P .state) Q .state = after-two y s (p ++ q) ∙ rw (pair-first p q hp hq, pair-second p q hp hq) in
+      let back : stateAfter y s (q ++ p) 2 ≡ stepOf y (stepOf y s Q .state) P .state = after-two y s (q ++ p) ∙ rw (pair-first q p hq hp, pair-second q p hq hp) in
+      let same : stateAfter y s (q ++ p) 2 ≡ stateAfter y s (p ++ q) 2 = back ∙ sym (x .state) ∙ sym there in
+      let a : List ℕ = packReply (stepOf y s P .reply) in
+      let c : List ℕ = packReply (stepOf y s Q .reply) in
+      let first : List ℕ = chunks i (replyAt y fresh l) in
+      let last : State → List ℕ = λ z. chunks j (replyAt y z r) in
+      let z : State = stateAfter y s (p ++ q) 2 in
+      let to : chunks 2 (replyAt y s (p ++ q)) ≡ a ++ c =
+      replies-two y s (p ++ q) ∙ rw (pair-first p q hp hq, pair-second p q hp hq) (ap {B = List ℕ} (λ (v : Reply). a ++ packReply v) (x .second)) in
+      let fro : chunks 2 (replyAt y s (q ++ p)) ≡ c ++ a =
+      replies-two y s (q ++ p) ∙ rw (pair-first q p hq hp, pair-second q p hq hp) (ap {B = List ℕ} (λ (v : Reply). c ++ packReply v) (sym (x .first))) in
+      let given : ranReplies y img (l ++ (p ++ q) ++ r) ≡ first ++ (a ++ c) ++ last z =
+      replies-three y fresh l (p ++ q) r i j hl one hr ∙ (λ t. first ++ (to t ++ last z)) ∙ sym (append-assoc first (a ++ c) (last z)) in
+      let turned : ranReplies y img (l ++ (q ++ p) ++ r) ≡ first ++ (c ++ a) ++ last z =
+      replies-three y fresh l (q ++ p) r i j hl two hr ∙ (λ t. first ++ (fro t ++ last (same t))) ∙ sym (append-assoc first (c ++ a) (last z)) in
       record {
         image =
-            ap (ranImage y m img) mid
-            ∙ ap (pack y) (state-three y m fresh l (q ++ p) r i j hl two hr ∙ ap (λ (v : State). stateAfter y m v r j) same ∙ sym (state-three y m fresh l (p ++ q) r i j hl one hr));
+            ap (ranImage y img) mid
+            ∙ ap (pack y) (state-three y fresh l (q ++ p) r i j hl two hr ∙ ap (λ (v : State). stateAfter y v r j) same ∙ sym (state-three y fresh l (p ++ q) r i j hl one hr));
         replies =
-            ap (ranReplies y m img) mid
+            ap (ranReplies y img) mid
             ∙ turned
-            ∙ sym (ap (exchangedAt (stepBytes * i)) given ∙ exchanged-mid (stepBytes * i) first a c (last z) (length-replies y m fresh l i) (length-packReply _) (length-packReply _));
+            ∙ sym (ap (exchangedAt (stepBytes * i)) given ∙ exchanged-mid (stepBytes * i) first a c (last z) (length-replies y fresh l i) (length-packReply _) (length-packReply _));
       }
 
 -- b has n steps, of which i and i + 1 are the two
-ran-exchanged : (y : Layout) (m : Limits) (img b : List ℕ) (n i : ℕ) → length b ≡ stepBytes * n → i + 2 ≤ n
-    → EditsApart (unpackStep (part (stepBytes * i) stepBytes b)) (unpackStep (part (stepBytes * i + stepBytes) stepBytes b)) → Ran y m img b (stepBytes * i)
-ran-exchanged y m img b n i e h w =
+ran-exchanged : (y : Layout) (img b : List ℕ) (n i : ℕ) → length b ≡ stepBytes * n → i + 2 ≤ n
+    → EditsApart (unpackStep (part (stepBytes * i) stepBytes b)) (unpackStep (part (stepBytes * i + stepBytes) stepBytes b)) → Ran y img b (stepBytes * i)
+ran-exchanged y img b n i e h w =
     let k : ℕ = stepBytes * i in
     let j : ℕ = n - (i + 2) in
     let l : List ℕ = part 0 k b in
@@ -224,8 +224,8 @@ ran-exchanged y m img b n i e h w =
     sym (part-whole (k + (stepBytes + stepBytes) + stepBytes * j) b whole)
     ∙ part-add 0 (k + (stepBytes + stepBytes)) (stepBytes * j) b
     ∙ rw (part-add 0 k (stepBytes + stepBytes) b, part-add (0 + k) stepBytes stepBytes b) (simp zero-add) in
-    subst (λ (x : List ℕ). Ran y m img x k) (sym split)
-    (ran-mid y m img l p q r i j (length-part 0 k b (omega arith)) (length-part _ _ b (omega arith)) (length-part _ _ b (omega arith)) (length-part _ _ b (omega arith)) w)
+    subst (λ (x : List ℕ). Ran y img x k) (sym split)
+    (ran-mid y img l p q r i j (length-part 0 k b (omega arith)) (length-part _ _ b (omega arith)) (length-part _ _ b (omega arith)) (length-part _ _ b (omega arith)) w)
 
 -- ---- the calls
 
@@ -234,7 +234,7 @@ unfolding runAnswer wrongPart
 answer-exchanged y img list start end buffer k = rw (length-exchanged k list)
 
 -- steps i and i + 1 of the part from start to end
-module _ (y : Layout) (m : Limits) (img list : List ℕ) (start end : ℕ) (buffer : List ℕ) (i : ℕ) (h : start + stepBytes * (i + 2) ≤ end)
+module _ (y : Layout) (img list : List ℕ) (start end : ℕ) (buffer : List ℕ) (i : ℕ) (h : start + stepBytes * (i + 2) ≤ end)
     (w : EditsApart (unpackStep (part (start + stepBytes * i) stepBytes list)) (unpackStep (part (start + stepBytes * (i + 1)) stepBytes list))) where
   abbrev k : ℕ
   k = stepBytes * i
@@ -242,7 +242,7 @@ module _ (y : Layout) (m : Limits) (img list : List ℕ) (start end : ℕ) (buff
   abbrev b : List ℕ
   b = part start (end - start) list
 
-  ran-part : runAnswer y img list start end buffer ≡ 0 → Ran y m img b k
+  ran-part : runAnswer y img list start end buffer ≡ 0 → Ran y img b k
   ran-part z =
       let a : Accepted y img list start end buffer = accepted y img list start end buffer z in
       let forth : start ≤ end = a .forth in
@@ -252,7 +252,7 @@ module _ (y : Layout) (m : Limits) (img list : List ℕ) (start end : ℕ) (buff
       let p : part (start + stepBytes * i) stepBytes list ≡ part k stepBytes b = sym (part-part k stepBytes start (end - start) list (omega arith)) in
       let q : part (start + stepBytes * (i + 1)) stepBytes list ≡ part (k + stepBytes) stepBytes b =
       ap (λ (x : ℕ). part x stepBytes list) (omega arith) ∙ sym (part-part (k + stepBytes) stepBytes start (end - start) list (omega arith)) in
-      ran-exchanged y m img b ((end - start) / stepBytes) i long (omega arith) (rw (← p, ← q) w)
+      ran-exchanged y img b ((end - start) / stepBytes) i long (omega arith) (rw (← p, ← q) w)
 
   turned : runAnswer y img list start end buffer ≡ 0 → part start (end - start) (exchangedAt (start + k) list) ≡ exchangedAt k b
   turned z =
@@ -262,14 +262,14 @@ module _ (y : Layout) (m : Limits) (img list : List ℕ) (start end : ℕ) (buff
       part-exchanged start (end - start) k list (omega arith) (omega arith)
 
   -- any part of any list, on any image, with any buffer for the replies
-  pub run-exchanged : RunExchanged y m img list start end buffer i
+  pub run-exchanged : RunExchanged y img list start end buffer i
   unfolding runImage runReplies
   run-exchanged = go (eqb (runAnswer y img list start end buffer) 0) refl
     where
       same : runAnswer y img (exchangedAt (start + k) list) start end buffer ≡ runAnswer y img list start end buffer
       same = answer-exchanged y img list start end buffer (start + k)
 
-      go : (c : Bool) → eqb (runAnswer y img list start end buffer) 0 ≡ c → RunExchanged y m img list start end buffer i
+      go : (c : Bool) → eqb (runAnswer y img list start end buffer) 0 ≡ c → RunExchanged y img list start end buffer i
       go true f =
           let z : runAnswer y img list start end buffer ≡ 0 = eqb-true _ _ f in
           record {
@@ -280,16 +280,16 @@ module _ (y : Layout) (m : Limits) (img list : List ℕ) (start end : ℕ) (buff
       go false f = record { answer = same; image = rw (same, f); replies = rw (same, f) }
 
 -- the two steps alone
-pub pair-exchanged : (y : Layout) (m : Limits) (img p q buffer : List ℕ) → length p ≡ stepBytes → length q ≡ stepBytes → EditsApart (unpackStep p) (unpackStep q) → PairExchanged y m img p q buffer
-pair-exchanged y m img p q buffer hp hq w =
+pub pair-exchanged : (y : Layout) (img p q buffer : List ℕ) → length p ≡ stepBytes → length q ≡ stepBytes → EditsApart (unpackStep p) (unpackStep q) → PairExchanged y img p q buffer
+pair-exchanged y img p q buffer hp hq w =
     let turned : exchangedAt 0 (p ++ q) ≡ q ++ p = ap (exchangedAt 0) (sym (append-nil (p ++ q))) ∙ exchanged-mid 0 [] p q [] refl hp hq ∙ append-nil (q ++ p) in
     let first : part 0 stepBytes (p ++ q) ≡ p = part-left 0 stepBytes p q (omega arith) ∙ part-whole stepBytes p hp in
     let second : part stepBytes stepBytes (p ++ q) ≡ q =
     ap (λ (x : ℕ). part x stepBytes (p ++ q)) (omega arith) ∙ part-right 0 stepBytes p q ∙ part-whole stepBytes q hq in
     let w' : EditsApart (unpackStep (part 0 stepBytes (p ++ q))) (unpackStep (part stepBytes stepBytes (p ++ q))) = rw (first, second) w in
-    let r : RunExchanged y m img (p ++ q) 0 16 buffer 0 = run-exchanged y m img (p ++ q) 0 16 buffer 0 (omega arith) w' in
+    let r : RunExchanged y img (p ++ q) 0 16 buffer 0 = run-exchanged y img (p ++ q) 0 16 buffer 0 (omega arith) w' in
     record {
       answer = ap (λ (x : List ℕ). runAnswer y img x 0 16 buffer) (sym turned) ∙ r .answer;
-      image = ap (λ (x : List ℕ). runImage y m img x 0 16 buffer) (sym turned) ∙ r .image;
-      replies = ap (λ (x : List ℕ). runReplies y m img x 0 16 buffer) (sym turned) ∙ r .replies;
+      image = ap (λ (x : List ℕ). runImage y img x 0 16 buffer) (sym turned) ∙ r .image;
+      replies = ap (λ (x : List ℕ). runReplies y img x 0 16 buffer) (sym turned) ∙ r .replies;
     }

@@ -7,7 +7,7 @@ use lib.Dec.{eqb, leb}
 use lib.ListN.{set}
 use lib.Seq.{set-comm}
 use Rattle.octets.specs.Bytes.{pick}
-use Rattle.rules.specs.Layout.{Layout, Limits}
+use Rattle.rules.specs.Layout.{Layout}
 use Rattle.rules.specs.State.{Transactor, State, transactorAt, withTransactor}
 use Rattle.rules.specs.Step.{Step, Reply}
 use Rattle.rules.specs.Refusals.{malformed}
@@ -25,29 +25,29 @@ edits-apart p q a b c d apart = record {
 }
 
 -- what refuses such a step: takes opened, and the take alone
-unfoldable editRefusal : Limits → Step → ℕ → Transactor → ℕ
-editRefusal m p o x = pick (malformed p) 20 (pick (leb o (p .transactor)) 21 (localRefusal m (p .kind) (p .transactor) x))
+unfoldable editRefusal : Layout → Step → ℕ → Transactor → ℕ
+editRefusal y p o x = pick (malformed p) 20 (pick (leb o (p .transactor)) 21 (localRefusal y (p .kind) (p .transactor) x))
 
-unfoldable editReply : Layout → Limits → Step → ℕ → Transactor → Reply
-editReply y m p o x =
-    pick (eqb (editRefusal m p o x) 0)
+unfoldable editReply : Layout → Step → ℕ → Transactor → Reply
+editReply y p o x =
+    pick (eqb (editRefusal y p o x) 0)
     (answer (localBy y (p .kind) (p .transactor) (p .value) x .outcome) (p .transactor) 0 (localBy y (p .kind) (p .transactor) (p .value) x .value))
-    (answer (editRefusal m p o x) 0 0 0)
+    (answer (editRefusal y p o x) 0 0 0)
 
-unfoldable editTransactor : Layout → Limits → Step → ℕ → Transactor → Transactor
-editTransactor y m p o x = pick (eqb (editRefusal m p o x) 0) (localBy y (p .kind) (p .transactor) (p .value) x .transactor) x
+unfoldable editTransactor : Layout → Step → ℕ → Transactor → Transactor
+editTransactor y p o x = pick (eqb (editRefusal y p o x) 0) (localBy y (p .kind) (p .transactor) (p .value) x .transactor) x
 
-module _ (y : Layout) (m : Limits) (s : State) (p : Step) (e : Edit p) where
+module _ (y : Layout) (s : State) (p : Step) (e : Edit p) where
   abbrev acting : Transactor
   acting = transactorAt s (p .transactor)
 
-  refusal-edit : refusal y m s p ≡ editRefusal m p (s .opened) acting
+  refusal-edit : refusal y s p ≡ editRefusal y p (s .opened) acting
   unfolding editRefusal
   refusal-edit = pick-case (malformed p) refl
     where
-      pick-case : (c : Bool) → malformed p ≡ c → refusal y m s p ≡ pick (malformed p) 20 (pick (leb (s .opened) (p .transactor)) 21 (localRefusal m (p .kind) (p .transactor) acting))
-      pick-case true f = refusal-malformed y m s p f ∙ rw f
-      pick-case false f = refuses y m s p f .local (e .from) (e .upto) ∙ rw f
+      pick-case : (c : Bool) → malformed p ≡ c → refusal y s p ≡ pick (malformed p) 20 (pick (leb (s .opened) (p .transactor)) 21 (localRefusal y (p .kind) (p .transactor) acting))
+      pick-case true f = refusal-malformed y s p f ∙ rw f
+      pick-case false f = refuses y s p f .local (e .from) (e .upto) ∙ rw f
 
   apply-edit : apply y s p ≡ applyLocal y s p
   unfolding apply
@@ -55,20 +55,20 @@ module _ (y : Layout) (m : Limits) (s : State) (p : Step) (e : Edit p) where
       let k = otherwise (p .kind) (e .from) (e .upto) in
       rw (k .root, k .letter, k .receive, k .new, k .send, k .lose, k .sign)
 
-  edit-reply : stepOf y m s p .reply ≡ editReply y m p (s .opened) acting
+  edit-reply : stepOf y s p .reply ≡ editReply y p (s .opened) acting
   unfolding stepOf editReply applyLocal
-  edit-reply = rw (refusal-edit, apply-edit) (pick-case (eqb (editRefusal m p (s .opened) acting) 0))
+  edit-reply = rw (refusal-edit, apply-edit) (pick-case (eqb (editRefusal y p (s .opened) acting) 0))
     where
-      pick-case : (c : Bool) → pick c (applyLocal y s p) (record { reply = answer (editRefusal m p (s .opened) acting) 0 0 0; state = s }) .reply
-          ≡ pick c (applyLocal y s p .reply) (answer (editRefusal m p (s .opened) acting) 0 0 0)
+      pick-case : (c : Bool) → pick c (applyLocal y s p) (record { reply = answer (editRefusal y p (s .opened) acting) 0 0 0; state = s }) .reply
+          ≡ pick c (applyLocal y s p .reply) (answer (editRefusal y p (s .opened) acting) 0 0 0)
       pick-case true = refl
       pick-case false = refl
 
-  edit-state : stepOf y m s p .state ≡ withTransactor s (p .transactor) (editTransactor y m p (s .opened) acting)
+  edit-state : stepOf y s p .state ≡ withTransactor s (p .transactor) (editTransactor y p (s .opened) acting)
   unfolding stepOf editTransactor applyLocal
-  edit-state = rw (refusal-edit, apply-edit) (pick-case (eqb (editRefusal m p (s .opened) acting) 0))
+  edit-state = rw (refusal-edit, apply-edit) (pick-case (eqb (editRefusal y p (s .opened) acting) 0))
     where
-      pick-case : (c : Bool) → pick c (applyLocal y s p) (record { reply = answer (editRefusal m p (s .opened) acting) 0 0 0; state = s }) .state
+      pick-case : (c : Bool) → pick c (applyLocal y s p) (record { reply = answer (editRefusal y p (s .opened) acting) 0 0 0; state = s }) .state
           ≡ withTransactor s (p .transactor) (pick c (localBy y (p .kind) (p .transactor) (p .value) acting .transactor) acting)
       pick-case true = refl
       pick-case false = sym (withTransactor-same s (p .transactor))
@@ -81,38 +81,38 @@ with-comm : (s : State) (t u : ℕ) (x z : Transactor) → (t ≡ u → ⊥) →
 unfolding withTransactor
 with-comm s t u x z n =
     let e : set (set (s .transactors) t x) u z ≡ set (set (s .transactors) u z) t x = set-comm (s .transactors) t u x z n in
-    λ i. record { opened = s .opened; next = s .next; transactors = e i; messages = s .messages }
+    λ i. record { limits = s .limits; opened = s .opened; next = s .next; transactors = e i; messages = s .messages }
 
 -- one such step after the other
-module _ (y : Layout) (m : Limits) (s : State) (p q : Step) (e : Edit p) (f : Edit q) (apart : p .transactor ≡ q .transactor → ⊥) where
+module _ (y : Layout) (s : State) (p q : Step) (e : Edit p) (f : Edit q) (apart : p .transactor ≡ q .transactor → ⊥) where
   abbrev after : State
-  after = stepOf y m s p .state
+  after = stepOf y s p .state
 
   -- q finds its take as before
   found : transactorAt after (q .transactor) ≡ transactorAt s (q .transactor)
-  found = rw (edit-state y m s p e) (withTransactor-other s (p .transactor) _ (q .transactor) (λ g. apart (sym g)))
+  found = rw (edit-state y s p e) (withTransactor-other s (p .transactor) _ (q .transactor) (λ g. apart (sym g)))
 
   open-same : after .opened ≡ s .opened
-  open-same = rw (edit-state y m s p e) (with-opened s (p .transactor) _)
+  open-same = rw (edit-state y s p e) (with-opened s (p .transactor) _)
 
-  reply-apart : stepOf y m after q .reply ≡ stepOf y m s q .reply
-  reply-apart = edit-reply y m after q f ∙ rw (found, open-same) (sym (edit-reply y m s q f))
+  reply-apart : stepOf y after q .reply ≡ stepOf y s q .reply
+  reply-apart = edit-reply y after q f ∙ rw (found, open-same) (sym (edit-reply y s q f))
 
-  state-apart : stepOf y m after q .state
-      ≡ withTransactor (withTransactor s (p .transactor) (editTransactor y m p (s .opened) (transactorAt s (p .transactor)))) (q .transactor) (editTransactor y m q (s .opened) (transactorAt s (q .transactor)))
-  state-apart = edit-state y m after q f ∙ rw (found, open-same, edit-state y m s p e)
+  state-apart : stepOf y after q .state
+      ≡ withTransactor (withTransactor s (p .transactor) (editTransactor y p (s .opened) (transactorAt s (p .transactor)))) (q .transactor) (editTransactor y q (s .opened) (transactorAt s (q .transactor)))
+  state-apart = edit-state y after q f ∙ rw (found, open-same, edit-state y s p e)
 
 -- both orders leave the same state, and each step has the same reply
-pub exchanged : (y : Layout) (m : Limits) (s : State) (p q : Step) → EditsApart p q → Exchanged y m s p q
-exchanged y m s p q w =
+pub exchanged : (y : Layout) (s : State) (p q : Step) → EditsApart p q → Exchanged y s p q
+exchanged y s p q w =
     let e : Edit p = w .first in
     let f : Edit q = w .second in
     let back : q .transactor ≡ p .transactor → ⊥ = λ g. w .apart (sym g) in
     record {
       state =
-          state-apart y m s p q e f (w .apart)
+          state-apart y s p q e f (w .apart)
           ∙ with-comm s (p .transactor) (q .transactor) _ _ (w .apart)
-          ∙ sym (state-apart y m s q p f e back);
-      first = sym (reply-apart y m s q p f e back);
-      second = reply-apart y m s p q e f (w .apart);
+          ∙ sym (state-apart y s q p f e back);
+      first = sym (reply-apart y s q p f e back);
+      second = reply-apart y s p q e f (w .apart);
     }

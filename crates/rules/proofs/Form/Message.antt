@@ -12,7 +12,7 @@ use Rattle.octets.specs.Bytes.{_and_, _or_, allZero}
 use Rattle.octets.proofs.Chunks.{sides}
 use Rattle.octets.proofs.Zero.{both, allZero-at}
 use Rattle.rules.specs.Layout.{Layout, dependencesAt, messageAddress, imageBytes}
-use Rattle.rules.specs.State.{Message, messageAt}
+use Rattle.rules.specs.State.{Message, State, messageAt}
 use Rattle.rules.specs.Pack.{messagePart, vacantAt, waitingIn, unpack}
 use Rattle.rules.specs.Form.{mapFormed, messageZeros, noGap, inOrder, numberRight, addresseeRight}
 use Rattle.rules.proofs.Pack.RoundTrip.{vacant-behind}
@@ -28,10 +28,10 @@ module _ (y : Layout) (img : List ℕ) (k : ℕ) where
   vacant-says e v = rw v at e
 
   taken-says : messageZeros y img k ≡ true → vacantAt y img k ≡ false
-      → (getD (messagePart y img k) 0 0 / 16 ≡ 8) × (mapFormed y (unpack y img .opened) dependencesAt (messagePart y img k) ≡ true)
+      → (getD (messagePart y img k) 0 0 / 16 ≡ 8) × (mapFormed y (unpack y img) dependencesAt (messagePart y img k) ≡ true)
   unfolding messageZeros
   taken-says e v =
-      let f : eqb (getD (messagePart y img k) 0 0 / 16) 8 and mapFormed y (unpack y img .opened) dependencesAt (messagePart y img k) ≡ true = rw v at e in
+      let f : eqb (getD (messagePart y img k) 0 0 / 16) 8 and mapFormed y (unpack y img) dependencesAt (messagePart y img k) ≡ true = rw v at e in
       let p = both (eqb (getD (messagePart y img k) 0 0 / 16) 8) _ f in
       (eqb-true (getD (messagePart y img k) 0 0 / 16) 8 (p .0), p .1)
 
@@ -39,7 +39,7 @@ module _ (y : Layout) (img : List ℕ) (k : ℕ) where
   unfolding messageZeros
   vacant-holds v e = rw v e
 
-  taken-holds : vacantAt y img k ≡ false → getD (messagePart y img k) 0 0 / 16 ≡ 8 → mapFormed y (unpack y img .opened) dependencesAt (messagePart y img k) ≡ true → messageZeros y img k ≡ true
+  taken-holds : vacantAt y img k ≡ false → getD (messagePart y img k) 0 0 / 16 ≡ 8 → mapFormed y (unpack y img) dependencesAt (messagePart y img k) ≡ true → messageZeros y img k ≡ true
   unfolding messageZeros
   taken-holds v h m = rw (v, eq-eqb (getD (messagePart y img k) 0 0 / 16) 8 h) m
 
@@ -63,14 +63,14 @@ module _ (n k a b : ℕ) where
 -- ---- what they say together
 
 -- message m, which waits, in the bytes b
-pub record MessageForm (y : Layout) (opened next : ℕ) (b : List ℕ) (m : Message) : Type 0 where
+pub record MessageForm (y : Layout) (s : State) (b : List ℕ) (m : Message) : Type 0 where
   pub head : getD b 0 0 / 16 ≡ 8
-  pub dependences : mapFormed y opened dependencesAt b ≡ true
-  pub number : m .number < next
-  pub addressee : m .addressee < opened
+  pub dependences : mapFormed y s dependencesAt b ≡ true
+  pub number : m .number < s .next
+  pub addressee : m .addressee < s .opened
 
 abbrev pub MessageFormAt : Layout → List ℕ → ℕ → Type 0
-MessageFormAt y img k = MessageForm y (unpack y img .opened) (unpack y img .next) (messagePart y img k) (messageAt (unpack y img) k)
+MessageFormAt y img k = MessageForm y (unpack y img) (messagePart y img k) (messageAt (unpack y img) k)
 
 pub record MessagesForm (y : Layout) (img : List ℕ) : Type 0 where
   pub taken : (k : ℕ) → k < waitingIn y img → MessageFormAt y img k

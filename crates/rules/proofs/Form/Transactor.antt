@@ -53,21 +53,21 @@ statuses (suc (suc zero)) h = inr (inr working)
 statuses (suc (suc (suc zero))) h = inr (inl refl)
 statuses (suc (suc (suc (suc n)))) h = absurd (omega arith)
 
-pub record ZerosForm (y : Layout) (opened t : ℕ) (b : List ℕ) : Type 0 where
+pub record ZerosForm (y : Layout) (s : State) (t : ℕ) (b : List ℕ) : Type 0 where
   pub head : getD b 0 0 % 64 ≡ 0
-  pub state : mapFormed y opened stateAt b ≡ true
-  pub creation : mapFormed y opened (creationAt y) b ≡ true
-  pub behaviour : mapFormed y opened (behaviourAt y) b ≡ true
-  pub rest : opened ≤ t → allZero b ≡ true
+  pub state : mapFormed y s stateAt b ≡ true
+  pub creation : mapFormed y s (creationAt y) b ≡ true
+  pub behaviour : mapFormed y s (behaviourAt y) b ≡ true
+  pub rest : s .opened ≤ t → allZero b ≡ true
 
 module _ (y : Layout) (img : List ℕ) (t : ℕ) where
-  zeros-say : transactorZeros y img t ≡ true → ZerosForm y (unpack y img .opened) t (transactorPart y img t)
+  zeros-say : transactorZeros y img t ≡ true → ZerosForm y (unpack y img) t (transactorPart y img t)
   unfolding transactorZeros
   zeros-say e =
       let head = both (eqb (getD (transactorPart y img t) 0 0 % 64) 0) _ e in
-      let state = both (mapFormed y (unpack y img .opened) stateAt (transactorPart y img t)) _ (head .1) in
-      let creation = both (mapFormed y (unpack y img .opened) (creationAt y) (transactorPart y img t)) _ (state .1) in
-      let behaviour = both (mapFormed y (unpack y img .opened) (behaviourAt y) (transactorPart y img t)) _ (creation .1) in
+      let state = both (mapFormed y (unpack y img) stateAt (transactorPart y img t)) _ (head .1) in
+      let creation = both (mapFormed y (unpack y img) (creationAt y) (transactorPart y img t)) _ (state .1) in
+      let behaviour = both (mapFormed y (unpack y img) (behaviourAt y) (transactorPart y img t)) _ (creation .1) in
       record {
         head = eqb-true (getD (transactorPart y img t) 0 0 % 64) 0 (head .0);
         state = state .0;
@@ -76,7 +76,7 @@ module _ (y : Layout) (img : List ℕ) (t : ℕ) where
         rest = λ h. otherwise (ltb t (unpack y img .opened)) (allZero (transactorPart y img t)) (behaviour .1) (le-ltb t (unpack y img .opened) h);
       }
 
-  zeros-hold : ZerosForm y (unpack y img .opened) t (transactorPart y img t) → transactorZeros y img t ≡ true
+  zeros-hold : ZerosForm y (unpack y img) t (transactorPart y img t) → transactorZeros y img t ≡ true
   unfolding transactorZeros
   zeros-hold z = rw (eq-eqb (getD (transactorPart y img t) 0 0 % 64) 0 (z .head), z .state, z .creation, z .behaviour)
       (unless (ltb t (unpack y img .opened)) (allZero (transactorPart y img t)) (λ e. z .rest (ltb-false t (unpack y img .opened) e)))
@@ -132,45 +132,45 @@ module _ (s : State) (t : ℕ) where
 
 -- ---- what they say together
 
-pub record AliveForm (y : Layout) (opened t : ℕ) (b : List ℕ) (x : Transactor) : Type 0 where
+pub record AliveForm (y : Layout) (s : State) (t : ℕ) (b : List ℕ) (x : Transactor) : Type 0 where
   pub head : getD b 0 0 % 64 ≡ 0
   pub status : Live (x .status)
-  pub state : mapFormed y opened stateAt b ≡ true
-  pub creation : mapFormed y opened (creationAt y) b ≡ true
-  pub behaviour : mapFormed y opened (behaviourAt y) b ≡ true
+  pub state : mapFormed y s stateAt b ≡ true
+  pub creation : mapFormed y s (creationAt y) b ≡ true
+  pub behaviour : mapFormed y s (behaviourAt y) b ≡ true
   pub own : heldAt (x .state) t ≡ true
   pub saved : ownHistory t x .count ≡ 0 → x .saved ≡ 0
   pub behaves : x .status ≡ ready → allZero (part (behaviourAt y) (mapBytes y) b) ≡ true
 
 -- transactor t, which is x, in the bytes b
-pub data TransactorForm (y : Layout) (opened t : ℕ) (b : List ℕ) (x : Transactor) : Type 0 where
-  unopened : opened ≤ t → x .status ≡ unused → allZero b ≡ true → TransactorForm y opened t b x
-  vanished : t < opened → x .status ≡ annihilated → getD b 0 0 % 64 ≡ 0 → allZero (drop 1 b) ≡ true → TransactorForm y opened t b x
-  living : t < opened → AliveForm y opened t b x → TransactorForm y opened t b x
+pub data TransactorForm (y : Layout) (s : State) (t : ℕ) (b : List ℕ) (x : Transactor) : Type 0 where
+  unopened : s .opened ≤ t → x .status ≡ unused → allZero b ≡ true → TransactorForm y s t b x
+  vanished : t < s .opened → x .status ≡ annihilated → getD b 0 0 % 64 ≡ 0 → allZero (drop 1 b) ≡ true → TransactorForm y s t b x
+  living : t < s .opened → AliveForm y s t b x → TransactorForm y s t b x
 
 abbrev pub TransactorFormAt : Layout → List ℕ → ℕ → Type 0
-TransactorFormAt y img t = TransactorForm y (unpack y img .opened) t (transactorPart y img t) (transactorAt (unpack y img) t)
+TransactorFormAt y img t = TransactorForm y (unpack y img) t (transactorPart y img t) (transactorAt (unpack y img) t)
 
 -- a map of zeros is well-formed
-pub mapFormed-zeros : (y : Layout) (opened at : ℕ) (b : List ℕ) → part at (mapBytes y) b ≡ zeros (mapBytes y) → mapFormed y opened at b ≡ true
+pub mapFormed-zeros : (y : Layout) (s : State) (at : ℕ) (b : List ℕ) → part at (mapBytes y) b ≡ zeros (mapBytes y) → mapFormed y s at b ≡ true
 unfolding mapFormed
-mapFormed-zeros y opened at b e = subst (λ (z : List ℕ). formedMap (y .width) (y .places) (y .transactors) opened z ≡ true) (sym e)
-    (formed-zeroMap (y .width) (y .places) (y .transactors) opened)
+mapFormed-zeros y s at b e = subst (λ (z : List ℕ). formedMap (y .width) (y .places) (y .transactors) (s .limits .checkpoints) (s .opened) z ≡ true) (sym e)
+    (formed-zeroMap (y .width) (y .places) (y .transactors) (s .limits .checkpoints) (s .opened))
 
 -- nothing but a first byte
-bare-zeros : (y : Layout) (opened t : ℕ) (b : List ℕ) → length b ≡ transactorBytes y → getD b 0 0 % 64 ≡ 0 → allZero (drop 1 b) ≡ true → (opened ≤ t → allZero b ≡ true)
-    → ZerosForm y opened t b
-bare-zeros y opened t b n d e r = record {
+bare-zeros : (y : Layout) (s : State) (t : ℕ) (b : List ℕ) → length b ≡ transactorBytes y → getD b 0 0 % 64 ≡ 0 → allZero (drop 1 b) ≡ true → (s .opened ≤ t → allZero b ≡ true)
+    → ZerosForm y s t b
+bare-zeros y s t b n d e r = record {
   head = d;
-  state = mapFormed-zeros y opened stateAt b (allZero-past stateAt (mapBytes y) b (omega arith) 1 (omega arith) e);
-  creation = mapFormed-zeros y opened (creationAt y) b (allZero-past (creationAt y) (mapBytes y) b (omega arith) 1 (omega arith) e);
-  behaviour = mapFormed-zeros y opened (behaviourAt y) b (allZero-past (behaviourAt y) (mapBytes y) b (omega arith) 1 (omega arith) e);
+  state = mapFormed-zeros y s stateAt b (allZero-past stateAt (mapBytes y) b (omega arith) 1 (omega arith) e);
+  creation = mapFormed-zeros y s (creationAt y) b (allZero-past (creationAt y) (mapBytes y) b (omega arith) 1 (omega arith) e);
+  behaviour = mapFormed-zeros y s (behaviourAt y) b (allZero-past (behaviourAt y) (mapBytes y) b (omega arith) 1 (omega arith) e);
   rest = r;
 }
 
-pub zeros-form : {y : Layout} {opened t : ℕ} {b : List ℕ} {x : Transactor} → length b ≡ transactorBytes y → TransactorForm y opened t b x → ZerosForm y opened t b
-zeros-form {y} {opened} {t} {b} n (unopened p u e) = bare-zeros y opened t b n (omega (arith, allZero-at b 0 e)) (allZero-drop 1 b e) (λ h. e)
-zeros-form {y} {opened} {t} {b} n (vanished p u d e) = bare-zeros y opened t b n d e (λ h. absurd (omega arith))
+pub zeros-form : {y : Layout} {s : State} {t : ℕ} {b : List ℕ} {x : Transactor} → length b ≡ transactorBytes y → TransactorForm y s t b x → ZerosForm y s t b
+zeros-form {y} {s} {t} {b} n (unopened p u e) = bare-zeros y s t b n (omega (arith, allZero-at b 0 e)) (allZero-drop 1 b e) (λ h. e)
+zeros-form {y} {s} {t} {b} n (vanished p u d e) = bare-zeros y s t b n d e (λ h. absurd (omega arith))
 zeros-form n (living p a) = record { head = a .head; state = a .state; creation = a .creation; behaviour = a .behaviour; rest = λ h. absurd (omega arith) }
 
 -- the six clauses at t
@@ -189,7 +189,7 @@ module _ (y : Layout) (img : List ℕ) (t : ℕ) where
       (λ (p : unpack y img .opened ≤ t). unopened p (omega (arith, read-status y img t below, first-transactor y img t, allZero-at (transactorPart y img t) 0 (z .rest p))) (z .rest p))
       (sides t (unpack y img .opened))
     where
-      z : ZerosForm y (unpack y img .opened) t (transactorPart y img t)
+      z : ZerosForm y (unpack y img) t (transactorPart y img t)
       z = zeros-say y img t (c .zeros)
 
       lives : t < unpack y img .opened → Live (transactorAt (unpack y img) t .status) → TransactorFormAt y img t

@@ -16,7 +16,7 @@ use Rattle.marks.proofs.Packed.{unpack-count}
 use Rattle.maps.specs.declared.DependenceMap.{DependenceMap}
 use Rattle.maps.specs.Map.{heldAt, historyAt}
 use Rattle.maps.proofs.Packed.{bounded-at, mapOk-bounded}
-use Rattle.rules.specs.Layout.{Layout, Limits, base, historyBytes, stateAt, creationAt, transactorAddress}
+use Rattle.rules.specs.Layout.{Layout, base, historyBytes, stateAt, creationAt, transactorAddress}
 use Rattle.rules.specs.Status.{annihilated}
 use Rattle.rules.specs.State.{State, live, transactorAt, ownHistory}
 use Rattle.rules.specs.Refusals.{named, anyNamed, groupBits}
@@ -29,17 +29,17 @@ use Rattle.rules.proofs.Pack.Loads.{held-at, history-at, read-state, re
 
 -- ---- what blocks a signing
 
-module _ (m : Limits) (s : State) (number t : ℕ) where
-  pub blocks-unopened : number ≡ 21 → leb (s .opened) t ≡ blocksAt m s number t
+module _ (s : State) (number t : ℕ) where
+  pub blocks-unopened : number ≡ 21 → leb (s .opened) t ≡ blocksAt s number t
   unfolding blocksAt
   blocks-unopened e = rw (eq-eqb number 21 e)
 
   module _ (other : number ≡ 21 → ⊥) where
-    pub blocks-gone : number ≡ 22 → eqb (transactorAt s t .status) annihilated ≡ blocksAt m s number t
+    pub blocks-gone : number ≡ 22 → eqb (transactorAt s t .status) annihilated ≡ blocksAt s number t
     unfolding blocksAt
     blocks-gone e = rw (ne-eqb number 21 other, eq-eqb number 22 e)
 
-    pub blocks-full : (number ≡ 22 → ⊥) → (h : History) → h ≡ ownHistory t (transactorAt s t) → leb (m .checkpoints) (h .count) ≡ blocksAt m s number t
+    pub blocks-full : (number ≡ 22 → ⊥) → (h : History) → h ≡ ownHistory t (transactorAt s t) → leb (s .limits .checkpoints) (h .count) ≡ blocksAt s number t
     unfolding blocksAt
     blocks-full n h e = rw (ne-eqb number 21 other, ne-eqb number 22 n, e)
 

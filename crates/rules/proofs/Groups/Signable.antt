@@ -6,7 +6,7 @@ use native.Mathlib.Omega.{arith}
 use borrow.Author.Tests.{ne-eqb}
 use lib.Dec.{eqb}
 use Rattle.octets.specs.Bytes.{pick, _and_}
-use Rattle.rules.specs.Layout.{Layout, Limits}
+use Rattle.rules.specs.Layout.{Layout}
 use Rattle.rules.specs.State.{State}
 use Rattle.rules.specs.Step.{done, notReady}
 use Rattle.rules.specs.Refusals.{malformed}
@@ -16,13 +16,13 @@ use Rattle.rules.specs.Internal.Guards.{groupRefusal}
 use Rattle.rules.proofs.ByKind.Refused.{refuses}
 use Rattle.rules.proofs.ByKind.Applied.{applies}
 
-module _ (y : Layout) (m : Limits) (s : State) (v : ℕ) where
+module _ (y : Layout) (s : State) (v : ℕ) where
   -- none of the table's refusals of a signing, and ready
-  pub signing-done : eqb (stepOf y m s (signing v) .reply .outcome) done ≡ eqb (groupRefusal m s v) 0 and groupReady y s v
+  pub signing-done : eqb (stepOf y s (signing v) .reply .outcome) done ≡ eqb (groupRefusal s v) 0 and groupReady y s v
   unfolding stepOf applySign malformed
   signing-done =
-      rw (refuses y m s (signing v) refl .sign refl, applies y s (signing v) .sign refl)
-      (go (groupRefusal m s v) (groupReady y s v))
+      rw (refuses y s (signing v) refl .sign refl, applies y s (signing v) .sign refl)
+      (go (groupRefusal s v) (groupReady y s v))
     where
       applied : Bool → Result
       applied e = pick e (record { reply = answer done 0 0 0; state = checkpointGroup y s v }) (record { reply = answer notReady 0 0 0; state = s })
@@ -33,8 +33,8 @@ module _ (y : Layout) (m : Limits) (s : State) (v : ℕ) where
       go (suc n) e = let h = ne-eqb (suc n) 0 (omega arith) in rw h h
 
   -- by its tests
-  pub signing-refused : (groupRefusal m s v ≡ 0 → ⊥) → false ≡ eqb (stepOf y m s (signing v) .reply .outcome) done
-  signing-refused n = sym (signing-done ∙ rw (ne-eqb (groupRefusal m s v) 0 n))
+  pub signing-refused : (groupRefusal s v ≡ 0 → ⊥) → false ≡ eqb (stepOf y s (signing v) .reply .outcome) done
+  signing-refused n = sym (signing-done ∙ rw (ne-eqb (groupRefusal s v) 0 n))
 
-  pub signing-ready : groupRefusal m s v ≡ 0 → groupReady y s v ≡ eqb (stepOf y m s (signing v) .reply .outcome) done
+  pub signing-ready : groupRefusal s v ≡ 0 → groupReady y s v ≡ eqb (stepOf y s (signing v) .reply .outcome) done
   signing-ready e = sym (signing-done ∙ rw e)

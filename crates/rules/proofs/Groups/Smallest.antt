@@ -15,7 +15,7 @@ use Rattle.octets.proofs.Tests.{never, pick-zero, implied, same-test}
 use Rattle.octets.proofs.Zero.{both, every-at}
 use Rattle.marks.specs.declared.History.{History}
 use Rattle.maps.proofs.Map.{history-empty}
-use Rattle.rules.specs.Layout.{Layout, Limits, base, standard}
+use Rattle.rules.specs.Layout.{Layout, base}
 use Rattle.rules.specs.Status.{unused, annihilated}
 use Rattle.rules.specs.State.{Transactor, State, bare, transactorAt, ownHistory}
 use Rattle.rules.specs.Step.{done}
@@ -38,10 +38,10 @@ anyNamed-within : (v w : ℕ) (f : ℕ → Bool) → Within v w → anyNamed w f
 unfolding Within
 anyNamed-within v w f inside e = unnamed-all v f (λ t h n. named-at w f t e h (inside t n))
 
-module _ (y : Layout) (m : Limits) (s : State) where
+module _ (y : Layout) (s : State) where
   -- a named take blocks, by its number
   abbrev blocked : ℕ → ℕ → Bool
-  blocked v n = anyNamed v (blocksAt m s n)
+  blocked v n = anyNamed v (blocksAt s n)
 
   -- what a signing needs, of a volume that names one
   record Signable (v : ℕ) : Type 0 where
@@ -50,21 +50,21 @@ module _ (y : Layout) (m : Limits) (s : State) where
     room : blocked v 30 ≡ false
     ready : groupReady y s v ≡ true
 
-  signable : (v : ℕ) → stepOf y m s (signing v) .reply .outcome ≡ done → Signable v
+  signable : (v : ℕ) → stepOf y s (signing v) .reply .outcome ≡ done → Signable v
   unfolding groupRefusal
   signable v e =
-      let a = both (eqb (groupRefusal m s v) 0) (groupReady y s v) (sym (signing-done y m s v) ∙ eq-eqb (stepOf y m s (signing v) .reply .outcome) done e) in
-      let b = pick-zero (eqb v 0) 29 _ (omega arith) (eqb-true (groupRefusal m s v) 0 (a .0)) in
+      let a = both (eqb (groupRefusal s v) 0) (groupReady y s v) (sym (signing-done y s v) ∙ eq-eqb (stepOf y s (signing v) .reply .outcome) done e) in
+      let b = pick-zero (eqb v 0) 29 _ (omega arith) (eqb-true (groupRefusal s v) 0 (a .0)) in
       let c = pick-zero (blocked v 21) 21 _ (omega arith) (b .1) in
       let d = pick-zero (blocked v 22) 22 _ (omega arith) (c .1) in
       record { opened = c .0; there = d .0; room = pick-zero (blocked v 30) 30 0 (omega arith) (d .1) .0; ready = a .1 }
 
-  signs : (v : ℕ) → (v ≡ 0 → ⊥) → Signable v → stepOf y m s (signing v) .reply .outcome ≡ done
+  signs : (v : ℕ) → (v ≡ 0 → ⊥) → Signable v → stepOf y s (signing v) .reply .outcome ≡ done
   unfolding groupRefusal
-  signs v n a = eqb-true (stepOf y m s (signing v) .reply .outcome) done (signing-done y m s v ∙ rw (ne-eqb v 0 n, a .opened, a .there, a .room, a .ready))
+  signs v n a = eqb-true (stepOf y s (signing v) .reply .outcome) done (signing-done y s v ∙ rw (ne-eqb v 0 n, a .opened, a .there, a .room, a .ready))
 
 -- in a well-formed state: the sets of takes with t, none of them with all its signings, that meet the signing rule
-module _ {y : Layout} (m : Limits) {s : State} (well : WellFormed y s) (size : y .transactors ≡ groupBits) where
+module _ {y : Layout} {s : State} (well : WellFormed y s) (size : y .transactors ≡ groupBits) where
   -- the own history of a take that is not live is not stable
   bare-loose : (t n : ℕ) → t < y .transactors → ownHistory t (bare y n) .stable ≡ false
   bare-loose t n h = ap (λ (x : History). x .stable) (history-empty (y .places) (y .transactors) t h)
@@ -75,7 +75,7 @@ module _ {y : Layout} (m : Limits) {s : State} (well : WellFormed y s) (size : y
     stable = both (ownHistory t (transactorAt s t) .stable) _
         (implied (named v t) (transactorReady y s v t) (every-at (λ t. not (named v t) or transactorReady y s v t) (y .transactors) t ready (omega arith)) name) .0
 
-    stands : (blocksAt m s 21 t ≡ false) × (blocksAt m s 22 t ≡ false)
+    stands : (blocksAt s 21 t ≡ false) × (blocksAt s 22 t ≡ false)
     unfolding blocksAt
     stands = go (well .transactors t (omega arith)) stable
       where
@@ -83,81 +83,81 @@ module _ {y : Layout} (m : Limits) {s : State} (well : WellFormed y s) (size : y
         there idle = refl
         there working = refl
 
-        go : {x : Transactor} → TransactorFormed y (s .opened) t x → ownHistory t x .stable ≡ true → (leb (s .opened) t ≡ false) × (eqb (x .status) annihilated ≡ false)
+        go : {x : Transactor} → TransactorFormed y (s .limits .checkpoints) (s .opened) t x → ownHistory t x .stable ≡ true → (leb (s .opened) t ≡ false) × (eqb (x .status) annihilated ≡ false)
         go (not-opened h) e = never (sym e ∙ bare-loose t unused (omega arith))
         go (gone h) e = never (sym e ∙ bare-loose t annihilated (omega arith))
         go (alive h a) e = (lt-leb (s .opened) t h, there (a .status))
 
-  pub checkpointable-rule : (t v : ℕ) → Checkpointable y m s t v ↔ Meets y m s t v
+  pub checkpointable-rule : (t v : ℕ) → Checkpointable y s t v ↔ Meets y s t v
   unfolding blocksAt
   checkpointable-rule t v = (
-    λ c. let a = signable y m s v (c .signs) in record {
+    λ c. let a = signable y s v (c .signs) in record {
       bits = c .bits;
       contains = c .contains;
-      room = λ u h n. leb-false (m .checkpoints) (ownHistory u (transactorAt s u) .count)
-          (named-at v (blocksAt m s 30) u (a .room) (omega arith) n);
+      room = λ u h n. leb-false (s .limits .checkpoints) (ownHistory u (transactorAt s u) .count)
+          (named-at v (blocksAt s 30) u (a .room) (omega arith) n);
       ready = a .ready;
     },
     λ r. record {
       bits = r .bits;
       contains = r .contains;
-      signs = signs y m s v (λ z. never (sym (r .contains) ∙ rw z (named-zero t))) (record {
-        opened = unnamed-all v (blocksAt m s 21) (λ u h n. stands v (r .ready) u h n .0);
-        there = unnamed-all v (blocksAt m s 22) (λ u h n. stands v (r .ready) u h n .1);
-        room = unnamed-all v (blocksAt m s 30) (λ u h n. lt-leb (m .checkpoints) (ownHistory u (transactorAt s u) .count) (r .room u (omega arith) n));
+      signs = signs y s v (λ z. never (sym (r .contains) ∙ rw z (named-zero t))) (record {
+        opened = unnamed-all v (blocksAt s 21) (λ u h n. stands v (r .ready) u h n .0);
+        there = unnamed-all v (blocksAt s 22) (λ u h n. stands v (r .ready) u h n .1);
+        room = unnamed-all v (blocksAt s 30) (λ u h n. lt-leb (s .limits .checkpoints) (ownHistory u (transactorAt s u) .count) (r .room u (omega arith) n));
         ready = r .ready;
       });
     },
   )
 
-module _ (y : Layout) (m : Limits) (img : List ℕ) (t r : ℕ) (is : r ≡ queryRefusal y img t) where
+module _ (y : Layout) (img : List ℕ) (t r : ℕ) (is : r ≡ queryRefusal y img t) where
   abbrev s : State
   s = unpack y img
 
-  pub grouped-refused : (r ≡ 0 → ⊥) → (r ≡ queryRefusal y img t) × Smallest y m img t none
+  pub grouped-refused : (r ≡ 0 → ⊥) → (r ≡ queryRefusal y img t) × Smallest y img t none
   grouped-refused n = (is, refused (λ (f : queryRefusal y img t ≡ 0). n (is ∙ f)))
 
   module _ (zero : r ≡ 0) (size : y .transactors ≡ groupBits) (g : ℕ) (closure : Closure y img t g)
-      (b : Bool) (tested : b ≡ eqb (stepOf y m s (signing g) .reply .outcome) done) where
+      (b : Bool) (tested : b ≡ eqb (stepOf y s (signing g) .reply .outcome) done) where
     -- it can be signed if one with the take can
-    closure-signs : (w : ℕ) → Checkpointable y m s t w → stepOf y m s (signing g) .reply .outcome ≡ done
+    closure-signs : (w : ℕ) → Checkpointable y s t w → stepOf y s (signing g) .reply .outcome ≡ done
     closure-signs w c =
-        let a = signable y m s w (c .signs) in
+        let a = signable y s w (c .signs) in
         let inside = closure .least w (c .contains) (a .ready) in
-        signs y m s g (λ z. never (sym (closure .contains) ∙ rw z (named-zero t))) (record {
-          opened = anyNamed-within g w (blocksAt m s 21) inside (a .opened);
-          there = anyNamed-within g w (blocksAt m s 22) inside (a .there);
-          room = anyNamed-within g w (blocksAt m s 30) inside (a .room);
+        signs y s g (λ z. never (sym (closure .contains) ∙ rw z (named-zero t))) (record {
+          opened = anyNamed-within g w (blocksAt s 21) inside (a .opened);
+          there = anyNamed-within g w (blocksAt s 22) inside (a .there);
+          room = anyNamed-within g w (blocksAt s 30) inside (a .room);
           ready = closed-ready y img (omega arith) g w inside (a .ready) (closure .closed);
         })
 
-    pub grouped-none : b ≡ false → (r ≡ queryRefusal y img t) × Smallest y m img t none
-    grouped-none e = (is, nothing (sym is ∙ zero) (λ w c. eqb-false (stepOf y m s (signing g) .reply .outcome) done (sym tested ∙ e) (closure-signs w c)))
+    pub grouped-none : b ≡ false → (r ≡ queryRefusal y img t) × Smallest y img t none
+    grouped-none e = (is, nothing (sym is ∙ zero) (λ w c. eqb-false (stepOf y s (signing g) .reply .outcome) done (sym tested ∙ e) (closure-signs w c)))
 
-    pub grouped-some : g < bound 2 → b ≡ true → (r ≡ queryRefusal y img t) × Smallest y m img t (some g)
+    pub grouped-some : g < bound 2 → b ≡ true → (r ≡ queryRefusal y img t) × Smallest y img t (some g)
     grouped-some fits e = (
       is,
       smallest (sym is ∙ zero)
-          (record { bits = fits; contains = closure .contains; signs = eqb-true (stepOf y m s (signing g) .reply .outcome) done (sym tested ∙ e) })
-          (λ w c. closure .least w (c .contains) (signable y m s w (c .signs) .ready)),
+          (record { bits = fits; contains = closure .contains; signs = eqb-true (stepOf y s (signing g) .reply .outcome) done (sym tested ∙ e) })
+          (λ w c. closure .least w (c .contains) (signable y s w (c .signs) .ready)),
     )
 
-module _ (y : Layout) (m : Limits) (img : List ℕ) (t : ℕ) (o : Octets img) (size : y .transactors ≡ groupBits) (z : queryRefusal y img t ≡ 0) where
-  rule : (v : ℕ) → Checkpointable y m (unpack y img) t v ↔ Meets y m (unpack y img) t v
-  rule = let a = query-accepted y img t z in checkpointable-rule m (formed-state y img (a .long) o (a .formed)) size t
+module _ (y : Layout) (img : List ℕ) (t : ℕ) (o : Octets img) (size : y .transactors ≡ groupBits) (z : queryRefusal y img t ≡ 0) where
+  rule : (v : ℕ) → Checkpointable y (unpack y img) t v ↔ Meets y (unpack y img) t v
+  rule = let a = query-accepted y img t z in checkpointable-rule (formed-state y img (a .long) o (a .formed)) size t
 
   -- "It says none exactly if no set of takes holding this one, none of them with 15 signings, meets the signing rule."
-  pub none-exactly : {a : Option ℕ} → Smallest y m img t a → (a ≡ none) ↔ ((v : ℕ) → Meets y m (unpack y img) t v → ⊥)
+  pub none-exactly : {a : Option ℕ} → Smallest y img t a → (a ≡ none) ↔ ((v : ℕ) → Meets y (unpack y img) t v → ⊥)
   none-exactly (refused n) = absurd (n z)
   none-exactly (nothing _ n) = (λ e v r. n v (rule v .1 r), λ f. refl)
   none-exactly (smallest {v} _ c l) = (λ e. let d : _≡_ {A = ℕ} 0 1 = cc in absurd (omega arith), λ f. absurd (f v (rule v .0 c)))
 
 pub none-exactly-base : (img : List ℕ) (t : ℕ) {a : Option ℕ} → Octets img → queryRefusal base img t ≡ 0
-    → Smallest base standard img t a → (a ≡ none) ↔ ((v : ℕ) → Meets base standard (unpack base img) t v → ⊥)
-none-exactly-base img t o z = none-exactly base standard img t o refl z
+    → Smallest base img t a → (a ≡ none) ↔ ((v : ℕ) → Meets base (unpack base img) t v → ⊥)
+none-exactly-base img t o z = none-exactly base img t o refl z
 
 -- at most one volume is the smallest
-pub smallest-unique : {y : Layout} {m : Limits} {img : List ℕ} {t : ℕ} {a b : Option ℕ} → Smallest y m img t a → Smallest y m img t b → a ≡ b
+pub smallest-unique : {y : Layout} {img : List ℕ} {t : ℕ} {a b : Option ℕ} → Smallest y img t a → Smallest y img t b → a ≡ b
 unfolding bound Within
 smallest-unique (smallest {v} z c l) (smallest {v = w} _ d k) =
     ap some (named-same groupBits v w (c .bits) (d .bits) (λ u h. same-test (named v u) (named w u) (l w d u) (k v c u)))

@@ -6,7 +6,7 @@ use native.Mathlib.Omega.{arith}
 use lib.Dec.{eqb, ltb, leb}
 use borrow.Author.Tests.{leb-false, ltb-false, lt-ltb, eqb-true, eqb-false, not-false}
 use Rattle.octets.specs.Bytes.{pick, _and_, _or_}
-use Rattle.rules.specs.Layout.{Limits, lastNumber}
+use Rattle.rules.specs.Layout.{Layout, largest, lastNumber}
 use Rattle.rules.specs.Status.{ready, busy, annihilated}
 use Rattle.rules.specs.Step.{Step, root, receive, new, send, fall, fail, lose, sign}
 use Rattle.rules.specs.Refusals.{Seen, groupBits, named, anyNamed, acts, usesTransactor, sends, malformed, notWaiting, emptyGroup, unopened, isGone, wrongStatus, unrelatedReceipt, allOpened, allWaiting, allNumbered, allCheckpointed, atLast, lastRollsBack, refusalOf}
@@ -15,7 +15,7 @@ use Rattle.rules.proofs.Bits.{named-at}
 
 -- ---- none of the conditions holds
 
-pub record Accepted (m : Limits) (v : Seen) (p : Step) : Type 0 where
+pub record Accepted (y : Layout) (v : Seen) (p : Step) : Type 0 where
   pub formed : malformed p ≡ false
   pub waiting : notWaiting v p ≡ false
   pub group : emptyGroup p ≡ false
@@ -23,15 +23,15 @@ pub record Accepted (m : Limits) (v : Seen) (p : Step) : Type 0 where
   pub there : isGone v p ≡ false
   pub status : wrongStatus v p ≡ false
   pub related : unrelatedReceipt v p ≡ false
-  pub free : allOpened m v p ≡ false
-  pub room : allWaiting m v p ≡ false
+  pub free : allOpened v p ≡ false
+  pub room : allWaiting v p ≡ false
   pub numbers : allNumbered v p ≡ false
-  pub checkpoints : allCheckpointed m v p ≡ false
-  pub incarnations : lastRollsBack m v p ≡ false
+  pub checkpoints : allCheckpointed v p ≡ false
+  pub incarnations : lastRollsBack y v p ≡ false
 
-pub accepted : (m : Limits) (v : Seen) (p : Step) → refusalOf m v p ≡ 0 → Accepted m v p
+pub accepted : (y : Layout) (v : Seen) (p : Step) → refusalOf y v p ≡ 0 → Accepted y v p
 unfolding refusalOf
-accepted m v p e0 =
+accepted y v p e0 =
     let e1 = pick-zero (malformed p) 20 _ (omega arith) e0 in
     let e2 = pick-zero (notWaiting v p) 24 _ (omega arith) (e1 .1) in
     let e3 = pick-zero (emptyGroup p) 29 _ (omega arith) (e2 .1) in
@@ -39,11 +39,11 @@ accepted m v p e0 =
     let e5 = pick-zero (isGone v p) 22 _ (omega arith) (e4 .1) in
     let e6 = pick-zero (wrongStatus v p) 23 _ (omega arith) (e5 .1) in
     let e7 = pick-zero (unrelatedReceipt v p) 31 _ (omega arith) (e6 .1) in
-    let e8 = pick-zero (allOpened m v p) 25 _ (omega arith) (e7 .1) in
-    let e9 = pick-zero (allWaiting m v p) 26 _ (omega arith) (e8 .1) in
+    let e8 = pick-zero (allOpened v p) 25 _ (omega arith) (e7 .1) in
+    let e9 = pick-zero (allWaiting v p) 26 _ (omega arith) (e8 .1) in
     let e10 = pick-zero (allNumbered v p) 27 _ (omega arith) (e9 .1) in
-    let e11 = pick-zero (allCheckpointed m v p) 30 _ (omega arith) (e10 .1) in
-    let e12 = pick-zero (lastRollsBack m v p) 28 0 (omega arith) (e11 .1) in
+    let e11 = pick-zero (allCheckpointed v p) 30 _ (omega arith) (e10 .1) in
+    let e12 = pick-zero (lastRollsBack y v p) 28 0 (omega arith) (e11 .1) in
     record {
       formed = e1 .0;
       waiting = e2 .0;
@@ -61,11 +61,11 @@ accepted m v p e0 =
 
 -- ---- what each condition gives, by kind
 
-not-last : (m : Limits) (v : Seen) (t : ℕ) → atLast m v t ≡ false → 0 < v .checkpoints t → v .incarnation t < m .incarnation
+not-last : (y : Layout) (v : Seen) (t : ℕ) → atLast y v t ≡ false → 0 < v .checkpoints t → v .incarnation t < largest y
 unfolding atLast
-not-last m v t e h = leb-false (m .incarnation) (v .incarnation t) (and-off (ltb 0 (v .checkpoints t)) (leb (m .incarnation) (v .incarnation t)) e (lt-ltb 0 (v .checkpoints t) h))
+not-last y v t e h = leb-false (largest y) (v .incarnation t) (and-off (ltb 0 (v .checkpoints t)) (leb (largest y) (v .incarnation t)) e (lt-ltb 0 (v .checkpoints t) h))
 
-module _ {m : Limits} {v : Seen} {p : Step} (a : Accepted m v p) where
+module _ {y : Layout} {v : Seen} {p : Step} (a : Accepted y v p) where
   -- 20
   pub kind-known : p .kind ≤ sign
   unfolding malformed
@@ -77,15 +77,15 @@ module _ {m : Limits} {v : Seen} {p : Step} (a : Accepted m v p) where
   message-waits = and-off (eqb (p .kind) receive or eqb (p .kind) lose) (v .missing (p .message)) (a .waiting)
 
   -- 25
-  pub one-unopened : eqb (p .kind) root or eqb (p .kind) new ≡ true → v .opened < m .transactors
+  pub one-unopened : eqb (p .kind) root or eqb (p .kind) new ≡ true → v .opened < v .limits .transactors
   unfolding allOpened
-  one-unopened k = leb-false (m .transactors) (v .opened) (and-off (eqb (p .kind) root or eqb (p .kind) new) (leb (m .transactors) (v .opened)) (a .free) k)
+  one-unopened k = leb-false (v .limits .transactors) (v .opened) (and-off (eqb (p .kind) root or eqb (p .kind) new) (leb (v .limits .transactors) (v .opened)) (a .free) k)
 
   -- 26, 27
   module _ (k : sends (p .kind) ≡ true) where
-    pub one-place : v .waiting < m .messages
+    pub one-place : v .waiting < v .limits .messages
     unfolding allWaiting
-    one-place = leb-false (m .messages) (v .waiting) (and-off (sends (p .kind)) (leb (m .messages) (v .waiting)) (a .room) k)
+    one-place = leb-false (v .limits .messages) (v .waiting) (and-off (sends (p .kind)) (leb (v .limits .messages) (v .waiting)) (a .room) k)
 
     pub one-number : v .next ≡ lastNumber → ⊥
     unfolding allNumbered
@@ -123,15 +123,15 @@ module _ {m : Limits} {v : Seen} {p : Step} (a : Accepted m v p) where
       eqb-true (v .status (p .transactor)) busy (not-false (eqb (v .status (p .transactor)) busy) (and-off c (not (eqb (v .status (p .transactor)) busy)) (e .1) k))
 
   -- 28: a take that falls of itself
-  last-rest : (((eqb (p .kind) fall or eqb (p .kind) fail) and not (v .stable (p .transactor)) and atLast m v (p .transactor)) ≡ false)
-      × ((eqb (p .kind) receive and v .falls (p .message) and atLast m v (v .addressee (p .message))) ≡ false)
+  last-rest : (((eqb (p .kind) fall or eqb (p .kind) fail) and not (v .stable (p .transactor)) and atLast y v (p .transactor)) ≡ false)
+      × ((eqb (p .kind) receive and v .falls (p .message) and atLast y v (v .addressee (p .message))) ≡ false)
   unfolding lastRollsBack
-  last-rest = or-off ((eqb (p .kind) fall or eqb (p .kind) fail) and not (v .stable (p .transactor)) and atLast m v (p .transactor)) _ (a .incarnations)
+  last-rest = or-off ((eqb (p .kind) fall or eqb (p .kind) fail) and not (v .stable (p .transactor)) and atLast y v (p .transactor)) _ (a .incarnations)
 
-  pub falls-alone : eqb (p .kind) fall or eqb (p .kind) fail ≡ true → v .stable (p .transactor) ≡ false → 0 < v .checkpoints (p .transactor) → v .incarnation (p .transactor) < m .incarnation
+  pub falls-alone : eqb (p .kind) fall or eqb (p .kind) fail ≡ true → v .stable (p .transactor) ≡ false → 0 < v .checkpoints (p .transactor) → v .incarnation (p .transactor) < largest y
   falls-alone k f =
-      let e = and-off (eqb (p .kind) fall or eqb (p .kind) fail) (not (v .stable (p .transactor)) and atLast m v (p .transactor)) (last-rest .0) k in
-      not-last m v (p .transactor) (and-off (not (v .stable (p .transactor))) (atLast m v (p .transactor)) e (rw f))
+      let e = and-off (eqb (p .kind) fall or eqb (p .kind) fail) (not (v .stable (p .transactor)) and atLast y v (p .transactor)) (last-rest .0) k in
+      not-last y v (p .transactor) (and-off (not (v .stable (p .transactor))) (atLast y v (p .transactor)) e (rw f))
 
   -- 22, 23, 28 of a receiving take
   module _ (k : eqb (p .kind) receive ≡ true) where
@@ -142,10 +142,10 @@ module _ {m : Limits} {v : Seen} {p : Step} (a : Accepted m v p) where
         let e = or-off (eqb (p .kind) receive and not c) _ (a .status) in
         eqb-true (v .status (v .addressee (p .message))) ready (not-false c (and-off (eqb (p .kind) receive) (not c) (e .0) k))
 
-    pub falls-received : v .falls (p .message) ≡ true → 0 < v .checkpoints (v .addressee (p .message)) → v .incarnation (v .addressee (p .message)) < m .incarnation
+    pub falls-received : v .falls (p .message) ≡ true → 0 < v .checkpoints (v .addressee (p .message)) → v .incarnation (v .addressee (p .message)) < largest y
     falls-received f =
         let t : ℕ = v .addressee (p .message) in
-        not-last m v t (and-off (v .falls (p .message)) (atLast m v t) (and-off (eqb (p .kind) receive) (v .falls (p .message) and atLast m v t) (last-rest .1) k) f)
+        not-last y v t (and-off (v .falls (p .message)) (atLast y v t) (and-off (eqb (p .kind) receive) (v .falls (p .message) and atLast y v t) (last-rest .1) k) f)
 
   -- 21, 22, 30 of a named take
   module _ (k : eqb (p .kind) sign ≡ true) (t : ℕ) (below : t < groupBits) (n : named (p .message) t ≡ true) where
@@ -155,9 +155,9 @@ module _ {m : Limits} {v : Seen} {p : Step} (a : Accepted m v p) where
     pub named-there : eqb (v .status t) annihilated ≡ false
     named-there = named-at (p .message) (λ t. eqb (v .status t) annihilated) t (and-off (eqb (p .kind) sign) _ (there-rest .1) k) below n
 
-    pub named-room : v .checkpoints t < m .checkpoints
+    pub named-room : v .checkpoints t < v .limits .checkpoints
     unfolding allCheckpointed
-    named-room = leb-false (m .checkpoints) (v .checkpoints t) (named-at (p .message) (λ t. leb (m .checkpoints) (v .checkpoints t)) t (and-off (eqb (p .kind) sign) _ (a .checkpoints) k) below n)
+    named-room = leb-false (v .limits .checkpoints) (v .checkpoints t) (named-at (p .message) (λ t. leb (v .limits .checkpoints) (v .checkpoints t)) t (and-off (eqb (p .kind) sign) _ (a .checkpoints) k) below n)
 
 -- ---- the table's numbers
 
@@ -165,9 +165,9 @@ pub record InTable (n : ℕ) : Type 0 where
   pub low : 20 ≤ n
   pub high : n ≤ 31
 
-pub refusal-range : (m : Limits) (v : Seen) (p : Step) → (refusalOf m v p ≡ 0 → ⊥) → InTable (refusalOf m v p)
+pub refusal-range : (y : Layout) (v : Seen) (p : Step) → (refusalOf y v p ≡ 0 → ⊥) → InTable (refusalOf y v p)
 unfolding refusalOf
-refusal-range m v p =
+refusal-range y v p =
     one (malformed p) 20 _ (omega arith) (omega arith)
     (one (notWaiting v p) 24 _ (omega arith) (omega arith)
     (one (emptyGroup p) 29 _ (omega arith) (omega arith)
@@ -175,11 +175,11 @@ refusal-range m v p =
     (one (isGone v p) 22 _ (omega arith) (omega arith)
     (one (wrongStatus v p) 23 _ (omega arith) (omega arith)
     (one (unrelatedReceipt v p) 31 _ (omega arith) (omega arith)
-    (one (allOpened m v p) 25 _ (omega arith) (omega arith)
-    (one (allWaiting m v p) 26 _ (omega arith) (omega arith)
+    (one (allOpened v p) 25 _ (omega arith) (omega arith)
+    (one (allWaiting v p) 26 _ (omega arith) (omega arith)
     (one (allNumbered v p) 27 _ (omega arith) (omega arith)
-    (one (allCheckpointed m v p) 30 _ (omega arith) (omega arith)
-    (one (lastRollsBack m v p) 28 0 (omega arith) (omega arith) (λ n. absurd (n refl)))))))))))))
+    (one (allCheckpointed v p) 30 _ (omega arith) (omega arith)
+    (one (lastRollsBack y v p) 28 0 (omega arith) (omega arith) (λ n. absurd (n refl)))))))))))))
   where
     one : (c : Bool) (n r : ℕ) → 20 ≤ n → n ≤ 31 → ((r ≡ 0 → ⊥) → InTable r) → (pick c n r ≡ 0 → ⊥) → InTable (pick c n r)
     one true n r low high f h = record { low = low; high = high }

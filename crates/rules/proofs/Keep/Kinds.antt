@@ -12,7 +12,7 @@ use Rattle.octets.specs.Numbers.{bound}
 use Rattle.octets.proofs.Numbers.{bound-pos}
 use Rattle.octets.proofs.Zero.{both}
 use Rattle.maps.specs.declared.DependenceMap.{DependenceMap}
-use Rattle.rules.specs.Layout.{Layout, Limits, Allowed, Fitting, lastNumber}
+use Rattle.rules.specs.Layout.{Layout, Fitting, largest, lastNumber}
 use Rattle.rules.specs.Status.{ready, busy, annihilated}
 use Rattle.rules.specs.State.{Transactor, State, transactorAt, messageAt, ownHistory, withTransactor, withOpened, placeOf}
 use Rattle.rules.specs.Step.{Step, Reply, done, notReady, root, letter, receive, new, send, read, finish, fall, fail, lose, sign}
@@ -51,42 +51,42 @@ opened-set : (s : State) (t : ℕ) (x c : Transactor) → (t ≡ s .opened → �
 unfolding opened withOpened withTransactor
 opened-set s t x c n =
     let e : set (set (s .transactors) (s .opened) c) t x ≡ set (set (s .transactors) t x) (s .opened) c = sym (set-comm (s .transactors) t (s .opened) x c n) in
-    λ i. record { opened = s .opened + 1; next = s .next; transactors = e i; messages = s .messages }
+    λ i. record { limits = s .limits; opened = s .opened + 1; next = s .next; transactors = e i; messages = s .messages }
 
 -- take t grows while the next is opened
-well-grown : {y : Layout} {s : State} → Fitting y → WellFormed y s → s .opened < y .transactors → (t : ℕ) {x c : Transactor} → t < s .opened
-    → TransactorWell y (s .opened + 1) t x → TransactorWell y (s .opened + 1) (s .opened) c → WellFormed y (opened (withTransactor s t x) c)
-unfolding opened withOpened
+well-grown : {y : Layout} {s : State} → Fitting y → WellFormed y s → s .opened < s .limits .transactors → (t : ℕ) {x c : Transactor} → t < s .opened
+    → TransactorWell y (s .limits .checkpoints) (s .opened + 1) t x → TransactorWell y (s .limits .checkpoints) (s .opened + 1) (s .opened) c → WellFormed y (opened (withTransactor s t x) c)
+unfolding opened withOpened withTransactor
 well-grown {y} {s} z w b t {x} {c} h g o =
     let u : WellFormed y (opened s c) = well-opened w z b (o .ok) (o .formed) in
-    subst (WellFormed y) (opened-set s t x c (λ f. omega arith)) (well-withTransactor u t (omega arith) (g .ok) (g .formed))
+    subst (WellFormed y) (opened-set s t x c (λ f. omega arith)) (well-withTransactor u t (omega (arith, w .limits .transactors-high)) (g .ok) (g .formed))
 
-module _ {y : Layout} {m : Limits} {s : State} {p : Step} (z : Fitting y) (l : Allowed y m) (w : WellFormed y s) (q : StepOk p) (a : Accepted m (seen y s) p) where
+module _ {y : Layout} {s : State} {p : Step} (z : Fitting y) (w : WellFormed y s) (q : StepOk p) (a : Accepted y (seen y s) p) where
   -- a take that was opened
   inside : (t : ℕ) → t < s .opened → t < y .transactors
-  inside t h = omega (arith, w .opened)
+  inside t h = omega (arith, w .opened, w .limits .transactors-high)
 
   ok-at : (t : ℕ) → t < s .opened → TransactorOk y (transactorAt s t)
   ok-at t h = w .packable .transactors t (inside t h)
 
-  alive-at : (t : ℕ) → t < s .opened → eqb (transactorAt s t .status) annihilated ≡ false → Alive y (s .opened) t (transactorAt s t)
+  alive-at : (t : ℕ) → t < s .opened → eqb (transactorAt s t .status) annihilated ≡ false → Alive y (s .limits .checkpoints) (s .opened) t (transactorAt s t)
   alive-at t h e = formed-alive (w .transactors t (inside t h)) h e
 
   small : (t : ℕ) → t < s .opened → t < 256
   small t h = omega (arith, w .packable .opened)
 
   -- one more fits the width
-  next-fits : (n : ℕ) → n < m .incarnation → n + 1 < bound (y .width)
-  next-fits n h = omega (arith, l .incarnation-high)
+  next-fits : (n : ℕ) → n < largest y → n + 1 < bound (y .width)
+  next-fits n h = omega arith
 
   pub keeps-root : eqb (p .kind) root ≡ true → ResultOk y (applyRoot y s p)
   unfolding applyRoot seen
   keeps-root k =
-      let h : s .opened < m .transactors = one-unopened a (rw k) in
-      let b : s .opened < y .transactors = omega (arith, l .transactors-high) in
-      let x = opening-ok y (s .opened + 1) (s .opened) b (omega arith) (p .value) (noDependences y) (q .value) (ok-none y) (known-none y (s .opened + 1)) in
+      let h : s .opened < s .limits .transactors = one-unopened a (rw k) in
+      let b : s .opened < y .transactors = omega (arith, w .limits .transactors-high) in
+      let x = opening-ok y (s .limits .checkpoints) (s .opened + 1) (s .opened) b (omega arith) (p .value) (noDependences y) (q .value) (ok-none y) (known-none y (s .limits .checkpoints) (s .opened + 1)) in
       record {
-        state = well-opened w z b (x .ok) (x .formed);
+        state = well-opened w z h (x .ok) (x .formed);
         reply = reply-ok done (s .opened) 0 0 (omega arith) (w .packable .opened) (bound-pos 2) (bound-pos 4);
       }
 
@@ -98,16 +98,16 @@ module _ {y : Layout} {m : Limits} {s : State} {p : Step} (z : Fitting y) (l : A
       let n : s .next ≡ lastNumber → ⊥ = one-number a k in
       omega arith
 
-  place-fits : sends (p .kind) ≡ true → length (s .messages) < y .messages
+  place-fits : sends (p .kind) ≡ true → length (s .messages) < s .limits .messages
   unfolding seen
-  place-fits k = omega (arith, one-place a k, l .messages-high)
+  place-fits k = one-place a k
 
   pub keeps-letter : eqb (p .kind) letter ≡ true → ResultOk y (applyLetter y s p)
   unfolding applyLetter seen
   keeps-letter k =
       let h : p .transactor < s .opened = transactor-opened a (rw k) in
       record {
-        state = well-withMessage w z (p .transactor) (p .value) h (place-fits (rw k)) (number-fits (rw k)) (q .value) (ok-none y) (known-none y (s .opened));
+        state = well-withMessage w z (p .transactor) (p .value) h (place-fits (rw k)) (number-fits (rw k)) (q .value) (ok-none y) (known-none y (s .limits .checkpoints) (s .opened));
         reply = reply-ok done (p .transactor) (s .next) 0 (omega arith) (small (p .transactor) h) (w .packable .next) (bound-pos 4);
       }
 
@@ -117,7 +117,7 @@ module _ {y : Layout} {m : Limits} {s : State} {p : Step} (z : Fitting y) (l : A
     unfolding seen
     acting = transactor-opened a (pick-view (λ c. c ≡ true) (eqb (p .kind) letter) true (acts (p .kind)) (λ e. refl) (λ e. k))
 
-    acting-alive : Alive y (s .opened) (p .transactor) (transactorAt s (p .transactor))
+    acting-alive : Alive y (s .limits .checkpoints) (s .opened) (p .transactor) (transactorAt s (p .transactor))
     unfolding seen
     acting-alive = alive-at (p .transactor) acting (transactor-there a k)
 
@@ -132,7 +132,7 @@ module _ {y : Layout} {m : Limits} {s : State} {p : Step} (z : Fitting y) (l : A
       let v = acting-alive c in
       record {
         state = well-withMessage w z (p .other) (p .value) (other-opened a k) (place-fits b) (number-fits b) (q .value)
-            (ok-carried y (s .opened) t (ok-at t h) (inside t h) (v .own)) (known-carried y (s .opened) t (ok-at t h) (inside t h) (v .own) h (v .creation) (v .behaviour));
+            (ok-carried y (s .limits .checkpoints) (s .opened) t (ok-at t h) (inside t h) (v .own)) (known-carried y (s .limits .checkpoints) (s .opened) t (ok-at t h) (inside t h) (v .own) h (v .state) (v .creation) (v .behaviour));
         reply = reply-ok done t (s .next) 0 (omega arith) (small t h) (w .packable .next) (bound-pos 4);
       }
 
@@ -142,7 +142,7 @@ module _ {y : Layout} {m : Limits} {s : State} {p : Step} (z : Fitting y) (l : A
       let t : ℕ = p .transactor in
       let x : Transactor = transactorAt s t in
       let h : t < s .opened = acting k in
-      let e : EffectOk y (s .opened) t (localBy y (p .kind) t (p .value) x) = local-ok (inside t h) h (ok-at t h) (acting-alive k) (p .kind) (p .value) (q .value) r
+      let e : EffectOk y (s .limits .checkpoints) (s .opened) t (localBy y (p .kind) t (p .value) x) = local-ok (inside t h) h (ok-at t h) (acting-alive k) (p .kind) (p .value) (q .value) r
       (λ f. transactor-busy a (rw f))
       (λ f b c. next-fits (ownHistory t x .incarnation) (falls-alone a (last f) b c)) in
       record {
@@ -183,14 +183,14 @@ module _ {y : Layout} {m : Limits} {s : State} {p : Step} (z : Fitting y) (l : A
     receiver-opened : receiver < s .opened
     receiver-opened = w .addressees waits (place (rw k))
 
-    received-ok : EffectOk y (s .opened) receiver received
+    received-ok : EffectOk y (s .limits .checkpoints) (s .opened) receiver received
     unfolding seen receiptRollsBack
     received-ok =
         let b : waits < length (s .messages) = place (rw k) in
         let h : receiver < s .opened = receiver-opened in
         let x : Transactor = transactorAt s receiver in
         let r : x .status ≡ ready = receiver-ready a k in
-        let v : Alive y (s .opened) receiver x = alive-at receiver h (rw r) in
+        let v : Alive y (s .limits .checkpoints) (s .opened) receiver x = alive-at receiver h (rw r) in
         receive-ok (inside receiver h) h (ok-at receiver h) v (messageAt s waits) (w .packable .messages waits b) (w .known waits b)
         (λ f c. next-fits (ownHistory receiver x .incarnation) (falls-received a k f c))
 
@@ -210,18 +210,18 @@ module _ {y : Layout} {m : Limits} {s : State} {p : Step} (z : Fitting y) (l : A
       let e : p .kind ≡ new = eqb-true (p .kind) new k in
       let c : acts (p .kind) ≡ true = rw e in
       let n : ℕ = s .opened in
-      let free : n < m .transactors = one-unopened a (rw e) in
-      let b : n < y .transactors = omega (arith, l .transactors-high) in
+      let free : n < s .limits .transactors = one-unopened a (rw e) in
+      let b : n < y .transactors = omega (arith, w .limits .transactors-high) in
       let t : ℕ = p .transactor in
       let x : Transactor = transactorAt s t in
       let h : t < n = acting c in
-      let v : Alive y n t x = acting-alive c in
+      let v : Alive y (s .limits .checkpoints) n t x = acting-alive c in
       let r : x .status ≡ busy = transactor-busy a (rw e) in
-      let o : TransactorWell y (n + 1) n (opening y n (p .value) (carried y t x)) = opening-ok y (n + 1) n b (omega arith) (p .value) (carried y t x) (q .value)
-      (ok-carried y n t (ok-at t h) (inside t h) (v .own)) (known-more y n (carried y t x) (known-carried y n t (ok-at t h) (inside t h) (v .own) h (v .creation) (v .behaviour))) in
+      let o : TransactorWell y (s .limits .checkpoints) (n + 1) n (opening y n (p .value) (carried y t x)) = opening-ok y (s .limits .checkpoints) (n + 1) n b (omega arith) (p .value) (carried y t x) (q .value)
+      (ok-carried y (s .limits .checkpoints) n t (ok-at t h) (inside t h) (v .own)) (known-more y (s .limits .checkpoints) n (carried y t x) (known-carried y (s .limits .checkpoints) n t (ok-at t h) (inside t h) (v .own) h (v .state) (v .creation) (v .behaviour))) in
       let g = grown-ok (inside t h) (omega arith) (ok-at t h) (alive-more y v) r n b (omega arith) in
       record {
-        state = well-grown z w b t h g o;
+        state = well-grown z w free t h g o;
         reply = reply-ok done n 0 0 (omega arith) (w .packable .opened) (bound-pos 2) (bound-pos 4);
       }
 
@@ -231,13 +231,13 @@ module _ {y : Layout} {m : Limits} {s : State} {p : Step} (z : Fitting y) (l : A
       (λ e. record { state = well-checkpointGroup w (p .message) (λ t b. each t b .ok) (λ t b. each t b .formed); reply = reply-ok done 0 0 0 (omega arith) (omega arith) (bound-pos 2) (bound-pos 4) })
       (λ e. record { state = w; reply = reply-ok notReady 0 0 0 (omega arith) (omega arith) (bound-pos 2) (bound-pos 4) })
     where
-      each : (t : ℕ) → t < y .transactors → TransactorWell y (s .opened) t (checkpointAt y s (p .message) t)
-      each t b = pick-view (TransactorWell y (s .opened) t) (named (p .message) t) _ _
+      each : (t : ℕ) → t < y .transactors → TransactorWell y (s .limits .checkpoints) (s .opened) t (checkpointAt y s (p .message) t)
+      each t b = pick-view (TransactorWell y (s .limits .checkpoints) (s .opened) t) (named (p .message) t) _ _
           (λ e.
           let c : t < groupBits = omega (arith, z .transactors) in
           let h : t < s .opened = named-opened a k t c e in
-          let v : Alive y (s .opened) t (transactorAt s t) = alive-at t h (named-there a k t c e) in
-          checkpoint-ok b h (ok-at t h) v z (omega (arith, named-room a k t c e, l .checkpoints-high)))
+          let v : Alive y (s .limits .checkpoints) (s .opened) t (transactorAt s t) = alive-at t h (named-there a k t c e) in
+          checkpoint-ok b h (ok-at t h) v z (w .limits .checkpoints-high) (named-room a k t c e))
           (λ e. record { ok = w .packable .transactors t b; formed = w .transactors t b })
 
   pub keeps-apply : ResultOk y (apply y s p)

@@ -1,4 +1,4 @@
--- Maps and marks of a layout: what fits its bytes, and which takes are known.
+-- Maps and marks of a layout: what fits its bytes, which takes are known, and how long a list may be.
 use Prim.Native.Nat.{ℕ, _+_, _≤_, _<_}
 use mathlib.Core.Bool.{Bool, true, false}
 use mathlib.Core.Path.{_≡_, sym, _∙_}
@@ -17,8 +17,8 @@ use Rattle.maps.specs.Map.{heldAt, historyAt, withEntry, joinedHeldAt}
 use Rattle.maps.specs.News.{informedOf}
 use Rattle.maps.specs.Internal.Fitting.{EntryOk}
 use Rattle.maps.proofs.Map.{Joined, held-empty, held-singleton, held-singleton-other, history-singleton, held-withEntry, history-withEntry, held-withEntry-other, sized-join, held-join, held-join-test, join-view}
-use Rattle.maps.proofs.News.{mapOk-informed, held-informed, own-informed}
-use Rattle.maps.proofs.Packed.{mapOk-sized, mapOk-empty, mapOk-withEntry, mapOk-singleton, mapOk-join}
+use Rattle.maps.proofs.News.{mapOk-informed, held-informed, own-informed, bounded-informed}
+use Rattle.maps.proofs.Packed.{mapOk-sized, mapOk-empty, mapOk-withEntry, mapOk-singleton, mapOk-join, bounded-at, bounded-empty, bounded-withEntry, bounded-singleton, bounded-join}
 use Rattle.rules.specs.Layout.{Layout, Fitting}
 use Rattle.rules.specs.State.{Transactor, ownHistory}
 use Rattle.rules.specs.Rules.{noDependences, only, join, carried}
@@ -69,37 +69,44 @@ module _ (y : Layout) where
   pub ok-entry : {m : DependenceMap} → DependencesOk y m → (t : ℕ) {h : History} → t < y .transactors → HistoryOk y h → DependencesOk y (withEntry m t h)
   ok-entry p t below o = mapOk-withEntry p t below (EntryOk.present (o .roomy) (o .packable))
 
--- ---- whose marks there are
+-- ---- whose marks there are, and how long their lists
 
-module _ (y : Layout) (opened : ℕ) where
-  pub known-none : Known opened (noDependences y)
-  unfolding Known
-  known-none i h = held-empty (y .places) (y .transactors) i
+module _ (y : Layout) (c opened : ℕ) where
+  pub known-none : Known c opened (noDependences y)
+  known-none = record { unheld = λ i h. held-empty (y .places) (y .transactors) i; counts = bounded-empty c (y .places) (y .transactors) }
 
-  pub known-only : (t : ℕ) (h : History) → t < opened → Known opened (only y t h)
-  unfolding Known
-  known-only t h k i p = held-singleton-other (y .places) (y .transactors) t h i (λ e. omega arith)
+  pub known-only : (t : ℕ) (h : History) → t < opened → h .count ≤ c → Known c opened (only y t h)
+  known-only t h k b = record {
+    unheld = λ i p. held-singleton-other (y .places) (y .transactors) t h i (λ e. omega arith);
+    counts = bounded-singleton c (y .places) (y .transactors) t h b;
+  }
 
-  pub known-join : (a b : DependenceMap) → Known opened a → Known opened b → Known opened (join y a b)
-  unfolding Known joinedHeldAt
-  known-join a b p q i h = ⊎-elim
-      (λ (k : i < y .transactors). held-join (y .transactors) a b i k ∙ rw (p i h, q i h))
-      (λ (k : y .transactors ≤ i).
-      let e : length (join y a b .held) ≤ i = omega (arith, sized-join (y .transactors) a b .helds) in
-      List·getD-eq-default (join y a b .held) false {n = i} e)
-      (sides i (y .transactors))
+  pub known-join : (a b : DependenceMap) → Known c opened a → Known c opened b → Known c opened (join y a b)
+  unfolding joinedHeldAt
+  known-join a b p q = record {
+    unheld = λ i h. ⊎-elim
+        (λ (k : i < y .transactors). held-join (y .transactors) a b i k ∙ rw (p .unheld i h, q .unheld i h))
+        (λ (k : y .transactors ≤ i).
+        let e : length (join y a b .held) ≤ i = omega (arith, sized-join (y .transactors) a b .helds) in
+        List·getD-eq-default (join y a b .held) false {n = i} e)
+        (sides i (y .transactors));
+    counts = bounded-join c (y .transactors) a b (p .counts) (q .counts);
+  }
 
-  pub known-informed : (t : ℕ) (a b : DependenceMap) → Known opened a → Known opened (informedOf (y .transactors) t a b)
-  unfolding Known
-  known-informed t a b p i h = held-informed (y .transactors) t a b i ∙ p i h
+  pub known-informed : (t : ℕ) (a b : DependenceMap) → Known c opened a → Known c opened (informedOf (y .transactors) t a b)
+  known-informed t a b p = record { unheld = λ i h. held-informed (y .transactors) t a b i ∙ p .unheld i h; counts = bounded-informed (y .transactors) t a b c (p .counts) }
 
-  pub known-entry : (m : DependenceMap) (t : ℕ) (h : History) → t < opened → Known opened m → Known opened (withEntry m t h)
-  unfolding Known
-  known-entry m t h k p i q = held-withEntry-other m t h i (λ e. omega arith) ∙ p i q
+  pub known-entry : (m : DependenceMap) (t : ℕ) (h : History) → t < opened → h .count ≤ c → Known c opened m → Known c opened (withEntry m t h)
+  known-entry m t h k b p = record {
+    unheld = λ i q. held-withEntry-other m t h i (λ e. omega arith) ∙ p .unheld i q;
+    counts = bounded-withEntry c m t h b (p .counts);
+  }
 
-  pub known-more : (m : DependenceMap) → Known opened m → Known (opened + 1) m
-  unfolding Known
-  known-more m p i h = p i (omega arith)
+  pub known-more : (m : DependenceMap) → Known c opened m → Known c (opened + 1) m
+  known-more m p = record { unheld = λ i h. p .unheld i (omega arith); counts = p .counts }
+
+  pub known-count : {m : DependenceMap} → Known c opened m → (t : ℕ) → historyAt m t .count ≤ c
+  known-count {m} p t = bounded-at c m (p .counts) t
 
 -- ---- the own mark
 
@@ -137,7 +144,7 @@ module _ (y : Layout) (t : ℕ) (below : t < y .transactors) where
 
 -- ---- what a parcel or a child is given
 
-module _ (y : Layout) (opened t : ℕ) {x : Transactor} (o : TransactorOk y x) (below : t < y .transactors) (own : heldAt (x .state) t ≡ true) where
+module _ (y : Layout) (c opened t : ℕ) {x : Transactor} (o : TransactorOk y x) (below : t < y .transactors) (own : heldAt (x .state) t ≡ true) where
   pub own-history : HistoryOk y (ownHistory t x)
   own-history = held-history y t (o .state) below own
 
@@ -145,6 +152,6 @@ module _ (y : Layout) (opened t : ℕ) {x : Transactor} (o : TransactorOk y x) (
   unfolding carried
   ok-carried = ok-join y (ok-join y (o .creation) (o .behaviour)) (ok-only y t below own-history)
 
-  pub known-carried : t < opened → Known opened (x .creation) → Known opened (x .behaviour) → Known opened (carried y t x)
+  pub known-carried : t < opened → Known c opened (x .state) → Known c opened (x .creation) → Known c opened (x .behaviour) → Known c opened (carried y t x)
   unfolding carried
-  known-carried k c b = known-join y opened _ _ (known-join y opened _ _ c b) (known-only y opened t _ k)
+  known-carried k s a b = known-join y c opened _ _ (known-join y c opened _ _ a b) (known-only y c opened t _ k (known-count y c opened s t))

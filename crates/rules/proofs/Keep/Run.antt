@@ -9,7 +9,7 @@ use Rattle.octets.specs.Bytes.{part, chunks, Octets}
 use Rattle.octets.proofs.Put.{octet, octets-part, part-left, part-right}
 use Rattle.octets.proofs.Numbers.{ofBe-bound}
 use Rattle.octets.proofs.Chunks.{chunks-add, chunks-same, step}
-use Rattle.rules.specs.Layout.{Layout, Limits}
+use Rattle.rules.specs.Layout.{Layout}
 use Rattle.rules.specs.State.{State}
 use Rattle.rules.specs.Step.{stepBytes, unpackStep, stepAt}
 use Rattle.rules.specs.Rules.{stepOf}
@@ -38,13 +38,13 @@ stepOk-at b o i = stepOk-unpack (part (stepBytes * i) stepBytes b) (octets-part 
 
 -- ---- one list after another
 
-after-zero : (y : Layout) (m : Limits) (s : State) (b : List ℕ) → stateAfter y m s b 0 ≡ s
+after-zero : (y : Layout) (s : State) (b : List ℕ) → stateAfter y s b 0 ≡ s
 unfolding stateAfter
-after-zero y m s b = refl
+after-zero y s b = refl
 
-after-suc : (y : Layout) (m : Limits) (s : State) (b : List ℕ) (i : ℕ) → stateAfter y m s b (suc i) ≡ stepOf y m (stateAfter y m s b i) (stepAt b i) .state
+after-suc : (y : Layout) (s : State) (b : List ℕ) (i : ℕ) → stateAfter y s b (suc i) ≡ stepOf y (stateAfter y s b i) (stepAt b i) .state
 unfolding stateAfter
-after-suc y m s b i = refl
+after-suc y s b i = refl
 
 module _ (b c : List ℕ) (i : ℕ) (whole : length b ≡ stepBytes * i) where
   at-left : (k : ℕ) → k < i → stepAt (b ++ c) k ≡ stepAt b k
@@ -57,22 +57,22 @@ module _ (b c : List ℕ) (i : ℕ) (whole : length b ≡ stepBytes * i) where
       let e : stepBytes * (i + j) ≡ length b + stepBytes * j = omega arith in
       ap unpackStep (ap (λ (n : ℕ). part n stepBytes (b ++ c)) e ∙ part-right (stepBytes * j) stepBytes b c)
 
-  module _ (y : Layout) (m : Limits) (s : State) where
-    after-left : (k : ℕ) → k ≤ i → stateAfter y m s (b ++ c) k ≡ stateAfter y m s b k
-    after-left zero h = rw (after-zero y m s (b ++ c), after-zero y m s b)
-    after-left (suc k) h = rw (after-suc y m s (b ++ c) k, after-suc y m s b k, after-left k (omega arith), at-left k h)
+  module _ (y : Layout) (s : State) where
+    after-left : (k : ℕ) → k ≤ i → stateAfter y s (b ++ c) k ≡ stateAfter y s b k
+    after-left zero h = rw (after-zero y s (b ++ c), after-zero y s b)
+    after-left (suc k) h = rw (after-suc y s (b ++ c) k, after-suc y s b k, after-left k (omega arith), at-left k h)
 
     -- the second list starts from the state that the first leaves
-    pub after-append : (j : ℕ) → stateAfter y m s (b ++ c) (i + j) ≡ stateAfter y m (stateAfter y m s b i) c j
-    after-append zero = rw (add-zero, after-zero y m (stateAfter y m s b i) c) (after-left i (omega arith))
-    after-append (suc j) = rw (add-suc, after-suc y m s (b ++ c) (i + j), after-suc y m (stateAfter y m s b i) c j, after-append j, at-right j)
+    pub after-append : (j : ℕ) → stateAfter y s (b ++ c) (i + j) ≡ stateAfter y (stateAfter y s b i) c j
+    after-append zero = rw (add-zero, after-zero y (stateAfter y s b i) c) (after-left i (omega arith))
+    after-append (suc j) = rw (add-suc, after-suc y s (b ++ c) (i + j), after-suc y (stateAfter y s b i) c j, after-append j, at-right j)
 
     -- and the replies are those to the first, then those to the second
-    pub replies-append : (j : ℕ) → chunks (i + j) (replyAt y m s (b ++ c)) ≡ chunks i (replyAt y m s b) ++ chunks j (replyAt y m (stateAfter y m s b i) c)
+    pub replies-append : (j : ℕ) → chunks (i + j) (replyAt y s (b ++ c)) ≡ chunks i (replyAt y s b) ++ chunks j (replyAt y (stateAfter y s b i) c)
     unfolding replyAt
     replies-append j =
         rw (
-          chunks-add i j (replyAt y m s (b ++ c)),
-          chunks-same i (replyAt y m s (b ++ c)) (replyAt y m s b) (λ k h. rw (after-left k (omega arith), at-left k h)),
-          chunks-same j (λ k. replyAt y m s (b ++ c) (i + k)) (replyAt y m (stateAfter y m s b i) c) (λ k h. rw (after-append k, at-right k)),
+          chunks-add i j (replyAt y s (b ++ c)),
+          chunks-same i (replyAt y s (b ++ c)) (replyAt y s b) (λ k h. rw (after-left k (omega arith), at-left k h)),
+          chunks-same j (λ k. replyAt y s (b ++ c) (i + k)) (replyAt y (stateAfter y s b i) c) (λ k h. rw (after-append k, at-right k)),
         )

@@ -1,5 +1,6 @@
 -- Each setter of the state keeps it well-formed.
 use Prim.Native.Nat.{ℕ, _+_, _-_, _≤_, _<_}
+use mathlib.Core.Bool.{true}
 use mathlib.Core.Path.{_≡_, sym, ap, _∙_, subst}
 use mathlib.Core.List.{List, [], _∷_, _++_}
 use mathlib.Core.Logic.{⊎-elim}
@@ -12,11 +13,12 @@ use Rattle.octets.specs.Numbers.{bound}
 use Rattle.octets.proofs.Chunks.{sides, length-tabulate, getD-tabulate}
 use Rattle.octets.proofs.Numbers.{bound-pos}
 use Rattle.maps.specs.declared.DependenceMap.{DependenceMap}
-use Rattle.rules.specs.Layout.{Layout, Fitting}
+use Rattle.rules.specs.Layout.{Layout, Limits, inRange, Fitting}
 use Rattle.rules.specs.Status.{unused}
 use Rattle.rules.specs.State.{Transactor, Message, State, bare, noTransactor, noMessage, transactorAt, messageAt, fresh, withTransactor, withOpened, withMessage, withoutMessage}
 use Rattle.rules.specs.Rules.{opened, checkpointAt, checkpointGroup}
 use Rattle.rules.specs.Internal.Well.{DependencesOk, TransactorOk, MessageOk, Known, Alive, TransactorFormed, WellFormed}
+use Rattle.rules.proofs.Ranges.{allowed-of, allowed-ok}
 use Rattle.rules.proofs.Keep.Maps.{ok-none, known-more}
 
 -- ---- a take
@@ -42,18 +44,18 @@ transactor-view P s t x h p q i = go (ℕ-discrete i t)
     go (no n) = rw (getD-set-other (s .transactors) t i x noTransactor n) (q i n)
 
 -- one more opened: what was known is known, and only the next take is another
-pub alive-more : (y : Layout) {o t : ℕ} {x : Transactor} → Alive y o t x → Alive y (o + 1) t x
-alive-more y {o} {t} {x} a = record {
+pub alive-more : (y : Layout) {c o t : ℕ} {x : Transactor} → Alive y c o t x → Alive y c (o + 1) t x
+alive-more y {c} {o} {t} {x} a = record {
   status = a .status;
-  state = known-more y o (x .state) (a .state);
-  creation = known-more y o (x .creation) (a .creation);
-  behaviour = known-more y o (x .behaviour) (a .behaviour);
+  state = known-more y c o (x .state) (a .state);
+  creation = known-more y c o (x .creation) (a .creation);
+  behaviour = known-more y c o (x .behaviour) (a .behaviour);
   own = a .own;
   saved = a .saved;
   behaves = a .behaves;
 }
 
-formed-more : (y : Layout) {o t : ℕ} {x : Transactor} → (t ≡ o → ⊥) → TransactorFormed y o t x → TransactorFormed y (o + 1) t x
+formed-more : (y : Layout) {c o t : ℕ} {x : Transactor} → (t ≡ o → ⊥) → TransactorFormed y c o t x → TransactorFormed y c (o + 1) t x
 formed-more y n (TransactorFormed.not-opened h) = TransactorFormed.not-opened (omega arith)
 formed-more y n (TransactorFormed.gone h) = TransactorFormed.gone (omega arith)
 formed-more y n (TransactorFormed.alive h a) = TransactorFormed.alive (omega arith) (alive-more y a)
@@ -129,12 +131,13 @@ module _ (ms : List Message) (k : ℕ) (below : k < length ms) where
 -- ---- the setters
 
 module _ {y : Layout} {s : State} (w : WellFormed y s) where
-  pub well-withTransactor : (t : ℕ) {x : Transactor} → t < y .transactors → TransactorOk y x → TransactorFormed y (s .opened) t x → WellFormed y (withTransactor s t x)
+  pub well-withTransactor : (t : ℕ) {x : Transactor} → t < y .transactors → TransactorOk y x → TransactorFormed y (s .limits .checkpoints) (s .opened) t x → WellFormed y (withTransactor s t x)
   unfolding withTransactor messageAt
   well-withTransactor t {x} h o f =
       let g : t < length (s .transactors) = omega (arith, w .packable .many) in
       record {
         packable = record {
+          limits = w .packable .limits;
           opened = w .packable .opened;
           next = w .packable .next;
           many = length-set (s .transactors) t x ∙ w .packable .many;
@@ -142,54 +145,62 @@ module _ {y : Layout} {s : State} (w : WellFormed y s) where
           transactors = transactor-view (λ i z. i < y .transactors → TransactorOk y z) s t x g (λ k. o) (λ i n. w .packable .transactors i);
           messages = w .packable .messages;
         };
+        limits = w .limits;
         opened = w .opened;
-        transactors = transactor-view (λ i z. i < y .transactors → TransactorFormed y (s .opened) i z) s t x g (λ k. f) (λ i n. w .transactors i);
+        waiting = w .waiting;
+        transactors = transactor-view (λ i z. i < y .transactors → TransactorFormed y (s .limits .checkpoints) (s .opened) i z) s t x g (λ k. f) (λ i n. w .transactors i);
         known = w .known;
         order = w .order;
         numbers = w .numbers;
         addressees = w .addressees;
       }
 
-  pub well-opened : {x : Transactor} → Fitting y → s .opened < y .transactors → TransactorOk y x → TransactorFormed y (s .opened + 1) (s .opened) x → WellFormed y (opened s x)
+  pub well-opened : {x : Transactor} → Fitting y → s .opened < s .limits .transactors → TransactorOk y x → TransactorFormed y (s .limits .checkpoints) (s .opened + 1) (s .opened) x → WellFormed y (opened s x)
   unfolding opened withOpened withTransactor messageAt transactorAt
   well-opened {x} z h o f =
       let t : ℕ = s .opened in
-      let g : t < length (s .transactors) = omega (arith, w .packable .many) in
+      let g : t < length (s .transactors) = omega (arith, w .packable .many, w .limits .transactors-high) in
       record {
         packable = record {
-          opened = omega (arith, z .transactors);
+          limits = w .packable .limits;
+          opened = omega (arith, z .transactors, w .limits .transactors-high);
           next = w .packable .next;
           many = length-set (s .transactors) t x ∙ w .packable .many;
           few = w .packable .few;
           transactors = transactor-view (λ i z. i < y .transactors → TransactorOk y z) s t x g (λ k. o) (λ i n. w .packable .transactors i);
           messages = w .packable .messages;
         };
+        limits = w .limits;
         opened = omega arith;
-        transactors = transactor-view (λ i z. i < y .transactors → TransactorFormed y (t + 1) i z) s t x g (λ k. f) (λ i n k. formed-more y n (w .transactors i k));
-        known = λ k p. known-more y t (messageAt s k .dependences) (w .known k p);
+        waiting = w .waiting;
+        transactors = transactor-view (λ i z. i < y .transactors → TransactorFormed y (s .limits .checkpoints) (t + 1) i z) s t x g (λ k. f) (λ i n k. formed-more y n (w .transactors i k));
+        known = λ k p. known-more y (s .limits .checkpoints) t (messageAt s k .dependences) (w .known k p);
         order = w .order;
         numbers = w .numbers;
         addressees = λ k p. omega (arith, w .addressees k p);
       }
 
-  pub well-withMessage : Fitting y → (to v : ℕ) {m : DependenceMap} → to < s .opened → length (s .messages) < y .messages → s .next + 1 < bound 2 → v < bound 4
-      → DependencesOk y m → Known (s .opened) m → WellFormed y (withMessage s to v m)
+  pub well-withMessage : Fitting y → (to v : ℕ) {m : DependenceMap} → to < s .opened → length (s .messages) < s .limits .messages → s .next + 1 < bound 2 → v < bound 4
+      → DependencesOk y m → Known (s .limits .checkpoints) (s .opened) m → WellFormed y (withMessage s to v m)
   unfolding withMessage transactorAt messageAt
   well-withMessage z to v {m} h room fits g o f =
       let x : Message = record { addressee = to; number = s .next; value = v; dependences = m } in
       record {
         packable = record {
+          limits = w .packable .limits;
           opened = w .packable .opened;
           next = fits;
           many = w .packable .many;
-          few = rw (longer (s .messages) x) (omega arith);
+          few = rw (longer (s .messages) x) (omega (arith, w .limits .messages-high));
           transactors = w .packable .transactors;
           messages = more-all (s .messages) x (MessageOk y) (w .packable .messages)
-              (record { addressee = omega (arith, w .opened, z .transactors); number = w .packable .next; value = g; dependences = o });
+              (record { addressee = omega (arith, w .opened, w .limits .transactors-high, z .transactors); number = w .packable .next; value = g; dependences = o });
         };
+        limits = w .limits;
         opened = w .opened;
+        waiting = rw (longer (s .messages) x) (omega arith);
         transactors = w .transactors;
-        known = more-all (s .messages) x (λ z. Known (s .opened) (z .dependences)) (w .known) f;
+        known = more-all (s .messages) x (λ z. Known (s .limits .checkpoints) (s .opened) (z .dependences)) (w .known) f;
         order = more-order (s .messages) x (w .order) (w .numbers);
         numbers = more-all (s .messages) x (λ z. z .number < s .next + 1) (λ k p. omega (arith, w .numbers k p)) (omega arith);
         addressees = more-all (s .messages) x (λ z. z .addressee < s .opened) (w .addressees) h;
@@ -199,6 +210,7 @@ module _ {y : Layout} {s : State} (w : WellFormed y s) where
   unfolding withoutMessage transactorAt messageAt
   well-withoutMessage k h = record {
     packable = record {
+      limits = w .packable .limits;
       opened = w .packable .opened;
       next = w .packable .next;
       many = w .packable .many;
@@ -206,15 +218,17 @@ module _ {y : Layout} {s : State} (w : WellFormed y s) where
       transactors = w .packable .transactors;
       messages = rest-all (s .messages) k h (MessageOk y) (w .packable .messages);
     };
+    limits = w .limits;
     opened = w .opened;
+    waiting = omega (arith, w .waiting, shorter (s .messages) k h);
     transactors = w .transactors;
-    known = rest-all (s .messages) k h (λ z. Known (s .opened) (z .dependences)) (w .known);
+    known = rest-all (s .messages) k h (λ z. Known (s .limits .checkpoints) (s .opened) (z .dependences)) (w .known);
     order = rest-order (s .messages) k h (w .order);
     numbers = rest-all (s .messages) k h (λ z. z .number < s .next) (w .numbers);
     addressees = rest-all (s .messages) k h (λ z. z .addressee < s .opened) (w .addressees);
   }
 
-  pub well-checkpointGroup : (v : ℕ) → ((t : ℕ) → t < y .transactors → TransactorOk y (checkpointAt y s v t)) → ((t : ℕ) → t < y .transactors → TransactorFormed y (s .opened) t (checkpointAt y s v t))
+  pub well-checkpointGroup : (v : ℕ) → ((t : ℕ) → t < y .transactors → TransactorOk y (checkpointAt y s v t)) → ((t : ℕ) → t < y .transactors → TransactorFormed y (s .limits .checkpoints) (s .opened) t (checkpointAt y s v t))
       → WellFormed y (checkpointGroup y s v)
   unfolding checkpointGroup transactorAt messageAt
   well-checkpointGroup v o f =
@@ -222,6 +236,7 @@ module _ {y : Layout} {s : State} (w : WellFormed y s) where
       λ t h. getD-tabulate (checkpointAt y s v) (y .transactors) t noTransactor h in
       record {
         packable = record {
+          limits = w .packable .limits;
           opened = w .packable .opened;
           next = w .packable .next;
           many = length-tabulate (checkpointAt y s v) (y .transactors);
@@ -229,8 +244,10 @@ module _ {y : Layout} {s : State} (w : WellFormed y s) where
           transactors = λ t h. subst (TransactorOk y) (sym (is t h)) (o t h);
           messages = w .packable .messages;
         };
+        limits = w .limits;
         opened = w .opened;
-        transactors = λ t h. subst (TransactorFormed y (s .opened) t) (sym (is t h)) (f t h);
+        waiting = w .waiting;
+        transactors = λ t h. subst (TransactorFormed y (s .limits .checkpoints) (s .opened) t) (sym (is t h)) (f t h);
         known = w .known;
         order = w .order;
         numbers = w .numbers;
@@ -239,13 +256,15 @@ module _ {y : Layout} {s : State} (w : WellFormed y s) where
 
 -- ---- nothing opened
 
-pub well-fresh : (y : Layout) → WellFormed y (fresh y)
+pub well-fresh : {y : Layout} → Fitting y → (m : Limits) → inRange y m ≡ true → WellFormed y (fresh y m)
 unfolding fresh transactorAt
-well-fresh y =
+well-fresh {y} z m r =
+    let l = allowed-of r in
     let is : (t : ℕ) → t < y .transactors → getD (replicate (y .transactors) (bare y unused)) t noTransactor ≡ bare y unused =
     λ t h. getD-replicate (y .transactors) t (bare y unused) noTransactor h in
     record {
       packable = record {
+        limits = allowed-ok z l;
         opened = omega arith;
         next = bound-pos 2;
         many = length-replicate (y .transactors) (bare y unused);
@@ -253,8 +272,10 @@ well-fresh y =
         transactors = λ t h. subst (TransactorOk y) (sym (is t h)) (ok-bare y unused (omega arith));
         messages = λ k h. absurd (omega arith);
       };
+      limits = l;
       opened = omega arith;
-      transactors = λ t h. subst (TransactorFormed y 0 t) (sym (is t h)) (TransactorFormed.not-opened (omega arith));
+      waiting = omega arith;
+      transactors = λ t h. subst (TransactorFormed y (m .checkpoints) 0 t) (sym (is t h)) (TransactorFormed.not-opened (omega arith));
       known = λ k h. absurd (omega arith);
       order = λ k h. absurd (omega arith);
       numbers = λ k h. absurd (omega arith);

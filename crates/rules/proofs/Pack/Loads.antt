@@ -16,9 +16,9 @@ use Rattle.maps.specs.declared.DependenceMap.{DependenceMap}
 use Rattle.maps.specs.Map.{heldAt, historyAt}
 use Rattle.maps.specs.Packed.{unpackMap, entryBytes}
 use Rattle.maps.proofs.Packed.{held-unpack, history-unpack}
-use Rattle.rules.specs.Layout.{Layout, historyBytes, mapBytes, savedAt, stateAt, creationAt, behaviourAt, transactorBytes, dependencesAt, messageBytes, transactorAddress, messageAddress, imageBytes}
+use Rattle.rules.specs.Layout.{Layout, widest, historyBytes, mapBytes, savedAt, stateAt, creationAt, behaviourAt, transactorBytes, dependencesAt, messageBytes, transactorAddress, messageAddress, imageBytes}
 use Rattle.rules.specs.State.{Transactor, Message, noTransactor, noMessage, transactorAt, messageAt}
-use Rattle.rules.specs.Pack.{unpackDependences, unpackTransactor, unpackMessage, transactorPart, messagePart, unpackTransactorAt, unpackMessageAt, vacantAt, waitingIn, unpack}
+use Rattle.rules.specs.Pack.{unpackDependences, unpackTransactor, unpackMessage, transactorPart, messagePart, unpackTransactorAt, unpackMessageAt, vacantAt, waitingIn, unpackLimits, unpack}
 use Rattle.rules.proofs.Places.{place}
 
 -- the first byte of a part
@@ -168,3 +168,11 @@ module _ (y : Layout) (img : List ℕ) where
   pub read-next : unpack y img .next ≡ ofBe 2 (part 1 2 img)
   unfolding unpack
   read-next = refl
+
+  pub read-limits : y .limited ≡ true → unpack y img .limits ≡ record { transactors = getD img 4 0; messages = getD img 5 0; checkpoints = getD img 6 0 }
+  unfolding unpack unpackLimits
+  read-limits e = rw e
+
+  pub read-widest : y .limited ≡ false → unpack y img .limits ≡ widest y
+  unfolding unpack unpackLimits
+  read-widest e = rw e

@@ -1,34 +1,35 @@
 -- The round trip: what is packed is unpacked again, and a well-formed image is the packing of what it says.
 use Prim.Native.Nat.{ℕ, _+_, _*_, _/_, _%_, _≤_, _<_, zero, suc, _-_}
-use mathlib.Core.Bool.{true, false}
+use mathlib.Core.Bool.{Bool, true, false, not}
 use mathlib.Core.Path.{_≡_, refl, sym, ap, _∙_}
-use mathlib.Core.List.{List, _++_, append-assoc}
+use mathlib.Core.List.{List, [], _∷_, _++_, append-assoc}
 use native.Mathlib.Nat.{add-zero, zero-add}
 use native.Mathlib.Omega.{arith}
 use borrow.Author.Tests.{lt-ltb, le-ltb, eqb-true}
 use lib.ListN.{length, getD, length-append}
 use lib.Seq.{getD-set-same}
-use Rattle.octets.specs.Bytes.{put, part, tabulate, zeros, chunks, Octets}
+use Rattle.octets.specs.Bytes.{pick, _or_, put, part, tabulate, zeros, chunks, Octets}
 use Rattle.octets.specs.Numbers.{be, ofBe, bound}
-use Rattle.octets.proofs.Put.{part-put, put-first, put-mid, put-last, put-whole, part-part, part-add, part-whole, length-part, octets-part}
-use Rattle.octets.proofs.Numbers.{length-be, put-be-one, ofBe-be, be-byte, be-ofBe}
+use Rattle.octets.proofs.Put.{part-def, part-put, put-first, put-mid, put-last, put-whole, part-part, part-add, part-whole, length-part, getD-part, octets-part}
+use Rattle.octets.proofs.Numbers.{length-be, put-be-one, be-one, ofBe-be, be-byte, be-ofBe}
 use Rattle.octets.proofs.Zero.{getD-zeros, zeros-is, both}
 use Rattle.octets.proofs.Chunks.{step, tabulate-same, tabulate-getD, sides, chunks-same, chunks-parts}
+use Rattle.marks.specs.Packed.{bit}
 use Rattle.maps.specs.declared.DependenceMap.{DependenceMap}
 use Rattle.maps.specs.Packed.{unpackMap}
 use Rattle.maps.proofs.Packed.{length-packMap, unpack-packMap, pack-unpackMap}
-use Rattle.rules.specs.Layout.{Layout, mapBytes, valueAt, savedAt, stateAt, creationAt, behaviourAt, transactorBytes, dependencesAt, messageBytes, transactorAddress, messageAddress, imageBytes, headBytes}
+use Rattle.rules.specs.Layout.{Layout, widest, mapBytes, valueAt, savedAt, stateAt, creationAt, behaviourAt, transactorBytes, dependencesAt, messageBytes, transactorAddress, messageAddress, imageBytes, headBytes, limitsBytes}
 use Rattle.rules.specs.State.{Transactor, Message, State, noTransactor, noMessage, transactorAt, messageAt, withOpened}
-use Rattle.rules.specs.Pack.{packDependences, packTransactor, packMessage, packTransactorAt, packMessageAt, pack, unpackDependences, unpackTransactor, unpackMessage, transactorPart, messagePart, unpackTransactorAt, unpackMessageAt, vacantAt, waitingIn, unpack, packHead}
-use Rattle.rules.specs.Internal.Well.{DependencesOk, TransactorOk, MessageOk, Packable}
-use Rattle.rules.proofs.Pack.Sizes.{length-packTransactor, length-packMessage, length-packTransactorAt, length-packMessageAt, length-pack}
-use Rattle.rules.proofs.Pack.Stores.{put-status, put-value, put-saved, put-state, put-creation, put-behaviour, put-transactor, put-message, pack-withOpened, pack-withNext, at-waiting, at-free}
+use Rattle.rules.specs.Pack.{packDependences, packTransactor, packMessage, packTransactorAt, packMessageAt, pack, unpackDependences, unpackTransactor, unpackMessage, transactorPart, messagePart, unpackTransactorAt, unpackMessageAt, vacantAt, waitingIn, unpackLimits, unpack, packHead, packLimits, packFront}
+use Rattle.rules.specs.Internal.Well.{DependencesOk, TransactorOk, MessageOk, LimitsOk, stored, counted, Packable}
+use Rattle.rules.proofs.Pack.Sizes.{length-packTransactor, length-packMessage, length-packTransactorAt, length-packMessageAt, length-packLimits, length-pack}
+use Rattle.rules.proofs.Pack.Stores.{put-status, put-value, put-saved, put-state, put-creation, put-behaviour, put-transactor, put-message, pack-withOpened, pack-withNext, pack-withLimits, at-waiting, at-free}
 use Rattle.rules.proofs.Places.{placeFrom-is}
 use mathlib.Core.Logic.{⊎-elim}
 use lib.Dec.{eqb}
-use Rattle.rules.specs.Form.{mapFormed, transactorZeros, messageZeros, noGap, wellFormed}
+use Rattle.rules.specs.Form.{mapFormed, limitsZero, transactorZeros, messageZeros, noGap, wellFormed}
 use Rattle.rules.proofs.Form.Clauses.{Clauses, clauses-of}
-use Rattle.rules.proofs.Pack.Loads.{length-transactorPart, length-messagePart, octets-transactorPart, octets-messagePart, read-transactor, read-message, unpack-waiting, waiting-taken, waiting-vacant}
+use Rattle.rules.proofs.Pack.Loads.{length-transactorPart, length-messagePart, octets-transactorPart, octets-messagePart, read-transactor, read-message, read-limits, unpack-waiting, waiting-taken, waiting-vacant}
 
 -- ---- unpacked again
 
@@ -165,13 +166,32 @@ module _ (y : Layout) (s : State) where
         tabulate-same (length (s .messages)) (unpackMessageAt y (pack y s)) (λ k. getD (s .messages) k noMessage) one-message
         ∙ tabulate-getD (s .messages) noMessage (length (s .messages)) refl
 
+    -- the bytes of the limits
+    limits-stand : part headBytes (limitsBytes y) (pack y s) ≡ packLimits y (s .limits)
+    limits-stand = stands headBytes (limitsBytes y) (packLimits y (s .limits)) (pack y s) (length-packLimits y (s .limits)) (rw (length-pack y s) (omega arith)) (pack-withLimits y s (s .limits))
+
+    limits-there : unpackLimits y (pack y s) ≡ s .limits
+    unfolding unpackLimits packLimits
+    limits-there = go (o .limits)
+      where
+        go : LimitsOk y (s .limits) → pick (y .limited) (record { transactors = getD (pack y s) 4 0; messages = getD (pack y s) 5 0; checkpoints = getD (pack y s) 6 0 }) (widest y) ≡ s .limits
+        go (counted e f) = rw e (sym f)
+        go (stored e a b c) =
+            let z : part 4 4 (pack y s) ≡ s .limits .transactors ∷ s .limits .messages ∷ s .limits .checkpoints ∷ 0 ∷ [] =
+            ap (λ (t : Bool). part 4 (4 * bit t) (pack y s)) (sym e) ∙ limits-stand
+            ∙ rw (e, be-one (s .limits .transactors) a, be-one (s .limits .messages) b, be-one (s .limits .checkpoints) c, be-one 0 (omega arith)) in
+            let byte : (i : ℕ) → i < 4 → getD (pack y s) (4 + i) 0 ≡ getD (s .limits .transactors ∷ s .limits .messages ∷ s .limits .checkpoints ∷ 0 ∷ []) i 0 =
+            λ i h. sym (getD-part 4 4 (pack y s) i h) ∙ ap (λ (x : List ℕ). getD x i 0) z in
+            ap (λ (t : Bool). pick t (record { transactors = getD (pack y s) 4 0; messages = getD (pack y s) 5 0; checkpoints = getD (pack y s) 6 0 }) (widest y)) e
+            ∙ (λ i. record { transactors = byte 0 (omega arith) i; messages = byte 1 (omega arith) i; checkpoints = byte 2 (omega arith) i })
+
     pub unpack-pack : unpack y (pack y s) ≡ s
     unfolding unpack withOpened
     unpack-pack =
         let n : length (pack y s) ≡ imageBytes y = length-pack y s in
         let a : getD (pack y s) 0 0 ≡ s .opened = byte-stands 0 (s .opened) (pack y s) (o .opened) (omega arith) (pack-withOpened y s (s .opened)) in
         let b : ofBe 2 (part 1 2 (pack y s)) ≡ s .next = number-stands 1 2 (s .next) (pack y s) (o .next) (omega arith) (pack-withNext y s (s .next)) in
-        rw (a, b, transactors-there, waiting-pack, messages-there)
+        rw (limits-there, a, b, transactors-there, waiting-pack, messages-there)
 
 -- ---- packed again
 
@@ -189,18 +209,18 @@ module _ (y : Layout) (b : List ℕ) (o : Octets b) where
   number-back : (at w : ℕ) → at + w ≤ length b → be w (ofBe w (part at w b)) ≡ part at w b
   number-back at w h = be-ofBe w (part at w b) (length-part at w b h) (octets-part at w b o)
 
-  map-back : (opened at : ℕ) → at + mapBytes y ≤ length b → mapFormed y opened at b ≡ true → packDependences y (unpackDependences y at b) ≡ part at (mapBytes y) b
+  map-back : (s : State) (at : ℕ) → at + mapBytes y ≤ length b → mapFormed y s at b ≡ true → packDependences y (unpackDependences y at b) ≡ part at (mapBytes y) b
   unfolding mapFormed
-  map-back opened at h f =
-      pack-unpackMap (y .width) (y .places) (y .transactors) opened (part at (mapBytes y) b) (length-part at (mapBytes y) b h) (octets-part at (mapBytes y) b o) f
+  map-back s at h f =
+      pack-unpackMap (y .width) (y .places) (y .transactors) (s .limits .checkpoints) (s .opened) (part at (mapBytes y) b) (length-part at (mapBytes y) b h) (octets-part at (mapBytes y) b o) f
 
   -- ---- one take, one parcel
 
-  pub pack-unpackTransactor : (opened : ℕ) → length b ≡ transactorBytes y → getD b 0 0 % 64 ≡ 0
-      → mapFormed y opened stateAt b ≡ true → mapFormed y opened (creationAt y) b ≡ true → mapFormed y opened (behaviourAt y) b ≡ true
+  pub pack-unpackTransactor : (s : State) → length b ≡ transactorBytes y → getD b 0 0 % 64 ≡ 0
+      → mapFormed y s stateAt b ≡ true → mapFormed y s (creationAt y) b ≡ true → mapFormed y s (behaviourAt y) b ≡ true
       → packTransactor y (unpackTransactor y b) ≡ b
   unfolding packTransactor unpackTransactor
-  pack-unpackTransactor opened n z f g h =
+  pack-unpackTransactor s n z f g h =
       let m : ℕ = mapBytes y in
       let a : 64 * (getD b 0 0 / 64) ≡ getD b 0 0 = omega arith in
       rw (
@@ -208,9 +228,9 @@ module _ (y : Layout) (b : List ℕ) (o : Octets b) where
         be-byte 0 b (omega arith) o,
         number-back valueAt 4 (omega arith),
         number-back savedAt 4 (omega arith),
-        map-back opened stateAt (omega arith) f,
-        map-back opened (creationAt y) (omega arith) g,
-        map-back opened (behaviourAt y) (omega arith) h,
+        map-back s stateAt (omega arith) f,
+        map-back s (creationAt y) (omega arith) g,
+        map-back s (behaviourAt y) (omega arith) h,
         joined valueAt 4 b,
         joined savedAt 4 b,
         joined stateAt m b,
@@ -219,10 +239,10 @@ module _ (y : Layout) (b : List ℕ) (o : Octets b) where
       )
       (part-whole (transactorBytes y) b n)
 
-  pub pack-unpackMessage : (opened : ℕ) → length b ≡ messageBytes y → getD b 0 0 / 16 ≡ 8 → mapFormed y opened dependencesAt b ≡ true
+  pub pack-unpackMessage : (s : State) → length b ≡ messageBytes y → getD b 0 0 / 16 ≡ 8 → mapFormed y s dependencesAt b ≡ true
       → packMessage y (unpackMessage y b) ≡ b
   unfolding packMessage unpackMessage
-  pack-unpackMessage opened n z f =
+  pack-unpackMessage s n z f =
       let m : ℕ = mapBytes y in
       let a : 128 + getD b 0 0 % 16 ≡ getD b 0 0 = omega arith in
       rw (
@@ -230,7 +250,7 @@ module _ (y : Layout) (b : List ℕ) (o : Octets b) where
         be-byte 0 b (omega arith) o,
         number-back 1 2 (omega arith),
         number-back 3 4 (omega arith),
-        map-back opened dependencesAt (omega arith) f,
+        map-back s dependencesAt (omega arith) f,
         joined 1 2 b,
         joined 3 4 b,
         joined dependencesAt m b,
@@ -266,28 +286,44 @@ module _ (y : Layout) (img : List ℕ) (whole : length img ≡ imageBytes y) (o 
       let e : be 1 0 ≡ part 3 1 img = ap (be 1) (sym z) ∙ be-byte 3 img (omega arith) o in
       rw (e, be-byte 0 img (omega arith) o, number-back y img o 1 2 (omega arith), joined 1 2 img, joined 3 1 img)
 
+  limits-back : limitsZero y img ≡ true → packLimits y (unpack y img .limits) ≡ part headBytes (limitsBytes y) img
+  unfolding limitsZero packLimits
+  limits-back z = go (y .limited) refl z
+    where
+      room : y .limited ≡ true → 8 ≤ length img
+      room e = omega (arith, whole, ap bit e)
+
+      go : (t : Bool) → y .limited ≡ t → not t or eqb (getD img 7 0) 0 ≡ true
+          → pick t (be 1 (unpack y img .limits .transactors) ++ be 1 (unpack y img .limits .messages) ++ be 1 (unpack y img .limits .checkpoints) ++ be 1 0) [] ≡ part 4 (4 * bit t) img
+      go true e z =
+          let last : be 1 0 ≡ part 7 1 img = ap (be 1) (sym (eqb-true (getD img 7 0) 0 z)) ∙ be-byte 7 img (omega (arith, room e)) o in
+          let four : part 4 4 img ≡ part 4 1 img ++ part 5 1 img ++ part 6 1 img ++ part 7 1 img =
+          part-add 4 3 1 img ∙ ap (λ (x : List ℕ). x ++ part 7 1 img) (part-add 4 2 1 img ∙ ap (λ (x : List ℕ). x ++ part 6 1 img) (part-add 4 1 1 img)) in
+          rw (read-limits y img e, last, be-byte 4 img (omega (arith, room e)) o, be-byte 5 img (omega (arith, room e)) o, be-byte 6 img (omega (arith, room e)) o, four)
+      go false e z = sym (part-def 4 0 img)
+
   transactor-back : (t : ℕ) → t < y .transactors → transactorZeros y img t ≡ true → packTransactorAt y (unpack y img) t ≡ transactorPart y img t
   unfolding transactorZeros packTransactorAt unpackTransactorAt
   transactor-back t h e =
       let b : List ℕ = transactorPart y img t in
-      let opened : ℕ = unpack y img .opened in
+      let s : State = unpack y img in
       let e0 = both (eqb (getD b 0 0 % 64) 0) _ e in
-      let e1 = both (mapFormed y opened stateAt b) _ (e0 .1) in
-      let e2 = both (mapFormed y opened (creationAt y) b) _ (e1 .1) in
-      let e3 = both (mapFormed y opened (behaviourAt y) b) _ (e2 .1) in
+      let e1 = both (mapFormed y s stateAt b) _ (e0 .1) in
+      let e2 = both (mapFormed y s (creationAt y) b) _ (e1 .1) in
+      let e3 = both (mapFormed y s (behaviourAt y) b) _ (e2 .1) in
       ap (packTransactor y) (read-transactor y img t h)
-      ∙ pack-unpackTransactor y b (octets-transactorPart y img o t) opened (length-transactorPart y img whole t h) (eqb-true (getD b 0 0 % 64) 0 (e0 .0)) (e1 .0) (e2 .0) (e3 .0)
+      ∙ pack-unpackTransactor y b (octets-transactorPart y img o t) s (length-transactorPart y img whole t h) (eqb-true (getD b 0 0 % 64) 0 (e0 .0)) (e1 .0) (e2 .0) (e3 .0)
 
   module _ (k : ℕ) (below : k < y .messages) (zeroed : messageZeros y img k ≡ true) where
     message-back : k < waitingIn y img → packMessageAt y (unpack y img) k ≡ messagePart y img k
     unfolding messageZeros unpackMessageAt
     message-back h =
         let b : List ℕ = messagePart y img k in
-        let opened : ℕ = unpack y img .opened in
+        let s : State = unpack y img in
         let e = both (eqb (getD b 0 0 / 16) 8) _ (rw (waiting-taken y img k h) at zeroed) in
         at-waiting y (unpack y img) k (omega (arith, unpack-waiting y img))
         ∙ ap (packMessage y) (read-message y img k h)
-        ∙ pack-unpackMessage y b (octets-messagePart y img o k) opened (length-messagePart y img whole k below) (eqb-true (getD b 0 0 / 16) 8 (e .0)) (e .1)
+        ∙ pack-unpackMessage y b (octets-messagePart y img o k) s (length-messagePart y img whole k below) (eqb-true (getD b 0 0 / 16) 8 (e .0)) (e .1)
 
     free-back : waitingIn y img ≤ k → vacantAt y img k ≡ true → packMessageAt y (unpack y img) k ≡ messagePart y img k
     unfolding messageZeros
@@ -295,7 +331,7 @@ module _ (y : Layout) (img : List ℕ) (whole : length img ≡ imageBytes y) (o 
         at-free y (unpack y img) k (omega (arith, unpack-waiting y img))
         ∙ sym (zeros-is (messagePart y img k) (rw v at zeroed) ∙ ap zeros (length-messagePart y img whole k below))
 
-  module _ (top : getD img 3 0 ≡ 0)
+  module _ (top : getD img 3 0 ≡ 0) (fourth : limitsZero y img ≡ true)
       (takes : (t : ℕ) → t < y .transactors → transactorZeros y img t ≡ true)
       (parcels : (k : ℕ) → k < y .messages → messageZeros y img k ≡ true)
       (gapless : (k : ℕ) → k < y .messages → noGap y img k ≡ true) where
@@ -306,16 +342,18 @@ module _ (y : Layout) (img : List ℕ) (whole : length img ≡ imageBytes y) (o 
         (sides k (waitingIn y img))
 
     pub pack-unpack : pack y (unpack y img) ≡ img
-    unfolding pack transactorPart messagePart
+    unfolding pack packFront transactorPart messagePart
     pack-unpack =
         let w : ℕ = transactorBytes y in
         let v : ℕ = messageBytes y in
         let front : ℕ = transactorAddress y (y .transactors) in
         rw (
           head-back top,
-          run-back headBytes w (y .transactors) (packTransactorAt y (unpack y img)) img (omega arith) (λ t h. transactor-back t h (takes t h)),
+          limits-back fourth,
+          run-back (headBytes + limitsBytes y) w (y .transactors) (packTransactorAt y (unpack y img)) img (omega arith) (λ t h. transactor-back t h (takes t h)),
           run-back front v (y .messages) (packMessageAt y (unpack y img)) img (omega arith) place-back,
-          joined headBytes (w * y .transactors) img,
+          joined headBytes (limitsBytes y) img,
+          joined (headBytes + limitsBytes y) (w * y .transactors) img,
           joined front (v * y .messages) img,
         )
         (part-whole (imageBytes y) img whole)
@@ -323,4 +361,4 @@ module _ (y : Layout) (img : List ℕ) (whole : length img ≡ imageBytes y) (o 
   pub pack-unpack-formed : wellFormed y img ≡ true → pack y (unpack y img) ≡ img
   pack-unpack-formed e =
       let c : Clauses y img = clauses-of y img e in
-      pack-unpack (c .zero) (c .transactors) (c .messages) (c .gap)
+      pack-unpack (c .zero) (c .fourth) (c .transactors) (c .messages) (c .gap)

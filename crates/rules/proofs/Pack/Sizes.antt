@@ -2,34 +2,56 @@
 use Prim.Native.Nat.{ℕ, _+_, _*_}
 use mathlib.Core.Bool.{Bool, true, false}
 use mathlib.Core.Path.{_≡_, refl}
-use mathlib.Core.List.{List, _++_}
+use mathlib.Core.List.{List, [], _++_}
 use lib.Dec.{ltb}
 use lib.ListN.{length, length-append}
 use Rattle.octets.specs.Bytes.{pick, chunks, zeros, Octets}
-use Rattle.octets.specs.Numbers.{be}
-use Rattle.octets.proofs.Put.{octets-append}
+use Rattle.octets.specs.Numbers.{be, bound}
+use Rattle.octets.proofs.Put.{octets-nil, octets-append}
 use Rattle.octets.proofs.Numbers.{length-be, octets-be}
 use Rattle.octets.proofs.Zero.{length-zeros, octets-zeros}
 use Rattle.octets.proofs.Chunks.{length-chunks, octets-chunks}
+use Rattle.marks.specs.Packed.{bit}
 use Rattle.maps.specs.declared.DependenceMap.{DependenceMap}
 use Rattle.maps.proofs.Packed.{length-packMap, octets-packMap}
-use Rattle.rules.specs.Layout.{Layout, base, narrow, historyBytes, mapBytes, transactorBytes, messageBytes, headBytes, imageBytes}
+use Rattle.rules.specs.Layout.{Layout, Limits, base, narrow, largest, historyBytes, mapBytes, transactorBytes, messageBytes, headBytes, limitsBytes, imageBytes}
 use Rattle.rules.specs.State.{Transactor, Message, State, transactorAt, messageAt}
-use Rattle.rules.specs.Pack.{packDependences, packTransactor, packMessage, packTransactorAt, packMessageAt, packHead, pack}
+use Rattle.rules.specs.Pack.{packDependences, packTransactor, packMessage, packTransactorAt, packMessageAt, packHead, packLimits, packFront, pack}
 
--- what document 02 says (W5)
-pub sizes-base : (historyBytes base ≡ 33) × (mapBytes base ≡ 528) × (transactorBytes base ≡ 1593) × (messageBytes base ≡ 535) × (imageBytes base ≡ 42612)
+-- what document 02 says (W5, W7)
+pub sizes-base : (historyBytes base ≡ 33) × (mapBytes base ≡ 528) × (transactorBytes base ≡ 1593) × (messageBytes base ≡ 535) × (imageBytes base ≡ 42616)
 sizes-base = (refl, refl, refl, refl, refl)
 
 -- what document 01 says
 pub sizes-narrow : (historyBytes narrow ≡ 17) × (mapBytes narrow ≡ 272) × (transactorBytes narrow ≡ 825) × (messageBytes narrow ≡ 279) × (imageBytes narrow ≡ 22132)
 sizes-narrow = (refl, refl, refl, refl, refl)
 
+-- "Refusal 28 moves from 255 to 65,535"
+pub largest-base : largest base ≡ 65535
+unfolding bound
+largest-base = refl
+
+pub largest-narrow : largest narrow ≡ 255
+unfolding bound
+largest-narrow = refl
+
 pub length-packHead : (s : State) → length (packHead s) ≡ headBytes
 unfolding packHead
 length-packHead s = simp (length-append, length-be)
 
 module _ (y : Layout) where
+  pub length-packLimits : (m : Limits) → length (packLimits y m) ≡ limitsBytes y
+  unfolding packLimits
+  length-packLimits m = go (y .limited)
+    where
+      go : (t : Bool) → length (pick t (be 1 (m .transactors) ++ be 1 (m .messages) ++ be 1 (m .checkpoints) ++ be 1 0) []) ≡ 4 * bit t
+      go true = simp (length-append, length-be)
+      go false = refl
+
+  pub length-packFront : (s : State) → length (packFront y s) ≡ headBytes + limitsBytes y
+  unfolding packFront
+  length-packFront s = rw (length-append, length-packHead s, length-packLimits (s .limits))
+
   pub length-packTransactor : (x : Transactor) → length (packTransactor y x) ≡ transactorBytes y
   unfolding packTransactor
   length-packTransactor x = simp (length-append, length-be, length-packMap)
@@ -55,7 +77,7 @@ module _ (y : Layout) where
   length-pack s = rw (
     length-append,
     length-append,
-    length-packHead s,
+    length-packFront s,
     length-chunks (transactorBytes y) (packTransactorAt y s) (length-packTransactorAt s) (y .transactors),
     length-chunks (messageBytes y) (packMessageAt y s) (length-packMessageAt s) (y .messages),
   )
@@ -70,6 +92,18 @@ unfolding packHead
 octets-packHead s = octets-number _ 1 0 (octets-number _ 2 (s .next) (octets-be 1 (s .opened)))
 
 module _ (y : Layout) where
+  pub octets-packLimits : (m : Limits) → Octets (packLimits y m)
+  unfolding packLimits
+  octets-packLimits m = go (y .limited)
+    where
+      go : (t : Bool) → Octets (pick t (be 1 (m .transactors) ++ be 1 (m .messages) ++ be 1 (m .checkpoints) ++ be 1 0) [])
+      go true = octets-number _ 1 0 (octets-number _ 1 (m .checkpoints) (octets-number _ 1 (m .messages) (octets-be 1 (m .transactors))))
+      go false = octets-nil
+
+  octets-packFront : (s : State) → Octets (packFront y s)
+  unfolding packFront
+  octets-packFront s = octets-append (packHead s) (packLimits y (s .limits)) (octets-packHead s) (octets-packLimits (s .limits))
+
   octets-map : (b : List ℕ) (m : DependenceMap) → Octets b → Octets (b ++ packDependences y m)
   octets-map b m o = octets-append b (packDependences y m) o (octets-packMap (y .width) (y .places) (y .transactors) m)
 
@@ -91,7 +125,7 @@ module _ (y : Layout) where
 
   pub octets-pack : (s : State) → Octets (pack y s)
   unfolding pack packTransactorAt
-  octets-pack s = octets-append (packHead s ++ chunks (y .transactors) (packTransactorAt y s)) (chunks (y .messages) (packMessageAt y s))
-      (octets-append (packHead s) (chunks (y .transactors) (packTransactorAt y s)) (octets-packHead s)
+  octets-pack s = octets-append (packFront y s ++ chunks (y .transactors) (packTransactorAt y s)) (chunks (y .messages) (packMessageAt y s))
+      (octets-append (packFront y s) (chunks (y .transactors) (packTransactorAt y s)) (octets-packFront s)
       (octets-chunks (y .transactors) (packTransactorAt y s) (λ t h. octets-packTransactor (transactorAt s t))))
       (octets-chunks (y .messages) (packMessageAt y s) (λ k h. octets-packMessageAt s k))

@@ -22,10 +22,10 @@ use Rattle.maps.specs.Map.{withEntry}
 use Rattle.maps.proofs.Map.{Sized}
 use Rattle.maps.proofs.Packed.{length-packMap}
 use Rattle.maps.proofs.Placed.{put-entry}
-use Rattle.rules.specs.Layout.{Layout, historyBytes, mapBytes, valueAt, savedAt, stateAt, creationAt, behaviourAt, transactorBytes, dependencesAt, messageBytes, headBytes, transactorAddress, messageAddress}
+use Rattle.rules.specs.Layout.{Layout, Limits, historyBytes, mapBytes, valueAt, savedAt, stateAt, creationAt, behaviourAt, transactorBytes, dependencesAt, messageBytes, headBytes, limitsBytes, transactorAddress, messageAddress}
 use Rattle.rules.specs.State.{Transactor, Message, State, noTransactor, noMessage, transactorAt, messageAt, withStatus, withValue, withState, withBehaviour, withTransactor, withOpened, withMessage, withoutMessage}
-use Rattle.rules.specs.Pack.{packDependences, packTransactor, packMessage, packTransactorAt, packMessageAt, packHead, pack}
-use Rattle.rules.proofs.Pack.Sizes.{length-packHead, length-packTransactor, length-packMessage, length-packTransactorAt, length-packMessageAt}
+use Rattle.rules.specs.Pack.{packDependences, packTransactor, packMessage, packTransactorAt, packMessageAt, packHead, packLimits, packFront, pack}
+use Rattle.rules.proofs.Pack.Sizes.{length-packHead, length-packLimits, length-packFront, length-packTransactor, length-packMessage, length-packTransactorAt, length-packMessageAt}
 
 -- ---- setters that the rules do not name
 
@@ -36,11 +36,14 @@ abbrev pub withCreation : Transactor → DependenceMap → Transactor
 withCreation x m = record { status = x .status; value = x .value; saved = x .saved; state = x .state; creation = m; behaviour = x .behaviour }
 
 abbrev pub withNext : State → ℕ → State
-withNext s n = record { opened = s .opened; next = n; transactors = s .transactors; messages = s .messages }
+withNext s n = record { limits = s .limits; opened = s .opened; next = n; transactors = s .transactors; messages = s .messages }
+
+abbrev pub withLimits : State → Limits → State
+withLimits s m = record { limits = m; opened = s .opened; next = s .next; transactors = s .transactors; messages = s .messages }
 
 -- s with m behind the parcels that wait
 abbrev pub appended : State → Message → State
-appended s m = record { opened = s .opened; next = s .next; transactors = s .transactors; messages = s .messages ++ (m ∷ []) }
+appended s m = record { limits = s .limits; opened = s .opened; next = s .next; transactors = s .transactors; messages = s .messages ++ (m ∷ []) }
 
 -- the parcel that withMessage adds
 abbrev pub sent : State → ℕ → ℕ → DependenceMap → Message
@@ -130,47 +133,47 @@ takes y s = chunks (y .transactors) (packTransactorAt y s)
 abbrev parcels : Layout → State → List ℕ
 parcels y s = chunks (y .messages) (packMessageAt y s)
 
-length-front : (y : Layout) (s : State) → length (packHead s ++ takes y s) ≡ transactorAddress y (y .transactors)
-length-front y s = rw (length-append, length-packHead s, length-chunks (transactorBytes y) (packTransactorAt y s) (length-packTransactorAt y s) (y .transactors))
+length-front : (y : Layout) (s : State) → length (packFront y s ++ takes y s) ≡ transactorAddress y (y .transactors)
+length-front y s = rw (length-append, length-packFront y s, length-chunks (transactorBytes y) (packTransactorAt y s) (length-packTransactorAt y s) (y .transactors))
 
 module _ (y : Layout) (s s' : State) where
-  pub put-head : (at : ℕ) (bs : List ℕ) → at + length bs ≤ headBytes → put at bs (packHead s) ≡ packHead s' → packTransactorAt y s' ≡ packTransactorAt y s → packMessageAt y s' ≡ packMessageAt y s
+  pub put-head : (at : ℕ) (bs : List ℕ) → at + length bs ≤ headBytes + limitsBytes y → put at bs (packFront y s) ≡ packFront y s' → packTransactorAt y s' ≡ packTransactorAt y s → packMessageAt y s' ≡ packMessageAt y s
       → put at bs (pack y s) ≡ pack y s'
   unfolding pack
   put-head at bs fits e ts ms =
-      let h : at + length bs ≤ length (packHead s) = rw length-packHead fits in
-      let h' : at + length bs ≤ length (packHead s ++ takes y s) = rw length-append (omega arith) in
-      rw (put-left at bs (packHead s ++ takes y s) (parcels y s) h', put-left at bs (packHead s) (takes y s) h, e, ts, ms)
+      let h : at + length bs ≤ length (packFront y s) = rw length-packFront fits in
+      let h' : at + length bs ≤ length (packFront y s ++ takes y s) = rw length-append (omega arith) in
+      rw (put-left at bs (packFront y s ++ takes y s) (parcels y s) h', put-left at bs (packFront y s) (takes y s) h, e, ts, ms)
 
   pub put-transactor : (t off : ℕ) (bs : List ℕ) → t < y .transactors → off + length bs ≤ transactorBytes y
-      → packHead s' ≡ packHead s → packMessageAt y s' ≡ packMessageAt y s
+      → packFront y s' ≡ packFront y s → packMessageAt y s' ≡ packMessageAt y s
       → put off bs (packTransactorAt y s t) ≡ packTransactorAt y s' t → ((i : ℕ) → (i ≡ t → ⊥) → packTransactorAt y s' i ≡ packTransactorAt y s i)
       → put (transactorAddress y t + off) bs (pack y s) ≡ pack y s'
   unfolding pack
   put-transactor t off bs below fits hd ms here other =
       let w : ℕ = transactorBytes y in
-      let a : transactorAddress y t + off ≡ length (packHead s) + (w * t + off) = rw length-packHead (add-assoc headBytes (w * t) off) in
-      let h : transactorAddress y t + off + length bs ≤ length (packHead s ++ takes y s) = rw length-front (omega (arith, step w t (y .transactors) below)) in
+      let a : transactorAddress y t + off ≡ length (packFront y s) + (w * t + off) = rw length-packFront (add-assoc (headBytes + limitsBytes y) (w * t) off) in
+      let h : transactorAddress y t + off + length bs ≤ length (packFront y s ++ takes y s) = rw length-front (omega (arith, step w t (y .transactors) below)) in
       rw (
-        put-left (transactorAddress y t + off) bs (packHead s ++ takes y s) (parcels y s) h,
+        put-left (transactorAddress y t + off) bs (packFront y s ++ takes y s) (parcels y s) h,
         a,
-        put-right (w * t + off) bs (packHead s) (takes y s),
+        put-right (w * t + off) bs (packFront y s) (takes y s),
         put-chunk w (packTransactorAt y s) (packTransactorAt y s') (length-packTransactorAt y s) (y .transactors) t off bs below fits (sym here) other,
         hd,
         ms,
       )
 
   pub put-message : (k off : ℕ) (bs : List ℕ) → k < y .messages → off + length bs ≤ messageBytes y
-      → packHead s' ≡ packHead s → packTransactorAt y s' ≡ packTransactorAt y s
+      → packFront y s' ≡ packFront y s → packTransactorAt y s' ≡ packTransactorAt y s
       → put off bs (packMessageAt y s k) ≡ packMessageAt y s' k → ((i : ℕ) → (i ≡ k → ⊥) → packMessageAt y s' i ≡ packMessageAt y s i)
       → put (messageAddress y k + off) bs (pack y s) ≡ pack y s'
   unfolding pack
   put-message k off bs below fits hd ts here other =
       let w : ℕ = messageBytes y in
-      let a : messageAddress y k + off ≡ length (packHead s ++ takes y s) + (w * k + off) = rw length-front (add-assoc (transactorAddress y (y .transactors)) (w * k) off) in
+      let a : messageAddress y k + off ≡ length (packFront y s ++ takes y s) + (w * k + off) = rw length-front (add-assoc (transactorAddress y (y .transactors)) (w * k) off) in
       rw (
         a,
-        put-right (w * k + off) bs (packHead s ++ takes y s) (parcels y s),
+        put-right (w * k + off) bs (packFront y s ++ takes y s) (parcels y s),
         put-chunk w (packMessageAt y s) (packMessageAt y s') (length-packMessageAt y s) (y .messages) k off bs below fits (sym here) other,
         hd,
         ts,
@@ -204,7 +207,7 @@ module _ (y : Layout) (s : State) (t : ℕ) (below : t < y .transactors) (many :
   -- some bytes of it
   pub pack-inTransactor : (x : Transactor) (off : ℕ) (bs : List ℕ) → off + length bs ≤ transactorBytes y → put off bs (packTransactor y (transactorAt s t)) ≡ packTransactor y x
       → put (transactorAddress y t + off) bs (pack y s) ≡ pack y (withTransactor s t x)
-  unfolding packHead packTransactorAt packMessageAt messageAt withTransactor
+  unfolding packFront packHead packTransactorAt packMessageAt messageAt withTransactor
   pack-inTransactor x off bs fits e =
       put-transactor y s (withTransactor s t x) t off bs below fits refl refl
       (e ∙ ap (packTransactor y) (sym (withTransactor-here s t x (omega arith))))
@@ -219,22 +222,30 @@ module _ (y : Layout) (s : State) (t : ℕ) (below : t < y .transactors) (many :
 
 -- ---- the head
 
-put-opened : (s : State) (n : ℕ) → put 0 (be 1 n) (packHead s) ≡ packHead (withOpened s n)
-unfolding packHead withOpened
-put-opened s n = simp append-assoc (put-first (be 1 n) (be 1 (s .opened)) (be 2 (s .next) ++ be 1 0) (simp length-be))
-
-put-next : (s : State) (n : ℕ) → put 1 (be 2 n) (packHead s) ≡ packHead (withNext s n)
-unfolding packHead
-put-next s n = put-mid 1 (be 2 n) (be 1 (s .opened)) (be 2 (s .next)) (be 1 0) (length-be 1 (s .opened)) (simp length-be)
-
 module _ (y : Layout) (s : State) where
+  put-opened : (n : ℕ) → put 0 (be 1 n) (packFront y s) ≡ packFront y (withOpened s n)
+  unfolding packFront packHead withOpened
+  put-opened n = simp append-assoc (put-first (be 1 n) (be 1 (s .opened)) (be 2 (s .next) ++ (be 1 0 ++ packLimits y (s .limits))) (simp length-be))
+
+  put-next : (n : ℕ) → put 1 (be 2 n) (packFront y s) ≡ packFront y (withNext s n)
+  unfolding packFront packHead
+  put-next n = simp append-assoc (simp append-assoc at (put-mid 1 (be 2 n) (be 1 (s .opened)) (be 2 (s .next)) (be 1 0 ++ packLimits y (s .limits)) (length-be 1 (s .opened)) (simp length-be)))
+
+  put-limits : (m : Limits) → put headBytes (packLimits y m) (packFront y s) ≡ packFront y (withLimits s m)
+  unfolding packFront packHead
+  put-limits m = put-last headBytes (packLimits y m) (packHead s) (packLimits y (s .limits)) (length-packHead s) (length-packLimits y m ∙ sym (length-packLimits y (s .limits)))
+
   pub pack-withOpened : (n : ℕ) → put 0 (be 1 n) (pack y s) ≡ pack y (withOpened s n)
   unfolding withOpened packTransactorAt packMessageAt transactorAt messageAt
-  pack-withOpened n = put-head y s (withOpened s n) 0 (be 1 n) (rw length-be (omega arith)) (put-opened s n) refl refl
+  pack-withOpened n = put-head y s (withOpened s n) 0 (be 1 n) (rw length-be (omega arith)) (put-opened n) refl refl
 
   pub pack-withNext : (n : ℕ) → put 1 (be 2 n) (pack y s) ≡ pack y (withNext s n)
   unfolding packTransactorAt packMessageAt transactorAt messageAt
-  pack-withNext n = put-head y s (withNext s n) 1 (be 2 n) (rw length-be (omega arith)) (put-next s n) refl refl
+  pack-withNext n = put-head y s (withNext s n) 1 (be 2 n) (rw length-be (omega arith)) (put-next n) refl refl
+
+  pub pack-withLimits : (m : Limits) → put headBytes (packLimits y m) (pack y s) ≡ pack y (withLimits s m)
+  unfolding packTransactorAt packMessageAt transactorAt messageAt
+  pack-withLimits m = put-head y s (withLimits s m) headBytes (packLimits y m) (rw length-packLimits (omega arith)) (put-limits m) refl refl
 
 -- ---- parcels
 
@@ -269,7 +280,7 @@ module _ (y : Layout) (s : State) (room : length (s .messages) < y .messages) (m
       (sides i (length (s .messages)))
 
   pub pack-appended : put (messageAddress y (length (s .messages))) (packMessage y m) (pack y s) ≡ pack y (appended s m)
-  unfolding packHead packTransactorAt transactorAt
+  unfolding packFront packHead packTransactorAt transactorAt
   pack-appended =
       let n : ℕ = length (s .messages) in
       let a : messageAddress y n + 0 ≡ messageAddress y n = add-zero (messageAddress y n) in
@@ -335,11 +346,11 @@ module _ (y : Layout) (s : State) (k : ℕ) (below : k < length (s .messages)) (
 
   -- as octets' remove puts it
   pub pack-removed : put (messageAddress y k) (part (messageAddress y k + messageBytes y) (messageBytes y * (length (s .messages) - (k + 1))) (pack y s) ++ zeros (messageBytes y)) (pack y s) ≡ pack y (withoutMessage s k)
-  unfolding pack packHead packTransactorAt transactorAt withoutMessage
+  unfolding pack packFront packHead packTransactorAt transactorAt withoutMessage
   pack-removed =
       let w : ℕ = messageBytes y in
       let m : ℕ = length (s .messages) - (k + 1) in
-      let front : List ℕ = packHead s ++ takes y s in
+      let front : List ℕ = packFront y s ++ takes y s in
       let p : messageAddress y k ≡ length front + w * k = rw length-front in
       let q : messageAddress y k + w ≡ length front + (w * k + w) = rw length-front (add-assoc (transactorAddress y (y .transactors)) (w * k) w) in
       rw (q, p, part-right (w * k + w) (w * m) front (parcels y s), put-right (w * k) (part (w * k + w) (w * m) (parcels y s) ++ zeros w) front (parcels y s), gone-chunks)
@@ -359,6 +370,11 @@ module _ (s : State) (f : ℕ → Transactor) where
   upTo-more : (i : ℕ) → upTo s f (i + 1) ≡ withTransactor (upTo s f i) i (f i)
   unfolding upTo
   upTo-more i = rw add-one
+
+  pub upTo-limits : (i : ℕ) → upTo s f i .limits ≡ s .limits
+  unfolding upTo withTransactor
+  upTo-limits zero = refl
+  upTo-limits (suc i) = upTo-limits i
 
   pub upTo-opened : (i : ℕ) → upTo s f i .opened ≡ s .opened
   unfolding upTo withTransactor
@@ -404,9 +420,10 @@ module _ (y : Layout) (s : State) (f : ℕ → Transactor) (many : length (s .tr
   pub upTo-transactors : upTo s f (y .transactors) .transactors ≡ tabulate (y .transactors) f
   upTo-transactors = fill-all f (upTo s f (y .transactors) .transactors) (y .transactors) (upTo-take s f (y .transactors) (omega arith)) (upTo-many s f (y .transactors) ∙ many)
 
-  pub upTo-all : upTo s f (y .transactors) ≡ record { opened = s .opened; next = s .next; transactors = tabulate (y .transactors) f; messages = s .messages }
+  pub upTo-all : upTo s f (y .transactors) ≡ record { limits = s .limits; opened = s .opened; next = s .next; transactors = tabulate (y .transactors) f; messages = s .messages }
   upTo-all =
+      let l : upTo s f (y .transactors) .limits ≡ s .limits = upTo-limits s f (y .transactors) in
       let a : upTo s f (y .transactors) .opened ≡ s .opened = upTo-opened s f (y .transactors) in
       let b : upTo s f (y .transactors) .next ≡ s .next = upTo-next s f (y .transactors) in
       let c : upTo s f (y .transactors) .messages ≡ s .messages = upTo-messages s f (y .transactors) in
-      λ i. record { opened = a i; next = b i; transactors = upTo-transactors i; messages = c i }
+      λ i. record { limits = l i; opened = a i; next = b i; transactors = upTo-transactors i; messages = c i }

@@ -5,14 +5,14 @@ use mathlib.Core.Path.{_≡_}
 use lib.ListN.{length}
 use lib.Dec.{eqb, ltb, leb}
 use Rattle.octets.specs.Bytes.{pick, _and_}
-use Rattle.rules.specs.Layout.{Limits, lastNumber}
+use Rattle.rules.specs.Layout.{Layout, largest, lastNumber}
 use Rattle.rules.specs.Status.{busy, annihilated}
 use Rattle.rules.specs.State.{Transactor, State, ownHistory, transactorAt}
 use Rattle.rules.specs.Refusals.{named, anyNamed}
 
 -- a signed take at the largest life number
-unfoldable pub isLastIncarnation : Limits → ℕ → Transactor → Bool
-isLastIncarnation m t x = ltb 0 (ownHistory t x .count) and leb (m .incarnation) (ownHistory t x .incarnation)
+unfoldable pub isLastIncarnation : Layout → ℕ → Transactor → Bool
+isLastIncarnation y t x = ltb 0 (ownHistory t x .count) and leb (largest y) (ownHistory t x .incarnation)
 
 -- the refusals of an acting take, 21 and 22, and of one that must be at work, 23
 unfoldable pub actingRefusal : State → ℕ → ℕ
@@ -25,24 +25,24 @@ busyRefusal s t =
     (pick (not (eqb (transactorAt s t .status) busy)) 23 0))
 
 -- no place free for a message, 26, or no number, 27
-unfoldable pub crowdedRefusal : Limits → State → ℕ
-crowdedRefusal m s = pick (leb (m .messages) (length (s .messages))) 26 (pick (eqb (s .next) lastNumber) 27 0)
+unfoldable pub crowdedRefusal : State → ℕ
+crowdedRefusal s = pick (leb (s .limits .messages) (length (s .messages))) 26 (pick (eqb (s .next) lastNumber) 27 0)
 
 -- why a named take blocks a signing: 21, 22 or 30
-unfoldable pub blocksAt : Limits → State → ℕ → ℕ → Bool
-blocksAt m s number t =
+unfoldable pub blocksAt : State → ℕ → ℕ → Bool
+blocksAt s number t =
     pick (eqb number 21) (leb (s .opened) t)
     (pick (eqb number 22) (eqb (transactorAt s t .status) annihilated)
-    (leb (m .checkpoints) (ownHistory t (transactorAt s t) .count)))
+    (leb (s .limits .checkpoints) (ownHistory t (transactorAt s t) .count)))
 
 -- the refusals of a volume: empty, 29, or the first for which a named take blocks it
-unfoldable pub groupRefusal : Limits → State → ℕ → ℕ
-groupRefusal m s g =
+unfoldable pub groupRefusal : State → ℕ → ℕ
+groupRefusal s g =
     pick (eqb g 0) 29
-    (pick (anyNamed g (blocksAt m s 21)) 21
-    (pick (anyNamed g (blocksAt m s 22)) 22
-    (pick (anyNamed g (blocksAt m s 30)) 30 0)))
+    (pick (anyNamed g (blocksAt s 21)) 21
+    (pick (anyNamed g (blocksAt s 22)) 22
+    (pick (anyNamed g (blocksAt s 30)) 30 0)))
 
 -- every named take has room for one more signing
-unfoldable pub Room : Limits → State → ℕ → Type 0
-Room m s g = (t : ℕ) → named g t ≡ true → ownHistory t (transactorAt s t) .count < m .checkpoints
+unfoldable pub Room : State → ℕ → Type 0
+Room s g = (t : ℕ) → named g t ≡ true → ownHistory t (transactorAt s t) .count < s .limits .checkpoints

@@ -1,13 +1,13 @@
--- W6, for the code: an image, well-formed or not, with every life number and list entry written anew in another width, all other bytes as they stand.
+-- W6, for the code: an image, well-formed or not, with every life number and list entry written anew in another width, the widest limits
+-- where limits are stored, and all other bytes as they stand.
 use Prim.Native.Nat.{ℕ, _+_}
 use mathlib.Core.List.{List, _++_}
 use Rattle.octets.specs.Bytes.{part, chunks}
 use Rattle.octets.specs.Numbers.{be}
 use Rattle.marks.specs.Packed.{packNumberAt, loadNumberAt, unpackHistory}
 use Rattle.maps.specs.Packed.{entryBytes}
-use Rattle.rules.specs.Layout.{Layout, mapBytes, stateAt, creationAt, behaviourAt, dependencesAt, headBytes, narrow, base}
-use Rattle.rules.specs.Pack.{transactorPart, messagePart}
-use Rattle.rules.specs.Internal.Widths.{resized}
+use Rattle.rules.specs.Layout.{Layout, widest, mapBytes, stateAt, creationAt, behaviourAt, dependencesAt, headBytes, narrow, base}
+use Rattle.rules.specs.Pack.{packLimits, transactorPart, messagePart}
 
 -- number i of a mark, the life number or after it one of the list, from v bytes to w
 unfoldable pub renumberedAt : ℕ → ℕ → List ℕ → ℕ → List ℕ
@@ -39,9 +39,14 @@ recastTransactorAt y w img t = recastTransactor y w (transactorPart y img t)
 unfoldable pub recastMessageAt : Layout → ℕ → List ℕ → ℕ → List ℕ
 recastMessageAt y w img k = recastMessage y w (messagePart y img k)
 
-unfoldable pub recast : Layout → ℕ → List ℕ → List ℕ
-recast y w img = part 0 headBytes img ++ chunks (y .transactors) (recastTransactorAt y w img) ++ chunks (y .messages) (recastMessageAt y w img)
+-- the head, and after it the limits where layout z stores them
+unfoldable pub recastFront : Layout → List ℕ → List ℕ
+recastFront z img = part 0 headBytes img ++ packLimits z (widest z)
+
+-- an image of layout y in layout z
+unfoldable pub recast : Layout → Layout → List ℕ → List ℕ
+recast y z img = recastFront z img ++ chunks (y .transactors) (recastTransactorAt y (z .width) img) ++ chunks (y .messages) (recastMessageAt y (z .width) img)
 
 -- an old image in the new form, whatever it holds
 unfoldable pub widened : List ℕ → List ℕ
-widened img = recast narrow (base .width) img
+widened img = recast narrow base img

@@ -6,8 +6,8 @@ use lib.ListN.{length}
 use Rattle.octets.specs.Numbers.{bound}
 use Rattle.maps.specs.declared.DependenceMap.{DependenceMap}
 use Rattle.maps.specs.Map.{heldAt, emptyMap}
-use Rattle.maps.specs.Internal.Fitting.{MapOk}
-use Rattle.rules.specs.Layout.{Layout}
+use Rattle.maps.specs.Internal.Fitting.{MapOk, Bounded}
+use Rattle.rules.specs.Layout.{Layout, Limits, widest, lowest}
 use Rattle.rules.specs.Status.{unused, ready, busy, annihilated}
 use Rattle.rules.specs.State.{Transactor, Message, State, bare, transactorAt, messageAt, ownHistory}
 use Rattle.rules.specs.Step.{Step}
@@ -31,8 +31,14 @@ pub record MessageOk (y : Layout) (m : Message) : Type 0 where
   pub value : m .value < bound 4
   pub dependences : DependencesOk y (m .dependences)
 
+-- limits, stored or not
+pub data LimitsOk (y : Layout) (m : Limits) : Type 0 where
+  stored : y .limited ≡ true → m .transactors < 256 → m .messages < 256 → m .checkpoints < 256 → LimitsOk y m
+  counted : y .limited ≡ false → m ≡ widest y → LimitsOk y m
+
 -- a state that can be packed
 pub record Packable (y : Layout) (s : State) : Type 0 where
+  pub limits : LimitsOk y (s .limits)
   pub opened : s .opened < 256
   pub next : s .next < bound 2
   pub many : length (s .transactors) ≡ y .transactors
@@ -48,21 +54,31 @@ pub record StepOk (p : Step) : Type 0 where
   pub message : p .message < bound 2
   pub value : p .value < bound 4
 
--- ---- document 01's clauses
+-- ---- the documents' clauses
 
--- no mark of an unopened take
-unfoldable pub Known : ℕ → DependenceMap → Type 0
-Known opened m = (i : ℕ) → opened ≤ i → heldAt m i ≡ false
+-- limits in range
+pub record Allowed (y : Layout) (m : Limits) : Type 0 where
+  pub transactors-low : lowest (y .limited) (y .transactors) ≤ m .transactors
+  pub transactors-high : m .transactors ≤ y .transactors
+  pub messages-low : lowest (y .limited) (y .messages) ≤ m .messages
+  pub messages-high : m .messages ≤ y .messages
+  pub checkpoints-low : lowest (y .limited) (y .places) ≤ m .checkpoints
+  pub checkpoints-high : m .checkpoints ≤ y .places
+
+-- no mark of an unopened take, and none with more than c entries in its list
+pub record Known (c opened : ℕ) (m : DependenceMap) : Type 0 where
+  pub unheld : (i : ℕ) → opened ≤ i → heldAt m i ≡ false
+  pub counts : Bounded c m
 
 pub data Live : ℕ → Type 0 where
   idle : Live ready
   working : Live busy
 
-pub record Alive (y : Layout) (opened t : ℕ) (x : Transactor) : Type 0 where
+pub record Alive (y : Layout) (c opened t : ℕ) (x : Transactor) : Type 0 where
   pub status : Live (x .status)
-  pub state : Known opened (x .state)
-  pub creation : Known opened (x .creation)
-  pub behaviour : Known opened (x .behaviour)
+  pub state : Known c opened (x .state)
+  pub creation : Known c opened (x .creation)
+  pub behaviour : Known c opened (x .behaviour)
   -- its own mark
   pub own : heldAt (x .state) t ≡ true
   -- never signed: no saved text
@@ -70,17 +86,19 @@ pub record Alive (y : Layout) (opened t : ℕ) (x : Transactor) : Type 0 where
   -- idle: no behaviour map
   pub behaves : x .status ≡ ready → x .behaviour ≡ emptyMap (y .places) (y .transactors)
 
-pub data TransactorFormed (y : Layout) (opened t : ℕ) : Transactor → Type 0 where
-  not-opened : opened ≤ t → TransactorFormed y opened t (bare y unused)
-  gone : t < opened → TransactorFormed y opened t (bare y annihilated)
-  alive : {x : Transactor} → t < opened → Alive y opened t x → TransactorFormed y opened t x
+pub data TransactorFormed (y : Layout) (c opened t : ℕ) : Transactor → Type 0 where
+  not-opened : opened ≤ t → TransactorFormed y c opened t (bare y unused)
+  gone : t < opened → TransactorFormed y c opened t (bare y annihilated)
+  alive : {x : Transactor} → t < opened → Alive y c opened t x → TransactorFormed y c opened t x
 
 -- a state that is well-formed
 pub record WellFormed (y : Layout) (s : State) : Type 0 where
   pub packable : Packable y s
-  pub opened : s .opened ≤ y .transactors
-  pub transactors : (t : ℕ) → t < y .transactors → TransactorFormed y (s .opened) t (transactorAt s t)
-  pub known : (k : ℕ) → k < length (s .messages) → Known (s .opened) (messageAt s k .dependences)
+  pub limits : Allowed y (s .limits)
+  pub opened : s .opened ≤ s .limits .transactors
+  pub waiting : length (s .messages) ≤ s .limits .messages
+  pub transactors : (t : ℕ) → t < y .transactors → TransactorFormed y (s .limits .checkpoints) (s .opened) t (transactorAt s t)
+  pub known : (k : ℕ) → k < length (s .messages) → Known (s .limits .checkpoints) (s .opened) (messageAt s k .dependences)
   pub order : (k : ℕ) → k + 1 < length (s .messages) → messageAt s k .number < messageAt s (k + 1) .number
   pub numbers : (k : ℕ) → k < length (s .messages) → messageAt s k .number < s .next
   pub addressees : (k : ℕ) → k < length (s .messages) → messageAt s k .addressee < s .opened

@@ -20,6 +20,6 @@ letter-spec =
     (λ c. letter-crowded _ _ (search needs) (search needs) _ (search needs) (cc (c .answered2 .ensures, c .before .before .crowded .ensures)))
     (λ c κs. search needs)
     (λ c κs. search needs)
-    (λ c κs. free-place _ _ _ _ (search needs) (search needs) (search needs) (search needs) (rw (c .empty .ensures) (bounded-empty _ _)))
+    (λ c κs. free-place _ _ _ _ (search needs) (search needs) (search needs) (search needs) (rw (c .empty .ensures) (bounded-empty _ _ _)))
     (λ c. search needs)
     (λ c. letter-done _ _ (search needs) (search needs) (search needs) _ _ (search needs) (cc (c .before .before .append .ensures, c .before .before .before .empty .ensures))))

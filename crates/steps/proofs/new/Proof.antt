@@ -6,7 +6,7 @@ use Rattle.steps.proofs.new.Statement.{statement}
 use Rattle.steps.proofs.new.Tie as tie
 
 abbrev start : tie.After-carry-arg → tie.Start
-start c = c .before .before .before .before .before .before .before .before .before .before
+start c = c .before .before .before .before .before .before .before .before .before .before .before .before
 
 carry-requires : tie.Need-carry-requires
 carry-requires c κs = (good-lent _ (start c .pre .good) _ (start c .pre .step .transactor), search needs)

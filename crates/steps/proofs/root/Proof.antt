@@ -15,6 +15,6 @@ root-spec =
     (λ c. search needs)
     (λ c. root-full _ _ (search needs) _ (search needs) (c .answered .ensures))
     (λ c κs. search needs)
-    (λ c κs. (search needs, search needs, rw (c .empty .ensures) (bounded-empty _ _)))
+    (λ c κs. (search needs, search needs, rw (c .empty .ensures) (bounded-empty _ _ _)))
     (λ c. search needs)
     (λ c. root-done _ _ (search needs) _ _ (search needs) (search needs) (cc (c .before .before .«open» .ensures, c .before .before .before .empty .ensures))))

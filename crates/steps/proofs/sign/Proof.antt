@@ -28,7 +28,7 @@ sign-spec =
     (λ c κs. search needs)
     (λ c. search needs)
     (λ c. sign-unready _ _ (search needs) (search needs) _ (ap not (sym (c .before .before .ready .ensures)) ∙ c .before .if2 .taken) (c .answered2 .ensures))
-    (λ c κs. (search needs, group-room _ _ _ (search needs) (search needs)))
+    (λ c κs. (search needs, group-room _ _ (search needs) (search needs)))
     (λ c κs. search needs)
     (λ c. search needs)
     returns-3)

@@ -3,7 +3,7 @@ use Prim.Native.Nat.{ℕ}
 use mathlib.Core.Bool.{false}
 use mathlib.Core.Path.{_≡_}
 use mathlib.Core.List.{List}
-use Rattle.rules.specs.Layout.{base, standard}
+use Rattle.rules.specs.Layout.{base}
 use Rattle.rules.specs.declared.Step.{Step}
 use Rattle.rules.specs.declared.Reply.{Reply}
 use Rattle.rules.specs.Refusals.{malformed}
@@ -14,8 +14,8 @@ use Rattle.rules.specs.Internal.Good.{Good}
 
 -- a step on an image: the reply, and the image after it
 pub record Stepped (img : List ℕ) (p : Step) (r : Reply) (after : List ℕ) : Type 0 where
-  pub reply : r ≡ stepOf base standard (unpack base img) p .reply
-  pub image : after ≡ pack base (stepOf base standard (unpack base img) p .state)
+  pub reply : r ≡ stepOf base (unpack base img) p .reply
+  pub image : after ≡ pack base (stepOf base (unpack base img) p .state)
 
 -- a well-formed step of kind k on the image of a well-formed state
 pub record Asked (k : ℕ) (img : List ℕ) (p : Step) : Type 0 where

@@ -3,7 +3,7 @@ use Prim.Native.Nat.{ℕ, _<_}
 use mathlib.Core.Path.{_≡_, refl, sym}
 use native.Mathlib.Omega.{arith}
 use borrow.Author.Needs.{needs}
-use Rattle.rules.specs.Layout.{base, standard}
+use Rattle.rules.specs.Layout.{base}
 use Rattle.rules.specs.Step.{fall}
 use Rattle.rules.specs.Rules.{Effect, finishBy, localBy}
 use Rattle.rules.specs.Pack.{unpackTransactor}
@@ -15,15 +15,15 @@ use Rattle.transactor.proofs.act.Tie as tie
 -- kinds 5 to 8, past the refusals
 early : (e : tie.Joined2) {n : ℕ} {f : Effect} → e .before .before .before .before .args .kind ≡ n → n < fall
     → localBy base n (e .before .before .before .before .args .t) (e .before .before .before .before .args .value) (unpackTransactor base (e .before .before .before .before .args .part .now)) ≡ f
-    → actBy base standard (e .before .before .before .before .args .kind) (e .before .before .before .before .args .t) (e .before .before .before .before .args .value) (unpackTransactor base (e .before .before .before .before .args .part .now)) ≡ f
+    → actBy base (e .before .before .before .before .args .kind) (e .before .before .before .before .args .t) (e .before .before .before .before .args .value) (unpackTransactor base (e .before .before .before .before .args .part .now)) ≡ f
 unfolding unpackTransactor
-early e = act-early base standard _ _ _ _ (e .before .if1 .left) (λ w. w .1 .left) (λ w. w .left) (e .if2 .came)
+early e = act-early base _ _ _ _ (e .before .if1 .left) (λ w. w .1 .left) (λ w. w .left) (e .if2 .came)
 
 returns : tie.Need-returns
 unfolding unpackTransactor
 returns c =
     let d = c .before in
-    acted (act-gone base standard _ _ _ _ (d .if1 .taken)) (c .outcome-of .ensures) (sym (d .before .before .before .pre .0 .back))
+    acted (act-gone base _ _ _ _ (d .if1 .taken)) (c .outcome-of .ensures) (sym (d .before .before .before .pre .0 .back))
 
 returns-2 : tie.Need-returns-2
 unfolding unpackTransactor
@@ -31,7 +31,7 @@ returns-2 c =
     let d = c .before in
     let e = d .before in
     acted
-    (act-idle base standard _ _ _ _ (e .before .if1 .left) (e .if2 .taken) (d .if3 .taken)) (c .outcome-of2 .ensures)
+    (act-idle base _ _ _ _ (e .before .if1 .left) (e .if2 .taken) (d .if3 .taken)) (c .outcome-of2 .ensures)
     (sym (e .before .before .before .before .pre .0 .back))
 
 returns-3 : tie.Need-returns-3
@@ -74,7 +74,7 @@ returns-7 c =
     let s = e .before .before .before .before in
     let r = d .match .rest in
     acts-as
-    (act-late base standard _ _ _ _ (e .before .if1 .left) (λ w. w .1 .left) (λ w. w .left) (e .if2 .came) (s .pre .2) (s .pre .3) (r .0 .0 .0 .1) (r .0 .0 .1) (r .0 .1) (r .1))
+    (act-late base _ _ _ _ (e .before .if1 .left) (λ w. w .1 .left) (λ w. w .left) (e .if2 .came) (s .pre .2) (s .pre .3) (r .0 .0 .0 .1) (r .0 .0 .1) (r .0 .1) (r .1))
     (c .before .before .roll-back-unless-stable .ensures)
 
 pub act-spec : {M : Type 1} → statement M

@@ -16,7 +16,7 @@ store-requires : tie.Need-store-requires
 store-requires c κs =
     let d = c .before in
     let e = d .before in
-    (search needs, rw (d .join .ensures, e .load .ensures, e .before .before .one .ensures) (bounded-join _ _ _ _ (bounded-singleton _ _ _ _ (omega arith)) (bounded-unpack _ _ _ _ (omega arith))))
+    (search needs, rw (d .join .ensures, e .load .ensures, e .before .before .one .ensures) (bounded-join _ _ _ _ (bounded-singleton _ _ _ _ _ (omega arith)) (bounded-unpack _ _ _ _ (omega arith))))
 
 returns : tie.Need-returns
 unfolding adopts unpackTransactor zeros

@@ -9,7 +9,7 @@ use Rattle.octets.specs.Numbers.{be}
 use Rattle.marks.specs.History.{initialHistory}
 use Rattle.maps.specs.declared.DependenceMap.{DependenceMap}
 use Rattle.maps.specs.Map.{firstSuperseded, anyUnrelated}
-use Rattle.rules.specs.Layout.{Layout, Limits, base, transactorAddress}
+use Rattle.rules.specs.Layout.{Layout, base, transactorAddress}
 use Rattle.rules.specs.Status.{busy, annihilated}
 use Rattle.rules.specs.State.{Transactor, ownHistory, withTransactor, withBehaviour}
 use Rattle.rules.specs.Step.{done, held, dropped, fall, fail}
@@ -30,20 +30,20 @@ pub record ActsAt (img : List ℕ) (t : ℕ) (e : Effect) (o v : ℕ) (after : L
   pub image : after ≡ pack base (withTransactor (unpack base img) t (e .transactor))
 
 -- a fall, or 28
-unfoldable pub rollbackOr28 : Layout → Limits → ℕ → Transactor → Effect
-rollbackOr28 y m t x = pick (isLastIncarnation m t x) (unchanged 28 x) (rollback y t x)
+unfoldable pub rollbackOr28 : Layout → ℕ → Transactor → Effect
+rollbackOr28 y t x = pick (isLastIncarnation y t x) (unchanged 28 x) (rollback y t x)
 
 -- fall and fail, or 28
-unfoldable pub rollbackUnlessStable : Layout → Limits → ℕ → ℕ → Transactor → Effect
-rollbackUnlessStable y m k t x =
-    pick (ownHistory t x .stable) (unchanged held (pick (eqb k fall) (madeReady y x) x)) (rollbackOr28 y m t x)
+unfoldable pub rollbackUnlessStable : Layout → ℕ → ℕ → Transactor → Effect
+rollbackUnlessStable y k t x =
+    pick (ownHistory t x .stable) (unchanged held (pick (eqb k fall) (madeReady y x) x)) (rollbackOr28 y t x)
 
 -- kinds 5 to 10 with the refusals 22, 23 and 28
-unfoldable pub actBy : Layout → Limits → ℕ → ℕ → ℕ → Transactor → Effect
-actBy y m k t v x =
+unfoldable pub actBy : Layout → ℕ → ℕ → ℕ → Transactor → Effect
+actBy y k t v x =
     pick (eqb (x .status) annihilated) (unchanged 22 x)
     (pick (leb k fall and not (eqb (x .status) busy)) (unchanged 23 x)
-    (pick ((eqb k fall or eqb k fail) and not (ownHistory t x .stable) and isLastIncarnation m t x) (unchanged 28 x)
+    (pick ((eqb k fall or eqb k fail) and not (ownHistory t x .stable) and isLastIncarnation y t x) (unchanged 28 x)
     (localBy y k t v x)))
 
 -- at work, with the parcel's map
@@ -51,11 +51,11 @@ unfoldable pub takenIn : Transactor → DependenceMap → Transactor
 takenIn x deps = record { status = busy; value = x .value; saved = x .saved; state = x .state; creation = x .creation; behaviour = deps }
 
 -- a receipt's effect on the addressee, without the text, or 31, or 28; taken in, with the news of the parcel's map
-unfoldable pub acceptBy : Layout → Limits → ℕ → Transactor → DependenceMap → Effect
-acceptBy y m t x deps =
+unfoldable pub acceptBy : Layout → ℕ → Transactor → DependenceMap → Effect
+acceptBy y t x deps =
     pick (anyUnrelated (y .transactors) deps (known y x)) (unchanged 31 x)
     (pick (isSome (firstSuperseded (y .transactors) deps (known y x))) (unchanged dropped x)
-    (pick (isSome (firstSuperseded (y .transactors) (known y x) deps)) (rollbackOr28 y m t x)
+    (pick (isSome (firstSuperseded (y .transactors) (known y x) deps)) (rollbackOr28 y t x)
     (unchanged done (takenIn (informedBy y t x deps) deps))))
 
 -- the bytes of an image with one more take opened, which is the next one, c

@@ -1,10 +1,13 @@
 -- Head, transactors, messages: the whole image.
+use Prim.Native.Nat.{ℕ}
+use mathlib.Core.List.{List}
 use native.Mathlib.Omega.{arith}
-use mathlib.Core.Path.{sym}
+use mathlib.Core.Bool.{true, false}
+use mathlib.Core.Path.{ap, sym, _∙_}
 use lib.Seq.{length-take-le}
-use Rattle.octets.specs.Bytes.{part}
+use Rattle.octets.specs.Bytes.{put, part}
 use Rattle.rules.specs.Layout.{narrow}
-use Rattle.convert.proofs.Stores.{image-done}
+use Rattle.convert.proofs.Stores.{front-plain, image-done}
 use borrow.Author.Needs.{needs}
 use Rattle.convert.proofs.narrow.image.Statement.{statement}
 use Rattle.convert.proofs.narrow.image.Tie as tie
@@ -21,7 +24,7 @@ returns c =
     let t = c .before .before .before .before .before .before in
     let w = t .before .before .before .before in
     let s = w .before .before .before .before .before in
-    image-done narrow 2 1 _ (s .pre .0) _ _ (s .pre .1) (w .write .ensures) _ (t .transactors .ensures) _ (c .before .before .messages .ensures)
+    image-done narrow 2 1 true false _ (s .pre .0) _ _ (s .pre .1) (w .write .ensures ∙ ap (λ (x : List ℕ). put 0 x (s .args .target .now)) (sym (front-plain narrow 1 (s .args .source .now)))) _ (t .transactors .ensures) _ (c .before .before .messages .ensures)
 
 pub image-spec : {M : Type 1} → statement M
 image-spec =

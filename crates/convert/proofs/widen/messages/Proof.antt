@@ -1,5 +1,6 @@
 -- After k turns the first k messages are put.
 use Prim.Native.Nat.{_-_, _≤_}
+use mathlib.Core.Bool.{true, false}
 use mathlib.Core.Path.{_≡_, refl}
 use native.Mathlib.Omega.{arith}
 use lib.ListN.{length}
@@ -24,7 +25,7 @@ histories-requires c κs =
     let w = c .before .before .before in
     let b = w .before .before .before .before in
     let a = b .before .before .before in
-    (search needs, search needs, messages-zero narrow 1 2 _ (a .pre .0) _ (search needs) _ _ _ (a .pre .1) (b .loop .inv .1) (w .write .ensures) (a .pre .2))
+    (search needs, search needs, messages-zero narrow 1 2 false true _ (a .pre .0) _ (search needs) _ _ _ (a .pre .1) (b .loop .inv .1) (w .write .ensures) (a .pre .2))
 
 loop-again : tie.Need-loop-again Inv-loop μ-loop
 unfolding part
@@ -32,7 +33,7 @@ loop-again c =
     let w = c .before .before .before .before .before .before in
     let b = w .before .before .before .before in
     let a = b .before .before .before in
-    (search needs, messages-more narrow 1 2 _ (a .pre .0) _ (search needs) _ _ _ (a .pre .1) (b .loop .inv .1) (w .write .ensures) _ (c .before .before .histories .ensures), search needs)
+    (search needs, messages-more narrow 1 2 false true _ (a .pre .0) _ (search needs) _ _ _ (a .pre .1) (b .loop .inv .1) (w .write .ensures) _ (c .before .before .histories .ensures), search needs)
 
 returns : tie.Need-returns Inv-loop μ-loop
 returns c = put-end _ _ _ _ _ _ (c .before .loop .inv .1) (omega arith)

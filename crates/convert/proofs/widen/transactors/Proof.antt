@@ -1,11 +1,12 @@
 -- After t turns the first t transactors are put.
-use Prim.Native.Nat.{_-_, _≤_}
+use Prim.Native.Nat.{_+_, _-_, _≤_}
+use mathlib.Core.Bool.{true, false}
 use mathlib.Core.Path.{_≡_, refl}
 use native.Mathlib.Omega.{arith}
 use lib.ListN.{length}
 use Rattle.octets.specs.Bytes.{put, part, chunks}
 use Rattle.octets.proofs.Chunks.{put-none}
-use Rattle.rules.specs.Layout.{narrow, headBytes}
+use Rattle.rules.specs.Layout.{narrow, base, headBytes, limitsBytes}
 use Rattle.rules.specs.Internal.Recast.{recastTransactorAt}
 use Rattle.convert.proofs.Stores.{put-end, transactors-more, transactors-zero}
 use borrow.Author.Needs.{needs}
@@ -13,7 +14,7 @@ use Rattle.convert.proofs.widen.transactors.Statement.{statement}
 use Rattle.convert.proofs.widen.transactors.Tie as tie
 
 abbrev Inv-loop : tie.InvT-loop
-Inv-loop source target₀ t₀ target t = (t ≤ 16) × (target ≡ put headBytes (chunks t (recastTransactorAt narrow 2 source)) target₀) × (length target ≡ length target₀)
+Inv-loop source target₀ t₀ target t = (t ≤ 16) × (target ≡ put (headBytes + limitsBytes base) (chunks t (recastTransactorAt narrow 2 source)) target₀) × (length target ≡ length target₀)
 
 abbrev μ-loop : tie.MeasureT-loop
 μ-loop source target₀ t₀ target t = 16 - t
@@ -24,7 +25,7 @@ histories-requires c κs =
     let w = c .before .before .before in
     let b = w .before .before .before .before in
     let a = b .before .before .before in
-    (search needs, search needs, transactors-zero narrow 1 2 _ (a .pre .0) _ (search needs) _ _ _ (a .pre .1) (b .loop .inv .1) (w .write .ensures) (a .pre .2))
+    (search needs, search needs, transactors-zero narrow 1 2 false true _ (a .pre .0) _ (search needs) _ _ _ (a .pre .1) (b .loop .inv .1) (w .write .ensures) (a .pre .2))
 
 loop-again : tie.Need-loop-again Inv-loop μ-loop
 unfolding part
@@ -32,7 +33,7 @@ loop-again c =
     let w = c .before .before .before .before .before .before in
     let b = w .before .before .before .before in
     let a = b .before .before .before in
-    (search needs, transactors-more narrow 1 2 _ (a .pre .0) _ (search needs) _ _ _ (a .pre .1) (b .loop .inv .1) (w .write .ensures) _ (c .before .before .histories .ensures), search needs)
+    (search needs, transactors-more narrow 1 2 false true _ (a .pre .0) _ (search needs) _ _ _ (a .pre .1) (b .loop .inv .1) (w .write .ensures) _ (c .before .before .histories .ensures), search needs)
 
 returns : tie.Need-returns Inv-loop μ-loop
 returns c = put-end _ _ _ _ _ _ (c .before .loop .inv .1) (omega arith)

@@ -1,28 +1,50 @@
--- A zero byte that is set, too many opened, or the tests of all transactors and all messages.
+-- The front ill-formed, or the tests of all transactors and all messages.
 use mathlib.Core.Bool.{not}
 use mathlib.Core.Path.{sym, ap, _∙_}
+use native.Mathlib.Omega.{arith}
 use borrow.Author.Needs.{needs}
 use Rattle.rules.specs.Layout.{base}
-use Rattle.image.proofs.FormTest.{not-blank, too-many, one-ill-formed, all-formed}
+use Rattle.image.proofs.FormTest.{front-few, front-ill-formed, one-ill-formed, all-formed}
 use Rattle.image.proofs.form.formed.Statement.{statement}
 use Rattle.image.proofs.form.formed.Tie as tie
 
--- the image's bytes
-abbrev bytes : tie.Else2 → tie.After-shared-slice-known
-bytes c = c .before .before .before .before
+transactors-formed-requires : tie.Need-transactors-formed-requires
+transactors-formed-requires c κs =
+    let d = c .before .before in
+    (search needs, search needs, search needs, omega (arith, c .checkpoints .ensures, front-few base _ (ap not (sym (d .before .front-formed .ensures)) ∙ d .if1 .left)))
+
+returns-2 : tie.Need-returns-2
+returns-2 c =
+    let d = c .before .before .before .before in
+    one-ill-formed base _ (search needs) (d .before .before .before .shared-slice-known .given) (ap not (sym (d .before .front-formed .ensures)) ∙ d .if1 .left)
+    (ap not (sym (c .before .transactors-formed .ensures)) ∙ c .if2 .taken)
+
+messages-formed-requires : tie.Need-messages-formed-requires
+messages-formed-requires c κs =
+    let b = c .before .before .before in
+    let d = b .before .before in
+    (search needs, search needs, search needs, search needs, search needs, omega (arith, b .checkpoints .ensures, front-few base _ (ap not (sym (d .before .front-formed .ensures)) ∙ d .if1 .left)))
+
+returns-3 : tie.Need-returns-3
+returns-3 c =
+    let b = c .before .before in
+    let d = b .before .before .before .before in
+    c .messages-formed .ensures
+    ∙ all-formed base _ (search needs) (d .before .before .before .shared-slice-known .given) (ap not (sym (d .before .front-formed .ensures)) ∙ d .if1 .left)
+    (ap not (sym (b .before .transactors-formed .ensures)) ∙ b .if2 .left)
 
 pub formed-spec : {M : Type 1} → statement M
 formed-spec =
     tie.close
     (tie.spec
-    (λ c. search needs)
-    (λ c. not-blank base _ (search needs) (c .before .before .shared-slice-known .given) (search needs))
+    (λ c κs. search needs)
+    (λ c κs. search needs)
+    (λ c. front-ill-formed base _ (search needs) (c .before .before .before .shared-slice-known .given) (ap not (sym (c .before .front-formed .ensures)) ∙ c .if1 .taken))
     (λ c κs. search needs)
     (λ c. search needs)
-    (λ c. too-many base _ (search needs) (c .before .before .before .before .shared-slice-known .given) (search needs) (search needs))
     (λ c κs. search needs)
-    (λ c. one-ill-formed base _ (search needs) (bytes (c .before .before) .shared-slice-known .given) (search needs) (search needs) (ap not (sym (c .before .transactors-formed .ensures)) ∙ c .if3 .taken))
+    transactors-formed-requires
+    returns-2
     (λ c κs. search needs)
-    (λ c κs. search needs)
-    (λ c κs. search needs)
-    (λ c. c .messages-formed .ensures ∙ all-formed base _ (search needs) (bytes (c .before .before .before .before .before) .shared-slice-known .given) (search needs) (search needs) (ap not (sym (c .before .before .before .before .transactors-formed .ensures)) ∙ c .before .before .before .if3 .left)))
+    messages-formed-requires
+    returns-3)

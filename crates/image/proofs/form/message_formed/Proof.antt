@@ -42,7 +42,7 @@ returns-6 c =
     let d = c .before .before .before .before in
     let b = d .before .before .before .before in
     let a = b .before .before in
-    rw (← a .pre .2, ← a .pre .3, ← a .pre .4, lt-leb _ _ (b .if1 .left), eq-eqb _ 8 (d .before .before .if2 .left), lt-ltb _ _ (d .before .if3 .left), ← d .load16 .ensures, lt-ltb _ _ (c .before .before .before .if4 .left), ← c .before .before .least .ensures, le-leb _ _ (c .before .if5 .left)) (c .formed .ensures)
+    rw (← a .pre .2, ← a .pre .3, ← a .pre .4, ← a .pre .5, lt-leb _ _ (b .if1 .left), eq-eqb _ 8 (d .before .before .if2 .left), lt-ltb _ _ (d .before .if3 .left), ← d .load16 .ensures, lt-ltb _ _ (c .before .before .before .if4 .left), ← c .before .before .least .ensures, le-leb _ _ (c .before .if5 .left)) (c .formed .ensures)
 
 pub message-formed-spec : {M : Type 1} → statement M
 message-formed-spec =

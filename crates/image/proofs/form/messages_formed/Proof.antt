@@ -10,10 +10,10 @@ use Rattle.image.proofs.form.messages_formed.Statement.{statement}
 use Rattle.image.proofs.form.messages_formed.Tie as tie
 
 abbrev Inv-loop : tie.InvT-loop
-Inv-loop s n opened next k₀ k = Held (formedMessageAt base s) (base .messages) k
+Inv-loop s n opened next limit k₀ k = Held (formedMessageAt base s) (base .messages) k
 
 abbrev μ-loop : tie.MeasureT-loop
-μ-loop s n opened next k₀ k = base .messages - k
+μ-loop s n opened next limit k₀ k = base .messages - k
 
 pub messages-formed-spec : {M : Type 1} → statement M
 messages-formed-spec =

@@ -10,10 +10,10 @@ use Rattle.image.proofs.form.transactors_formed.Statement.{statement}
 use Rattle.image.proofs.form.transactors_formed.Tie as tie
 
 abbrev Inv-loop : tie.InvT-loop
-Inv-loop s opened t₀ t = Held (formedTransactorAt base s) (base .transactors) t
+Inv-loop s opened limit t₀ t = Held (formedTransactorAt base s) (base .transactors) t
 
 abbrev μ-loop : tie.MeasureT-loop
-μ-loop s opened t₀ t = base .transactors - t
+μ-loop s opened limit t₀ t = base .transactors - t
 
 pub transactors-formed-spec : {M : Type 1} → statement M
 transactors-formed-spec =

@@ -10,6 +10,6 @@ can-checkpoint-spec =
     tie.close
     (tie.spec
     (λ c κs. search needs)
-    (λ c. signing-refused _ _ _ _ (search needs))
+    (λ c. signing-refused _ _ _ (search needs))
     (λ c κs. search needs)
-    (λ c. c .ready .ensures ∙ signing-ready _ _ _ _ (search needs)))
+    (λ c. c .ready .ensures ∙ signing-ready _ _ _ (search needs)))

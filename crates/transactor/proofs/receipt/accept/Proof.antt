@@ -3,7 +3,7 @@ use mathlib.Core.Path.{_∙_}
 use native.Mathlib.Omega.{arith}
 use borrow.Author.Needs.{needs}
 use Rattle.maps.proofs.Packed.{bounded-unpack, bounded-join}
-use Rattle.rules.specs.Layout.{base, standard}
+use Rattle.rules.specs.Layout.{base}
 use Rattle.transactor.specs.Internal.Effects.{rollbackOr28}
 use Rattle.rules.proofs.Pack.Loads.{waiting-few}
 use Rattle.transactor.proofs.Lent.{good-lent}
@@ -35,7 +35,7 @@ returns c =
     let l = j .before .before in
     let s = l .before .before .before in
     acted-at _ _
-    (accepts-unrelated base _ _ (s .pre .1) _ (s .pre .2) standard _ (asked .compare .ensures .0 ∙ rw (j .join-from .ensures, l .load .ensures)) (c .before .if1 .taken))
+    (accepts-unrelated base _ _ (s .pre .1) _ (s .pre .2) _ (asked .compare .ensures .0 ∙ rw (j .join-from .ensures, l .load .ensures)) (c .before .if1 .taken))
     (c .outcome-of .ensures) (kept-at _ (s .pre .0) _)
 
 take-in-requires : tie.Need-take-in-requires
@@ -56,7 +56,7 @@ returns-2 c =
     let l = j .before .before in
     let s = l .before .before .before in
     acted-at _ _
-    (accepts-done base _ _ (s .pre .1) _ (s .pre .2) standard _ (asked .compare .ensures .0 ∙ rw (j .join-from .ensures, l .load .ensures)) (branch .if1 .left) _ (asked .compare .ensures .1 ∙ rw (j .join-from .ensures, l .load .ensures)) (told .before .before .enum-told .given .1) _ (asked .compare .ensures .2 ∙ rw (j .join-from .ensures, l .load .ensures)) (told .enum-told2 .given .1))
+    (accepts-done base _ _ (s .pre .1) _ (s .pre .2) _ (asked .compare .ensures .0 ∙ rw (j .join-from .ensures, l .load .ensures)) (branch .if1 .left) _ (asked .compare .ensures .1 ∙ rw (j .join-from .ensures, l .load .ensures)) (told .before .before .enum-told .given .1) _ (asked .compare .ensures .2 ∙ rw (j .join-from .ensures, l .load .ensures)) (told .enum-told2 .given .1))
     (c .outcome-of2 .ensures) (heard-taken _ (s .pre .0) _ (s .pre .1) _ (s .pre .2) _ (h .hear .ensures) _ (taken .take-in .ensures))
 
 roll-back-requires : tie.Need-roll-back-requires
@@ -73,8 +73,8 @@ returns-3 c =
     let j = asked .before .before in
     let l = j .before .before in
     let s = l .before .before .before in
-    lent-at _ (s .pre .0) _ (s .pre .1) (rollbackOr28 base standard _)
-    (accepts-rollback base _ _ (s .pre .1) _ (s .pre .2) standard _ (asked .compare .ensures .0 ∙ rw (j .join-from .ensures, l .load .ensures)) (branch .if1 .left) _ (asked .compare .ensures .1 ∙ rw (j .join-from .ensures, l .load .ensures)) (told .before .before .enum-told .given .1) _ (asked .compare .ensures .2 ∙ rw (j .join-from .ensures, l .load .ensures)) (told .receiver .given .1))
+    lent-at _ (s .pre .0) _ (s .pre .1) (rollbackOr28 base _)
+    (accepts-rollback base _ _ (s .pre .1) _ (s .pre .2) _ (asked .compare .ensures .0 ∙ rw (j .join-from .ensures, l .load .ensures)) (branch .if1 .left) _ (asked .compare .ensures .1 ∙ rw (j .join-from .ensures, l .load .ensures)) (told .before .before .enum-told .given .1) _ (asked .compare .ensures .2 ∙ rw (j .join-from .ensures, l .load .ensures)) (told .receiver .given .1))
     (fell .roll-back .ensures)
 
 returns-4 : tie.Need-returns-4
@@ -86,7 +86,7 @@ returns-4 c =
     let l = j .before .before in
     let s = l .before .before .before in
     acted-at _ _
-    (accepts-dropped base _ _ (s .pre .1) _ (s .pre .2) standard _ (asked .compare .ensures .0 ∙ rw (j .join-from .ensures, l .load .ensures)) (branch .if1 .left) _ (asked .compare .ensures .1 ∙ rw (j .join-from .ensures, l .load .ensures)) (told .message .given .1))
+    (accepts-dropped base _ _ (s .pre .1) _ (s .pre .2) _ (asked .compare .ensures .0 ∙ rw (j .join-from .ensures, l .load .ensures)) (branch .if1 .left) _ (asked .compare .ensures .1 ∙ rw (j .join-from .ensures, l .load .ensures)) (told .message .given .1))
     (c .outcome-of3 .ensures) (kept-at _ (s .pre .0) _)
 
 pub accept-spec : {M : Type 1} → statement M
