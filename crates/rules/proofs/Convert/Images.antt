@@ -6,7 +6,7 @@ use mathlib.Core.List.{List}
 use native.Mathlib.Omega.{arith}
 use lib.Dec.{eqb}
 use lib.ListN.{length}
-use borrow.Author.Tests.{not-true, not-false, eq-eqb, eqb-true}
+use borrow.Author.Tests.{not-true, not-false, eq-eqb, ne-eqb, eqb-true}
 use Rattle.octets.specs.Bytes.{pick, _and_, Octets}
 use Rattle.octets.specs.Numbers.{bound}
 use Rattle.octets.proofs.Tests.{pick-zero, never}
@@ -217,6 +217,33 @@ module _ (old new : List ℕ) where
       let c = passed (wellFormed base new) 19 _ (omega arith) (b .1) in
       let d = pick-zero (tooWide new) 32 0 (omega arith) (c .1) in
       record { source = eqb-true (length new) (imageBytes base) (a .0); target = eqb-true (length old) (imageBytes narrow) (b .0); formed = c .0; fits = d .0 }
+
+-- Refused, the destination is as it was.
+pub forward-refused : (old new : List ℕ) → (forwardAnswer old new ≡ 0 → ⊥) → forwardImage old new ≡ new
+unfolding forwardImage
+forward-refused old new d = rw (ne-eqb (forwardAnswer old new) 0 d)
+
+pub back-refused : (new old : List ℕ) → (backAnswer new old ≡ 0 → ⊥) → backImage new old ≡ old
+unfolding backImage
+back-refused new old d = rw (ne-eqb (backAnswer new old) 0 d)
+
+-- where another test n before the others is not the answer
+passed-on : (c : Bool) (n m r : ℕ) → (n ≡ m → ⊥) → pick (not c) n r ≡ m → (c ≡ true) × (r ≡ m)
+passed-on true n m r d e = (refl, e)
+passed-on false n m r d e = absurd (d e)
+
+asked-32 : (t : Bool) → _≡_ {A = ℕ} (pick t 32 0) 32 → t ≡ true
+asked-32 true e = refl
+asked-32 false e = let z : _≡_ {A = ℕ} 0 32 = e in absurd (omega arith)
+
+-- 32 is asked last: both lengths and the form are right where it is the answer
+pub last-32 : (new old : List ℕ) → backAnswer new old ≡ 32 → (length new ≡ imageBytes base) × (length old ≡ imageBytes narrow) × (wellFormed base new ≡ true) × (tooWide new ≡ true)
+unfolding backAnswer
+last-32 new old e =
+    let a = passed-on (eqb (length new) (imageBytes base)) 16 32 _ (λ (z : _≡_ {A = ℕ} 16 32). omega arith) e in
+    let b = passed-on (eqb (length old) (imageBytes narrow)) 16 32 _ (λ (z : _≡_ {A = ℕ} 16 32). omega arith) (a .1) in
+    let c = passed-on (wellFormed base new) 19 32 _ (λ (z : _≡_ {A = ℕ} 19 32). omega arith) (b .1) in
+    (eqb-true (length new) (imageBytes base) (a .0), eqb-true (length old) (imageBytes narrow) (b .0), c .0, asked-32 (tooWide new) (c .1))
 
 -- Old to new to old by the calls: forward taken, back succeeds and gives the first bytes, whatever of the right length is lent.
 module _ (old new other : List ℕ) (o : Octets old) (e : forwardAnswer old new ≡ 0) (n : length other ≡ imageBytes narrow) where

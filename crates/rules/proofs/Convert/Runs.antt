@@ -7,7 +7,7 @@ use native.Mathlib.Omega.{arith}
 use lib.Dec.{eqb}
 use lib.ListN.{length, getD, length-append}
 use native.Mathlib.Nat.{add-zero}
-use borrow.Author.Tests.{eq-eqb}
+use borrow.Author.Tests.{eq-eqb, eqb-true}
 use Rattle.octets.specs.Bytes.{pick, chunks, part, Octets}
 use Rattle.octets.specs.Numbers.{be, bound}
 use Rattle.octets.proofs.Tests.{pick-view}
@@ -121,25 +121,25 @@ module _ (img list : List ℕ) (start end : ℕ) (replies : List ℕ) (n : lengt
     e,
   )
 
-  module _ (p : Octets list) (q : NoneIs28 (runReplies narrow img list start end replies) (stepsIn (part start (end - start) list))) where
+  module _ (p : Octets list) (q : runAnswer narrow img list start end replies ≡ 0 → NoneIs28 (runReplies narrow img list start end replies) (stepsIn (part start (end - start) list))) where
     abbrev b : List ℕ
     b = part start (end - start) list
 
-    ran : (c : Bool) → NoneIs28 (pick c (ranReplies narrow img b) replies) (stepsIn b) → pick c (ranReplies base (forward img) b) replies ≡ pick c (ranReplies narrow img b) replies
-    ran true z = ran-replies img b n o e (octets-part start (end - start) list p) (no28 img b n o e (octets-part start (end - start) list p) z)
+    ran : (c : Bool) → (c ≡ true → NoneIs28 (pick c (ranReplies narrow img b) replies) (stepsIn b)) → pick c (ranReplies base (forward img) b) replies ≡ pick c (ranReplies narrow img b) replies
+    ran true z = ran-replies img b n o e (octets-part start (end - start) list p) (no28 img b n o e (octets-part start (end - start) list p) (z refl))
     ran false z = refl
 
-    left : (c : Bool) → NoneIs28 (pick c (ranReplies narrow img b) replies) (stepsIn b) → pick c (ranImage base (forward img) b) (forward img) ≡ forward (pick c (ranImage narrow img b) img)
-    left true z = ran-image img b n o e (octets-part start (end - start) list p) (no28 img b n o e (octets-part start (end - start) list p) z)
+    left : (c : Bool) → (c ≡ true → NoneIs28 (pick c (ranReplies narrow img b) replies) (stepsIn b)) → pick c (ranImage base (forward img) b) (forward img) ≡ forward (pick c (ranImage narrow img b) img)
+    left true z = ran-image img b n o e (octets-part start (end - start) list p) (no28 img b n o e (octets-part start (end - start) list p) (z refl))
     left false z = refl
 
     pub run-replies : runReplies base (forward img) list start end replies ≡ runReplies narrow img list start end replies
     unfolding runReplies
-    run-replies = rw run-answer (ran (eqb (runAnswer narrow img list start end replies) 0) q)
+    run-replies = rw run-answer (ran (eqb (runAnswer narrow img list start end replies) 0) (λ z. q (eqb-true (runAnswer narrow img list start end replies) 0 z)))
 
     pub run-image : runImage base (forward img) list start end replies ≡ forward (runImage narrow img list start end replies)
     unfolding runImage runReplies
-    run-image = rw run-answer (left (eqb (runAnswer narrow img list start end replies) 0) q)
+    run-image = rw run-answer (left (eqb (runAnswer narrow img list start end replies) 0) (λ z. q (eqb-true (runAnswer narrow img list start end replies) 0 z)))
 
 -- ---- lists of runs: each gets the image as the last left it
 
@@ -161,10 +161,10 @@ answerOf y img r i = runAnswer y (imageAfter y img r i) (r i .list) (r i .start)
 abbrev pub repliesOf : Layout → List ℕ → (ℕ → Asked) → ℕ → List ℕ
 repliesOf y img r i = runReplies y (imageAfter y img r i) (r i .list) (r i .start) (r i .end) (r i .replies)
 
--- lists of bytes, and no 28 among the replies of the old image's first n runs
+-- lists of bytes, and no 28 among the replies of those of the old image's first n runs that are not refused
 pub record Without28 (img : List ℕ) (r : ℕ → Asked) (n : ℕ) : Type 0 where
   pub bytes : (i : ℕ) → i < n → Octets (r i .list)
-  pub none28 : (i : ℕ) → i < n → NoneIs28 (repliesOf narrow img r i) (stepsIn (part (r i .start) (r i .end - r i .start) (r i .list)))
+  pub none28 : (i : ℕ) → i < n → answerOf narrow img r i ≡ 0 → NoneIs28 (repliesOf narrow img r i) (stepsIn (part (r i .start) (r i .end - r i .start) (r i .list)))
 
 -- a well-formed old image
 record Old (img : List ℕ) : Type 0 where
