@@ -292,6 +292,26 @@ fn frozen() -> Vec<u8> {
     image
 }
 
+/// Sixteen frozen takes in pairs that rest on each other, both at work.
+fn pairs() -> Vec<u8> {
+    let mut image = generate::fresh();
+    apply(&mut image, &[packed(0, 0, 0, 0, 1); 16]);
+    for pair in 0..8 {
+        // A letter to the one, which sends a parcel to the other and gets one back; each writes on what it was sent.
+        let (a, b, m) = (2 * pair, 2 * pair + 1, 3 * pair);
+        apply(
+            &mut image,
+            &[packed(1, a, 0, 0, 5), packed(2, 0, 0, m, 0), packed(4, a, b, 0, 7), packed(8, a, 0, 0, 0)],
+        );
+        apply(&mut image, &[packed(2, 0, 0, m + 1, 0), packed(6, b, 0, 0, 9), packed(4, b, a, 0, 7)]);
+        apply(
+            &mut image,
+            &[packed(2, 0, 0, m + 2, 0), packed(6, a, 0, 0, 9), packed(7, a, 0, 0, 0), packed(7, b, 0, 0, 0)],
+        );
+    }
+    image
+}
+
 /// Sixteen frozen takes, of which each but the first rests on itself and the one before.
 fn chain() -> Vec<u8> {
     let mut image = generate::fresh();
@@ -334,7 +354,10 @@ fn replies(seed: u64, one_in: usize) -> Vec<u8> {
     list
 }
 
-const ALL: u64 = 12 << 60 | 0xffff << 32;
+/// The signing of a volume.
+const fn sign(volume: u64) -> u64 {
+    12 << 60 | volume << 32
+}
 
 fn rows() -> Vec<Row> {
     let run = |(image, list): (Vec<u8>, Vec<u8>), n: usize| Work { image, call: Call::Run(list, n), times: 1 };
@@ -344,10 +367,17 @@ fn rows() -> Vec<Row> {
     let short = (0..32).map(|seed| run(mixed(seed, 128 * (seed as usize % 8), 64), 1)).collect();
     let crowded = crowded();
     let signing = frozen();
-    let mut unready = signing.clone();
-    // The last mark of the last take's creation map is of a withdrawn life.
-    let last = generate::take_at(15) + STATE + MAP + MARK * 15;
-    unready[last..last + 2].copy_from_slice(&[0x80, 1]);
+    // The last mark of a take's creation map is of a withdrawn life.
+    let spoilt = |image: &[u8], take: usize| {
+        let mut image = image.to_vec();
+        let last = generate::take_at(take) + STATE + MAP + MARK * 15;
+        image[last..last + 2].copy_from_slice(&[0x80, 1]);
+        image
+    };
+    let unready = |image: &[u8], take, volume| vec![run((spoilt(image, take), bytes(&[sign(volume); 256])), 1024)];
+    let pairs = pairs();
+    let each_pair: Vec<u64> = (0..8).map(|pair| sign(3 << (2 * pair))).collect();
+    apply(&mut pairs.clone(), &each_pair);
     let (session, _) = mixed(3, 512, 1);
     let waiting = generate::waiting(&session);
     let full = generate::full_image(&mut Random(2));
@@ -367,11 +397,17 @@ fn rows() -> Vec<Row> {
         row("mixed, runs of 1,024 steps", "step", long),
         row("mixed, runs of one step", "call", short),
         row("receive, send, done with 31 waiting", "step", vec![run(crowded.clone(), 1024)]),
-        row("sign of 16 takes, not ready at the last mark", "step", vec![run((unready, bytes(&[ALL; 256])), 1024)]),
+        row("sign of 16 takes, not ready at the last mark", "step", unready(&signing, 15, 0xffff)),
         row(
             "sign of 16 takes, a run of one step",
             "call",
-            (0..16).map(|_| run((signing.clone(), bytes(&[ALL])), 1)).collect(),
+            (0..16).map(|_| run((signing.clone(), bytes(&[sign(0xffff)])), 1)).collect(),
+        ),
+        row("sign of 2 takes, not ready at the last mark", "step", unready(&pairs, 1, 3)),
+        row(
+            "sign of 2 takes, eight volumes in a run",
+            "step",
+            (0..16).map(|_| run((pairs.clone(), bytes(&each_pair)), 8)).collect(),
         ),
         row("form test alone, fresh image", "call", many(&generate::fresh(), Call::Form)),
         row("form test alone, session", "call", many(&session, Call::Form)),

@@ -1,1 +1,2 @@
 mod Checkpointing
+mod Presenting

@@ -12,7 +12,8 @@ use rules::numbers;
 ghost use mathlib.Core.Path.{_≡_};
 ghost use Prim.Native.Nat.{_+_, _≤_, _<_};
 ghost use lib.ListN.{length};
-ghost use Rattle.octets.specs.Bytes.{_and_, _or_};
+ghost use lib.Dec.{leb};
+ghost use Rattle.octets.specs.Bytes.{_and_, _or_, every};
 ghost use Rattle.marks.specs.Incarnation.{checkpointedIn, sameIncarnation};
 ghost use Rattle.marks.specs.History.{incarnationOf};
 ghost use Rattle.marks.specs.Packed.{width, places, historyIn};
@@ -22,8 +23,8 @@ ghost use Rattle.rules.specs.Refusals.{named, anyNamed};
 ghost use Rattle.rules.specs.Rules.{groupReady, checkpointGroup};
 ghost use Rattle.rules.specs.Pack.{pack, unpack};
 ghost use Rattle.rules.specs.Internal.Good.{Good};
-ghost use Rattle.rules.specs.Internal.Guards.{blocksAt, groupRefusal, Room};
-ghost use Rattle.rules.specs.Internal.Closure.{storedReady, pairReady};
+ghost use Rattle.rules.specs.Internal.Guards.{blocksAt, namedRefusal, groupRefusal, Room};
+ghost use Rattle.rules.specs.Internal.Closure.{storedReady, pairReady, stableNamed, Presents, Kept, vouchedAt, checkpointedAt};
 
 // Whether the group names transactor t.
 pub fn is_named(group: u16, t: usize) -> bool
@@ -44,34 +45,47 @@ fn own(image: &[u8], t: usize) -> History
     )
 }
 
-// Whether transactor t, if named, blocks a signing with refusal 21, 22 or 30.
-fn blocks(image: &[u8], number: u8, t: usize) -> bool
-    requires { ⌜ Good (now image) × (t < base .transactors) ⌝ }
-    ensures { λ r. ⌜ r ≡ blocksAt (unpack base (now (image .entry))) number t ⌝ }
+// Whether the group names a transactor from number n on.
+fn names_from(group: u16, n: usize) -> bool
+    ensures { λ r. ⌜ r ≡ anyNamed group (leb n) ⌝ }
 {
-    if number == numbers::UNOPENED {
-        return (head::opened(image) as usize) <= t;
+    if TRANSACTORS <= n {
+        return false;
     }
-    if number == numbers::GONE {
-        return head::status(image, t) == numbers::ANNIHILATED;
-    }
-    let h = own(image, t);
-    limits::checkpoints(image) <= h.count
+    group >> n != 0
 }
 
-// Whether a named transactor blocks it so.
-fn blocked(image: &[u8], group: u16, number: u8) -> bool
-    requires { ⌜ Good (now image) ⌝ }
-    ensures { λ r. ⌜ r ≡ anyNamed group (blocksAt (unpack base (now (image .entry))) number) ⌝ }
+// Whether transactor t has no room for one more checkpoint.
+fn is_full(image: &[u8], t: usize) -> bool
+    requires { ⌜ Good (now image) × (t < base .transactors) ⌝ }
+    ensures { λ r. ⌜ r ≡ blocksAt (unpack base (now (image .entry))) 30 t ⌝ }
 {
+    let n = in_place::count(
+        image,
+        FIRST_TRANSACTOR + TRANSACTOR * t + STATE + marks::SIZE * t,
+    );
+    (limits::checkpoints(image) as usize) <= n
+}
+
+// Whether a named transactor is gone, 22, or else one has no room, 30; or 0.
+fn blocked(image: &[u8], group: u16) -> u8
+    requires { ⌜ Good (now image) ⌝ }
+    ensures { λ r. ⌜ r ≡ namedRefusal (unpack base (now (image .entry))) group ⌝ }
+{
+    let mut number: u8 = 0;
     let mut t: usize = 0;
     while t < TRANSACTORS {
-        if is_named(group, t) && blocks(image, number, t) {
-            return true;
+        if is_named(group, t) {
+            if head::status(image, t) == numbers::ANNIHILATED {
+                return numbers::GONE;
+            }
+            if is_full(image, t) {
+                number = numbers::ALL_CHECKPOINTED;
+            }
         }
         t += 1;
     }
-    false
+    number
 }
 
 // The refusals of a signing, 29, 21, 22 and 30, or 0.
@@ -82,16 +96,10 @@ pub fn refusal(image: &[u8], group: u16) -> u8
     if group == 0 {
         return numbers::EMPTY_GROUP;
     }
-    if blocked(image, group, numbers::UNOPENED) {
+    if names_from(group, head::opened(image) as usize) {
         return numbers::UNOPENED;
     }
-    if blocked(image, group, numbers::GONE) {
-        return numbers::GONE;
-    }
-    if blocked(image, group, numbers::ALL_CHECKPOINTED) {
-        return numbers::ALL_CHECKPOINTED;
-    }
-    0
+    blocked(image, group)
 }
 
 // Whether transactor u is ready or busy.
@@ -154,23 +162,108 @@ fn is_stable(image: &[u8], t: usize) -> bool
     h.stable
 }
 
+// ---- the test of a group, with what is kept of its members
+
+// Whether every named transactor is stable. In a well-formed image it is then also live.
+fn all_stable(image: &[u8], group: u16) -> bool
+    requires { ⌜ Good (now image) ⌝ }
+    ensures { λ r. ⌜ r ≡ every (base .transactors) (stableNamed (unpack base (now (image .entry))) group) ⌝ }
+{
+    let mut t: usize = 0;
+    while t < TRANSACTORS {
+        if is_named(group, t) && !is_stable(image, t) {
+            return false;
+        }
+        t += 1;
+    }
+    true
+}
+
+// The own history of each named transactor, worked out once; in the other places nothing.
+fn presents(image: &[u8], group: u16) -> [History; 16]
+    requires { ⌜ Good (now image) ⌝ }
+    ensures { λ r. ⌜ Presents base (unpack base (now (image .entry))) group r ⌝ }
+{
+    let mut present = [History::INITIAL; 16];
+    let mut t: usize = 0;
+    while t < TRANSACTORS {
+        if is_named(group, t) {
+            present[t] = own(image, t);
+        }
+        t += 1;
+    }
+    present
+}
+
+// Whether there is no history at at, or one of the present incarnation of transactor u, a named one, of which h is kept.
+fn vouched(image: &[u8], group: u16, at: usize, u: usize, h: History) -> bool
+    requires { ⌜ Good (now image) × (at + historyBytes base ≤ imageBytes base) × (u < base .transactors) × Kept (unpack base (now image)) group u h ⌝ }
+    ensures { λ r. ⌜ r ≡ vouchedAt base (now (image .entry)) group at u ⌝ }
+{
+    if !History::present(image, at) {
+        return true;
+    }
+    if !is_named(group, u) {
+        return false;
+    }
+    in_place::same_as(image, at, h)
+}
+
+// Whether the history at at, of transactor u, is checkpointed.
+fn signed(image: &[u8], group: u16, at: usize, u: usize, h: History) -> bool
+    requires { ⌜ Good (now image) × (at + historyBytes base ≤ imageBytes base) × (u < base .transactors) × Kept (unpack base (now image)) group u h ⌝ }
+    ensures { λ r. ⌜ r ≡ checkpointedAt base (now (image .entry)) at u ⌝ }
+{
+    if is_named(group, u) {
+        return in_place::checkpointed_by(image, at, h);
+    }
+    if !is_live(image, u) {
+        return false;
+    }
+    in_place::checkpointed_in(
+        image,
+        at,
+        FIRST_TRANSACTOR + TRANSACTOR * u + STATE + marks::SIZE * u,
+    )
+}
+
+// The entries u of the state and creation maps of transactor t, with what is kept of u.
+fn kept_ready(image: &[u8], group: u16, t: usize, u: usize, h: History) -> bool
+    requires { ⌜ Good (now image) × (t < base .transactors) × (u < base .transactors) × Kept (unpack base (now image)) group u h ⌝ }
+    ensures { λ r. ⌜ r ≡ pairReady base (now (image .entry)) group t u ⌝ }
+{
+    let at = FIRST_TRANSACTOR + TRANSACTOR * t;
+    let state = at + STATE + marks::SIZE * u;
+    if !vouched(image, group, state, u, h) {
+        if !signed(image, group, state, u, h) {
+            return false;
+        }
+    }
+    let creation = at + CREATION + marks::SIZE * u;
+    if !vouched(image, group, creation, u, h) {
+        return signed(image, group, creation, u, h);
+    }
+    true
+}
+
 // Whether every named transactor is stable, and every entry of its state and creation maps is ready: left at the first that
-// is not.
+// is not. What the present incarnations are is asked before the entries are walked.
 pub fn ready(image: &[u8], group: u16) -> bool
     requires { ⌜ Good (now image) ⌝ }
     ensures { λ r. ⌜ r ≡ groupReady base (unpack base (now (image .entry))) group ⌝ }
 {
+    if !all_stable(image, group) {
+        return false;
+    }
+    let present = presents(image, group);
     let mut ok = true;
     let mut t: usize = 0;
     'named: while t < TRANSACTORS {
         if is_named(group, t) {
-            if !is_stable(image, t) {
-                ok = false;
-                break 'named;
-            }
             let mut u: usize = 0;
             while u < TRANSACTORS {
-                if !pair_ready(image, group, t, u) {
+                let h = present[u];
+                if !kept_ready(image, group, t, u, h) {
                     ok = false;
                     break 'named;
                 }

@@ -1,7 +1,7 @@
 -- Document 01, "Lives and marks": dependence maps (maps), over the number n of entries and the length l of a history's list.
 use Prim.Native.Nat.{ℕ, zero, suc}
 use mathlib.Core.Bool.{Bool, true, false, not}
-use mathlib.Core.List.{[]}
+use mathlib.Core.List.{List, []}
 use mathlib.Core.Option.{Option, none, some}
 use lib.ListN.{getD, set, replicate}
 use Rattle.octets.specs.Bytes.{pick, _and_, _or_, tabulate, every}
@@ -19,9 +19,13 @@ use Rattle.maps.specs.declared.Comparison.the-variants.{Superseded, Curr
 abbrev pub heldAt : DependenceMap → ℕ → Bool
 heldAt m i = getD (m .held) i false
 
--- m's mark of take i; past the end, what an array of histories gives there
+-- the mark in place i; past the end, what an array of histories gives there
+abbrev pub entryOf : List History → ℕ → History
+entryOf l i = getD l i (record { stable = false; incarnation = 0; count = 0; checkpoints = [] })
+
+-- m's mark of take i
 abbrev pub historyAt : DependenceMap → ℕ → History
-historyAt m i = getD (m .histories) i (record { stable = false; incarnation = 0; count = 0; checkpoints = [] })
+historyAt m i = entryOf (m .histories) i
 
 -- No mark of any take. An entry that is not held is the initial history, so that equal maps are equal values.
 unfoldable pub emptyMap : ℕ → ℕ → DependenceMap

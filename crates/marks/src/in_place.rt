@@ -1,4 +1,5 @@
-// Two packed histories, compared where they stand: a number is read when a test comes to it, and no list is loaded.
+// Packed histories, compared where they stand: a number is read when a test comes to it, and no list is loaded.
+use crate::History;
 use crate::WIDTH;
 ghost use mathlib.Core.Path.{_≡_};
 ghost use Prim.Native.Nat.{_+_, _≤_, _<_};
@@ -8,7 +9,7 @@ ghost use Rattle.marks.specs.History.{incarnationOf};
 ghost use Rattle.marks.specs.Packed.{width, places, historySize, historyIn};
 
 // How many places of its list are used.
-fn count(s: &[u8], at: usize) -> usize
+pub fn count(s: &[u8], at: usize) -> usize
     requires { ⌜ at + historySize width places ≤ length (now s) ⌝ }
     ensures { λ r. ⌜ (r ≡ historyIn width places (now (s .entry)) at .count) × (r ≤ places) ⌝ }
 {
@@ -82,4 +83,56 @@ pub fn checkpointed_in(s: &[u8], a: usize, b: usize) -> bool
         return false;
     }
     agree(s, a, b, n)
+}
+
+// ---- one packed, the other by value
+
+// Whether the first n places of the two lists are the same.
+fn agree_with(s: &[u8], at: usize, h: History, n: usize) -> bool
+    requires { ⌜ (at + historySize width places ≤ length (now s)) × (n ≤ places) ⌝ }
+    ensures { λ r. ⌜ r ≡ sameList (take n (historyIn width places (now (s .entry)) at .checkpoints)) (take n (h .checkpoints)) ⌝ }
+{
+    let mut i: usize = 0;
+    while i < n {
+        let x = place(s, at, i);
+        if x != h.checkpoints[i] {
+            return false;
+        }
+        i += 1;
+    }
+    true
+}
+
+// Whether the packed one is of the life of h.
+pub fn same_as(s: &[u8], at: usize, h: History) -> bool
+    requires { ⌜ (at + historySize width places ≤ length (now s)) × (h .count ≤ places) ⌝ }
+    ensures { λ r. ⌜ r ≡ sameIncarnation (incarnationOf (historyIn width places (now (s .entry)) at)) (incarnationOf h) ⌝ }
+{
+    let n = count(s, at);
+    let m = h.count as usize;
+    if n != m {
+        return false;
+    }
+    let x = number(s, at);
+    if x != h.incarnation {
+        return false;
+    }
+    agree_with(s, at, h, n)
+}
+
+// Document 01: signed, where h is the present mark of the same take.
+pub fn checkpointed_by(s: &[u8], at: usize, h: History) -> bool
+    requires { ⌜ (at + historySize width places ≤ length (now s)) × (h .count ≤ places) ⌝ }
+    ensures { λ r. ⌜ r ≡ checkpointedIn (incarnationOf (historyIn width places (now (s .entry)) at)) (incarnationOf h) ⌝ }
+{
+    let n = count(s, at);
+    let m = h.count as usize;
+    if m <= n {
+        return false;
+    }
+    let x = number(s, at);
+    if x != h.checkpoints[n] {
+        return false;
+    }
+    agree_with(s, at, h, n)
 }

@@ -1,14 +1,16 @@
 -- The bits of a volume: the volume that has them, and one more take named.
-use Prim.Native.Nat.{ℕ, zero, suc, _+_, _*_, _/_, _%_, _^_, _≤_, _<_}
-use mathlib.Core.Bool.{Bool, true, false}
+use Prim.Native.Nat.{ℕ, zero, suc, _+_, _-_, _*_, _/_, _%_, _^_, _≤_, _<_}
+use mathlib.Core.Bool.{Bool, true, false, not}
 use mathlib.Core.Path.{_≡_, refl, sym, ap, _∙_}
-use native.Mathlib.Nat.{zero-add, one-mul, pow-zero, pow-succ', zero-div, div-one, div-eq-of-lt, mod-eq-of-lt, div-div-eq-div-mul}
+use mathlib.Core.Logic.{⊎-elim}
+use native.Mathlib.Nat.{zero-add, one-mul, pow-zero, pow-succ', zero-div, div-one, div-eq-of-lt, mod-eq-of-lt, div-div-eq-div-mul, div-le-self}
 use native.Mathlib.Omega.{arith}
-use lib.Dec.{eqb, eqb·suc-suc}
-use lib.Pow.{pow-pos, pow-mono}
-use borrow.Author.Tests.{eq-eqb, ne-eqb, eqb-true, eqb-false}
+use lib.Dec.{eqb, leb, eqb·suc-suc}
+use lib.Pow.{pow-pos, pow-mono, shr-shr}
+use borrow.Author.Tests.{eq-eqb, ne-eqb, eqb-true, eqb-false, le-leb, lt-leb}
 use Rattle.octets.specs.Bytes.{_and_, _or_}
-use Rattle.octets.proofs.Tests.{or-none, and-off}
+use Rattle.octets.proofs.Chunks.{sides}
+use Rattle.octets.proofs.Tests.{never, or-none, and-off}
 use Rattle.octets.proofs.Zero.{any-at, any-off}
 use Rattle.rules.specs.Refusals.{groupBits, named, anyNamed}
 
@@ -109,3 +111,42 @@ unnamed-all g f h = any-off (λ t. named g t and f t) groupBits (λ t b. met (na
     met : (n v : Bool) → (n ≡ true → v ≡ false) → n and v ≡ false
     met true v e = e refl
     met false v e = refl
+
+-- ---- the takes from number n on
+
+named-shift : (g n u : ℕ) → named (g / 2 ^ n) u ≡ named g (n + u)
+unfolding named
+named-shift g n u = ap (λ (x : ℕ). eqb (x % 2) 1) (shr-shr g n u)
+
+-- one is named exactly if the quotient is not 0
+pub named-from : (g n : ℕ) → g < 2 ^ groupBits → not (eqb (g / 2 ^ n) 0) ≡ anyNamed g (leb n)
+named-from g n fits = go (anyNamed g (leb n)) refl (eqb (g / 2 ^ n) 0) refl
+  where
+    -- none is: no bit of the quotient
+    clear : anyNamed g (leb n) ≡ false → g / 2 ^ n ≡ 0
+    clear e = named-same groupBits (g / 2 ^ n) 0 (omega (arith, div-le-self g (2 ^ n))) (pow-pos groupBits) (λ u h. named-shift g n u ∙ off u (named g (n + u)) refl ∙ sym (named-zero u))
+      where
+        off : (u : ℕ) (b : Bool) → named g (n + u) ≡ b → b ≡ false
+        off u false p = refl
+        off u true p = ⊎-elim
+            (λ (h : n + u < groupBits). sym (le-leb n (n + u) (omega arith)) ∙ named-at g (leb n) (n + u) e h p)
+            (λ (h : groupBits ≤ n + u). sym p ∙ named-past g (n + u) groupBits fits h)
+            (sides (n + u) groupBits)
+
+    -- no bit of the quotient: none is
+    low : g / 2 ^ n ≡ 0 → (t : ℕ) → named g t ≡ true → leb n t ≡ false
+    low z t p = ⊎-elim
+        (λ (h : t < n). lt-leb n t h)
+        (λ (h : n ≤ t).
+        let e : n + (t - n) ≡ t = omega arith in
+        never (sym p ∙ sym (named-shift g n (t - n) ∙ ap (named g) e) ∙ ap (λ (x : ℕ). named x (t - n)) z ∙ named-zero (t - n)))
+        (sides t n)
+
+    go : (a : Bool) → anyNamed g (leb n) ≡ a → (b : Bool) → eqb (g / 2 ^ n) 0 ≡ b → not (eqb (g / 2 ^ n) 0) ≡ a
+    go true e false z = ap not z
+    go true e true z = never (sym e ∙ unnamed-all g (leb n) (λ t h p. low (eqb-true (g / 2 ^ n) 0 z) t p))
+    go false e b z = ap not (eq-eqb (g / 2 ^ n) 0 (clear e))
+
+-- and none past the bits of a volume
+pub named-from-none : (g n : ℕ) → groupBits ≤ n → false ≡ anyNamed g (leb n)
+named-from-none g n h = sym (unnamed-all g (leb n) (λ t b e. lt-leb n t (omega arith)))

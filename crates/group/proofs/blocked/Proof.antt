@@ -1,31 +1,38 @@
--- After t turns no named transactor below t blocks.
+-- After t turns no named transactor below t is gone, and the number says whether one has no room.
 use Prim.Native.Nat.{_-_}
 use mathlib.Core.Logic.{⊎-elim}
-use mathlib.Core.Path.{sym, _∙_}
+use mathlib.Core.Path.{refl, sym, _∙_, subst}
 use borrow.Author.Needs.{needs}
 use Rattle.rules.specs.Layout.{base}
 use Rattle.rules.specs.Pack.{unpack}
-use Rattle.rules.specs.Internal.Guards.{blocksAt}
-use Rattle.rules.proofs.Groups.Ready.{NoneNamed, none-first, none-unnamed, none-more, none-found, none-all}
+use Rattle.rules.proofs.ByKind.Guards.{Roomy, roomy-first, roomy-end, roomy-unnamed, roomy-gone, roomy-full, roomy-more}
 use Rattle.group.proofs.blocked.Statement.{statement}
 use Rattle.group.proofs.blocked.Tie as tie
 
 abbrev Inv-loop : tie.InvT-loop
-Inv-loop image group number t₀ t = NoneNamed group (blocksAt (unpack base image) number) t
+Inv-loop image group number₀ t₀ number t = Roomy (unpack base image) group t number
 
 abbrev μ-loop : tie.MeasureT-loop
-μ-loop image group number t₀ t = base .transactors - t
+μ-loop image group number₀ t₀ number t = base .transactors - t
 
 returns : tie.Need-returns Inv-loop μ-loop
 returns c =
     let n = c .before .before in
-    none-found (n .before .before .before .loop .inv) (search needs) (sym (n .before .is-named .ensures) ∙ n .if1 .taken) (sym (c .before .blocks2 .ensures) ∙ c .if2 .taken)
+    roomy-gone (n .before .before .before .loop .inv) (search needs) (sym (n .before .is-named .ensures) ∙ n .if1 .taken) (sym (c .before .status .ensures) ∙ c .if2 .taken)
 
 loop-again : tie.Need-loop-again Inv-loop μ-loop
-loop-again c = ⊎-elim
-    (λ w. none-more (search needs) (search needs) (sym (c .before .is-named .ensures) ∙ w .0 .taken) (sym (w .1 .ensures) ∙ w .2 .left))
-    (λ w. none-unnamed (search needs) (search needs) (sym (c .before .is-named .ensures) ∙ w .left))
+loop-again c =
+    let b = c .before .before .before .loop in
+    let n = c .before .is-named .ensures in
+    ⊎-elim
+    (λ w. roomy-full (b .inv) (search needs) (sym n ∙ w .0 .taken) _ (λ e. w .2 .left (w .1 .ensures ∙ e)) (sym (w .3 .ensures) ∙ w .4 .taken) (w .5))
+    (⊎-elim
+    (λ w. roomy-more (b .inv) (search needs) (sym n ∙ w .0 .taken) _ (λ e. w .2 .left (w .1 .ensures ∙ e)) (sym (w .3 .ensures) ∙ w .4 .left) (w .5))
+    (λ w. subst (Roomy (unpack base _) _ _) (sym (w .1)) (roomy-unnamed (b .inv) (search needs) (sym n ∙ w .0 .left))))
     (c .if1 .came)
+
+returns-2 : tie.Need-returns-2 Inv-loop μ-loop
+returns-2 c = roomy-end (c .before .loop .inv) (search needs)
 
 pub blocked-spec : {M : Type 1} → statement M
 blocked-spec =
@@ -33,11 +40,12 @@ blocked-spec =
     (tie.spec
     Inv-loop
     μ-loop
-    (λ c. none-first _ _)
+    (λ c. roomy-first _ _ _ refl)
     (λ c κs. search needs)
     (λ c κs. search needs)
     returns
+    (λ c κs. search needs)
     (λ c. search needs)
     (λ c. search needs)
     loop-again
-    (λ c. none-all (c .before .loop .inv) (search needs)))
+    returns-2)

@@ -4,43 +4,47 @@ use mathlib.Core.Bool.{true, not}
 use mathlib.Core.Path.{_≡_, refl, sym, ap, _∙_}
 use mathlib.Core.Logic.{⊎-elim}
 use borrow.Author.Needs.{needs}
+use Rattle.octets.proofs.Tests.{passed, failed}
 use Rattle.octets.proofs.Zero.{Held, held-none, held-more}
 use Rattle.rules.specs.Layout.{base}
 use Rattle.rules.specs.Pack.{unpack}
 use Rattle.rules.specs.Internal.Closure.{pairReady}
-use Rattle.rules.proofs.Groups.Ready.{namedReady, ready-end, ready-unnamed, ready-unstable, ready-named, ready-unmet}
+use Rattle.rules.proofs.Groups.Ready.{namedReady, ready-end, ready-unnamed, ready-unstable, ready-named, ready-unmet, kept-at}
 use Rattle.group.proofs.ready.Statement.{statement}
 use Rattle.group.proofs.ready.Tie as tie
 
 abbrev Inv-loop : tie.InvT-loop
-Inv-loop image group ok₀ t u₀ ok u = Held (pairReady base image group t) (base .transactors) u × (ok ≡ true)
+Inv-loop image group present ok₀ t u₀ ok u = Held (pairReady base image group t) (base .transactors) u × (ok ≡ true)
 
 abbrev μ-loop : tie.MeasureT-loop
-μ-loop image group ok₀ t u₀ ok u = base .transactors - u
+μ-loop image group present ok₀ t u₀ ok u = base .transactors - u
 
 abbrev Inv-named : tie.InvT-named
-Inv-named image group ok₀ t₀ ok t = Held (namedReady base (unpack base image) group) (base .transactors) t × (ok ≡ true)
+Inv-named image group present ok₀ t₀ ok t = Held (namedReady base (unpack base image) group) (base .transactors) t × (ok ≡ true)
 
 abbrev μ-named : tie.MeasureT-named
-μ-named image group ok₀ t₀ ok t = base .transactors - t
+μ-named image group present ok₀ t₀ ok t = base .transactors - t
+
+kept-ready-requires : tie.Need-kept-ready-requires Inv-loop μ-loop Inv-named μ-named
+kept-ready-requires c κs =
+    let p = c .before .before .before .before .before .before .before in
+    (search needs, search needs, search needs, kept-at base _ _ (passed (p .before .before .all-stable .ensures) (p .before .if1 .left)) (p .before .before .before .before .pre .well) (p .presents .ensures) _ (search needs))
 
 named-again : tie.Need-named-again Inv-loop μ-loop Inv-named μ-named
-named-again c = ⊎-elim
-    (λ w. (held-more (search needs) (search needs) (ready-named base _ _ _ (search needs) (sym (c .before .is-named .ensures) ∙ w .0 .taken) (ap not (sym (w .1 .ensures)) ∙ w .2 .left) (w .3 .inv .0) (search needs)), w .5 ∙ w .3 .inv .1))
+named-again c =
+    let p = c .before .before .before .before .before in
+    ⊎-elim
+    (λ w. (held-more (search needs) (search needs) (ready-named base _ _ _ (search needs) (passed (p .before .all-stable .ensures) (p .if1 .left)) (sym (c .before .is-named .ensures) ∙ w .0 .taken) (w .1 .inv .0) (search needs)), w .3 ∙ w .1 .inv .1))
     (λ w. (held-more (search needs) (search needs) (ready-unnamed base _ _ _ (sym (c .before .is-named .ensures) ∙ w .0 .left)), search needs))
-    (c .if1 .came)
-
-returns-2 : tie.Need-returns-2 Inv-loop μ-loop Inv-named μ-named
-returns-2 c =
-    let n = c .before .before in
-    ready-unstable base _ _ (n .before .before .before .named .t) (search needs) (sym (n .before .is-named .ensures) ∙ n .if1 .taken) (ap not (sym (c .before .is-stable .ensures)) ∙ c .if2 .taken)
+    (c .if2 .came)
 
 returns-3 : tie.Need-returns-3 Inv-loop μ-loop Inv-named μ-named
 returns-3 c =
-    let s = c .before .before .before .before in
-    let n = s .before .before in
-    ready-unmet base _ _ _ (search needs) (sym (n .before .is-named .ensures) ∙ n .if1 .taken) (ap not (sym (s .before .is-stable .ensures)) ∙ s .if2 .left) (c .before .before .before .loop .inv .0) (search needs)
-    (ap not (sym (c .before .pair-ready .ensures)) ∙ c .if3 .taken)
+    let l = c .before .before .before .before in
+    let n = l .before .before in
+    let p = n .before .before .before .before in
+    ready-unmet base _ _ _ (search needs) (passed (p .before .all-stable .ensures) (p .if1 .left)) (sym (n .is-named .ensures) ∙ l .before .if2 .taken) (l .loop .inv .0) (search needs)
+    (ap not (sym (c .before .kept-ready .ensures)) ∙ c .if3 .taken)
 
 pub ready-spec : {M : Type 1} → statement M
 ready-spec =
@@ -50,17 +54,20 @@ ready-spec =
     μ-loop
     Inv-named
     μ-named
+    (λ c κs. search needs)
+    (λ c. ready-unstable base _ _ (failed (c .before .all-stable .ensures) (c .if1 .taken)))
+    (λ c κs. search needs)
     (λ c. (held-none _ _, refl))
     (λ c κs. search needs)
-    (λ c κs. search needs)
     (λ c. (held-none _ _, search needs))
-    (λ c κs. search needs)
     (λ c. search needs)
     (λ c. search needs)
-    (λ c. (held-more (search needs) (search needs) (ap not (sym (c .before .pair-ready .ensures)) ∙ c .if3 .left), search needs))
+    kept-ready-requires
+    (λ c. search needs)
+    (λ c. search needs)
+    (λ c. (held-more (search needs) (search needs) (ap not (sym (c .before .kept-ready .ensures)) ∙ c .if3 .left), search needs))
     (λ c. search needs)
     (λ c. search needs)
     named-again
     (λ c. ready-end base _ _ _ (search needs) (c .before .named .inv .0) (search needs))
-    returns-2
     returns-3)

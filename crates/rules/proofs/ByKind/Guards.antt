@@ -1,21 +1,23 @@
 -- The refusals that several kinds share, one after the other as the code finds them.
-use Prim.Native.Nat.{ℕ, _≤_, _<_}
+use Prim.Native.Nat.{ℕ, _+_, _≤_, _<_}
 use mathlib.Core.Bool.{Bool, true, false, not}
-use mathlib.Core.Path.{_≡_, refl, sym, ap, _∙_}
+use mathlib.Core.Path.{_≡_, refl, sym, ap, _∙_, subst}
 use mathlib.Core.Logic.{⊎-elim}
+use native.Mathlib.Numerals.{add-one}
 use native.Mathlib.Omega.{arith}
 use lib.Dec.{eqb, leb}
 use lib.ListN.{length}
 use borrow.Author.Tests.{le-leb, lt-leb, leb-false, eq-eqb, ne-eqb, eqb-false}
-use Rattle.octets.specs.Bytes.{pick}
+use Rattle.octets.specs.Bytes.{pick, _and_, _or_, any}
 use Rattle.octets.specs.Numbers.{bound}
 use Rattle.octets.proofs.Chunks.{sides}
-use Rattle.octets.proofs.Tests.{never, pick-zero}
+use Rattle.octets.proofs.Tests.{never, pick-zero, or-none}
+use Rattle.octets.proofs.Zero.{any-none, any-more, any-on}
 use Rattle.rules.specs.Layout.{lastNumber}
 use Rattle.rules.specs.Status.{busy, annihilated}
 use Rattle.rules.specs.State.{State, transactorAt, ownHistory}
-use Rattle.rules.specs.Refusals.{groupBits, anyNamed}
-use Rattle.rules.specs.Internal.Guards.{actingRefusal, busyRefusal, crowdedRefusal, groupRefusal, blocksAt, Room}
+use Rattle.rules.specs.Refusals.{groupBits, named, anyNamed}
+use Rattle.rules.specs.Internal.Guards.{actingRefusal, busyRefusal, crowdedRefusal, namedRefusal, groupRefusal, blocksAt, Room}
 use Rattle.rules.proofs.Bits.{named-past, named-at}
 
 -- the first of two refusals that is one
@@ -120,28 +122,23 @@ module _ (s : State) (g : ℕ) where
   unfolding groupRefusal
   group-empty e = rw (eq-eqb g 0 e)
 
-  module _ (names : g ≡ 0 → ⊥) where
-    pub group-unopened : blocked 21 ≡ true → 21 ≡ groupRefusal s g
+  module _ (names : g ≡ 0 → ⊥) (u : Bool) (tested : u ≡ anyNamed g (leb (s .opened))) where
+    -- as document 01 asks it of each named take
+    unopened-is : blocked 21 ≡ u
+    unfolding blocksAt
+    unopened-is = sym tested
+
+    pub group-unopened : u ≡ true → 21 ≡ groupRefusal s g
     unfolding groupRefusal
-    group-unopened e = rw (ne-eqb g 0 names, e)
+    group-unopened e = rw (ne-eqb g 0 names, unopened-is, e)
 
-    module _ (opened : blocked 21 ≡ false) where
-      pub group-gone : blocked 22 ≡ true → 22 ≡ groupRefusal s g
-      unfolding groupRefusal
-      group-gone e = rw (ne-eqb g 0 names, opened, e)
-
-      module _ (there : blocked 22 ≡ false) where
-        pub group-full : blocked 30 ≡ true → 30 ≡ groupRefusal s g
-        unfolding groupRefusal
-        group-full e = rw (ne-eqb g 0 names, opened, there, e)
-
-        pub group-free : blocked 30 ≡ false → 0 ≡ groupRefusal s g
-        unfolding groupRefusal
-        group-free e = rw (ne-eqb g 0 names, opened, there, e)
+    pub group-opened : u ≡ false → namedRefusal s g ≡ groupRefusal s g
+    unfolding groupRefusal
+    group-opened e = rw (ne-eqb g 0 names, unopened-is, e)
 
   -- no refusal: every named take has room
   pub group-room : g < bound 2 → groupRefusal s g ≡ 0 → Room s g
-  unfolding groupRefusal Room blocksAt bound
+  unfolding groupRefusal namedRefusal Room blocksAt bound
   group-room fits z t n =
       let a = pick-zero (eqb g 0) 29 _ (omega arith) z in
       let b = pick-zero (blocked 21) 21 _ (omega arith) (a .1) in
@@ -151,3 +148,54 @@ module _ (s : State) (g : ℕ) where
       (λ (h : t < groupBits). leb-false (s .limits .checkpoints) (ownHistory t (transactorAt s t) .count) (named-at g (blocksAt s 30) t (d .0) h n))
       (λ (h : groupBits ≤ t). never (sym n ∙ named-past g t groupBits fits h))
       (sides t groupBits)
+
+-- ---- the loop that looks for 22 and 30 at once: after t turns none of the named takes is gone, and n is 30 if one has no room
+
+pub record Roomy (s : State) (g t n : ℕ) : Type 0 where
+  pub within : t ≤ groupBits
+  pub there : any t (λ u. named g u and blocksAt s 22 u) ≡ false
+  pub number : n ≡ pick (any t (λ u. named g u and blocksAt s 30 u)) 30 0
+
+pub roomy-first : (s : State) (g n : ℕ) → n ≡ 0 → Roomy s g 0 n
+roomy-first s g n e = record { within = omega arith; there = any-none (λ u. named g u and blocksAt s 22 u); number = rw (any-none (λ u. named g u and blocksAt s 30 u)) e }
+
+module _ {s : State} {g t n : ℕ} (roomy : Roomy s g t n) where
+  -- the one more that is looked at
+  next : (f : ℕ → Bool) → any (t + 1) f ≡ any t f or f t
+  unfolding any
+  next f = rw add-one
+
+  pub roomy-end : groupBits ≤ t → n ≡ namedRefusal s g
+  unfolding namedRefusal anyNamed
+  roomy-end h =
+      let e : t ≡ groupBits = omega arith in
+      roomy .number ∙ ap (λ (i : ℕ). pick (any i (λ u. named g u and blocksAt s 30 u)) 30 0) e
+      ∙ rw (subst (λ (i : ℕ). any i (λ u. named g u and blocksAt s 22 u) ≡ false) e (roomy .there))
+
+  module _ (below : t < groupBits) where
+    pub roomy-unnamed : named g t ≡ false → Roomy s g (t + 1) n
+    roomy-unnamed o = record {
+      within = omega arith;
+      there = any-more (λ u. named g u and blocksAt s 22 u) t (roomy .there) (rw o);
+      number = roomy .number ∙ rw (next (λ u. named g u and blocksAt s 30 u), o, or-none);
+    }
+
+    module _ (name : named g t ≡ true) where
+      pub roomy-gone : transactorAt s t .status ≡ annihilated → 22 ≡ namedRefusal s g
+      unfolding namedRefusal anyNamed blocksAt
+      roomy-gone e = rw (any-on (λ u. named g u and blocksAt s 22 u) groupBits t below (rw (name, eq-eqb (transactorAt s t .status) annihilated e)))
+
+      module _ (n' : ℕ) (there : transactorAt s t .status ≡ annihilated → ⊥) where
+        gone-off : any (t + 1) (λ u. named g u and blocksAt s 22 u) ≡ false
+        unfolding blocksAt
+        gone-off = any-more (λ u. named g u and blocksAt s 22 u) t (roomy .there) (rw (name, ne-eqb (transactorAt s t .status) annihilated there))
+
+        pub roomy-full : blocksAt s 30 t ≡ true → n' ≡ 30 → Roomy s g (t + 1) n'
+        roomy-full f e = record { within = omega arith; there = gone-off; number = e ∙ rw (next (λ u. named g u and blocksAt s 30 u), name, f) (on (any t (λ u. named g u and blocksAt s 30 u))) }
+          where
+            on : (c : Bool) → _≡_ {A = ℕ} 30 (pick (c or true) 30 0)
+            on true = refl
+            on false = refl
+
+        pub roomy-more : blocksAt s 30 t ≡ false → n' ≡ n → Roomy s g (t + 1) n'
+        roomy-more f e = record { within = omega arith; there = gone-off; number = e ∙ roomy .number ∙ rw (next (λ u. named g u and blocksAt s 30 u), name, f, or-none) }

@@ -13,7 +13,7 @@ use Rattle.rules.specs.State.{Transactor, State, ownHistory, transactorA
 use Rattle.rules.specs.Step.{Step, root, letter, receive, new, send, read, fall, fail, lose, sign}
 use Rattle.rules.specs.Refusals.{malformed, notWaiting, emptyGroup, unopened, isGone, wrongStatus, unrelatedReceipt, allOpened, allWaiting, allNumbered, allCheckpointed, atLast, lastRollsBack, refusalOf}
 use Rattle.rules.specs.Rules.{receiptRollsBack, receiptUnrelated, seen, refusal}
-use Rattle.rules.specs.Internal.Guards.{isLastIncarnation, busyRefusal, crowdedRefusal, groupRefusal, blocksAt}
+use Rattle.rules.specs.Internal.Guards.{isLastIncarnation, busyRefusal, crowdedRefusal, namedRefusal, groupRefusal, blocksAt}
 use Rattle.octets.proofs.Tests.{or-none, or-off}
 use Rattle.rules.proofs.ByKind.Guards.{first, working-first}
 
@@ -84,7 +84,7 @@ pub record Refuses (y : Layout) (s : State) (p : Step) : Type 0 where
   pub sign : p .kind ≡ sign → refusal y s p ≡ groupRefusal s (p .message)
 
 pub refuses : (y : Layout) (s : State) (p : Step) → malformed p ≡ false → Refuses y s p
-unfolding refusal refusalOf notWaiting emptyGroup unopened isGone wrongStatus unrelatedReceipt allOpened allWaiting allNumbered allCheckpointed atLast lastRollsBack seen isLastIncarnation crowdedRefusal groupRefusal blocksAt
+unfolding refusal refusalOf notWaiting emptyGroup unopened isGone wrongStatus unrelatedReceipt allOpened allWaiting allNumbered allCheckpointed atLast lastRollsBack seen isLastIncarnation crowdedRefusal namedRefusal groupRefusal blocksAt
 refuses y s p formed = record {
   root = λ e. rw (formed, e);
   letter = λ e. simp (formed, e, or-none);

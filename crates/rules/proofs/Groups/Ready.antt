@@ -1,47 +1,39 @@
 -- What blocks the signing of a group, and when the group is ready, as the code tests the image.
 use Prim.Native.Nat.{ℕ, zero, suc, _+_, _*_, _≤_, _<_}
 use mathlib.Core.Bool.{Bool, true, false, not}
-use mathlib.Core.Path.{_≡_, refl, sym, _∙_}
+use mathlib.Core.Path.{_≡_, refl, sym, ap, _∙_}
 use mathlib.Core.List.{List}
 use native.Mathlib.Omega.{arith}
-use borrow.Author.Tests.{eq-eqb, ne-eqb, not-true, not-false}
+use borrow.Author.Tests.{not-true, not-false}
 use lib.Dec.{eqb, leb}
 use Rattle.octets.specs.Bytes.{_and_, _or_, part, every, any}
-use Rattle.octets.proofs.Zero.{every-same, every-off, Held, held-all, held-fails, any-none, any-more, any-on}
+use Rattle.octets.proofs.Zero.{both, every-same, every-all, every-at, every-off, Held, held-all, held-fails, any-none, any-more, any-on}
+use Rattle.octets.proofs.Tests.{never, or-none, implied, implying}
 use Rattle.marks.specs.declared.History.{History}
 use Rattle.marks.specs.Incarnation.{checkpointedIn, sameIncarnation}
 use Rattle.marks.specs.History.{incarnationOf}
 use Rattle.marks.specs.Packed.{unpackHistory, presentIn}
-use Rattle.marks.proofs.Packed.{unpack-count}
 use Rattle.maps.specs.declared.DependenceMap.{DependenceMap}
-use Rattle.maps.specs.Map.{heldAt, historyAt}
+use Rattle.maps.specs.Map.{entryOf, heldAt, historyAt}
+use Rattle.maps.proofs.Map.{history-empty}
 use Rattle.maps.proofs.Packed.{bounded-at, mapOk-bounded}
 use Rattle.rules.specs.Layout.{Layout, base, historyBytes, stateAt, creationAt, transactorAddress}
-use Rattle.rules.specs.Status.{annihilated}
-use Rattle.rules.specs.State.{State, live, transactorAt, ownHistory}
+use Rattle.rules.specs.Status.{unused, ready, busy, annihilated}
+use Rattle.rules.specs.State.{Transactor, State, bare, live, transactorAt, ownHistory}
 use Rattle.rules.specs.Refusals.{named, anyNamed, groupBits}
 use Rattle.rules.specs.Rules.{entryReady, mapReady, transactorReady, groupReady}
 use Rattle.rules.specs.Pack.{unpackDependences, unpack}
+use Rattle.rules.specs.Internal.Well.{Live, idle, working, TransactorFormed, not-opened, gone, alive, WellFormed}
 use Rattle.rules.specs.Internal.Good.{Good}
 use Rattle.rules.specs.Internal.Guards.{blocksAt}
-use Rattle.rules.specs.Internal.Closure.{storedReady, pairReady, lacking, missing}
+use Rattle.rules.specs.Internal.Closure.{storedReady, pairReady, stableNamed, Presents, Kept, vouchedAt, checkpointedAt, lacking, missing}
 use Rattle.rules.proofs.Pack.Loads.{held-at, history-at, read-state, read-creation}
 
 -- ---- what blocks a signing
 
-module _ (s : State) (number t : ℕ) where
-  pub blocks-unopened : number ≡ 21 → leb (s .opened) t ≡ blocksAt s number t
-  unfolding blocksAt
-  blocks-unopened e = rw (eq-eqb number 21 e)
-
-  module _ (other : number ≡ 21 → ⊥) where
-    pub blocks-gone : number ≡ 22 → eqb (transactorAt s t .status) annihilated ≡ blocksAt s number t
-    unfolding blocksAt
-    blocks-gone e = rw (ne-eqb number 21 other, eq-eqb number 22 e)
-
-    pub blocks-full : (number ≡ 22 → ⊥) → (h : History) → h ≡ ownHistory t (transactorAt s t) → leb (s .limits .checkpoints) (h .count) ≡ blocksAt s number t
-    unfolding blocksAt
-    blocks-full n h e = rw (ne-eqb number 21 other, ne-eqb number 22 n, e)
+pub blocks-full : (s : State) (t n : ℕ) → n ≡ ownHistory t (transactorAt s t) .count → leb (s .limits .checkpoints) n ≡ blocksAt s 30 t
+unfolding blocksAt
+blocks-full s t n e = ap (leb (s .limits .checkpoints)) e
 
 -- ---- a loop over the takes: f holds of none of the first t that g names
 
@@ -70,10 +62,30 @@ module _ {g : ℕ} {f : ℕ → Bool} {t : ℕ} (none : NoneNamed g f t) where
       let e : t ≡ groupBits = omega arith in
       sym (rw e at (none .none))
 
--- ---- one mark
+-- ---- a take that is frozen is live
 
-pub stored-count : (at : ℕ) (img : List ℕ) (h : History) → h ≡ unpackHistory (base .width) (base .places) (part at (historyBytes base) img) → h .count ≤ base .places
-stored-count at img h e = rw e (omega (arith, unpack-count (base .width) (base .places) (part at (historyBytes base) img)))
+pub alive-there : {n : ℕ} → Live n → eqb n annihilated ≡ false
+alive-there idle = refl
+alive-there working = refl
+
+alive-live : {n : ℕ} → Live n → eqb n ready or eqb n busy ≡ true
+alive-live idle = refl
+alive-live working = refl
+
+module _ {y : Layout} {s : State} (well : WellFormed y s) (t : ℕ) (below : t < y .transactors) where
+  -- the own history of a take that is not live is not stable
+  bare-loose : (n : ℕ) → ownHistory t (bare y n) .stable ≡ false
+  bare-loose n = ap (λ (x : History). x .stable) (history-empty (y .places) (y .transactors) t below)
+
+  pub stable-alive : ownHistory t (transactorAt s t) .stable ≡ true → (t < s .opened) × Live (transactorAt s t .status)
+  stable-alive = go (well .transactors t below)
+    where
+      go : {x : Transactor} → TransactorFormed y (s .limits .checkpoints) (s .opened) t x → ownHistory t x .stable ≡ true → (t < s .opened) × Live (x .status)
+      go (not-opened h) e = never (sym e ∙ bare-loose unused)
+      go (gone h) e = never (sym e ∙ bare-loose annihilated)
+      go (alive h a) e = (h, a .status)
+
+-- ---- one mark
 
 pub own-count : (img : List ℕ) → Good img → (t : ℕ) → t < base .transactors → (h : History) → h ≡ ownHistory t (transactorAt (unpack base img) t) → h .count ≤ base .places
 own-count img good t below h e = rw e (bounded-at (base .places) (transactorAt (unpack base img) t .state) (mapOk-bounded (good .well .packable .transactors t below .state)) t)
@@ -97,17 +109,78 @@ module _ (y : Layout) (img : List ℕ) (g at u : ℕ) where
     unfolding storedReady entryReady
     stored-live l h own p q n m = rw (there, not-false (live (transactorAt (unpack y img) u)) l, ← p, ← q, ← m)
 
+-- ---- with what is kept of the named takes
+
+or-on : (c : Bool) → c or true ≡ true
+or-on true = refl
+or-on false = refl
+
+module _ (y : Layout) (img : List ℕ) (g at u : ℕ) where
+  abbrev x : Transactor
+  x = transactorAt (unpack y img) u
+
+  abbrev h : History
+  h = unpackHistory (y .width) (y .places) (part at (historyBytes y) img)
+
+  pub vouched-absent : not (presentIn (part at (historyBytes y) img)) ≡ true → true ≡ vouchedAt y img g at u
+  unfolding vouchedAt
+  vouched-absent e = rw e
+
+  module _ (there : not (presentIn (part at (historyBytes y) img)) ≡ false) where
+    pub vouched-unnamed : named g u ≡ false → false ≡ vouchedAt y img g at u
+    unfolding vouchedAt
+    vouched-unnamed o = rw (there, o)
+
+    pub vouched-same : {o : History} → Kept (unpack y img) g u o → named g u ≡ true → sameIncarnation (incarnationOf h) (incarnationOf o) ≡ vouchedAt y img g at u
+    unfolding vouchedAt
+    vouched-same {o} k n = rw (there, n) (ap (λ (z : History). sameIncarnation (incarnationOf h) (incarnationOf z)) (k .own n))
+
+  pub signed-named : {o : History} → Kept (unpack y img) g u o → named g u ≡ true → checkpointedIn (incarnationOf h) (incarnationOf o) ≡ checkpointedAt y img at u
+  unfolding checkpointedAt
+  signed-named {o} k n = rw (k .there n) (ap (λ (z : History). checkpointedIn (incarnationOf h) (incarnationOf z)) (k .own n))
+
+  pub signed-dead : live x ≡ false → false ≡ checkpointedAt y img at u
+  unfolding checkpointedAt
+  signed-dead l = rw l
+
+  pub signed-live : live x ≡ true → (o : History) → o ≡ ownHistory u x → checkpointedIn (incarnationOf h) (incarnationOf o) ≡ checkpointedAt y img at u
+  unfolding checkpointedAt
+  signed-live l o e = rw l (ap (λ (z : History). checkpointedIn (incarnationOf h) (incarnationOf z)) e)
+
+  module _ {o : History} (kept : Kept (unpack y img) g u o) where
+    -- the two tests, one after the other
+    stored-kept : storedReady y img g at u ≡ vouchedAt y img g at u or checkpointedAt y img at u
+    unfolding storedReady entryReady vouchedAt checkpointedAt
+    stored-kept = go (presentIn (part at (historyBytes y) img)) (live x) (checkpointedIn (incarnationOf h) (incarnationOf (ownHistory u x))) (named g u)
+        (sameIncarnation (incarnationOf h) (incarnationOf (ownHistory u x))) (kept .there)
+      where
+        go : (p l c n e : Bool) → (n ≡ true → l ≡ true) → not p or (l and (c or (n and e))) ≡ (not p or (n and e)) or (l and c)
+        go false l c n e f = refl
+        go true true true n e f = sym (or-on (n and e))
+        go true true false n e f = sym (or-none (n and e))
+        go true false c true e f = never (sym (f refl))
+        go true false c false e f = refl
+
+    pub kept-vouched : vouchedAt y img g at u ≡ true → storedReady y img g at u ≡ true
+    kept-vouched e = stored-kept ∙ rw e
+
+    pub kept-signed : checkpointedAt y img at u ≡ true → storedReady y img g at u ≡ true
+    kept-signed e = stored-kept ∙ rw e (or-on (vouchedAt y img g at u))
+
+    pub kept-other : vouchedAt y img g at u ≡ false → checkpointedAt y img at u ≡ storedReady y img g at u
+    kept-other e = sym (stored-kept ∙ rw e)
+
 module _ (y : Layout) (img : List ℕ) (g t u : ℕ) where
   abbrev state : Bool
   state = storedReady y img g (transactorAddress y t + stateAt + historyBytes y * u) u
 
-  pub pair-off : not state ≡ true → false ≡ pairReady y img g t u
+  pub pair-off : state ≡ false → false ≡ pairReady y img g t u
   unfolding pairReady
-  pair-off e = rw (not-true state e)
+  pair-off e = rw e
 
-  pub pair-on : not state ≡ false → storedReady y img g (transactorAddress y t + creationAt y + historyBytes y * u) u ≡ pairReady y img g t u
+  pub pair-on : state ≡ true → storedReady y img g (transactorAddress y t + creationAt y + historyBytes y * u) u ≡ pairReady y img g t u
   unfolding pairReady
-  pair-on e = rw (not-false state e)
+  pair-on e = rw e
 
 -- ---- a group, take by take and mark by mark
 
@@ -163,27 +236,45 @@ module _ (y : Layout) (img : List ℕ) (g t : ℕ) where
     unfolding transactorReady
     transactor-is = rw marks-are
 
-    abbrev stable : Bool
-    stable = ownHistory t (transactorAt s t) .stable
+    module _ (all : every (y .transactors) (stableNamed s g) ≡ true) (name : named g t ≡ true) where
+      named-is : namedReady y s g t ≡ every (y .transactors) (pairReady y img g t)
+      unfolding namedReady stableNamed
+      named-is =
+          let e = implied (named g t) (ownHistory t (transactorAt s t) .stable) (every-at (stableNamed s g) (y .transactors) t all below) name in
+          rw (name, transactor-is, e)
 
-    module _ (name : named g t ≡ true) where
-      named-is : namedReady y s g t ≡ stable and every (y .transactors) (pairReady y img g t)
-      unfolding namedReady
-      named-is = rw (name, transactor-is)
+      pub ready-named : {u : ℕ} → Held (pairReady y img g t) (y .transactors) u → y .transactors ≤ u → not (namedReady y s g t) ≡ false
+      ready-named held h = rw (named-is, ← held-all held h)
 
-      not-ready : namedReady y s g t ≡ false → false ≡ groupReady y s g
+      pub ready-unmet : {u : ℕ} → Held (pairReady y img g t) (y .transactors) u → u < y .transactors → not (pairReady y img g t u) ≡ true → false ≡ groupReady y s g
       unfolding groupReady namedReady
-      not-ready e = sym (every-off (namedReady y s g) (y .transactors) t below e)
+      ready-unmet held h e = sym (every-off (namedReady y s g) (y .transactors) t below (named-is ∙ sym (held-fails held h e)))
 
-      pub ready-unstable : not stable ≡ true → false ≡ groupReady y s g
-      ready-unstable e = not-ready (named-is ∙ rw (not-true stable e))
+-- ---- the named takes are frozen
 
-      module _ (still : not stable ≡ false) where
-        pub ready-named : {u : ℕ} → Held (pairReady y img g t) (y .transactors) u → y .transactors ≤ u → not (namedReady y s g t) ≡ false
-        ready-named held h = rw (named-is, not-false stable still, ← held-all held h)
+module _ (y : Layout) (s : State) (g : ℕ) where
+  -- not all are: not ready
+  pub ready-unstable : every (y .transactors) (stableNamed s g) ≡ false → false ≡ groupReady y s g
+  unfolding groupReady stableNamed transactorReady
+  ready-unstable e = go (groupReady y s g) refl
+    where
+      stable : groupReady y s g ≡ true → every (y .transactors) (stableNamed s g) ≡ true
+      stable r = every-all (stableNamed s g) (y .transactors) (λ t h. implying (named g t) (ownHistory t (transactorAt s t) .stable) (λ n.
+          both (ownHistory t (transactorAt s t) .stable) _
+          (implied (named g t) (transactorReady y s g t) (every-at (λ t. not (named g t) or transactorReady y s g t) (y .transactors) t r h) n) .0))
 
-        pub ready-unmet : {u : ℕ} → Held (pairReady y img g t) (y .transactors) u → u < y .transactors → not (pairReady y img g t u) ≡ true → false ≡ groupReady y s g
-        ready-unmet held h e = not-ready (named-is ∙ rw (not-false stable still, ← held-fails held h e))
+      go : (r : Bool) → groupReady y s g ≡ r → false ≡ r
+      go true r = never (sym (stable r) ∙ e)
+      go false r = refl
+
+  module _ (all : every (y .transactors) (stableNamed s g) ≡ true) (well : WellFormed y s) {l : List History} (present : Presents y s g l) where
+    -- what the walk has of each take
+    pub kept-at : (u : ℕ) → u < y .transactors → Kept s g u (entryOf l u)
+    unfolding stableNamed
+    kept-at u h = record {
+      there = λ n. alive-live (stable-alive well u h (implied (named g u) (ownHistory u (transactorAt s u) .stable) (every-at (stableNamed s g) (y .transactors) u all h) n) .1);
+      own = present .own u h;
+    }
 
 -- ---- a take that the group lacks
 

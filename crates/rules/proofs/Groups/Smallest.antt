@@ -8,28 +8,26 @@ use mathlib.Core.Option.{Option, none, some}
 use mathlib.Core.Logic.{_↔_}
 use native.Mathlib.Omega.{arith}
 use borrow.Author.Tests.{eq-eqb, ne-eqb, eqb-true, eqb-false, leb-false, lt-leb}
-use lib.Dec.{eqb, leb}
-use Rattle.octets.specs.Bytes.{_and_, _or_, Octets}
+use lib.Dec.{eqb}
+use Rattle.octets.specs.Bytes.{_or_, Octets}
 use Rattle.octets.specs.Numbers.{bound}
 use Rattle.octets.proofs.Tests.{never, pick-zero, implied, same-test}
 use Rattle.octets.proofs.Zero.{both, every-at}
-use Rattle.marks.specs.declared.History.{History}
-use Rattle.maps.proofs.Map.{history-empty}
 use Rattle.rules.specs.Layout.{Layout, base}
-use Rattle.rules.specs.Status.{unused, annihilated}
-use Rattle.rules.specs.State.{Transactor, State, bare, transactorAt, ownHistory}
+use Rattle.rules.specs.State.{State, transactorAt, ownHistory}
 use Rattle.rules.specs.Step.{done}
 use Rattle.rules.specs.Refusals.{named, anyNamed, groupBits}
 use Rattle.rules.specs.Rules.{transactorReady, groupReady, stepOf}
 use Rattle.rules.specs.Pack.{unpack}
 use Rattle.rules.specs.Calls.{queryRefusal}
-use Rattle.rules.specs.Internal.Well.{Live, idle, working, TransactorFormed, not-opened, gone, alive, WellFormed}
+use Rattle.rules.specs.Internal.Well.{WellFormed}
 use Rattle.rules.specs.Groups.{signing, Checkpointable, Meets, Within, Smallest, refused, nothing, smallest}
-use Rattle.rules.specs.Internal.Guards.{blocksAt, groupRefusal}
+use Rattle.rules.specs.Internal.Guards.{blocksAt, namedRefusal, groupRefusal}
 use Rattle.rules.specs.Internal.Closure.{Closure}
 use Rattle.rules.proofs.Form.State.{formed-state}
 use Rattle.rules.proofs.Bits.{named-same, named-zero, named-at, unnamed-all}
 use Rattle.rules.proofs.Groups.Signable.{signing-done}
+use Rattle.rules.proofs.Groups.Ready.{stable-alive, alive-there}
 use Rattle.rules.proofs.Groups.Closure.{closed-ready}
 use Rattle.rules.proofs.Calls.Query.{query-accepted}
 
@@ -51,7 +49,7 @@ module _ (y : Layout) (s : State) where
     ready : groupReady y s v ≡ true
 
   signable : (v : ℕ) → stepOf y s (signing v) .reply .outcome ≡ done → Signable v
-  unfolding groupRefusal
+  unfolding groupRefusal namedRefusal
   signable v e =
       let a = both (eqb (groupRefusal s v) 0) (groupReady y s v) (sym (signing-done y s v) ∙ eq-eqb (stepOf y s (signing v) .reply .outcome) done e) in
       let b = pick-zero (eqb v 0) 29 _ (omega arith) (eqb-true (groupRefusal s v) 0 (a .0)) in
@@ -60,15 +58,11 @@ module _ (y : Layout) (s : State) where
       record { opened = c .0; there = d .0; room = pick-zero (blocked v 30) 30 0 (omega arith) (d .1) .0; ready = a .1 }
 
   signs : (v : ℕ) → (v ≡ 0 → ⊥) → Signable v → stepOf y s (signing v) .reply .outcome ≡ done
-  unfolding groupRefusal
+  unfolding groupRefusal namedRefusal
   signs v n a = eqb-true (stepOf y s (signing v) .reply .outcome) done (signing-done y s v ∙ rw (ne-eqb v 0 n, a .opened, a .there, a .room, a .ready))
 
 -- in a well-formed state: the sets of takes with t, none of them with all its signings, that meet the signing rule
 module _ {y : Layout} {s : State} (well : WellFormed y s) (size : y .transactors ≡ groupBits) where
-  -- the own history of a take that is not live is not stable
-  bare-loose : (t n : ℕ) → t < y .transactors → ownHistory t (bare y n) .stable ≡ false
-  bare-loose t n h = ap (λ (x : History). x .stable) (history-empty (y .places) (y .transactors) t h)
-
   module _ (v : ℕ) (ready : groupReady y s v ≡ true) (t : ℕ) (below : t < groupBits) (name : named v t ≡ true) where
     stable : ownHistory t (transactorAt s t) .stable ≡ true
     unfolding groupReady transactorReady
@@ -77,16 +71,7 @@ module _ {y : Layout} {s : State} (well : WellFormed y s) (size : y .transactors
 
     stands : (blocksAt s 21 t ≡ false) × (blocksAt s 22 t ≡ false)
     unfolding blocksAt
-    stands = go (well .transactors t (omega arith)) stable
-      where
-        there : {n : ℕ} → Live n → eqb n annihilated ≡ false
-        there idle = refl
-        there working = refl
-
-        go : {x : Transactor} → TransactorFormed y (s .limits .checkpoints) (s .opened) t x → ownHistory t x .stable ≡ true → (leb (s .opened) t ≡ false) × (eqb (x .status) annihilated ≡ false)
-        go (not-opened h) e = never (sym e ∙ bare-loose t unused (omega arith))
-        go (gone h) e = never (sym e ∙ bare-loose t annihilated (omega arith))
-        go (alive h a) e = (lt-leb (s .opened) t h, there (a .status))
+    stands = let a = stable-alive well t (omega arith) stable in (lt-leb (s .opened) t (a .0), alive-there (a .1))
 
   pub checkpointable-rule : (t v : ℕ) → Checkpointable y s t v ↔ Meets y s t v
   unfolding blocksAt

@@ -4,8 +4,13 @@ use mathlib.Core.Bool.{Bool, true, false, not}
 use mathlib.Core.Path.{_≡_}
 use mathlib.Core.List.{List}
 use Rattle.octets.specs.Bytes.{_and_, _or_, part}
+use Rattle.marks.specs.declared.History.{History}
+use Rattle.marks.specs.Incarnation.{checkpointedIn, sameIncarnation}
+use Rattle.marks.specs.History.{incarnationOf}
 use Rattle.marks.specs.Packed.{presentIn, unpackHistory}
+use Rattle.maps.specs.Map.{entryOf}
 use Rattle.rules.specs.Layout.{Layout, historyBytes, stateAt, creationAt, transactorAddress}
+use Rattle.rules.specs.State.{State, live, transactorAt, ownHistory}
 use Rattle.rules.specs.Refusals.{named, anyNamed}
 use Rattle.rules.specs.Rules.{entryReady, groupReady}
 use Rattle.rules.specs.Pack.{unpack}
@@ -22,6 +27,35 @@ unfoldable pub pairReady : Layout → List ℕ → ℕ → ℕ → ℕ → Bool
 pairReady y img g t u =
     storedReady y img g (transactorAddress y t + stateAt + historyBytes y * u) u
     and storedReady y img g (transactorAddress y t + creationAt y + historyBytes y * u) u
+
+-- ---- document 02, W9: the present lives of the named takes, worked out once, before the entries are walked
+
+-- take t, if named, is frozen
+unfoldable pub stableNamed : State → ℕ → ℕ → Bool
+stableNamed s g t = not (named g t) or ownHistory t (transactorAt s t) .stable
+
+-- "What is so kept is proved to be, for each named take, the life of its own mark"; it is kept as the mark itself.
+pub record Presents (y : Layout) (s : State) (g : ℕ) (l : List History) : Type 0 where
+  pub own : (t : ℕ) → t < y .transactors → named g t ≡ true → entryOf l t ≡ ownHistory t (transactorAt s t)
+
+-- what the walk has of take u: of a named one that it is live, and its own mark
+pub record Kept (s : State) (g u : ℕ) (h : History) : Type 0 where
+  pub there : named g u ≡ true → live (transactorAt s u) ≡ true
+  pub own : named g u ≡ true → h ≡ ownHistory u (transactorAt s u)
+
+-- no mark, or one of the present life of take u, a named one
+unfoldable pub vouchedAt : Layout → List ℕ → ℕ → ℕ → ℕ → Bool
+vouchedAt y img g at u =
+    not (presentIn (part at (historyBytes y) img))
+    or (named g u and sameIncarnation (incarnationOf (unpackHistory (y .width) (y .places) (part at (historyBytes y) img))) (incarnationOf (ownHistory u (transactorAt (unpack y img) u))))
+
+-- a mark of a signed life of take u
+unfoldable pub checkpointedAt : Layout → List ℕ → ℕ → ℕ → Bool
+checkpointedAt y img at u =
+    live (transactorAt (unpack y img) u)
+    and checkpointedIn (incarnationOf (unpackHistory (y .width) (y .places) (part at (historyBytes y) img))) (incarnationOf (ownHistory u (transactorAt (unpack y img) u)))
+
+-- ---- document 02, W1
 
 -- an entry u in the maps of a named take is not ready
 unfoldable pub lacking : Layout → List ℕ → ℕ → ℕ → Bool

@@ -35,13 +35,18 @@ blocksAt s number t =
     (pick (eqb number 22) (eqb (transactorAt s t .status) annihilated)
     (leb (s .limits .checkpoints) (ownHistory t (transactorAt s t) .count)))
 
+-- the last two: 22, or else 30
+unfoldable pub namedRefusal : State → ℕ → ℕ
+namedRefusal s g =
+    pick (anyNamed g (blocksAt s 22)) 22
+    (pick (anyNamed g (blocksAt s 30)) 30 0)
+
 -- the refusals of a volume: empty, 29, or the first for which a named take blocks it
 unfoldable pub groupRefusal : State → ℕ → ℕ
 groupRefusal s g =
     pick (eqb g 0) 29
     (pick (anyNamed g (blocksAt s 21)) 21
-    (pick (anyNamed g (blocksAt s 22)) 22
-    (pick (anyNamed g (blocksAt s 30)) 30 0)))
+    (namedRefusal s g))
 
 -- every named take has room for one more signing
 unfoldable pub Room : State → ℕ → Type 0
