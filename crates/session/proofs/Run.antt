@@ -44,7 +44,7 @@ module _ {y : Layout} (z : Fitting y) {s : State} (well : WellFormed y s) {b : P
 
 -- ---- the bytes handed back
 
-length-packReply : (r : Reply) → length (packReply r) ≡ stepBytes
+pub length-packReply : (r : Reply) → length (packReply r) ≡ stepBytes
 unfolding packReply
 length-packReply r = simp (length-append, length-be)
 

@@ -125,7 +125,7 @@ module _ {y : Layout} (z : layout.Fitting y) {s : State} (well : WellFormed y s)
       is-signing = is-applied ∙ apply-sign y s p k
 
       -- the ledger's test holds exactly if the two sets are equal
-      ready-exact : (groupReady y s (p .message) ≡ true) ↔ Equal b (p .message)
+      pub ready-exact : (groupReady y s (p .message) ≡ true) ↔ Equal b (p .message)
       unfolding refusal
       ready-exact =
           let a = applicable well (ok .message) (accepted y (seen y s) p (same ∙ zero)) in

@@ -142,7 +142,7 @@ unfolding messageAt
 no-message s k h = List·getD-eq-default (s .messages) noMessage {n = k} h
 
 -- the place of the first parcel with number p, or how many there are
-unfoldable placeIn : ℕ → List Message → ℕ
+unfoldable pub placeIn : ℕ → List Message → ℕ
 placeIn p [] = 0
 placeIn p (m ∷ ms) = pick (eqb (m .number) p) 0 (suc (placeIn p ms))
 
@@ -155,7 +155,7 @@ place-from p f (m ∷ ms) k h = go (eqb (m .number) p) (subst (λ (n : ℕ). f n
     go true e ih = rw e (omega arith)
     go false e ih = rw e (omega arith)
 
-place-in : (s : State) (p : ℕ) → placeOf s p ≡ placeIn p (s .messages)
+pub place-in : (s : State) (p : ℕ) → placeOf s p ≡ placeIn p (s .messages)
 unfolding placeOf numbered messageAt
 place-in s p = place-from p (λ k. eqb (getD (s .messages) k noMessage .number) p) (s .messages) 0 (λ j. ap (λ (k : ℕ). eqb (getD (s .messages) k noMessage .number) p) {x = 0 + j} (omega arith)) ∙ omega arith
 
