@@ -7,7 +7,7 @@
  *
  * A buffer is a pointer and its length in bytes. The caller owes, for each call: pointers that are not null (also for a
  * length of 0), as many bytes behind each as its length says, readable, and writable where the pointer is not to const; and
- * that what is written (image, replies or target, refusal) overlaps no other buffer of the call. Every other input is allowed, and
+ * that what is written (image, replies, out or target, refusal) overlaps no other buffer of the call. Every other input is allowed, and
  * refused where the documents refuse it. */
 #ifndef LEDGER_H
 #define LEDGER_H
@@ -60,7 +60,7 @@ enum ledger_outcome {
     /* calls */
     LEDGER_WRONG_LENGTH = 16, /* image not of LEDGER_IMAGE bytes */
     LEDGER_WRONG_PART = 17,   /* part not inside the list, not a multiple of 8, over 8,192 bytes; also worst window */
-    LEDGER_WRONG_ROOM = 18,   /* replies not as long as the part */
+    LEDGER_WRONG_ROOM = 18,   /* replies, or out, not as long as the part */
     LEDGER_ILL_FORMED = 19,   /* image ill-formed */
     /* steps; 21, 22 also offer, smallest group and all heard stable, 24 also show */
     LEDGER_MALFORMED = 20,    /* kind 13 to 15, or an unused field or the zero bits not zero */
@@ -117,6 +117,15 @@ uint16_t ledger_smallest_group(const uint8_t *image, size_t image_length, size_t
 /* 1 exactly if every history in the transactor's state and creation maps but its own is stable, also where there is no other, else 0;
  * *refusal is 0. Refused with 16, 19, 21 or 22, which is put in *refusal: 0. */
 uint8_t ledger_all_heard_stable(const uint8_t *image, size_t image_length, size_t transactor, uint8_t *refusal);
+
+/* The short list of the steps of list from byte start up to byte end: without those that a run from the image refuses, and without
+ * the reads whose map is emptied unused. Run from the same image it leaves the same image, and each of its steps has its earlier
+ * reply. It is written to out, with zero bytes after it, and the answer is how many steps it has; *refusal is 0. The image is only
+ * read. Refused with 16 to 19, which is put in *refusal: no byte of out is changed and the answer is 0. The call uses about
+ * twice the bytes of an image on the stack. */
+size_t ledger_thin(const uint8_t *image, size_t image_length,
+                   const uint8_t *list, size_t list_length, size_t start, size_t end,
+                   uint8_t *out, size_t out_length, uint8_t *refusal);
 
 /* Where the LEDGER_MAP bytes of the image are that hold the map of the waiting message with this number; *refusal is 0.
  * Refused with 16, 19 or 24, which is put in *refusal: offset and length are 0. */

@@ -246,7 +246,12 @@ impl Image {
                 return zero(bytes(&self.parcels[k..]));
             }
             let number = u16::from_be_bytes(p.number) as u32;
-            if k >= parcels as usize || p.head & 0xf0 != WAITING || (p.head & 15) as usize >= opened || number < least || number >= next {
+            if k >= parcels as usize
+                || p.head & 0xf0 != WAITING
+                || (p.head & 15) as usize >= opened
+                || number < least
+                || number >= next
+            {
                 return false;
             }
             least = number + 1;
@@ -703,6 +708,46 @@ pub fn run(image: &mut [u8], list: &[u8], start: usize, end: usize, replies: &mu
         reply.copy_from_slice(&session.step(step).to_be_bytes());
     }
     0
+}
+
+/// The part without its refused steps and without the reads whose map is emptied unused: how many steps are left. Of each take, the
+/// place of a read that no step has used yet.
+pub fn thin(image: &[u8], list: &[u8], start: usize, end: usize, out: &mut [u8]) -> Result<usize, u8> {
+    if image.len() != IMAGE {
+        return Err(16);
+    }
+    let mut copy = [0; IMAGE];
+    copy.copy_from_slice(image);
+    let answer = run(&mut copy, list, start, end, out);
+    if answer != 0 {
+        return Err(answer);
+    }
+    let part = &list[start..end];
+    let mut kept = [true; LONGEST / STEP];
+    let mut unused = [None; TAKES];
+    for (i, (step, reply)) in part.chunks_exact(STEP).zip(out.chunks_exact(STEP)).enumerate() {
+        let (kind, take, outcome) = (step[0] >> 4, (step[0] & 15) as usize, reply[0]);
+        match kind {
+            _ if outcome >= 20 => kept[i] = false,
+            5 => unused[take] = Some(i),
+            3 | 4 | 6 | 7 => unused[take] = None,
+            8 | 9 => unused[take].take().into_iter().for_each(|read: usize| kept[read] = false),
+            10 => unused[take].take().into_iter().for_each(|read| kept[read] = outcome as u64 == HELD),
+            12 if outcome == 0 => {
+                let volume = u16::from_be_bytes([step[2], step[3]]);
+                let named = (0..TAKES).filter(|t| volume >> t & 1 == 1);
+                named.filter_map(|t| unused[t].take()).for_each(|read| kept[read] = false);
+            }
+            _ => {}
+        }
+    }
+    let mut n = 0;
+    for (step, _) in part.chunks_exact(STEP).zip(kept).filter(|(_, kept)| *kept) {
+        out[STEP * n..STEP * (n + 1)].copy_from_slice(step);
+        n += 1;
+    }
+    out[STEP * n..].fill(0);
+    Ok(n)
 }
 
 /// The image of a query about one take.

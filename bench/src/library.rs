@@ -31,6 +31,17 @@ extern "C" {
     fn ledger_offer(image: *const u8, image_length: usize, take: usize, refusal: *mut u8) -> u16;
     fn ledger_smallest_group(image: *const u8, image_length: usize, take: usize, refusal: *mut u8) -> u16;
     fn ledger_all_heard_stable(image: *const u8, image_length: usize, take: usize, refusal: *mut u8) -> u8;
+    fn ledger_thin(
+        image: *const u8,
+        image_length: usize,
+        list: *const u8,
+        list_length: usize,
+        start: usize,
+        end: usize,
+        out: *mut u8,
+        out_length: usize,
+        refusal: *mut u8,
+    ) -> usize;
     fn ledger_forward(source: *const u8, source_length: usize, target: *mut u8, target_length: usize) -> u8;
     fn ledger_back(source: *const u8, source_length: usize, target: *mut u8, target_length: usize) -> u8;
     fn ledger_show(image: *const u8, image_length: usize, number: u16, refusal: *mut u8) -> Part;
@@ -76,6 +87,18 @@ pub fn all_heard(image: &[u8], take: usize) -> Result<bool, u8> {
         return Err(refusal);
     }
     Ok(yes == 1)
+}
+
+pub fn thin(image: &[u8], list: &[u8], start: usize, end: usize, out: &mut [u8]) -> Result<usize, u8> {
+    let mut refusal = 255;
+    let (o, m) = (out.as_mut_ptr(), out.len());
+    let kept =
+        unsafe { ledger_thin(image.as_ptr(), image.len(), list.as_ptr(), list.len(), start, end, o, m, &mut refusal) };
+    if refusal != 0 {
+        assert_eq!(kept, 0, "a refused pass keeps steps");
+        return Err(refusal);
+    }
+    Ok(kept)
 }
 
 pub fn show(image: &[u8], number: u16) -> Result<&[u8], u8> {

@@ -20,6 +20,7 @@ struct Calls {
     offer: fn(&[u8], usize) -> Result<Option<u16>, u8>,
     smallest: fn(&[u8], usize) -> Result<Option<u16>, u8>,
     all_heard: fn(&[u8], usize) -> Result<bool, u8>,
+    thin: fn(&[u8], &[u8], usize, usize, &mut [u8]) -> Result<usize, u8>,
     show: for<'a> fn(&'a [u8], u16) -> Result<&'a [u8], u8>,
     forward: fn(&[u8], &mut [u8]) -> u8,
     back: fn(&[u8], &mut [u8]) -> u8,
@@ -33,6 +34,7 @@ const LIBRARY: Calls = Calls {
     offer: library::offer,
     smallest: library::smallest,
     all_heard: library::all_heard,
+    thin: library::thin,
     show: library::show,
     forward: library::forward,
     back: library::back,
@@ -45,6 +47,7 @@ const RUST: Calls = Calls {
     offer: ledger::offer,
     smallest: ledger::smallest,
     all_heard: ledger::all_heard,
+    thin: ledger::thin,
     show: ledger::show,
     forward: convert::forward,
     back: convert::back,
@@ -66,6 +69,8 @@ enum Call {
     Back,
     /// A list of replies and a width.
     WorstWindow(Vec<u8>, usize),
+    /// The short form of the list.
+    Thin(Vec<u8>),
 }
 
 /// A call, repeated on an image.
@@ -85,7 +90,7 @@ struct Row {
 impl Work {
     fn units(&self) -> usize {
         match &self.call {
-            Call::Run(list, _) => list.len() / STEP * self.times,
+            Call::Run(list, _) | Call::Thin(list) => list.len() / STEP * self.times,
             _ => self.times,
         }
     }
@@ -107,6 +112,7 @@ impl Work {
                     let (count, place) = (by.worst_window)(black_box(replies), *w).unwrap();
                     (count << 10 | place) as u64
                 }
+                Call::Thin(list) => (by.thin)(image, list, 0, list.len(), replies).unwrap() as u64,
                 Call::Run(list, n) => {
                     let (mut at, mut sum) = (0, 0);
                     while at < list.len() {
@@ -123,7 +129,7 @@ impl Work {
 
     fn replies(&self) -> Vec<u8> {
         match &self.call {
-            Call::Run(list, _) => vec![0; list.len()],
+            Call::Run(list, _) | Call::Thin(list) => vec![0; list.len()],
             Call::Forward => vec![0; IMAGE],
             Call::Back => vec![0; OLD_IMAGE],
             _ => Vec::new(),
@@ -365,6 +371,9 @@ fn rows() -> Vec<Row> {
     let many = |image: &[u8], call| vec![Work { image: image.to_vec(), call, times: 64 }];
     let long = (0..32).map(|seed| run(mixed(seed, 128 * (seed as usize % 8), 1024), 1024)).collect();
     let short = (0..32).map(|seed| run(mixed(seed, 128 * (seed as usize % 8), 64), 1)).collect();
+    let thin = |(image, list): (Vec<u8>, Vec<u8>)| Work { image, call: Call::Thin(list), times: 1 };
+    let thin_long = (0..32).map(|seed| thin(mixed(seed, 128 * (seed as usize % 8), 1024))).collect();
+    let thin_short = (0..32).map(|seed| thin(mixed(seed, 128 * (seed as usize % 8), 1))).collect();
     let crowded = crowded();
     let signing = frozen();
     // The last mark of a take's creation map is of a withdrawn life.
@@ -430,6 +439,8 @@ fn rows() -> Vec<Row> {
                 .map(|seed| Work { image: vec![0; IMAGE], call: Call::WorstWindow(replies(seed, 8), 256), times: 16 })
                 .collect(),
         ),
+        row("thin, mixed, lists of 1,024 steps", "step", thin_long),
+        row("thin, mixed, lists of one step", "call", thin_short),
         row("begin", "call", many(&session, Call::Begin)),
     ]
 }

@@ -17,7 +17,7 @@ struct Test {
     /// The image as the Rust ledger leaves it, and as the library does: the same before and after each call.
     ours: Vec<u8>,
     theirs: Vec<u8>,
-    calls: [[u64; 36]; 7],  // begin, run, offer, show, smallest, all heard, worst window by answer
+    calls: [[u64; 36]; 8], // begin, run, offer, show, smallest, all heard, worst window, thin by answer
     steps: [[u64; 32]; 16], // by kind and outcome or refusal
     offered: u64,
     named: [u64; 17], // smallest volumes by size, 0 for none
@@ -25,6 +25,7 @@ struct Test {
     counted: u64,
     heard: [u64; 2],     // all heard frozen: no, yes
     exchanged: [u64; 4], // pairs by how many of the two steps are refused; refused calls
+    left_out: [u64; 16], // by the kind that empties the map of a read; 0 for refused steps, 5 for reads that are kept
     damaged: u64,
     still_formed: u64,
     /// Whether the image was grown from a begun one; runs that left a life number over 255, and an entry over 255: on other images, and
@@ -33,7 +34,7 @@ struct Test {
     long: [[u64; 2]; 2],
 }
 
-const CALLS: [&str; 7] = ["begin", "run", "offer", "show", "smallest", "all heard", "window"];
+const CALLS: [&str; 8] = ["begin", "run", "offer", "show", "smallest", "all heard", "window", "thin"];
 
 impl Test {
     fn fail(&self, what: &str) -> ! {
@@ -64,7 +65,10 @@ impl Test {
         let before = self.ours.clone();
         let a = library::begin(&mut self.theirs, takes, parcels, signings);
         let b = ledger::begin(&mut self.ours, takes, parcels, signings);
-        self.expect(a == b, &format!("begin with {takes} {parcels} {signings} answers {a}, and {b} in the Rust ledger"));
+        self.expect(
+            a == b,
+            &format!("begin with {takes} {parcels} {signings} answers {a}, and {b} in the Rust ledger"),
+        );
         self.calls[0][a as usize] += 1;
         if self.ours != self.theirs {
             self.images("begin");
@@ -242,6 +246,67 @@ impl Test {
         );
     }
 
+    fn thin(&mut self, list: &[u8], start: usize, end: usize, length: usize) {
+        let mut blank = vec![0; length];
+        self.r.fill(&mut blank);
+        let (mut mine, mut other) = (blank.clone(), blank.clone());
+        let before = self.theirs.clone();
+        let a = library::thin(&self.theirs, list, start, end, &mut other);
+        let b = ledger::thin(&self.ours, list, start, end, &mut mine);
+        self.expect(a == b, &format!("thin: {a:?}, and {b:?} in the Rust ledger"));
+        self.expect(mine == other, "thin gives another list than the Rust ledger");
+        self.expect(self.theirs == before, "thin changed the image");
+        self.calls[7][a.err().unwrap_or(0) as usize] += 1;
+        let Ok(n) = a else {
+            return self.expect(other == blank, "a refused pass changed the buffer");
+        };
+        let (mut whole, mut replies) = (before.clone(), vec![0; length]);
+        library::run(&mut whole, list, start, end, &mut replies);
+        let part = &list[start..end];
+        let kept: Vec<usize> = (0..length / STEP).filter(|i| self.stands(part, &replies, *i)).collect();
+        let bytes = |of: &[u8]| kept.iter().flat_map(|i| of[STEP * i..STEP * i + STEP].to_vec()).collect::<Vec<u8>>();
+        self.expect(kept.len() == n && other[..STEP * n] == bytes(part), "thin does not keep the steps of the rule");
+        self.expect(other[STEP * n..].iter().all(|b| *b == 0), "a byte past the short list is not zero");
+        let (mut again, mut few) = (before, vec![0; STEP * n]);
+        self.expect(library::run(&mut again, &other, 0, STEP * n, &mut few) == 0, "the short list is refused");
+        self.expect(again == whole, "the short list leaves another image");
+        self.expect(few == bytes(&replies), "a step of the short list has another reply");
+    }
+
+    /// The rule of document 02, W12, read as it stands: whether step i stands.
+    fn stands(&mut self, list: &[u8], replies: &[u8], i: usize) -> bool {
+        let kind = |j: usize| list[STEP * j] >> 4;
+        let take = |j: usize| list[STEP * j] & 15;
+        let volume = |j: usize| u16::from_be_bytes([list[STEP * j + 2], list[STEP * j + 3]]);
+        let outcome = |j: usize| replies[STEP * j];
+        if outcome(i) >= 20 {
+            self.left_out[0] += 1;
+            return false;
+        }
+        if kind(i) != 5 {
+            return true;
+        }
+        let touches = |j: usize| {
+            let acts = (3..=10).contains(&kind(j)) && take(j) == take(i);
+            let signs = kind(j) == 12 && volume(j) >> take(i) & 1 == 1 && outcome(j) == 0;
+            outcome(j) < 20 && (acts || signs)
+        };
+        let next = (i + 1..list.len() / STEP).find(|j| touches(*j));
+        let emptied = next.filter(|j| matches!((kind(*j), outcome(*j)), (8 | 9 | 12, _) | (10, 0 | 2..)));
+        self.left_out[emptied.map_or(5, kind) as usize] += 1;
+        emptied.is_none()
+    }
+
+    /// The short forms of some short lists.
+    fn thin_lists(&mut self) {
+        for _ in 0..8 {
+            let n = self.r.below(24);
+            let (list, start) = self.list(n);
+            let length = STEP * n + self.r.one_in(16) as usize;
+            self.thin(&list, start, start + STEP * n, length);
+        }
+    }
+
     /// A good list of n steps somewhere in a longer one: the list and where the part starts.
     fn list(&mut self, n: usize) -> (Vec<u8>, usize) {
         let mix = generate::MIXES[self.r.below(generate::MIXES.len())];
@@ -264,6 +329,7 @@ impl Test {
             _ => 1024,
         };
         let (list, start) = self.list(n);
+        self.thin(&list, start, start + STEP * n, STEP * n);
         self.run(&list, start, start + STEP * n, STEP * n);
         let seen = generate::long_lives(&self.ours);
         (0..2).for_each(|i| self.long[self.grown as usize][i] += seen[i] as u64);
@@ -290,6 +356,7 @@ impl Test {
                 // A part of 8,200 bytes and more, in a list that has it.
                 let long = vec![0; LONGEST + STEP * (1 + self.r.below(4))];
                 let length = long.len() - self.r.below(2);
+                self.thin(&long, 0, long.len(), length);
                 return self.run(&long, 0, long.len(), length);
             }
             _ => {}
@@ -302,6 +369,7 @@ impl Test {
                 _ => self.r.below(9000),
             };
         }
+        self.thin(&list, start, end, length);
         self.run(&list, start, end, length);
     }
 
@@ -371,6 +439,7 @@ impl Test {
         let (list, start) = self.list(2);
         let end = start + self.r.below(20);
         self.run(&list, start, end, 16);
+        self.thin(&list, start, end, 16);
         let (take, number) = (self.take(), self.r.next() as u16);
         self.offer(take);
         self.smallest(take);
@@ -391,6 +460,7 @@ impl Test {
         self.set(image);
         let n = 1 + self.r.below(60);
         let (list, start) = self.list(n);
+        self.thin(&list, start, start + STEP * n, STEP * n);
         self.run(&list, start, start + STEP * n, STEP * n);
         self.set(kept);
     }
@@ -413,6 +483,7 @@ impl Test {
         }
         let n = self.r.below(20);
         let (list, start) = self.list(n);
+        self.thin(&list, start, start + STEP * n, STEP * n);
         self.run(&list, start, start + STEP * n, STEP * n);
         self.exchange();
         self.set(kept);
@@ -438,6 +509,7 @@ impl Test {
         }
         for _ in 0..1 + self.r.below(10) {
             self.exchange();
+            self.thin_lists();
             match self.r.below(20) {
                 0..=9 => self.good_run(),
                 10 | 11 => {
@@ -478,6 +550,9 @@ impl Test {
         }
         self.expect(self.heard[0] > 0 && self.heard[1] > 0, "all heard frozen was never yes, or never no");
         self.expect(self.exchanged.iter().all(|n| *n > 0), "no two edits of some sort were exchanged");
+        for n in [0, 5, 8, 9, 10, 12] {
+            self.expect(self.left_out[n] > 0, &format!("no step was left out, or kept, by {n}"));
+        }
         let outcome = |n: usize| self.steps.iter().map(|kind| kind[n]).sum::<u64>();
         for n in (0..=5).chain(20..=31) {
             self.expect(outcome(n) > 0, &format!("no step had outcome or refusal {n}"));
@@ -486,8 +561,8 @@ impl Test {
             self.expect(self.steps[2][n] > 0, &format!("no receive had outcome or refusal {n}"));
         }
         let query: &[usize] = &[0, 16, 19, 21, 22];
-        let answers: [&[usize]; 7] =
-            [&[0, 16, 33], &[0, 16, 17, 18, 19], query, &[0, 16, 19, 24], query, query, &[0, 17, 35]];
+        let run: &[usize] = &[0, 16, 17, 18, 19];
+        let answers: [&[usize]; 8] = [&[0, 16, 33], run, query, &[0, 16, 19, 24], query, query, &[0, 17, 35], run];
         for (call, wanted) in answers.iter().enumerate() {
             for n in *wanted {
                 self.expect(self.calls[call][*n] > 0, &format!("no {} answered {n}", CALLS[call]));
@@ -506,6 +581,11 @@ impl Test {
         }
         println!("smallest volumes by size {:?}, searched for {}", self.named, self.searched);
         println!("worst windows counted afresh {}", self.counted);
+        let l = &self.left_out;
+        println!(
+            "left out: refused {}, reads by done {}, fall {}, fail {}, signing {}; reads kept {}",
+            l[0], l[8], l[9], l[10], l[12], l[5]
+        );
         println!("all heard frozen: no {}, yes {}", self.heard[0], self.heard[1]);
         let [none, one, both, calls] = self.exchanged;
         println!("edits exchanged: none refused {none}, one {one}, both {both}; in refused calls {calls}");
@@ -535,7 +615,7 @@ fn main() {
         r: Random(0),
         ours: Vec::new(),
         theirs: Vec::new(),
-        calls: [[0; 36]; 7],
+        calls: [[0; 36]; 8],
         steps: [[0; 32]; 16],
         offered: 0,
         named: [0; 17],
@@ -543,6 +623,7 @@ fn main() {
         counted: 0,
         heard: [0; 2],
         exchanged: [0; 4],
+        left_out: [0; 16],
         damaged: 0,
         still_formed: 0,
         grown: false,

@@ -1,14 +1,13 @@
 -- Running a list: a step read, a reply written, one step after the other.
-use Prim.Native.Nat.{ℕ, _+_, _*_, _/_, _%_, _≤_, _<_}
+use Prim.Native.Nat.{ℕ, _+_, _*_, _/_, _≤_, _<_}
 use mathlib.Core.Path.{_≡_, sym, ap, _∙_}
 use mathlib.Core.List.{List, _++_}
-use native.Mathlib.Nat.{add-zero}
 use native.Mathlib.Numerals.{add-one}
 use native.Mathlib.Omega.{arith}
-use lib.ListN.{length, getD, set, length-append, length-set}
+use lib.ListN.{length, set, length-append, length-set}
 use Rattle.octets.specs.Bytes.{put, part, chunks, Octets}
-use Rattle.octets.specs.Numbers.{be, ofBe}
-use Rattle.octets.proofs.Put.{part-part, getD-part, put-behind, put-whole, octets-part}
+use Rattle.octets.specs.Numbers.{be}
+use Rattle.octets.proofs.Put.{put-behind, put-whole, octets-part}
 use Rattle.octets.proofs.Numbers.{length-be, put-be-one}
 use Rattle.octets.proofs.Chunks.{length-chunks, put-more}
 use Rattle.rules.specs.Layout.{base}
@@ -26,17 +25,6 @@ use Rattle.rules.proofs.Pack.RoundTrip.{unpack-pack}
 use Rattle.rules.proofs.Keep.Run.{stepOk-unpack}
 use Rattle.rules.proofs.Keep.Step.{keeps-after, fitting-base}
 use Rattle.rules.proofs.Good.{good-pack}
-
--- the fields of the step from place at on
-pub step-fields : (l : List ℕ) (at k v : ℕ) → k ≡ ofBe 2 (part (at + 2) 2 l) → v ≡ ofBe 4 (part (at + 4) 4 l)
-    → _≡_ {A = Step} (record { kind = getD l at 0 / 16; transactor = getD l at 0 % 16; other = getD l (at + 1) 0 / 16; zero = getD l (at + 1) 0 % 16; message = k; value = v }) (unpackStep (part at stepBytes l))
-unfolding unpackStep
-step-fields l at k v e f =
-    let a : getD (part at stepBytes l) 0 0 ≡ getD l at 0 = getD-part at stepBytes l 0 (omega arith) ∙ ap (λ (i : ℕ). getD l i 0) (add-zero at) in
-    let b : getD (part at stepBytes l) 1 0 ≡ getD l (at + 1) 0 = getD-part at stepBytes l 1 (omega arith) in
-    let c : part 2 2 (part at stepBytes l) ≡ part (at + 2) 2 l = part-part 2 2 at stepBytes l (omega arith) in
-    let d : part 4 4 (part at stepBytes l) ≡ part (at + 4) 4 l = part-part 4 4 at stepBytes l (omega arith) in
-    rw (a, b, c, d, e, f)
 
 -- the fields of a reply are put one after the other
 pub reply-fields : (r : Reply) (at : ℕ) (l l1 l2 : List ℕ) → at + stepBytes ≤ length l → r .outcome < 256 → r .transactor < 256

@@ -21,14 +21,14 @@ use maps::stability;
 use rules::Grouped;
 use rules::Offered;
 use rules::Reply;
-use rules::Step;
 use rules::numbers;
+use steps::packed;
 ghost use mathlib.Core.Path.{_≡_};
 ghost use Prim.Native.Nat.{_+_, _*_, _/_, _≤_};
 ghost use lib.ListN.{length};
-ghost use Rattle.octets.specs.Bytes.{put, part, zeros};
+ghost use Rattle.octets.specs.Bytes.{put, zeros};
 ghost use Rattle.rules.specs.Layout.{base, limitsOf, imageBytes};
-ghost use Rattle.rules.specs.Step.{unpackStep, packReply, stepBytes};
+ghost use Rattle.rules.specs.Step.{packReply, stepBytes};
 ghost use Rattle.rules.specs.Internal.Good.{Good};
 ghost use Rattle.rules.specs.Calls.{beginAnswer, beginImage, runAnswer, runImage, runReplies, ranImage, ranReplies, queryRefusal, offeredNumber, Offers, showRefusal, shown};
 ghost use Rattle.rules.specs.Groups.{groupNumber, Smallest};
@@ -71,24 +71,6 @@ fn refresh(image: &mut [u8])
 
 // ---- run
 
-fn decode(list: &[u8], at: usize) -> Step
-    requires { ⌜ at + stepBytes ≤ length (now list) ⌝ }
-    ensures { λ r. ⌜ r ≡ unpackStep (part at stepBytes (now (list .entry))) ⌝ }
-{
-    let a = list[at];
-    let b = list[at + 1];
-    let message = octets::load16(list, at + 2);
-    let value = octets::load32(list, at + 4);
-    Step {
-        kind: a / 16,
-        transactor: a % 16,
-        other: b / 16,
-        zero: b % 16,
-        message,
-        value,
-    }
-}
-
 fn encode(replies: &mut [u8], at: usize, r: Reply)
     requires { ⌜ at + stepBytes ≤ length (now replies) ⌝ }
     ensures { λ _. ⌜ now (replies .exit) ≡ put at (packReply r) (now (replies .entry)) ⌝ }
@@ -107,7 +89,7 @@ fn run_steps(image: &mut [u8], list: &[u8], replies: &mut [u8])
     let n = list.len() / STEP;
     let mut i: usize = 0;
     while i < n {
-        let p = decode(list, STEP * i);
+        let p = packed::decode(list, STEP * i);
         let r = steps::step(image, p);
         encode(replies, STEP * i, r);
         i += 1;

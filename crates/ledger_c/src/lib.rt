@@ -1,5 +1,5 @@
 // The ledger's calls for programs in other languages, as include/ledger.h declares them: a slice is a pointer and a length, a
-// lent number a pointer. None has a precondition, and each promises what the call of crate ledger promises.
+// lent number a pointer. None has a precondition, and each promises what the call of crate ledger, or thin, promises.
 use image::layout::DEPENDENCES;
 use image::layout::FIRST_MESSAGE;
 use image::layout::MESSAGE;
@@ -12,6 +12,7 @@ ghost use Rattle.rules.specs.Layout.{base, limitsOf};
 ghost use Rattle.rules.specs.Calls.{beginAnswer, beginImage, runAnswer, runImage, runReplies, queryRefusal, Offers, showRefusal};
 ghost use Rattle.rules.specs.Groups.{Smallest};
 ghost use Rattle.rules.specs.Heard.{heardAnswer};
+ghost use Rattle.rules.specs.Thin.{thinRefusal, thinOut, thinCount};
 ghost use Rattle.rules.specs.Convert.{forwardAnswer, forwardImage, backAnswer, backImage};
 ghost use Rattle.window.specs.Window.{windowRefusal, worstWindow};
 ghost use Rattle.ledger_c.specs.Interface.{offeredBy, groupOf, numberFor, shownPart};
@@ -91,6 +92,24 @@ pub extern "C" fn ledger_all_heard_stable(image: &[u8], transactor: usize, refus
         return 1;
     }
     0
+}
+
+// Writes the short list of the steps from start up to end, with zeros after it: how many steps are kept. The lent number takes the
+// refusal, 16, 17, 18 or 19, or 0; refused, no byte of out is changed and the answer is 0.
+#[no_mangle]
+pub extern "C" fn ledger_thin(
+    image: &[u8],
+    list: &[u8],
+    start: usize,
+    end: usize,
+    out: &mut [u8],
+    refusal: &mut u8,
+) -> usize
+    ensures { λ r. ⌜ (now (refusal .exit) ≡ thinRefusal base (now (image .entry)) (now (list .entry)) start end (now (out .entry)))
+        × (now (out .exit) ≡ thinOut base (now (image .entry)) (now (list .entry)) start end (now (out .entry)))
+        × (r ≡ thinCount base (now (image .entry)) (now (list .entry)) start end (now (out .entry))) ⌝ }
+{
+    thin::thin(image, list, start, end, out, refusal)
 }
 
 // The part of the image that holds a waiting message's map. The lent number takes the refusal, 16, 19 or 24, or 0; refused, an

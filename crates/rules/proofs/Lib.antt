@@ -12,4 +12,5 @@ pub mod Keep
 pub mod Pack
 pub mod Places
 pub mod Ranges
+pub mod Thin
 pub mod Tries

@@ -13,3 +13,4 @@ pub mod Rules
 pub mod State
 pub mod Status
 pub mod Step
+pub mod Thin

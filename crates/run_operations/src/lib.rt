@@ -1,4 +1,4 @@
-// Operations that run steps, one or a list.
+// Operations that run steps, one or a list, or thin a list.
 use script::bytes;
 use script::numbers;
 use script::print;
@@ -64,10 +64,37 @@ fn run(image: &mut [u8], list: &[u8], start: usize, end: usize, replies: &mut [u
     CHANGED
 }
 
-// u: runs a part of a list of so many bytes, with room for so many bytes of replies.
-fn part(image: &mut [u8], list: &[u8], n: &[u8]) -> u8 {
+// The short list of a part, in a buffer of which every byte was 255: prints the refusal, how many steps are kept, and so many bytes of the
+// buffer.
+fn thinned(
+    image: &[u8],
+    list: &[u8],
+    start: usize,
+    end: usize,
+    out: &mut [u8],
+    shown: usize,
+) -> u8 {
+    bytes::fill(out, 255);
+    let mut refusal: u8 = 255;
+    let kept = thin::thin(image, list, start, end, out, &mut refusal);
+    print::number(refusal as usize);
+    print::number(kept);
+    print::row(out, 0, shown);
+    PRINTED
+}
+
+// Runs or thins a part.
+fn listed(image: &mut [u8], list: &[u8], buffer: &mut [u8], n: &[u8]) -> u8 {
     let start = numbers::at(n, 1);
     let end = numbers::at(n, 2);
+    if bytes::get(n, 0) == b'u' {
+        return run(image, list, start, end, buffer);
+    }
+    thinned(image, list, start, end, buffer, numbers::at(n, 5))
+}
+
+// u, d: a part of a list of so many bytes, with a buffer of so many bytes.
+fn part(image: &mut [u8], list: &[u8], n: &[u8]) -> u8 {
     let length = numbers::at(n, 3);
     let room = numbers::at(n, 4);
     if list.len() < length {
@@ -76,8 +103,19 @@ fn part(image: &mut [u8], list: &[u8], n: &[u8]) -> u8 {
     if LIST < room {
         return BAD;
     }
-    let mut replies = [0u8; LIST];
-    run(image, &list[..length], start, end, &mut replies[..room])
+    let mut buffer = [0u8; LIST];
+    listed(image, &list[..length], &mut buffer[..room], n)
+}
+
+// m: puts a step in the list.
+fn put(list: &mut [u8], n: &[u8]) -> u8 {
+    let at = numbers::at(n, 6);
+    if list.len() < at + 8 {
+        return BAD;
+    }
+    octets::store32(list, at, head(n));
+    octets::store32(list, at + 4, numbers::at(n, 5) as u32);
+    SILENT
 }
 
 // t: the worst window of a list of so many bytes of replies.
@@ -107,7 +145,9 @@ pub fn play(image: &mut [u8], list: &mut [u8], n: &[u8]) -> u8 {
     let op = bytes::get(n, 0);
     match op {
         b'l' => numbers::put(list, n),
+        b'm' => put(list, n),
         b'u' => part(image, list, n),
+        b'd' => part(image, list, n),
         b't' => worst(list, numbers::at(n, 1), numbers::at(n, 2)),
         _ => steps(op, image, n),
     }

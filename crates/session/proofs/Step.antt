@@ -3,18 +3,16 @@ use Prim.Native.Nat.{ℕ, _≤_}
 use mathlib.Core.Bool.{Bool, true, false, false≢true}
 use mathlib.Core.Path.{_≡_, refl, ap, sym, _∙_}
 use mathlib.Core.Logic.{_↔_}
-use native.Mathlib.Omega.{arith}
-use lib.Dec.{eqb}
 use borrow.Author.Tests.{eq-eqb}
 use Rattle.marks.specs.History.{HistoryView, viewOf}
 use Rattle.maps.proofs.News.{informedTable}
 use Rattle.maps.proofs.View.{view-some}
 use Rattle.rules.specs.Layout.{Layout}
 use Rattle.rules.specs.Layout as layout
-use Rattle.rules.specs.State.{Transactor, Message, State, transactorAt, messageAt, ownHistory, placeOf}
+use Rattle.rules.specs.State.{State, transactorAt, ownHistory}
 use Rattle.rules.specs.declared.Step.{Step}
-use Rattle.rules.specs.Step.{notReady, root, letter, receive, new, send, read, write, freeze, finish, fall, lose, sign}
-use Rattle.rules.specs.Rules.{Effect, Result, messageSuperseded, receiverSuperseded, rollback, readBy, writeBy, freezeBy, finishBy, fallBy, failBy, localBy, receiveBy, groupReady, seen, refusal, answer, applyRoot, applyLetter, applyReceive, applyNew, applySend, applyLocal, applyLose, applySign, apply, stepOf}
+use Rattle.rules.specs.Step.{notReady, sign}
+use Rattle.rules.specs.Rules.{Result, groupReady, seen, refusal, answer, applySign, apply, stepOf}
 use Rattle.rules.specs.Internal.Well.{StepOk, WellFormed}
 use Rattle.rules.proofs.Keep.Step.{refused-same, applied-same, keeps}
 use Rattle.session.specs.Provenance.{Provenance, statusNumber}
@@ -22,9 +20,9 @@ use Rattle.session.specs.Grounds.{Equal}
 use Rattle.session.specs.Steps.{provenanceRefusal}
 use Rattle.session.specs.Trace.{Matches, SigningRight, checkpointed, uncheckpointed, StepRight}
 use Rattle.session.proofs.Model.{view}
-use Rattle.session.proofs.Tables.{pick-view}
 use Rattle.session.proofs.Relation.{Rel, own-history}
 use Rattle.session.proofs.Sign.{rel-sound}
+use Rattle.rules.proofs.ByKind.Outcomes.{apply-outcome}
 use Rattle.rules.proofs.Keep.Accepted.{accepted}
 use Rattle.session.proofs.News.{informed-law}
 use Rattle.session.proofs.Kept.{sign-exact}
@@ -32,50 +30,6 @@ use Rattle.session.proofs.ViewState.{own-view}
 use Rattle.session.proofs.ViewRules.{droppedAt, rolledBackAt}
 use Rattle.session.proofs.ViewSeen.{seen-status}
 use Rattle.session.proofs.ViewStep.{readyAt, ready-same, step-tests, applicable, same-refusal, state-kept}
-
--- ---- the reply to a step that is not refused is an outcome
-
-abbrev Small : Effect → Type 0
-Small e = e .outcome ≤ notReady
-
-module _ (y : Layout) (t : ℕ) (x : Transactor) where
-  rollback-small : Small (rollback y t x)
-  unfolding rollback
-  rollback-small = pick-view Small (eqb (ownHistory t x .count) 0) _ _ (λ e. omega arith) (λ e. omega arith)
-
-  local-small : (k v : ℕ) → Small (localBy y k t v x)
-  unfolding localBy readBy writeBy freezeBy finishBy fallBy failBy
-  local-small k v =
-      let held : Bool = ownHistory t x .stable in
-      pick-view Small (eqb k read) _ _ (λ e. omega arith) λ e0.
-      pick-view Small (eqb k write) _ _ (λ e. pick-view Small held _ _ (λ e. omega arith) (λ e. omega arith)) λ e1.
-      pick-view Small (eqb k freeze) _ _ (λ e. omega arith) λ e2.
-      pick-view Small (eqb k finish) _ _ (λ e. omega arith) λ e3.
-      pick-view Small (eqb k fall) _ _ (λ e. pick-view Small held _ _ (λ e. omega arith) (λ e. rollback-small)) λ e4.
-      pick-view Small held _ _ (λ e. omega arith) (λ e. rollback-small)
-
-  receive-small : (q : Message) → Small (receiveBy y t x q)
-  unfolding receiveBy
-  receive-small q =
-      pick-view Small (messageSuperseded y x q) _ _ (λ e. omega arith) λ e0.
-      pick-view Small (receiverSuperseded y x q) _ _ (λ e. rollback-small) (λ e. omega arith)
-
-abbrev Outcome : Result → Type 0
-Outcome r = r .reply .outcome ≤ notReady
-
-pub apply-outcome : (y : Layout) (s : State) (p : Step) → Outcome (apply y s p)
-unfolding apply applyRoot applyLetter applyReceive applyNew applySend applyLose applySign applyLocal
-apply-outcome y s p =
-    let k : ℕ = p .kind in
-    let q : Message = messageAt s (placeOf s (p .message)) in
-    pick-view Outcome (eqb k root) _ _ (λ e. omega arith) λ e0.
-    pick-view Outcome (eqb k letter) _ _ (λ e. omega arith) λ e1.
-    pick-view Outcome (eqb k receive) _ _ (λ e. receive-small y (q .addressee) (transactorAt s (q .addressee)) q) λ e2.
-    pick-view Outcome (eqb k new) _ _ (λ e. omega arith) λ e3.
-    pick-view Outcome (eqb k send) _ _ (λ e. omega arith) λ e4.
-    pick-view Outcome (eqb k lose) _ _ (λ e. omega arith) λ e5.
-    pick-view Outcome (eqb k sign) _ _ (λ e. pick-view Outcome (groupReady y s (p .message)) _ _ (λ e. omega arith) (λ e. omega arith)) λ e6.
-    local-small y (p .transactor) (transactorAt s (p .transactor)) k (p .value)
 
 -- ---- a signing
 

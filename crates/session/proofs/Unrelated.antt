@@ -25,7 +25,7 @@ use Rattle.session.specs.Trace.{Trace, callsOf}
 use Rattle.session.specs.Related.{AllRelated, SetsRelated}
 use Rattle.session.proofs.Model.{view}
 use Rattle.session.proofs.Related.{all-related, state-related, sets-related}
-use Rattle.session.proofs.Step.{apply-outcome}
+use Rattle.rules.proofs.ByKind.Outcomes.{apply-outcome}
 use Rattle.session.proofs.Run.{run-right}
 use Rattle.session.proofs.Count.{reply-byte}
 use Rattle.session.proofs.Unique.{provenance-unique, right-provenance}

@@ -11,10 +11,11 @@ use Rattle.maps.specs.Map.{firstSuperseded, anyUnrelated}
 use Rattle.rules.specs.Layout.{Layout}
 use Rattle.rules.specs.Status.{busy, annihilated}
 use Rattle.rules.specs.State.{Transactor, Message, bare, ownHistory}
-use Rattle.rules.specs.Step.{done, dropped, fallenBack, vanished, read, write, freeze, finish, fall, fail}
-use Rattle.rules.specs.Rules.{Effect, isSome, known, unchanged, renewed, rollback, readBy, writeBy, freezeBy, finishBy, fallBy, failBy, localBy, taken, messageUnrelated, messageSuperseded, receiverSuperseded, receiveBy}
+use Rattle.rules.specs.Step.{done, dropped, fallenBack, vanished, fall, fail}
+use Rattle.rules.specs.Rules.{Effect, isSome, known, unchanged, renewed, rollback, localBy, taken, messageUnrelated, messageSuperseded, receiverSuperseded, receiveBy}
 use Rattle.rules.specs.Internal.Guards.{isLastIncarnation}
 use Rattle.transactor.specs.Internal.Effects.{rollbackOr28, actBy, takenIn, acceptBy}
+use Rattle.rules.proofs.ByKind.Outcomes.{local-small}
 use Rattle.rules.proofs.ByKind.Refused.{localRefusal}
 
 -- what a fall answers
@@ -30,19 +31,6 @@ fell y t x = go (eqb (ownHistory t x .count) 0)
     go : (c : Bool) → Fell (pick c (record { outcome = vanished; value = 0; transactor = bare y annihilated }) (record { outcome = fallenBack; value = 0; transactor = renewed y t (rolledBack (ownHistory t x)) (x .saved) (x .saved) }))
     go true = record { small = omega arith; some = λ e. omega arith; silent = refl }
     go false = record { small = omega arith; some = λ e. omega arith; silent = refl }
-
-pub local-small : (y : Layout) (k t v : ℕ) (x : Transactor) → localBy y k t v x .outcome < 20
-unfolding localBy readBy writeBy freezeBy finishBy fallBy failBy
-local-small y k t v x =
-    small (eqb k read) _ _ (omega arith)
-    (small (eqb k write) _ _ (small (ownHistory t x .stable) _ _ (omega arith) (omega arith))
-    (small (eqb k freeze) _ _ (omega arith)
-    (small (eqb k finish) _ _ (omega arith)
-    (small (eqb k fall) _ _ (small (ownHistory t x .stable) _ _ (omega arith) (fell y t x .small)) (small (ownHistory t x .stable) _ _ (omega arith) (fell y t x .small))))))
-  where
-    small : (c : Bool) (a b : Effect) → a .outcome < 20 → b .outcome < 20 → pick c a b .outcome < 20
-    small true a b p q = p
-    small false a b p q = q
 
 -- e is the refusal r of take x, or else the effect l
 pub data Judged (r : ℕ) (x : Transactor) (l e : Effect) : Type 0 where
@@ -61,7 +49,7 @@ module _ {r : ℕ} {x : Transactor} {l e : Effect} where
 pub act-judged : (y : Layout) (k t v : ℕ) (x : Transactor) → Judged (localRefusal y k t x) x (localBy y k t v x) (actBy y k t v x)
 unfolding actBy
 act-judged y k t v x =
-    go (eqb (x .status) annihilated) (leb k fall and not (eqb (x .status) busy)) ((eqb k fall or eqb k fail) and not (ownHistory t x .stable) and isLastIncarnation y t x) (localBy y k t v x) (local-small y k t v x)
+    go (eqb (x .status) annihilated) (leb k fall and not (eqb (x .status) busy)) ((eqb k fall or eqb k fail) and not (ownHistory t x .stable) and isLastIncarnation y t x) (localBy y k t v x) (omega (arith, local-small y t x k v))
   where
     go : (a b c : Bool) (l : Effect) → l .outcome < 20
         → Judged (pick a 22 (pick b 23 (pick c 28 0))) x l (pick a (unchanged 22 x) (pick b (unchanged 23 x) (pick c (unchanged 28 x) l)))

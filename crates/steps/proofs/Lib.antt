@@ -1,3 +1,4 @@
+mod Decoding
 mod Effects
 mod Fields
 mod Images

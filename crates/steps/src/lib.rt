@@ -1,4 +1,6 @@
 // The steps on an image, kind by kind: each refuses in the table's order, or replies and changes the image.
+pub mod packed;
+
 use image::head;
 use image::layout::FIRST_TRANSACTOR;
 use image::layout::OPENED;

@@ -5,11 +5,11 @@ use borrow.Author.Needs.{needs}
 use Rattle.run_operations.proofs.part.Statement.{statement}
 use Rattle.run_operations.proofs.part.Tie as tie
 
-slice-aggregate-run : tie.Need-slice-aggregate-run
-slice-aggregate-run c = simp length-take (omega arith)
+slice-aggregate-listed : tie.Need-slice-aggregate-listed
+slice-aggregate-listed c = simp length-take (omega arith)
 
-slice-aggregate-run-2 : tie.Need-slice-aggregate-run-2
-slice-aggregate-run-2 c = simp length-take (omega arith)
+slice-aggregate-listed-2 : tie.Need-slice-aggregate-listed-2
+slice-aggregate-listed-2 c = simp length-take (omega arith)
 
 pub part-spec : {M : Type 1} → statement M
 part-spec =
@@ -17,13 +17,11 @@ part-spec =
     (tie.spec
     (λ c κs. search needs)
     (λ c κs. search needs)
-    (λ c κs. search needs)
-    (λ c κs. search needs)
     (λ c. search needs)
     (λ c. search needs)
-    slice-aggregate-run
+    slice-aggregate-listed
     (λ c. search needs)
-    slice-aggregate-run-2
+    slice-aggregate-listed-2
     (λ c κs. search needs)
     (λ c. search needs)
     (λ c. search needs))

@@ -1,8 +1,8 @@
 -- A step is read field by field.
 use borrow.Author.Needs.{needs}
-use Rattle.ledger.proofs.Running.{step-fields}
-use Rattle.ledger.proofs.decode.Statement.{statement}
-use Rattle.ledger.proofs.decode.Tie as tie
+use Rattle.steps.proofs.Decoding.{step-fields}
+use Rattle.steps.proofs.packed.decode.Statement.{statement}
+use Rattle.steps.proofs.packed.decode.Tie as tie
 
 returns : tie.Need-returns
 returns c = step-fields _ _ _ _ (c .before .load16 .ensures) (c .load32 .ensures)

@@ -1,0 +1,25 @@
+// A step of a packed list.
+use rules::Step;
+ghost use mathlib.Core.Path.{_≡_};
+ghost use Prim.Native.Nat.{_+_, _≤_};
+ghost use lib.ListN.{length};
+ghost use Rattle.octets.specs.Bytes.{part};
+ghost use Rattle.rules.specs.Step.{unpackStep, stepBytes};
+
+pub fn decode(list: &[u8], at: usize) -> Step
+    requires { ⌜ at + stepBytes ≤ length (now list) ⌝ }
+    ensures { λ r. ⌜ r ≡ unpackStep (part at stepBytes (now (list .entry))) ⌝ }
+{
+    let a = list[at];
+    let b = list[at + 1];
+    let message = octets::load16(list, at + 2);
+    let value = octets::load32(list, at + 4);
+    Step {
+        kind: a / 16,
+        transactor: a % 16,
+        other: b / 16,
+        zero: b % 16,
+        message,
+        value,
+    }
+}
