@@ -122,7 +122,7 @@ uint8_t ledger_all_heard_stable(const uint8_t *image, size_t image_length, size_
  * the reads whose map is emptied unused. Run from the same image it leaves the same image, and each of its steps has its earlier
  * reply. It is written to out, with zero bytes after it, and the answer is how many steps it has; *refusal is 0. The image is only
  * read. Refused with 16 to 19, which is put in *refusal: no byte of out is changed and the answer is 0. The call needs
- * some 43 kilobytes of stack. */
+ * some 48 kilobytes of stack. */
 size_t ledger_thin(const uint8_t *image, size_t image_length,
                    const uint8_t *list, size_t list_length, size_t start, size_t end,
                    uint8_t *out, size_t out_length, uint8_t *refusal);
