@@ -13,7 +13,7 @@ ghost use mathlib.Core.Path.{_≡_};
 ghost use Prim.Native.Nat.{_+_, _≤_, _<_};
 ghost use lib.ListN.{length};
 ghost use lib.Dec.{leb};
-ghost use Rattle.octets.specs.Bytes.{_and_, _or_, every};
+ghost use Rattle.octets.specs.Bytes.{_and_, _or_};
 ghost use Rattle.marks.specs.Incarnation.{checkpointedIn, sameIncarnation};
 ghost use Rattle.marks.specs.History.{incarnationOf};
 ghost use Rattle.marks.specs.Packed.{width, places, historyIn};
@@ -24,7 +24,7 @@ ghost use Rattle.rules.specs.Rules.{groupReady, checkpointGroup};
 ghost use Rattle.rules.specs.Pack.{pack, unpack};
 ghost use Rattle.rules.specs.Internal.Good.{Good};
 ghost use Rattle.rules.specs.Internal.Guards.{blocksAt, namedRefusal, groupRefusal, Room};
-ghost use Rattle.rules.specs.Internal.Closure.{storedReady, pairReady, stableNamed, Presents, Kept, vouchedAt, checkpointedAt};
+ghost use Rattle.rules.specs.Internal.Closure.{storedReady, pairReady, Presents, Kept, vouchedAt, checkpointedAt};
 
 // Whether the group names transactor t.
 pub fn is_named(group: u16, t: usize) -> bool
@@ -154,45 +154,36 @@ pub fn pair_ready(image: &[u8], group: u16, t: usize, u: usize) -> bool
     entry_ready(image, group, at + CREATION + marks::SIZE * u, u)
 }
 
-fn is_stable(image: &[u8], t: usize) -> bool
-    requires { ⌜ Good (now image) × (t < base .transactors) ⌝ }
-    ensures { λ r. ⌜ r ≡ ownHistory t (transactorAt (unpack base (now (image .entry))) t) .stable ⌝ }
-{
-    let h = own(image, t);
-    h.stable
-}
-
 // ---- the test of a group, with what is kept of its members
 
-// Whether every named transactor is stable. In a well-formed image it is then also live.
-fn all_stable(image: &[u8], group: u16) -> bool
-    requires { ⌜ Good (now image) ⌝ }
-    ensures { λ r. ⌜ r ≡ every (base .transactors) (stableNamed (unpack base (now (image .entry))) group) ⌝ }
-{
-    let mut t: usize = 0;
-    while t < TRANSACTORS {
-        if is_named(group, t) && !is_stable(image, t) {
-            return false;
-        }
-        t += 1;
-    }
-    true
+// What is kept of a group's transactors: their own histories, and which of them are stable.
+struct Present {
+    own: [History; 16],
+    stable: u16,
 }
 
-// The own history of each named transactor, worked out once; in the other places nothing.
-fn presents(image: &[u8], group: u16) -> [History; 16]
+// The own history of each named transactor is worked out once; in the other places stands nothing.
+fn presents(image: &[u8], group: u16) -> Present
     requires { ⌜ Good (now image) ⌝ }
-    ensures { λ r. ⌜ Presents base (unpack base (now (image .entry))) group r ⌝ }
+    ensures { λ r. ⌜ Presents base (unpack base (now (image .entry))) group (r .own) (r .stable) ⌝ }
 {
     let mut present = [History::INITIAL; 16];
+    let mut stable: u16 = 0;
     let mut t: usize = 0;
     while t < TRANSACTORS {
         if is_named(group, t) {
-            present[t] = own(image, t);
+            let h = own(image, t);
+            present[t] = h;
+            if h.stable {
+                stable += 1u16 << t;
+            }
         }
         t += 1;
     }
-    present
+    Present {
+        own: present,
+        stable,
+    }
 }
 
 // Whether there is no history at at, or one of the present incarnation of transactor u, a named one, of which h is kept.
@@ -247,22 +238,22 @@ fn kept_ready(image: &[u8], group: u16, t: usize, u: usize, h: History) -> bool
 }
 
 // Whether every named transactor is stable, and every entry of its state and creation maps is ready: left at the first that
-// is not. What the present incarnations are is asked before the entries are walked.
+// is not. What the present incarnations are is asked before the entries are walked. In a well-formed image a stable transactor is live.
 pub fn ready(image: &[u8], group: u16) -> bool
     requires { ⌜ Good (now image) ⌝ }
     ensures { λ r. ⌜ r ≡ groupReady base (unpack base (now (image .entry))) group ⌝ }
 {
-    if !all_stable(image, group) {
+    let kept = presents(image, group);
+    if kept.stable != group {
         return false;
     }
-    let present = presents(image, group);
     let mut ok = true;
     let mut t: usize = 0;
     'named: while t < TRANSACTORS {
         if is_named(group, t) {
             let mut u: usize = 0;
             while u < TRANSACTORS {
-                let h = present[u];
+                let h = kept.own[u];
                 if !kept_ready(image, group, t, u, h) {
                     ok = false;
                     break 'named;

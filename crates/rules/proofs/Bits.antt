@@ -1,7 +1,7 @@
 -- The bits of a volume: the volume that has them, and one more take named.
 use Prim.Native.Nat.{ℕ, zero, suc, _+_, _-_, _*_, _/_, _%_, _^_, _≤_, _<_}
 use mathlib.Core.Bool.{Bool, true, false, not}
-use mathlib.Core.Path.{_≡_, refl, sym, ap, _∙_}
+use mathlib.Core.Path.{_≡_, refl, sym, ap, _∙_, subst}
 use mathlib.Core.Logic.{⊎-elim}
 use native.Mathlib.Nat.{zero-add, one-mul, pow-zero, pow-succ', zero-div, div-one, div-eq-of-lt, mod-eq-of-lt, div-div-eq-div-mul, div-le-self}
 use native.Mathlib.Omega.{arith}
@@ -13,6 +13,7 @@ use Rattle.octets.proofs.Chunks.{sides}
 use Rattle.octets.proofs.Tests.{never, or-none, and-off}
 use Rattle.octets.proofs.Zero.{any-at, any-off}
 use Rattle.rules.specs.Refusals.{groupBits, named, anyNamed}
+use Rattle.rules.specs.Internal.Closure.{Names}
 
 -- ---- the first bit, and the others
 
@@ -150,3 +151,33 @@ named-from g n fits = go (anyNamed g (leb n)) refl (eqb (g / 2 ^ n) 0) refl
 -- and none past the bits of a volume
 pub named-from-none : (g n : ℕ) → groupBits ≤ n → false ≡ anyNamed g (leb n)
 named-from-none g n h = sym (unnamed-all g (leb n) (λ t b e. lt-leb n t (omega arith)))
+
+-- ---- a volume put together take by take: after t turns it names those of the first t of which f holds
+
+pub names-none : (f : ℕ → Bool) → Names f 0 0
+names-none f = record { bits = omega arith; exactly = λ u h. absurd (omega arith) }
+
+module _ {f : ℕ → Bool} {t v : ℕ} (names : Names f t v) where
+  -- as those below t are, and t itself
+  reach : (w : ℕ) → (w < 2 ^ (t + 1)) → ((u : ℕ) → u < t → named w u ≡ named v u) → named w t ≡ f t → Names f (t + 1) w
+  reach w bits below here = record {
+    bits = bits;
+    exactly = λ u h. ⊎-elim
+        (λ (q : u < t). below u q ∙ names .exactly u q)
+        (λ (q : t ≤ u). let e : t ≡ u = omega arith in subst (λ (x : ℕ). named w x ≡ f x) e here)
+        (sides u t);
+  }
+
+  past : named v t ≡ false
+  past = named-past v t t (names .bits) (omega arith)
+
+  pub names-fits : (n : ℕ) → t < n → v + 2 ^ t < 2 ^ n
+  names-fits n h = add-fits v t n (omega (arith, names .bits, one-fits t n h)) h past
+
+  pub names-on : (b : ℕ) → b ≡ 2 ^ t → f t ≡ true → Names f (t + 1) (v + b)
+  names-on b bit e = rw bit (reach (v + 2 ^ t) (names-fits (t + 1) (omega arith))
+      (λ u h. named-add v t u past ∙ rw (ne-eqb t u (omega arith), or-none))
+      (named-add v t t past ∙ rw (eq-eqb t t refl, past, e)))
+
+  pub names-off : f t ≡ false → Names f (t + 1) v
+  names-off e = reach v (omega (arith, names .bits, one-fits t (t + 1) (omega arith))) (λ u h. refl) (past ∙ sym e)

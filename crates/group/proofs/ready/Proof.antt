@@ -4,12 +4,12 @@ use mathlib.Core.Bool.{true, not}
 use mathlib.Core.Path.{_≡_, refl, sym, ap, _∙_}
 use mathlib.Core.Logic.{⊎-elim}
 use borrow.Author.Needs.{needs}
-use Rattle.octets.proofs.Tests.{passed, failed}
+use Rattle.octets.specs.Bytes.{every}
 use Rattle.octets.proofs.Zero.{Held, held-none, held-more}
 use Rattle.rules.specs.Layout.{base}
 use Rattle.rules.specs.Pack.{unpack}
-use Rattle.rules.specs.Internal.Closure.{pairReady}
-use Rattle.rules.proofs.Groups.Ready.{namedReady, ready-end, ready-unnamed, ready-unstable, ready-named, ready-unmet, kept-at}
+use Rattle.rules.specs.Internal.Closure.{pairReady, stableNamed}
+use Rattle.rules.proofs.Groups.Ready.{namedReady, ready-end, ready-unnamed, present-stable, present-loose, ready-named, ready-unmet, kept-at}
 use Rattle.group.proofs.ready.Statement.{statement}
 use Rattle.group.proofs.ready.Tie as tie
 
@@ -25,16 +25,20 @@ Inv-named image group present ok₀ t₀ ok t = Held (namedReady base (unpack ba
 abbrev μ-named : tie.MeasureT-named
 μ-named image group present ok₀ t₀ ok t = base .transactors - t
 
+-- every named transactor is stable
+all-stable : (c : tie.Else1 Inv-loop μ-loop Inv-named μ-named) → every (base .transactors) (stableNamed (unpack base (c .before .before .before .args .image .now)) (c .before .before .before .args .group)) ≡ true
+all-stable c = present-stable base _ _ (c .before .presents .ensures) (c .if1 .left)
+
 kept-ready-requires : tie.Need-kept-ready-requires Inv-loop μ-loop Inv-named μ-named
 kept-ready-requires c κs =
     let p = c .before .before .before .before .before .before .before in
-    (search needs, search needs, search needs, kept-at base _ _ (passed (p .before .before .all-stable .ensures) (p .before .if1 .left)) (p .before .before .before .before .pre .well) (p .presents .ensures) _ (search needs))
+    (search needs, search needs, search needs, kept-at base _ _ (p .before .presents .ensures) (all-stable p) (p .before .before .before .pre .well) _ (search needs))
 
 named-again : tie.Need-named-again Inv-loop μ-loop Inv-named μ-named
 named-again c =
-    let p = c .before .before .before .before .before in
+    let p = c .before .before .before .before in
     ⊎-elim
-    (λ w. (held-more (search needs) (search needs) (ready-named base _ _ _ (search needs) (passed (p .before .all-stable .ensures) (p .if1 .left)) (sym (c .before .is-named .ensures) ∙ w .0 .taken) (w .1 .inv .0) (search needs)), w .3 ∙ w .1 .inv .1))
+    (λ w. (held-more (search needs) (search needs) (ready-named base _ _ _ (search needs) (all-stable p) (sym (c .before .is-named .ensures) ∙ w .0 .taken) (w .1 .inv .0) (search needs)), w .3 ∙ w .1 .inv .1))
     (λ w. (held-more (search needs) (search needs) (ready-unnamed base _ _ _ (sym (c .before .is-named .ensures) ∙ w .0 .left)), search needs))
     (c .if2 .came)
 
@@ -42,8 +46,8 @@ returns-3 : tie.Need-returns-3 Inv-loop μ-loop Inv-named μ-named
 returns-3 c =
     let l = c .before .before .before .before in
     let n = l .before .before in
-    let p = n .before .before .before .before in
-    ready-unmet base _ _ _ (search needs) (passed (p .before .all-stable .ensures) (p .if1 .left)) (sym (n .is-named .ensures) ∙ l .before .if2 .taken) (l .loop .inv .0) (search needs)
+    let p = n .before .before .before in
+    ready-unmet base _ _ _ (search needs) (all-stable p) (sym (n .is-named .ensures) ∙ l .before .if2 .taken) (l .loop .inv .0) (search needs)
     (ap not (sym (c .before .kept-ready .ensures)) ∙ c .if3 .taken)
 
 pub ready-spec : {M : Type 1} → statement M
@@ -55,8 +59,7 @@ ready-spec =
     Inv-named
     μ-named
     (λ c κs. search needs)
-    (λ c. ready-unstable base _ _ (failed (c .before .all-stable .ensures) (c .if1 .taken)))
-    (λ c κs. search needs)
+    (λ c. present-loose base _ _ (c .before .presents .ensures) refl (search needs) (c .if1 .taken))
     (λ c. (held-none _ _, refl))
     (λ c κs. search needs)
     (λ c. (held-none _ _, search needs))

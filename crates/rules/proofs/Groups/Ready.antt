@@ -1,7 +1,7 @@
 -- What blocks the signing of a group, and when the group is ready, as the code tests the image.
-use Prim.Native.Nat.{ℕ, zero, suc, _+_, _*_, _≤_, _<_}
+use Prim.Native.Nat.{ℕ, zero, suc, _+_, _*_, _^_, _≤_, _<_}
 use mathlib.Core.Bool.{Bool, true, false, not}
-use mathlib.Core.Path.{_≡_, refl, sym, ap, _∙_}
+use mathlib.Core.Path.{_≡_, refl, sym, ap, _∙_, subst}
 use mathlib.Core.List.{List}
 use native.Mathlib.Omega.{arith}
 use borrow.Author.Tests.{not-true, not-false}
@@ -27,6 +27,7 @@ use Rattle.rules.specs.Internal.Well.{Live, idle, working, TransactorFor
 use Rattle.rules.specs.Internal.Good.{Good}
 use Rattle.rules.specs.Internal.Guards.{blocksAt}
 use Rattle.rules.specs.Internal.Closure.{storedReady, pairReady, stableNamed, Presents, Kept, vouchedAt, checkpointedAt, lacking, missing}
+use Rattle.rules.proofs.Bits.{named-same}
 use Rattle.rules.proofs.Pack.Loads.{held-at, history-at, read-state, read-creation}
 
 -- ---- what blocks a signing
@@ -267,11 +268,36 @@ module _ (y : Layout) (s : State) (g : ℕ) where
       go true r = never (sym (stable r) ∙ e)
       go false r = refl
 
-  module _ (all : every (y .transactors) (stableNamed s g) ≡ true) (well : WellFormed y s) {l : List History} (present : Presents y s g l) where
-    -- what the walk has of each take
-    pub kept-at : (u : ℕ) → u < y .transactors → Kept s g u (entryOf l u)
+  module _ {l : List History} {v : ℕ} (present : Presents y s g l v) where
+    -- all are: those of them that are frozen are the volume itself
+    pub present-stable : v ≡ g → every (y .transactors) (stableNamed s g) ≡ true
     unfolding stableNamed
-    kept-at u h = record {
+    present-stable e = every-all (stableNamed s g) (y .transactors) (λ t h. implying (named g t) (ownHistory t (transactorAt s t) .stable) (λ n.
+        both (named g t) (ownHistory t (transactorAt s t) .stable)
+        (sym (present .stable .exactly t h) ∙ ap (λ (x : ℕ). named x t) e ∙ n) .1))
+
+    pub present-loose : y .transactors ≡ groupBits → g < 2 ^ groupBits → (v ≡ g → ⊥) → false ≡ groupReady y s g
+    unfolding stableNamed
+    present-loose size fits off = ready-unstable (go (every (y .transactors) (stableNamed s g)) refl)
+      where
+        same : every (y .transactors) (stableNamed s g) ≡ true → v ≡ g
+        same e = named-same groupBits v g (subst (λ (n : ℕ). v < 2 ^ n) size (present .stable .bits)) fits (λ t h.
+            let b : t < y .transactors = omega arith in
+            present .stable .exactly t b
+            ∙ met (named g t) (ownHistory t (transactorAt s t) .stable) (every-at (stableNamed s g) (y .transactors) t e b))
+          where
+            met : (n f : Bool) → not n or f ≡ true → n and f ≡ n
+            met true f e = e
+            met false f e = refl
+
+        go : (b : Bool) → every (y .transactors) (stableNamed s g) ≡ b → b ≡ false
+        go true e = absurd (off (same e))
+        go false e = refl
+
+    -- what the walk has of each take
+    pub kept-at : every (y .transactors) (stableNamed s g) ≡ true → WellFormed y s → (u : ℕ) → u < y .transactors → Kept s g u (entryOf l u)
+    unfolding stableNamed
+    kept-at all well u h = record {
       there = λ n. alive-live (stable-alive well u h (implied (named g u) (ownHistory u (transactorAt s u) .stable) (every-at (stableNamed s g) (y .transactors) u all h) n) .1);
       own = present .own u h;
     }

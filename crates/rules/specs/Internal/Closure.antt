@@ -1,5 +1,5 @@
 -- The signing rule and the smallest volume, as the code tests the image.
-use Prim.Native.Nat.{ℕ, _+_, _*_, _<_}
+use Prim.Native.Nat.{ℕ, _+_, _*_, _^_, _<_}
 use mathlib.Core.Bool.{Bool, true, false, not}
 use mathlib.Core.Path.{_≡_}
 use mathlib.Core.List.{List}
@@ -34,9 +34,16 @@ pairReady y img g t u =
 unfoldable pub stableNamed : State → ℕ → ℕ → Bool
 stableNamed s g t = not (named g t) or ownHistory t (transactorAt s t) .stable
 
--- "What is so kept is proved to be, for each named take, the life of its own mark"; it is kept as the mark itself.
-pub record Presents (y : Layout) (s : State) (g : ℕ) (l : List History) : Type 0 where
+-- of the first n takes, the volume v names those of which f holds, and no other take
+pub record Names (f : ℕ → Bool) (n v : ℕ) : Type 0 where
+  pub bits : v < 2 ^ n
+  pub exactly : (t : ℕ) → t < n → named v t ≡ f t
+
+-- "What is so kept is proved to be, for each named take, the life of its own mark"; it is kept as the mark itself. And v are the frozen
+-- ones of the named takes, by what is kept.
+pub record Presents (y : Layout) (s : State) (g : ℕ) (l : List History) (v : ℕ) : Type 0 where
   pub own : (t : ℕ) → t < y .transactors → named g t ≡ true → entryOf l t ≡ ownHistory t (transactorAt s t)
+  pub stable : Names (λ t. named g t and ownHistory t (transactorAt s t) .stable) (y .transactors) v
 
 -- what the walk has of take u: of a named one that it is live, and its own mark
 pub record Kept (s : State) (g u : ℕ) (h : History) : Type 0 where
