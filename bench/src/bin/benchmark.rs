@@ -3,6 +3,7 @@
 //!     benchmark [REPETITIONS [ROW ..]]                every row, or some
 //!     benchmark profile library|rust ROW N            N passes of one row, for a profiler
 //!     benchmark kinds ..                              the same for steps of one kind
+//!     benchmark thin [REPETITIONS]                    a pass that thins a list against a run of it
 //!
 //! Before each pass, and outside the time measured, the image is set back and the replies are cleared.
 
@@ -472,8 +473,32 @@ fn kinds() -> Vec<Row> {
     ]
 }
 
+/// A pass that thins a list against a run of the same list: how many runs it costs.
+fn thin_cost(by: &Calls, repetitions: usize) {
+    println!("{}: nanoseconds a list and ratio, median of {repetitions} (quartiles)", by.name);
+    println!("{:20} {:>9} {:19} {:>9} {:19} {:>6}", "mixed, lists of", "thin", "", "run", "", "ratio");
+    for n in [1, 8, 40, 200, 1024] {
+        let lists: Vec<_> = (0..32).map(|seed| mixed(seed, 128 * (seed as usize % 8), n)).collect();
+        let row = |call: fn(Vec<u8>) -> Call| {
+            let work =
+                |(image, list): &(Vec<u8>, Vec<u8>)| Work { image: image.clone(), call: call(list.clone()), times: 1 };
+            Row { name: "", unit: "list", works: lists.iter().map(work).collect() }
+        };
+        let (thin, run) = (row(Call::Thin), row(|list| Call::Run(list, 1024)));
+        let sample = |row: &Row| row.sample(&[by], 8)[0] * n as f64;
+        let samples: Vec<[f64; 2]> = (0..repetitions).map(|_| [sample(&thin), sample(&run)]).collect();
+        let spread = |f: fn(&[f64; 2]) -> f64| Spread::of(samples.iter().map(f).collect());
+        let (thin, run, ratio) = (spread(|s| s[0]), spread(|s| s[1]), spread(|s| s[0] / s[1]));
+        println!("{:20} {thin:9.0} {run:9.0} {ratio:6.2}", format!("{n} steps"));
+    }
+}
+
 fn main() {
     let args: Vec<String> = std::env::args().skip(1).collect();
+    if args.first().map(String::as_str) == Some("thin") {
+        let repetitions = args.get(1).map_or(31, |n| n.parse().expect("a number of repetitions"));
+        return [LIBRARY, RUST].iter().for_each(|by| thin_cost(by, repetitions));
+    }
     let one_kind = args.first().map(String::as_str) == Some("kinds");
     let rows = if one_kind { kinds() } else { rows() };
     let args = &args[one_kind as usize..];

@@ -2,6 +2,7 @@
 //! refusal that nothing changed.
 //!
 //!     differential [SEED [STEPS [ROUND]]]
+//!     differential thin [SEED [LISTS [ROUND]]]     the pass that thins lists, on so many of them
 //!
 //! Each round has a seed of its own; with ROUND that one alone is run.
 
@@ -39,7 +40,7 @@ const CALLS: [&str; 8] = ["begin", "run", "offer", "show", "smallest", "all hear
 impl Test {
     fn fail(&self, what: &str) -> ! {
         eprintln!("FAILED: seed {} round {}: {what}", self.seed, self.round);
-        eprintln!("again: differential {} 1 {}", self.seed, self.round);
+        eprintln!("again: the same with {} 1 {}", self.seed, self.round);
         exit(1);
     }
 
@@ -489,7 +490,8 @@ impl Test {
         self.set(kept);
     }
 
-    fn round(&mut self) {
+    /// A begun image, or one that no session grows.
+    fn start(&mut self) {
         if self.r.one_in(2) {
             let mut bytes = vec![0; IMAGE];
             self.r.fill(&mut bytes);
@@ -507,6 +509,10 @@ impl Test {
             self.set(image);
             self.grown = false;
         }
+    }
+
+    fn round(&mut self) {
+        self.start();
         for _ in 0..1 + self.r.below(10) {
             self.exchange();
             self.thin_lists();
@@ -536,8 +542,43 @@ impl Test {
         }
     }
 
+    /// The short forms of many lists, most of them short; after one in four the session goes on, by a run of the list.
+    fn thin_round(&mut self) {
+        self.start();
+        for _ in 0..64 {
+            let n = match self.r.below(256) {
+                0 => 1024,
+                1..=3 => self.r.below(300),
+                4..=63 => self.r.below(4),
+                _ => self.r.below(24),
+            };
+            let (list, start) = self.list(n);
+            self.thin(&list, start, start + STEP * n, STEP * n);
+            if self.r.one_in(4) {
+                self.run(&list, start, start + STEP * n, STEP * n);
+            }
+        }
+        match self.r.below(8) {
+            0 => self.bad_run(),
+            1 => self.wrong_length(),
+            2 => self.damaged(),
+            3 => self.pasted(),
+            _ => {}
+        }
+    }
+
     fn total(&self) -> u64 {
         self.steps.iter().flatten().sum()
+    }
+
+    /// Each way in which a step is left out, or a read kept, must have been seen.
+    fn thin_covered(&self) {
+        for n in [0, 5, 8, 9, 10, 12] {
+            self.expect(self.left_out[n] > 0, &format!("no step was left out, or kept, by {n}"));
+        }
+        for n in [0, 16, 17, 18, 19] {
+            self.expect(self.calls[7][n] > 0, &format!("no thin answered {n}"));
+        }
     }
 
     /// Every answer that the documents have must have been seen.
@@ -550,9 +591,7 @@ impl Test {
         }
         self.expect(self.heard[0] > 0 && self.heard[1] > 0, "all heard frozen was never yes, or never no");
         self.expect(self.exchanged.iter().all(|n| *n > 0), "no two edits of some sort were exchanged");
-        for n in [0, 5, 8, 9, 10, 12] {
-            self.expect(self.left_out[n] > 0, &format!("no step was left out, or kept, by {n}"));
-        }
+        self.thin_covered();
         let outcome = |n: usize| self.steps.iter().map(|kind| kind[n]).sum::<u64>();
         for n in (0..=5).chain(20..=31) {
             self.expect(outcome(n) > 0, &format!("no step had outcome or refusal {n}"));
@@ -562,7 +601,7 @@ impl Test {
         }
         let query: &[usize] = &[0, 16, 19, 21, 22];
         let run: &[usize] = &[0, 16, 17, 18, 19];
-        let answers: [&[usize]; 8] = [&[0, 16, 33], run, query, &[0, 16, 19, 24], query, query, &[0, 17, 35], run];
+        let answers: [&[usize]; 7] = [&[0, 16, 33], run, query, &[0, 16, 19, 24], query, query, &[0, 17, 35]];
         for (call, wanted) in answers.iter().enumerate() {
             for n in *wanted {
                 self.expect(self.calls[call][*n] > 0, &format!("no {} answered {n}", CALLS[call]));
@@ -606,9 +645,11 @@ impl Test {
 }
 
 fn main() {
-    let args: Vec<u64> = std::env::args().skip(1).map(|a| a.parse().expect("a number")).collect();
+    let mut words = std::env::args().skip(1).peekable();
+    let thin = words.next_if(|a| a == "thin").is_some();
+    let args: Vec<u64> = words.map(|a| a.parse().expect("a number")).collect();
     let seed = args.first().copied().unwrap_or(1);
-    let steps = args.get(1).copied().unwrap_or(5_000_000);
+    let wanted = args.get(1).copied().unwrap_or(if thin { 1_000_000 } else { 5_000_000 });
     let mut test = Test {
         seed,
         round: 0,
@@ -632,21 +673,29 @@ fn main() {
     let round = |test: &mut Test, n: u64| {
         test.round = n;
         test.r = Random(seed.wrapping_mul(0x1_0000_0001).wrapping_add(n << 20));
-        test.round();
+        if thin {
+            test.thin_round();
+        } else {
+            test.round();
+        }
     };
+    let reached = |test: &Test| if thin { test.calls[7][0] } else { test.total() };
     if let Some(n) = args.get(2) {
         round(&mut test, *n);
         test.print();
         return;
     }
     let mut n = 0;
-    while test.total() < steps {
+    while reached(&test) < wanted {
         n += 1;
         round(&mut test, n);
     }
     test.print();
-    if steps >= 1_000_000 {
-        test.covered();
+    match (wanted, thin) {
+        (100_000.., true) => test.thin_covered(),
+        (1_000_000.., false) => test.covered(),
+        _ => {}
     }
-    println!("differential: seed {seed}, {n} rounds, {} steps, no difference", test.total());
+    let what = if thin { "lists thinned" } else { "steps" };
+    println!("differential: seed {seed}, {n} rounds, {} {what}, no difference", reached(&test));
 }

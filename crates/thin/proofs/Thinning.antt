@@ -1,12 +1,14 @@
 -- The pass: the run's answer and replies, and the steps that are kept by these.
 use Prim.Native.Nat.{ℕ, _+_, _-_, _*_, _<_}
-use mathlib.Core.Path.{_≡_, sym, ap, _∙_}
+use mathlib.Core.Path.{_≡_, refl, sym, ap, _∙_}
 use mathlib.Core.List.{List, _++_}
+use native.Mathlib.Numerals.{add-one}
 use native.Mathlib.Omega.{arith}
-use lib.ListN.{length}
+use lib.ListN.{length, getD, set}
+use lib.Seq.{take-suc, take-suc-set}
 use borrow.Author.Tests.{eq-eqb, ne-eqb}
-use Rattle.octets.specs.Bytes.{put, zeros, Octets}
-use Rattle.octets.proofs.Put.{length-part, put-whole, octets-part}
+use Rattle.octets.specs.Bytes.{part, zeros, Octets}
+use Rattle.octets.proofs.Put.{part-whole, length-part, octets-part}
 use Rattle.rules.specs.Layout.{base, imageBytes}
 use Rattle.rules.specs.State.{State}
 use Rattle.rules.specs.Step.{stepBytes}
@@ -28,9 +30,20 @@ pub ran-wrong : (img list : List ℕ) (start end : ℕ) (out : List ℕ) → (le
     → (16 ≡ runAnswer base img list start end out) × (out ≡ runReplies base img list start end out)
 ran-wrong img list start end out n = let r = ran-16 base img list start end out n in (r .0, r .2)
 
+-- no byte of the image, copied
+pub copy-none : (img copy : List ℕ) → part 0 0 copy ≡ part 0 0 img
+unfolding part
+copy-none img copy = refl
+
+-- one more byte of the image, copied
+pub copy-more : (i : ℕ) (img copy : List ℕ) → part 0 i copy ≡ part 0 i img → i < length copy → i < length img
+    → part 0 (i + 1) (set copy i (getD img i 0)) ≡ part 0 (i + 1) img
+unfolding part
+copy-more i img copy e h k = rw (add-one, take-suc-set copy i (getD img i 0) h, take-suc img i 0 k, e)
+
 -- the image, copied
-pub copied : {img copy : List ℕ} (room : List ℕ) → length img ≡ length room → copy ≡ put 0 img room → copy ≡ img
-copied {img} room h e = e ∙ put-whole img room h
+pub copied : (i : ℕ) (img copy : List ℕ) → part 0 i copy ≡ part 0 i img → length copy ≡ i → length img ≡ i → copy ≡ img
+copied i img copy e h k = sym (part-whole i copy h) ∙ e ∙ part-whole i img k
 
 -- as on the image, on the copy
 pub ran-copied : {img copy : List ℕ} (list : List ℕ) (start end : ℕ) (out : List ℕ) → copy ≡ img → {r : ℕ} {rs : List ℕ}

@@ -1,16 +1,50 @@
--- The copy is the image.
+-- After i turns the first i bytes are copied; at last the copy is the image.
+use Prim.Native.Nat.{_-_, _≤_}
+use mathlib.Core.Path.{_≡_}
+use native.Mathlib.Omega.{arith}
+use lib.ListN.{length}
+use Rattle.octets.specs.Bytes.{part}
+use Rattle.rules.specs.Layout.{base, imageBytes}
 use borrow.Author.Needs.{needs}
-use Rattle.thin.proofs.Thinning.{ran-wrong, copied, ran-copied}
+use Rattle.thin.proofs.Thinning.{ran-wrong, copy-none, copy-more, copied, ran-copied}
 use Rattle.thin.proofs.run_copy.Statement.{statement}
 use Rattle.thin.proofs.run_copy.Tie as tie
 
-returns : tie.Need-returns
+abbrev Inv-loop : tie.InvT-loop
+Inv-loop image list start end out copy₀ i₀ copy i = (i ≤ imageBytes base) × (part 0 i copy ≡ part 0 i image) × (length copy ≡ imageBytes base)
+
+abbrev μ-loop : tie.MeasureT-loop
+μ-loop image list start end out copy₀ i₀ copy i = imageBytes base - i
+
+returns : tie.Need-returns Inv-loop μ-loop
 returns c = ran-wrong _ _ _ _ _ (search needs)
 
-returns-2 : tie.Need-returns-2
+loop-holds : tie.Need-loop-holds Inv-loop μ-loop
+loop-holds c = (search needs, copy-none _ _, search needs)
+
+loop-again : tie.Need-loop-again Inv-loop μ-loop
+loop-again c = (search needs, copy-more _ _ _ (c .before .before .loop .inv .1) (omega arith) (omega arith), search needs)
+
+returns-2 : tie.Need-returns-2 Inv-loop μ-loop
 returns-2 c =
     let r = c .before .before .before .run .ensures in
-    ran-copied _ _ _ _ (copied _ (search needs) (c .before .before .before .before .before .before .before .write .ensures)) (r .0) (r .2)
+    let copying = c .before .before .before .before .before .before .before .loop .inv in
+    ran-copied _ _ _ _ (copied _ _ _ (copying .1) (omega arith) (omega arith)) (r .0) (r .2)
 
 pub run-copy-spec : {M : Type 1} → statement M
-run-copy-spec = tie.close (tie.spec returns (λ c. search needs) (λ c κs. search needs) (λ c. search needs) (λ c κs. search needs) (λ c. search needs) returns-2)
+run-copy-spec =
+    tie.close
+    (tie.spec
+    Inv-loop
+    μ-loop
+    returns
+    loop-holds
+    (λ c. search needs)
+    (λ c. search needs)
+    (λ c. search needs)
+    (λ c. search needs)
+    loop-again
+    (λ c. search needs)
+    (λ c κs. search needs)
+    (λ c. search needs)
+    returns-2)
