@@ -105,7 +105,7 @@ impl History {
         self
     }
 
-    // Document 01: signing. The ledger refuses a sixteenth.
+    // Document 01: signing. The ledger refuses it where the session's limit is reached (30).
     pub fn checkpoint(mut self) -> History
         requires { ⌜ self .count < places ⌝ }
         ensures { λ r. ⌜ r ≡ checkpointed self ⌝ }

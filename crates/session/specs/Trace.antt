@@ -65,10 +65,10 @@ callsOf (called τ c a p) = c ∷ callsOf τ
 
 -- ---- what is claimed
 
--- Demand 3: "refusals are exactly those of the book of document 01; a signing signs exactly when the book's two sets of lives are
--- equal, else it replies 5; live takes and own marks are the book's; so no text signed since the begin rests on a withdrawn life".
+-- Demand 3: refusals are those of the book; a signing signs exactly when the book's two sets of lives are equal, else it replies 5;
+-- live takes and own marks are the book's; no text signed since the begin rests on a withdrawn life.
 
--- "Live takes and own marks are the book's": every take has the book's status in the state; of a live one its own mark is there,
+-- Live takes and own marks are the book's: every take has the book's status in the state; of a live one its own mark is there,
 -- and is the book's.
 pub record MatchesAt (x : Transactor) (t : ℕ) (h : Holder) : Type 0 where
   pub status : x .status ≡ statusNumber (h .status)
