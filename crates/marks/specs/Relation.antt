@@ -22,7 +22,7 @@ turned Unrelated = Unrelated
 unfoldable pub byNumbers : ℕ → ℕ → Relation
 byNumbers n m = pick (ltb n m) LeftSuperseded (pick (ltb m n) RightSuperseded Same)
 
--- "Unequal lists are related if one is a strict prefix and the other's next entry is not less than the prefix mark's n." The prefix
+-- And "unequal lists are related if one is a strict prefix and the other's next entry is not less than the prefix mark's n." The prefix
 -- mark, here the left one, is the earlier: "it is signed if that next entry is its n", and else stale by the other.
 unfoldable pub byNextEntry : ℕ → ℕ → Relation
 byNextEntry n next = pick (ltb next n) Unrelated (pick (eqb n next) LeftCheckpointed LeftSuperseded)

@@ -14,6 +14,7 @@ use Rattle.octets.proofs.Zero.{both}
 use Rattle.marks.specs.Incarnation.{Incarnation}
 use Rattle.marks.specs.History.{HistoryView}
 use Rattle.maps.proofs.News.{informedTable}
+use Rattle.maps.proofs.Tables.{updated-same}
 use Rattle.rules.specs.Layout.{Layout, Limits, inRange, base, Fitting}
 use Rattle.rules.specs.State.{State, transactorAt}
 use Rattle.rules.specs.declared.Step.{Step}
@@ -32,11 +33,11 @@ use Rattle.rules.proofs.Keep.Run.{stepOk-at}
 use Rattle.rules.proofs.Keep.State.{well-fresh}
 use Rattle.rules.proofs.Keep.Step.{keeps-after, fitting-base}
 use Rattle.session.specs.Provenance.{unused, Provenance, emptyProvenance}
-use Rattle.session.specs.Steps.{ProvenanceStep}
+use Rattle.session.specs.Steps.{freezes, acted, applied, ProvenanceStep, refuses, applies, signing, not-ready}
 use Rattle.session.specs.Fed as book
 use Rattle.session.specs.Fed.{Call, begin, run, heard, callRefusal, ProvenanceSteps, ProvenanceCall, provenance-refuses, provenance-begins, provenance-runs, provenance-offers, provenance-names, provenance-hears, provenance-shows, ProvenanceOf, new-provenance, fed}
 use Rattle.session.specs.Trace.{Answer, told, Performed, beginning, running, offering, naming, hearing, showing, Trace, opened, called, callsOf}
-use Rattle.session.specs.Stabilized.{StabilizedBy, at-step, restarts, StabilizedIn, in-run, in-earlier}
+use Rattle.session.specs.Stabilized.{Stabilizes, StabilizedBy, at-step, restarts, StabilizedIn, in-run, in-earlier}
 use Rattle.session.proofs.Model.{view}
 use Rattle.session.proofs.Relation.{freshLedger, Rel, nothing-checkpointed}
 use Rattle.session.proofs.News.{informed-law}
@@ -46,6 +47,7 @@ use Rattle.session.proofs.ViewStep.{readyAt, view-step, same-refusal, s
 use Rattle.session.proofs.Calls.{Holds, holds-pack, holds-fresh, right-length, run-same, kept}
 use Rattle.session.proofs.Log.{Log, emptyLog, LogAfter, earlier, just-now, absent, none1, backed-has}
 use Rattle.session.proofs.Logged.{Logged, log-kept}
+use Rattle.session.proofs.Unique.{provenance-unique}
 
 -- ---- one step
 
@@ -240,3 +242,28 @@ yes-means-base τ {t} c = yes-means fitting-base τ t (sym (answered c))
   where
     answered : {img after : List ℕ} {t r : ℕ} {stable : Bool} → Performed base img (heard t) (told r stable) after → stable ≡ heardAnswer base img t
     answered hearing = refl
+
+-- ---- and nothing less: what such a step does, and where there is none
+
+module _ {y : Layout} {u : ℕ} {a : Incarnation} where
+  -- after it the take is frozen, in that life
+  pub stabilizes-sets : {b c : Provenance} {p : Step} → Stabilizes y b p u a → ProvenanceStep y b p c → c .holders u .history ≡ record { stable = true; incarnation = a }
+  unfolding applied acted freezes
+  stabilizes-sets k (refuses n) = absurd (n (k .accepted))
+  stabilizes-sets {b} {p = p} k (applies e n) = rw (k .transactor, k .incarnation, k .kind, updated-same (b .holders) (p .transactor) (freezes (b .holders (p .transactor))))
+  stabilizes-sets k (signing e i f) = absurd (omega (arith, k .kind, i))
+  stabilizes-sets k (not-ready e i f) = absurd (omega (arith, k .kind, i))
+
+  -- no step, no freeze
+  pub none-unstepped : {b : Provenance} {steps : List ℕ} → StabilizedBy y b steps 0 u a → ⊥
+  none-unstepped (at-step j c h s k) = omega (arith, h)
+
+  -- none since an accepted begin
+  pub none-begun : {m : Limits} {cs : List Call} → StabilizedIn y (begin m ∷ cs) u a → inRange y m ≡ false
+  none-begun (in-earlier e k) = e
+
+  -- none by a run that is refused
+  pub none-refused : {cs : List Call} {b : Provenance} {list : List ℕ} {o : Octets list} {start end : ℕ} {lent : List ℕ} → ProvenanceOf y cs b
+      → (callRefusal y b (run list o start end lent) ≡ 0 → ⊥) → StabilizedIn y (run list o start end lent ∷ cs) u a → StabilizedIn y cs u a
+  none-refused {list = list} {o} {start} {end} {lent} p n (in-run q e k) = absurd (n (subst (λ b. callRefusal y b (run list o start end lent) ≡ 0) (provenance-unique q p) e))
+  none-refused p n (in-earlier e k) = k

@@ -160,6 +160,23 @@ child s f a state creation behaviour = record { status = s; history = record { s
 abbrev holder : Status → Bool → Incarnation → Incarnations → Incarnations → Holder
 holder s f a state behaviour = child s f a state [] behaviour
 
+-- ---- a take pasted from another book (document 02, W3): no session comes to it
+
+-- a life that (0;0) cannot follow: it was never signed at 0
+abbrev strange : Incarnation
+strange = record { checkpoints = []; number = 2 }
+
+-- every take is idle and has these two sets; parcel 0, to take 0, carries life (0;0) of take 1
+abbrev pub pastedProvenance : Incarnations → Incarnations → Provenance
+pastedProvenance state creation = record {
+  limits = wideProvenance .limits;
+  opened = 2;
+  next = 1;
+  holders = λ t. child ready false incarnation0 state creation [];
+  messages = record { number = 0; addressee = 0; incarnations = one 1 incarnation1 } ∷ [];
+  noted = λ t a u c. ⊥;
+}
+
 record Computed : Type 0 where
   quiet-9 : quiet wideProvenance firstNine ≡ true
   zero-9 : provenance9 .holders 0 ≡ holder busy false incarnation0 (one 0 incarnation0) []
@@ -208,6 +225,10 @@ record Computed : Type 0 where
   second-message : provenanceRefusal base smallProvenance (aLetter 0 5) ≡ 26
   first-checkpoint : provenanceRefusal base (played smallProvenance (receiveAndFreeze 0)) (aSign 1) ≡ 0
   second-checkpoint : provenanceRefusal base usedProvenance (aSign 1) ≡ 30
+  pasted-state : provenanceRefusal base (pastedProvenance (one 1 strange) []) (aReceive 0) ≡ 31
+  pasted-creation : provenanceRefusal base (pastedProvenance [] (one 1 strange)) (aReceive 0) ≡ 31
+  pasted-other : provenanceRefusal base (pastedProvenance (one 0 strange) []) (aReceive 0) ≡ 0
+  pasted-related : provenanceRefusal base (pastedProvenance (one 1 incarnation0) []) (aReceive 0) ≡ 0
 
 computed : Computed
 unfolding bound smallProvenance usedProvenance quiet played provenanceRefusal provenanceSeen refusalOf malformed notWaiting emptyGroup unopened isGone wrongStatus unrelatedReceipt allOpened allWaiting allNumbered allCheckpointed atLast lastRollsBack any named anyNamed updated remove find isMissing anyEntry supersededEntry anySuperseded sameList beginsWith strictPrefix supersededBy rolledBackHolder reads writes freezes finishes rollsBackOrFinishes rollsBackOrStays acted isDropped isRolledBack received opensRoot opensChild receives applied checkpointedAt provenance9 provenance11 provenance13 carriedProvenance uncheckpointedProvenance checkpointedProvenance oldProvenance rolledBackProvenance againProvenance toldProvenance unreadProvenance readProvenance childProvenance openerProvenance isUnrelatedTo unrelatedEntry anyUnrelated relationOf byNumbers byNextEntry
@@ -259,6 +280,10 @@ computed = record {
   second-message = refl;
   first-checkpoint = refl;
   second-checkpoint = refl;
+  pasted-state = refl;
+  pasted-creation = refl;
+  pasted-other = refl;
+  pasted-related = refl;
 }
 
 -- ---- document 01's session, through the book
@@ -527,3 +552,11 @@ child-with-opener = record {
 pub small-book : (provenanceRefusal base smallProvenance (aRoot 4) ≡ 25) × (provenanceRefusal base smallProvenance (aLetter 0 5) ≡ 26)
     × (provenanceRefusal base (played smallProvenance (receiveAndFreeze 0)) (aSign 1) ≡ 0) × (provenanceRefusal base usedProvenance (aSign 1) ≡ 30)
 small-book = (computed .third-take, computed .second-message, computed .first-checkpoint, computed .second-checkpoint)
+
+-- ---- marks from two different books
+
+-- 31 where a life of take 1 in the addressee's state or creation is unrelated to that of the parcel; not where the life is of
+-- another take, or was signed.
+pub other-book : (provenanceRefusal base (pastedProvenance (one 1 strange) []) (aReceive 0) ≡ 31) × (provenanceRefusal base (pastedProvenance [] (one 1 strange)) (aReceive 0) ≡ 31)
+    × (provenanceRefusal base (pastedProvenance (one 0 strange) []) (aReceive 0) ≡ 0) × (provenanceRefusal base (pastedProvenance (one 1 incarnation0) []) (aReceive 0) ≡ 0)
+other-book = (computed .pasted-state, computed .pasted-creation, computed .pasted-other, computed .pasted-related)

@@ -39,12 +39,12 @@ statusNumber ready = number.ready
 statusNumber busy = number.busy
 statusNumber annihilated = number.annihilated
 
--- "Live takes are idle or at work."
+-- "live takes are idle or at work"
 pub data Live : Status → Type 0 where
   idle : Live ready
   working : Live busy
 
--- "A live take has its present mark and three sets of lives (each with its take)."
+-- "A live take has its present mark and three sets of lives (each with its take)".
 pub record Holder : Type 0 where
   pub status : Status
   pub history : HistoryView
@@ -52,7 +52,7 @@ pub record Holder : Type 0 where
   pub creation : Incarnations
   pub behaviour : Incarnations
 
--- "A waiting parcel its addressee and one set", and its number.
+-- "a waiting parcel its addressee and one set", and its number
 pub record WaitingMessage : Type 0 where
   pub number : ℕ
   pub addressee : ℕ
@@ -103,7 +103,7 @@ unfoldable pub remove : ℕ → List WaitingMessage → List WaitingMessage
 remove n [] = []
 remove n (q ∷ qs) = pick (eqb (q .number) n) qs (q ∷ remove n qs)
 
--- "The parcel goes."
+-- "the parcel goes"
 abbrev pub withoutWaitingMessage : Provenance → ℕ → Provenance
 withoutWaitingMessage b n = record { limits = b .limits; opened = b .opened; next = b .next; holders = b .holders; messages = remove n (b .messages); noted = b .noted }
 
