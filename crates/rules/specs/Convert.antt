@@ -15,7 +15,7 @@ use Rattle.rules.specs.Pack.{pack, unpack}
 use Rattle.rules.specs.Form.{wellFormed}
 use Rattle.rules.specs.Calls.{wrongLength}
 
--- ---- the conversions: "each field of the old form keeps its value both ways"
+-- ---- the conversions. "Each field of the old form keeps its value both ways."
 
 -- an image of the old form in the new one; W7: "conversion forward sets those" limits
 unfoldable pub forward : List ℕ → List ℕ
@@ -52,14 +52,14 @@ stateWithin n y s =
     every (y .transactors) (λ t. transactorWithin n y (transactorAt s t))
     and every (length (s .messages)) (λ k. messageWithin n y (messageAt s k))
 
--- W7: "also .. unless the limits are 16, 32 and 15"
+-- W7: "Conversion back also answers 32 unless the limits are 16, 32 and 15"
 unfoldable pub limitsAre : Limits → Limits → Bool
 limitsAre a b = eqb (a .transactors) (b .transactors) and eqb (a .messages) (b .messages) and eqb (a .checkpoints) (b .checkpoints)
 
 unfoldable pub tooWide : List ℕ → Bool
 tooWide img = not (limitsAre (unpack base img .limits) (widest base) and stateWithin largestNarrow base (unpack base img))
 
--- ---- the calls: "source and destination lengths come under 16 and form under 19"; 32 "checked last and leaving the
+-- ---- the calls. "Source and destination lengths come under 16 and form under 19." 32 is "checked last and leaving the
 -- destination untouched", as every refusal does
 
 unfoldable pub forwardAnswer : List ℕ → List ℕ → ℕ

@@ -43,7 +43,7 @@ emptiedFrom b o t i (suc n) = pick (touches (stepAt b i) (o i) t) (empties (step
 unfoldable pub unused : List ℕ → (ℕ → ℕ) → ℕ → ℕ → Bool
 unused b o n i = eqb (stepAt b i .kind) read and emptiedFrom b o (stepAt b i .transactor) (suc i) (n - suc i)
 
--- "the rest stand": step i of n is kept
+-- "The rest stand in their order": step i of n is kept
 unfoldable pub kept : List ℕ → (ℕ → ℕ) → ℕ → ℕ → Bool
 kept b o n i = notRefused (o i) and not (unused b o n i)
 

@@ -20,7 +20,7 @@ pub data Ground (h : Holder) (u : ℕ) (a : Incarnation) : Type 0 where
   in-state : In u a (h .state) → Ground h u a
   in-creation : In u a (h .creation) → Ground h u a
 
--- "A take rests on its state and creation sets, and on all that these lives bring in, again and again. .. Unfinished work is not
+-- "A take rests on its state and creation sets, and on all that these lives bring in, again and again". "Unfinished work is not
 -- counted": the behaviour set is left out.
 abbrev pub RestsOn : Provenance → ℕ → ℕ → Incarnation → Type 0
 RestsOn b t u a = Brought b (Ground (b .holders t)) u a
@@ -49,7 +49,7 @@ pub data SupersededOrAnnihilated (b : Provenance) (u : ℕ) (a : Incarnation) : 
 
 -- ---- the two sets of a signing of volume g
 
--- Demand 3: "a signing signs exactly when the book's two sets of lives are equal, else it replies 5".
+-- Demand 3: a signing signs exactly when these two sets of the book are equal, and else replies 5.
 
 -- The first: the unsigned lives that the named takes rest on, their own included. A live take has its present life in its state set, so
 -- it rests on it, and no clause of its own is needed for that (law own-included of proofs/Reached).
@@ -69,7 +69,7 @@ pub record StablePresent (b : Provenance) (g u : ℕ) (a : Incarnation) : Type 0
 abbrev pub Equal : Provenance → ℕ → Type 0
 Equal b g = (u : ℕ) (a : Incarnation) → UncheckpointedGround b g u a ↔ StablePresent b g u a
 
--- Demand 3: "so no text signed since the begin rests on a withdrawn life". An accepted begin empties the book, so all that is
+-- Demand 3: no text signed since the begin rests on a withdrawn life. An accepted begin empties the book, so all that is
 -- noted in it was noted at a signing since; where nothing was noted for a life, its text rests on nothing.
 abbrev pub Sound : Provenance → Type 0
 Sound b = (t : ℕ) (n : Incarnation) (u : ℕ) (a : Incarnation) → ValueRestsOn b t n u a → SupersededOrAnnihilated b u a → ⊥
