@@ -79,6 +79,8 @@ enum ledger_outcome {
     LEDGER_TOO_WIDE = 32,     /* an incarnation number or an entry of a list is over 255, or the limits are not 16, 32 and 15 */
     /* begin, after 16 */
     LEDGER_OUT_OF_RANGE = 33, /* a limit out of range */
+    /* how many groups are ready, after 16 and 19 */
+    LEDGER_WRONG_SIZE = 34,   /* size outside 1 to 16 */
     /* worst window, beside 17 */
     LEDGER_WRONG_WIDTH = 35   /* width outside 1 to 256 */
 };
@@ -113,6 +115,11 @@ uint16_t ledger_offer(const uint8_t *image, size_t image_length, size_t transact
 /* The smallest group with the transactor that could be checkpointed now, as its bits, or 0 exactly if there is none; *refusal is 0.
  * Refused with 16, 19, 21 or 22, which is put in *refusal: 0. */
 uint16_t ledger_smallest_group(const uint8_t *image, size_t image_length, size_t transactor, uint8_t *refusal);
+
+/* How many groups of exactly that many transactors (size, 1 to 16) could be checkpointed now: the signing of each would be done; *refusal
+ * is 0. Refused with 16, 19 or 34, which is put in *refusal: 0. Every group of 16 bits is looked at, so a call takes up to a
+ * millisecond. */
+size_t ledger_ready_count(const uint8_t *image, size_t image_length, size_t size, uint8_t *refusal);
 
 /* 1 exactly if every history in the transactor's state and creation maps but its own is stable, also where there is no other, else 0;
  * *refusal is 0. Refused with 16, 19, 21 or 22, which is put in *refusal: 0. */

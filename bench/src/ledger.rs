@@ -803,6 +803,46 @@ pub fn smallest(image: &[u8], take: usize) -> Result<Option<u16>, u8> {
     Ok(Some(volume))
 }
 
+/// What a take needs: the takes whose present lives, unsigned, its two maps hold; or none if no volume with it can be signed.
+fn need(image: &Image, t: usize) -> Option<u16> {
+    let own = &image.takes[t].state[t];
+    if own.head & FROZEN == 0 || own.head & COUNT >= image.limits.signings {
+        return None;
+    }
+    let mut need = 0;
+    for (u, other) in image.takes.iter().enumerate() {
+        let present = &other.state[u];
+        for m in [&image.takes[t].state[u], &image.takes[t].creation[u]] {
+            if m.head == 0 || m.signed(present) {
+                continue;
+            }
+            if !m.same_life(present) {
+                return None;
+            }
+            need |= 1 << u;
+        }
+    }
+    Some(need)
+}
+
+/// How many volumes of that many takes could be signed now.
+pub fn ready_count(image: &[u8], size: usize) -> Result<usize, u8> {
+    if image.len() != IMAGE {
+        return Err(16);
+    }
+    let image = Image::of(image);
+    if !image.formed() {
+        return Err(19);
+    }
+    if !(1..=TAKES).contains(&size) {
+        return Err(34);
+    }
+    // Of a take that cannot be signed, more than a volume can name.
+    let needs: [u32; TAKES] = std::array::from_fn(|t| need(image, t).map_or(1 << 16, u32::from));
+    let ready = |v: u32| (0..TAKES).all(|t| v >> t & 1 == 0 || needs[t] & !v == 0);
+    Ok((1..1u32 << TAKES).filter(|v| v.count_ones() as usize == size && ready(*v)).count())
+}
+
 /// All heard frozen: every mark of the take's two maps but its own.
 pub fn all_heard(image: &[u8], take: usize) -> Result<bool, u8> {
     let x = &asked(image, take)?.takes[take];

@@ -31,6 +31,7 @@ extern "C" {
     fn ledger_offer(image: *const u8, image_length: usize, take: usize, refusal: *mut u8) -> u16;
     fn ledger_smallest_group(image: *const u8, image_length: usize, take: usize, refusal: *mut u8) -> u16;
     fn ledger_all_heard_stable(image: *const u8, image_length: usize, take: usize, refusal: *mut u8) -> u8;
+    fn ledger_ready_count(image: *const u8, image_length: usize, size: usize, refusal: *mut u8) -> usize;
     fn ledger_thin(
         image: *const u8,
         image_length: usize,
@@ -87,6 +88,16 @@ pub fn all_heard(image: &[u8], take: usize) -> Result<bool, u8> {
         return Err(refusal);
     }
     Ok(yes == 1)
+}
+
+pub fn ready_count(image: &[u8], size: usize) -> Result<usize, u8> {
+    let mut refusal = 255;
+    let count = unsafe { ledger_ready_count(image.as_ptr(), image.len(), size, &mut refusal) };
+    if refusal != 0 {
+        assert_eq!(count, 0, "a refused query counts volumes");
+        return Err(refusal);
+    }
+    Ok(count)
 }
 
 pub fn thin(image: &[u8], list: &[u8], start: usize, end: usize, out: &mut [u8]) -> Result<usize, u8> {

@@ -20,6 +20,7 @@ struct Calls {
     run: fn(&mut [u8], &[u8], usize, usize, &mut [u8]) -> u8,
     offer: fn(&[u8], usize) -> Result<Option<u16>, u8>,
     smallest: fn(&[u8], usize) -> Result<Option<u16>, u8>,
+    ready_count: fn(&[u8], usize) -> Result<usize, u8>,
     all_heard: fn(&[u8], usize) -> Result<bool, u8>,
     thin: fn(&[u8], &[u8], usize, usize, &mut [u8]) -> Result<usize, u8>,
     show: for<'a> fn(&'a [u8], u16) -> Result<&'a [u8], u8>,
@@ -34,6 +35,7 @@ const LIBRARY: Calls = Calls {
     run: library::run,
     offer: library::offer,
     smallest: library::smallest,
+    ready_count: library::ready_count,
     all_heard: library::all_heard,
     thin: library::thin,
     show: library::show,
@@ -47,6 +49,7 @@ const RUST: Calls = Calls {
     run: ledger::run,
     offer: ledger::offer,
     smallest: ledger::smallest,
+    ready_count: ledger::ready_count,
     all_heard: ledger::all_heard,
     thin: ledger::thin,
     show: ledger::show,
@@ -63,6 +66,7 @@ enum Call {
     Form,
     Offer(usize),
     Smallest(usize),
+    ReadyCount(usize),
     AllHeard(usize),
     Show(u16),
     /// Conversions: the image is the source, the replies are the destination.
@@ -105,6 +109,7 @@ impl Work {
                 Call::Form => (by.run)(image, &[], 0, 0, &mut []) as u64,
                 Call::Offer(t) => (by.offer)(image, *t).unwrap().map_or(7, |n| n as u64),
                 Call::Smallest(t) => (by.smallest)(image, *t).unwrap().map_or(7, |v| v as u64),
+                Call::ReadyCount(n) => (by.ready_count)(image, *n).unwrap() as u64,
                 Call::AllHeard(t) => (by.all_heard)(image, *t).unwrap() as u64,
                 Call::Show(n) => (by.show)(image, *n).unwrap()[0] as u64,
                 Call::Forward => (by.forward)(image, replies) as u64,
@@ -339,6 +344,26 @@ fn chain() -> Vec<u8> {
     image
 }
 
+/// A full image in which every volume is ready: each take is frozen, and every mark but the own ones is of a signed life.
+fn alone() -> Vec<u8> {
+    let mut image = generate::full_image(&mut Random(2));
+    let own = |t: usize| generate::take_at(t) + STATE + MARK * t;
+    (0..16).for_each(|t| image[own(t)] = 0xce); // present, frozen, fourteen entries
+    (0..16).for_each(|t| image[own(t) + 31..own(t) + 33].fill(0));
+    for (t, u, map) in (0..512).map(|i| (i / 32, i / 2 % 16, i % 2)) {
+        let at = generate::take_at(t) + STATE + MAP * map + MARK * u;
+        if at != own(u) {
+            // The life that was signed last.
+            image.copy_within(own(u)..own(u) + MARK, at);
+            image[at] = 0x8d;
+            image.copy_within(at + 29..at + 31, at + 1);
+            image[at + 29..at + 31].fill(0);
+        }
+    }
+    assert_eq!((1..=16).map(|n| ledger::ready_count(&image, n).unwrap()).sum::<usize>(), 65_535);
+    image
+}
+
 /// The last of sixteen takes on each other, with every mark frozen that it has heard of.
 fn heard() -> Vec<u8> {
     let mut image = frozen();
@@ -370,6 +395,7 @@ fn rows() -> Vec<Row> {
     let run = |(image, list): (Vec<u8>, Vec<u8>), n: usize| Work { image, call: Call::Run(list, n), times: 1 };
     let row = |name, unit, works| Row { name, unit, works };
     let many = |image: &[u8], call| vec![Work { image: image.to_vec(), call, times: 64 }];
+    let few = |image: &[u8], call| vec![Work { image: image.to_vec(), call, times: 1 }];
     let long = (0..32).map(|seed| run(mixed(seed, 128 * (seed as usize % 8), 1024), 1024)).collect();
     let short = (0..32).map(|seed| run(mixed(seed, 128 * (seed as usize % 8), 64), 1)).collect();
     let thin = |(image, list): (Vec<u8>, Vec<u8>)| Work { image, call: Call::Thin(list), times: 1 };
@@ -428,6 +454,7 @@ fn rows() -> Vec<Row> {
         row("offer, full image", "call", many(&full, Call::Offer(owner(&full, 32)))),
         row("smallest volume, 16 takes on each other", "call", many(&signing, Call::Smallest(15))),
         row("smallest volume, 16 takes in a chain", "call", many(&chain(), Call::Smallest(15))),
+        row("ready volumes of 8 takes, all 65,535 ready", "call", few(&alone(), Call::ReadyCount(8))),
         row("all heard frozen, 16 takes on each other", "call", many(&heard(), Call::AllHeard(15))),
         row("forward, session", "call", many(&session_old, Call::Forward)),
         row("forward, full image", "call", many(&old, Call::Forward)),

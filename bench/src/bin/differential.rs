@@ -18,11 +18,13 @@ struct Test {
     /// The image as the Rust ledger leaves it, and as the library does: the same before and after each call.
     ours: Vec<u8>,
     theirs: Vec<u8>,
-    calls: [[u64; 36]; 8], // begin, run, offer, show, smallest, all heard, worst window, thin by answer
+    calls: [[u64; 36]; 9], // begin, run, offer, show, smallest, all heard, worst window, thin, ready by answer
     steps: [[u64; 32]; 16], // by kind and outcome or refusal
     offered: u64,
     named: [u64; 17], // smallest volumes by size, 0 for none
     searched: u64,
+    ready: [u64; 17], // queries by size that counted some volume, 0 for those that counted none
+    signed_each: u64,
     counted: u64,
     heard: [u64; 2],     // all heard frozen: no, yes
     exchanged: [u64; 4], // pairs by how many of the two steps are refused; refused calls
@@ -35,7 +37,7 @@ struct Test {
     long: [[u64; 2]; 2],
 }
 
-const CALLS: [&str; 8] = ["begin", "run", "offer", "show", "smallest", "all heard", "window", "thin"];
+const CALLS: [&str; 9] = ["begin", "run", "offer", "show", "smallest", "all heard", "window", "thin", "ready"];
 
 impl Test {
     fn fail(&self, what: &str) -> ! {
@@ -178,6 +180,47 @@ impl Test {
             }
         }
         self.expect(smallest == volume, &format!("smallest volume of {take}: {volume:?}, by search {smallest:?}"));
+    }
+
+    /// How many volumes of some size are ready: once in a while, since all are looked at.
+    fn ready(&mut self) {
+        if !self.r.one_in(16) {
+            return;
+        }
+        let size = match self.r.below(10) {
+            0 => 0,
+            1 => TAKES + 1 + self.r.below(20),
+            2 => 1 + self.r.below(TAKES) + 256 * (1 + self.r.below(3)),
+            3 => usize::MAX - self.r.below(20),
+            _ => 1 + self.r.below(TAKES).min(self.r.below(TAKES)),
+        };
+        let before = self.ours.clone();
+        let (a, b) = (library::ready_count(&self.theirs, size), ledger::ready_count(&self.ours, size));
+        self.expect(a == b, &format!("ready volumes of {size}: {a:?}, and {b:?} in the Rust ledger"));
+        self.calls[8][a.err().unwrap_or(0) as usize] += 1;
+        self.expect(self.theirs == before, "a query changed the image");
+        let Ok(n) = a else { return };
+        self.ready[if n > 0 { size } else { 0 }] += 1;
+        if self.r.one_in(10) {
+            self.sign_each();
+        }
+    }
+
+    /// By the signing itself, of every volume: the counts of all sizes.
+    fn sign_each(&mut self) {
+        self.signed_each += 1;
+        let mut counts = [0; TAKES + 1];
+        let mut image = self.ours.clone();
+        for v in 0..1u64 << TAKES {
+            if ledger::step_unchecked(&mut image, 12 << 60 | v << 32) >> 56 == 0 {
+                counts[v.count_ones() as usize] += 1;
+                image.clone_from(&self.ours);
+            }
+        }
+        for size in 1..=TAKES {
+            let (a, n) = (library::ready_count(&self.theirs, size), counts[size]);
+            self.expect(a == Ok(n), &format!("ready volumes of {size}: {a:?}, by signing {n}"));
+        }
     }
 
     fn all_heard(&mut self, take: usize) {
@@ -336,6 +379,7 @@ impl Test {
         (0..2).for_each(|i| self.long[self.grown as usize][i] += seen[i] as u64);
         let take = self.take();
         self.smallest(take);
+        self.ready();
         self.all_heard(take);
     }
 
@@ -444,6 +488,7 @@ impl Test {
         let (take, number) = (self.take(), self.r.next() as u16);
         self.offer(take);
         self.smallest(take);
+        self.ready();
         self.all_heard(take);
         self.show(number);
         self.exchange();
@@ -477,6 +522,7 @@ impl Test {
         let (take, number) = (self.take(), self.number());
         self.offer(take);
         self.smallest(take);
+        self.ready();
         self.all_heard(take);
         self.show(number);
         if self.r.one_in(4) {
@@ -589,6 +635,10 @@ impl Test {
         {
             self.expect(n > 0, &format!("no smallest volume was of {what}"));
         }
+        for (what, n) in [("none", self.ready[0]), ("one take", self.ready[1]), ("more", self.ready[2..].iter().sum())]
+        {
+            self.expect(n > 0, &format!("no count of ready volumes was of {what}"));
+        }
         self.expect(self.heard[0] > 0 && self.heard[1] > 0, "all heard frozen was never yes, or never no");
         self.expect(self.exchanged.iter().all(|n| *n > 0), "no two edits of some sort were exchanged");
         self.thin_covered();
@@ -601,7 +651,8 @@ impl Test {
         }
         let query: &[usize] = &[0, 16, 19, 21, 22];
         let run: &[usize] = &[0, 16, 17, 18, 19];
-        let answers: [&[usize]; 7] = [&[0, 16, 33], run, query, &[0, 16, 19, 24], query, query, &[0, 17, 35]];
+        let answers: [&[usize]; 9] =
+            [&[0, 16, 33], run, query, &[0, 16, 19, 24], query, query, &[0, 17, 35], run, &[0, 16, 19, 34]];
         for (call, wanted) in answers.iter().enumerate() {
             for n in *wanted {
                 self.expect(self.calls[call][*n] > 0, &format!("no {} answered {n}", CALLS[call]));
@@ -619,6 +670,7 @@ impl Test {
             row(name, counts);
         }
         println!("smallest volumes by size {:?}, searched for {}", self.named, self.searched);
+        println!("ready volumes of size {:?}, every volume signed {}", self.ready, self.signed_each);
         println!("worst windows counted afresh {}", self.counted);
         let l = &self.left_out;
         println!(
@@ -656,11 +708,13 @@ fn main() {
         r: Random(0),
         ours: Vec::new(),
         theirs: Vec::new(),
-        calls: [[0; 36]; 8],
+        calls: [[0; 36]; 9],
         steps: [[0; 32]; 16],
         offered: 0,
         named: [0; 17],
         searched: 0,
+        ready: [0; 17],
+        signed_each: 0,
         counted: 0,
         heard: [0; 2],
         exchanged: [0; 4],

@@ -74,6 +74,15 @@ fn smallest(image: &[u8], t: usize) -> u8 {
     }
 }
 
+// q
+fn ready(image: &[u8], size: usize) -> u8 {
+    let mut refusal: u8 = 99;
+    let n = ledger::ready_count(image, size, &mut refusal);
+    print::number(refusal as usize);
+    print::number(n);
+    PRINTED
+}
+
 // a
 fn heard(image: &[u8], t: usize) -> u8 {
     let mut refusal: u8 = 99;
@@ -98,6 +107,7 @@ fn ask(op: u8, image: &[u8], a: usize, b: usize) -> u8 {
     match op {
         b'o' => offer(image, a),
         b'g' => smallest(image, a),
+        b'q' => ready(image, a),
         b'a' => heard(image, a),
         _ => show(image, a, b),
     }

@@ -1,2 +1,3 @@
 mod Checkpointing
+mod Meeting
 mod Presenting

@@ -1,7 +1,7 @@
 -- What is kept of the named takes before the walk, take by take: their own marks, and which of them are frozen.
 use Prim.Native.Nat.{ℕ, _+_, _^_, _≤_, _<_}
 use mathlib.Core.Bool.{Bool, true, false}
-use mathlib.Core.Path.{_≡_, refl, sym, ap, _∙_, subst}
+use mathlib.Core.Path.{_≡_, sym, _∙_, subst}
 use mathlib.Core.List.{List}
 use mathlib.Core.Logic.{⊎-elim}
 use native.Mathlib.Omega.{arith}
@@ -16,8 +16,10 @@ use Rattle.maps.proofs.Map.{outside}
 use Rattle.rules.specs.Layout.{Layout}
 use Rattle.rules.specs.State.{State, transactorAt, ownHistory}
 use Rattle.rules.specs.Refusals.{groupBits, named}
-use Rattle.rules.specs.Internal.Closure.{Names, Presents}
-use Rattle.rules.proofs.Bits.{names-none, names-fits, names-on, names-off}
+use Rattle.rules.specs.Internal.Well.{WellFormed}
+use Rattle.rules.specs.Internal.Closure.{Names, Presents, Kept}
+use Rattle.rules.proofs.Groups.Ready.{kept-stable}
+use Rattle.rules.proofs.Bits.{named-all, names-none, names-fits, names-on, names-off}
 
 pub record Presented (y : Layout) (s : State) (g t : ℕ) (l : List History) (v : ℕ) : Type 0 where
   pub within : t ≤ y .transactors
@@ -69,3 +71,18 @@ module _ {y : Layout} {s : State} {g : ℕ} where
 
     pub presented-fits : y .transactors ≡ groupBits → (b : ℕ) → b ≡ 2 ^ t → v + b < 2 ^ groupBits
     presented-fits size b bit = rw bit (names-fits (p .stable) groupBits (omega arith))
+
+-- ---- all named takes are frozen
+
+-- what the walk has of each
+pub kept-named : (y : Layout) (s : State) (g : ℕ) {l : List History} {v : ℕ} → Presents y s g l v → v ≡ g → WellFormed y s → (u : ℕ) → u < y .transactors → Kept s g u (entryOf l u)
+kept-named y s g {l} p e well u h = subst (λ (w : ℕ). Kept s w u (entryOf l u)) e (kept-stable y s g p well u h)
+
+-- ---- of all takes
+
+-- the frozen ones
+pub all-stable : (y : Layout) (s : State) {l : List History} {v : ℕ} → y .transactors ≡ groupBits → Presents y s 65535 l v → Names (λ t. ownHistory t (transactorAt s t) .stable) (y .transactors) v
+all-stable y s size p = record {
+  bits = p .stable .bits;
+  exactly = λ t h. p .stable .exactly t h ∙ rw (named-all groupBits t (omega arith));
+}

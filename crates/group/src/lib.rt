@@ -1,4 +1,6 @@
 // A checkpoint group (document 01: a volume): which transactors it names, whether it can be signed, and its signing.
+pub mod needs;
+
 use image::head;
 use image::layout::CREATION;
 use image::layout::FIRST_TRANSACTOR;
@@ -11,12 +13,7 @@ use marks::in_place;
 use rules::numbers;
 ghost use mathlib.Core.Path.{_≡_};
 ghost use Prim.Native.Nat.{_+_, _≤_, _<_};
-ghost use lib.ListN.{length};
 ghost use lib.Dec.{leb};
-ghost use Rattle.octets.specs.Bytes.{_and_, _or_};
-ghost use Rattle.marks.specs.Incarnation.{checkpointedIn, sameIncarnation};
-ghost use Rattle.marks.specs.History.{incarnationOf};
-ghost use Rattle.marks.specs.Packed.{width, places, historyIn};
 ghost use Rattle.rules.specs.Layout.{base, historyBytes, imageBytes};
 ghost use Rattle.rules.specs.State.{live, ownHistory, transactorAt};
 ghost use Rattle.rules.specs.Refusals.{named, anyNamed};
@@ -24,7 +21,7 @@ ghost use Rattle.rules.specs.Rules.{groupReady, checkpointGroup};
 ghost use Rattle.rules.specs.Pack.{pack, unpack};
 ghost use Rattle.rules.specs.Internal.Good.{Good};
 ghost use Rattle.rules.specs.Internal.Guards.{blocksAt, namedRefusal, groupRefusal, Room};
-ghost use Rattle.rules.specs.Internal.Closure.{storedReady, pairReady, Presents, Kept, vouchedAt, checkpointedAt};
+ghost use Rattle.rules.specs.Internal.Closure.{pairReady, Presents, Kept, vouchedAt, checkpointedAt};
 
 // Whether the group names transactor t.
 pub fn is_named(group: u16, t: usize) -> bool
@@ -111,49 +108,6 @@ fn is_live(image: &[u8], u: usize) -> bool
     status == numbers::READY || status == numbers::BUSY
 }
 
-// Whether the history at at, of a transactor whose own stands at own, is checkpointed, or of the present incarnation of a member. They
-// are compared where they stand, and no list is loaded.
-fn covered(image: &[u8], at: usize, own: usize, member: bool) -> bool
-    requires { ⌜ (at + historyBytes base ≤ length (now image)) × (own + historyBytes base ≤ length (now image)) ⌝ }
-    ensures { λ r. ⌜ r ≡ checkpointedIn (incarnationOf (historyIn width places (now (image .entry)) at)) (incarnationOf (historyIn width places (now (image .entry)) own))
-        or (member and sameIncarnation (incarnationOf (historyIn width places (now (image .entry)) at)) (incarnationOf (historyIn width places (now (image .entry)) own))) ⌝ }
-{
-    // In either order the same; docs/notes/speed.md, change 6.
-    if member {
-        if in_place::same_incarnation(image, at, own) {
-            return true;
-        }
-    }
-    in_place::checkpointed_in(image, at, own)
-}
-
-// Whether the history at at, if there is one, of transactor u, is checkpointed, or of the present incarnation of a named one.
-fn entry_ready(image: &[u8], group: u16, at: usize, u: usize) -> bool
-    requires { ⌜ Good (now image) × (at + historyBytes base ≤ imageBytes base) × (u < base .transactors) ⌝ }
-    ensures { λ r. ⌜ r ≡ storedReady base (now (image .entry)) group at u ⌝ }
-{
-    if !History::present(image, at) {
-        return true;
-    }
-    if !is_live(image, u) {
-        return false;
-    }
-    let own = FIRST_TRANSACTOR + TRANSACTOR * u + STATE + marks::SIZE * u;
-    covered(image, at, own, is_named(group, u))
-}
-
-// The entries u of the state and creation maps of transactor t.
-pub fn pair_ready(image: &[u8], group: u16, t: usize, u: usize) -> bool
-    requires { ⌜ Good (now image) × (t < base .transactors) × (u < base .transactors) ⌝ }
-    ensures { λ r. ⌜ r ≡ pairReady base (now (image .entry)) group t u ⌝ }
-{
-    let at = FIRST_TRANSACTOR + TRANSACTOR * t;
-    if !entry_ready(image, group, at + STATE + marks::SIZE * u, u) {
-        return false;
-    }
-    entry_ready(image, group, at + CREATION + marks::SIZE * u, u)
-}
-
 // ---- the test of a group, with what is kept of its members
 
 // What is kept of a group's transactors: their own histories, and which of them are stable.
@@ -162,7 +116,7 @@ struct Present {
     stable: u16,
 }
 
-// The own history of each named transactor is worked out once; in the other places stands nothing.
+// The own history of each named transactor is worked out once; the other places hold the initial history and are not looked at.
 fn presents(image: &[u8], group: u16) -> Present
     requires { ⌜ Good (now image) ⌝ }
     ensures { λ r. ⌜ Presents base (unpack base (now (image .entry))) group (r .own) (r .stable) ⌝ }

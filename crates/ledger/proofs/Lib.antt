@@ -1,3 +1,4 @@
+mod Counting
 mod Refreshing
 mod Running
 mod Showing

@@ -1,72 +1,56 @@
-// The smallest group: a transactor, and all that it cannot be checkpointed without.
+// Groups, by what each transactor needs: the least with one of them, and how many are ready.
 use group::is_named;
-use group::pair_ready;
-use group::ready;
-use group::refusal;
+use group::needs::Needs;
+use group::needs::is_inside;
+use group::needs::meets;
 use image::layout::TRANSACTORS;
 ghost use mathlib.Core.Path.{_≡_};
-ghost use Prim.Native.Nat.{_≤_, _<_};
-ghost use lib.Dec.{eqb};
+ghost use Prim.Native.Nat.{_<_};
+ghost use lib.Bits.{bitOr};
+ghost use lib.ListN.{getD};
 ghost use Rattle.rules.specs.Layout.{base};
-ghost use Rattle.rules.specs.State.{placeFrom};
-ghost use Rattle.rules.specs.Step.{done};
-ghost use Rattle.rules.specs.Rules.{stepOf};
-ghost use Rattle.rules.specs.Pack.{unpack};
-ghost use Rattle.rules.specs.Groups.{signing};
-ghost use Rattle.rules.specs.Internal.Good.{Good};
-ghost use Rattle.rules.specs.Internal.Closure.{lacking, missing, Closure};
+ghost use Rattle.rules.specs.Internal.Closure.{metCount, Closure};
 
-// Whether an entry u in the state or creation map of a named transactor is not ready.
-fn lacks(image: &[u8], group: u16, u: usize) -> bool
-    requires { ⌜ Good (now image) × (u < base .transactors) ⌝ }
-    ensures { λ r. ⌜ r ≡ lacking base (now (image .entry)) group u ⌝ }
+// The first number that is no group.
+const GROUPS: u32 = 65536;
+
+// The group, and whom transactor u needs.
+fn joined(needs: Needs, group: u16, u: usize) -> u16
+    requires { ⌜ u < base .transactors ⌝ }
+    ensures { λ r. ⌜ r ≡ bitOr group (getD (needs .need) u 0) ⌝ }
 {
-    let mut t: usize = 0;
-    while t < TRANSACTORS {
-        if is_named(group, t) && !pair_ready(image, group, t, u) {
-            return true;
-        }
-        t += 1;
-    }
-    false
+    group | needs.need[u]
 }
 
-// The first transactor that is missing, or their number.
-fn first_missing(image: &[u8], group: u16) -> usize
-    requires { ⌜ Good (now image) ⌝ }
-    ensures { λ r. ⌜ (r ≡ placeFrom (missing base (now (image .entry)) group) 0 (base .transactors)) × (r ≤ base .transactors) ⌝ }
-{
-    let mut u: usize = 0;
-    while u < TRANSACTORS {
-        if !is_named(group, u) && lacks(image, group, u) {
-            return u;
-        }
-        u += 1;
-    }
-    u
-}
-
-// Transactor t, and all that a named one's maps rest on and are not ready without.
-pub fn closure(image: &[u8], t: usize) -> u16
-    requires { ⌜ Good (now image) × (t < base .transactors) ⌝ }
-    ensures { λ r. ⌜ Closure base (now (image .entry)) t r ⌝ }
+// Transactor t, and whom a named one needs: added while one lacks somebody.
+pub fn closure(needs: Needs, t: usize) -> u16
+    requires { ⌜ t < base .transactors ⌝ }
+    ensures { λ r. ⌜ Closure (needs .need) t r ⌝ }
 {
     let mut group = 1u16 << t;
-    let mut u = first_missing(image, group);
+    let mut u: usize = 0;
     while u < TRANSACTORS {
-        group += 1u16 << u;
-        u = first_missing(image, group);
+        if is_named(group, u) && !is_inside(needs.need[u], group) {
+            group = joined(needs, group, u);
+            u = 0;
+        } else {
+            u += 1;
+        }
     }
     group
 }
 
-// Whether the group could be checkpointed now.
-pub fn can_checkpoint(image: &[u8], group: u16) -> bool
-    requires { ⌜ Good (now image) ⌝ }
-    ensures { λ r. ⌜ r ≡ eqb (stepOf base (unpack base (now (image .entry))) (signing group) .reply .outcome) done ⌝ }
+// How many groups of that many transactors have all that they need.
+pub fn count(needs: Needs, size: usize) -> usize
+    ensures { λ r. ⌜ r ≡ metCount (needs .need) (needs .able) size ⌝ }
 {
-    if refusal(image, group) != 0 {
-        return false;
+    let mut n: usize = 0;
+    let mut group: u32 = 0;
+    while group < GROUPS {
+        if u32::count_ones(group) as usize == size && meets(needs, group as u16) {
+            n += 1;
+        }
+        group += 1;
     }
-    ready(image, group)
+    n
 }

@@ -1,6 +1,7 @@
 // The take ledger: a session lives in a lent image of IMAGE bytes, which each call takes as the last one left it.
 mod closure;
 
+use group::needs;
 use image::form;
 use image::head;
 use image::layout::CREATION;
@@ -32,6 +33,7 @@ ghost use Rattle.rules.specs.Step.{packReply, stepBytes};
 ghost use Rattle.rules.specs.Internal.Good.{Good};
 ghost use Rattle.rules.specs.Calls.{beginAnswer, beginImage, runAnswer, runImage, runReplies, ranImage, ranReplies, queryRefusal, offeredNumber, Offers, showRefusal, shown};
 ghost use Rattle.rules.specs.Groups.{groupNumber, Smallest};
+ghost use Rattle.rules.specs.ReadyGroups.{readyRefusal, readyAnswer};
 ghost use Rattle.rules.specs.Heard.{heardAnswer};
 
 // ---- begin
@@ -127,7 +129,7 @@ pub fn run(image: &mut [u8], list: &[u8], start: usize, end: usize, replies: &mu
     0
 }
 
-// ---- offer, smallest group, all heard stable
+// ---- offer, smallest group, how many are ready, all heard stable
 
 // The refusals of a query about one transactor, 16, 19, 21 and 22, or 0.
 fn query_refusal(image: &[u8], transactor: usize) -> u8
@@ -170,11 +172,36 @@ pub fn smallest_group(image: &[u8], transactor: usize, refusal: &mut u8) -> Grou
     if number != 0 {
         return Grouped::NoGroup;
     }
-    let group = closure::closure(image, transactor);
-    if closure::can_checkpoint(image, group) {
+    let needs = needs::needs_of(image);
+    let group = closure::closure(needs, transactor);
+    if needs::is_inside(group, needs.able) {
         return Grouped::Group(group);
     }
     Grouped::NoGroup
+}
+
+// How many groups of that many transactors could be checkpointed now. The lent number takes the refusal, 16, 19 or 34, or 0; refused, 0.
+pub fn ready_count(image: &[u8], size: usize, refusal: &mut u8) -> usize
+    ensures { λ r. ⌜ (now (refusal .exit) ≡ readyRefusal base (now (image .entry)) size) × (r ≡ readyAnswer base (now (image .entry)) size) ⌝ }
+{
+    if image.len() != IMAGE {
+        *refusal = numbers::WRONG_LENGTH;
+        return 0;
+    }
+    if !form::formed(image) {
+        *refusal = numbers::ILL_FORMED;
+        return 0;
+    }
+    if size < 1 {
+        *refusal = numbers::WRONG_SIZE;
+        return 0;
+    }
+    if TRANSACTORS < size {
+        *refusal = numbers::WRONG_SIZE;
+        return 0;
+    }
+    *refusal = 0;
+    closure::count(needs::needs_of(image), size)
 }
 
 // Document 02, W4, "all heard frozen": whether every entry of the transactor's state and creation maps but its own is stable. The

@@ -11,6 +11,7 @@ ghost use mathlib.Core.Path.{_≡_};
 ghost use Rattle.rules.specs.Layout.{base, limitsOf};
 ghost use Rattle.rules.specs.Calls.{beginAnswer, beginImage, runAnswer, runImage, runReplies, queryRefusal, Offers, showRefusal};
 ghost use Rattle.rules.specs.Groups.{Smallest};
+ghost use Rattle.rules.specs.ReadyGroups.{readyRefusal, readyAnswer};
 ghost use Rattle.rules.specs.Heard.{heardAnswer};
 ghost use Rattle.rules.specs.Thin.{thinRefusal, thinOut, thinCount};
 ghost use Rattle.rules.specs.Convert.{forwardAnswer, forwardImage, backAnswer, backImage};
@@ -80,6 +81,14 @@ pub extern "C" fn ledger_smallest_group(image: &[u8], transactor: usize, refusal
         return 0;
     };
     group
+}
+
+// How many groups of that many transactors could be checkpointed now. The lent number takes the refusal, 16, 19 or 34, or 0; refused, 0.
+#[no_mangle]
+pub extern "C" fn ledger_ready_count(image: &[u8], size: usize, refusal: &mut u8) -> usize
+    ensures { λ r. ⌜ (now (refusal .exit) ≡ readyRefusal base (now (image .entry)) size) × (r ≡ readyAnswer base (now (image .entry)) size) ⌝ }
+{
+    ledger::ready_count(image, size, refusal)
 }
 
 // 1 exactly if every entry of the transactor's state and creation maps but its own is stable, else 0. The lent number takes the

@@ -49,24 +49,6 @@ fn agree(s: &[u8], a: usize, b: usize, n: usize) -> bool
     true
 }
 
-// Whether the two are of one life.
-pub fn same_incarnation(s: &[u8], a: usize, b: usize) -> bool
-    requires { ⌜ (a + historySize width places ≤ length (now s)) × (b + historySize width places ≤ length (now s)) ⌝ }
-    ensures { λ r. ⌜ r ≡ sameIncarnation (incarnationOf (historyIn width places (now (s .entry)) a)) (incarnationOf (historyIn width places (now (s .entry)) b)) ⌝ }
-{
-    let n = count(s, a);
-    let m = count(s, b);
-    if n != m {
-        return false;
-    }
-    let x = number(s, a);
-    let y = number(s, b);
-    if x != y {
-        return false;
-    }
-    agree(s, a, b, n)
-}
-
 // Document 01: signed, where the one at b is the present mark of the same take.
 pub fn checkpointed_in(s: &[u8], a: usize, b: usize) -> bool
     requires { ⌜ (a + historySize width places ≤ length (now s)) × (b + historySize width places ≤ length (now s)) ⌝ }

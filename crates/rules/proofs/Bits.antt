@@ -1,27 +1,28 @@
 -- The bits of a volume: the volume that has them, and one more take named.
-use Prim.Native.Nat.{ℕ, zero, suc, _+_, _-_, _*_, _/_, _%_, _^_, _≤_, _<_}
+use Prim.Native.Nat.{ℕ, zero, suc, _+_, _-_, _*_, _/_, _%_, _^_, _≤_, _<_, min, max}
 use mathlib.Core.Bool.{Bool, true, false, not}
 use mathlib.Core.Path.{_≡_, refl, sym, ap, _∙_, subst}
 use mathlib.Core.Logic.{⊎-elim}
 use native.Mathlib.Nat.{zero-add, one-mul, pow-zero, pow-succ', zero-div, div-one, div-eq-of-lt, mod-eq-of-lt, div-div-eq-div-mul, div-le-self}
 use native.Mathlib.Omega.{arith}
 use lib.Dec.{eqb, leb, eqb·suc-suc}
+use lib.Bits.{bitAnd, bitOr, and-shr, or-shr, and-step, or-step, and-le-l}
 use lib.Pow.{pow-pos, pow-mono, shr-shr}
 use borrow.Author.Tests.{eq-eqb, ne-eqb, eqb-true, eqb-false, le-leb, lt-leb}
-use Rattle.octets.specs.Bytes.{_and_, _or_}
+use Rattle.octets.specs.Bytes.{_and_, _or_, every}
 use Rattle.octets.proofs.Chunks.{sides}
-use Rattle.octets.proofs.Tests.{never, or-none, and-off}
-use Rattle.octets.proofs.Zero.{any-at, any-off}
+use Rattle.octets.proofs.Tests.{never, or-none, and-off, implying, same-test}
+use Rattle.octets.proofs.Zero.{both, every-all, every-at, any-at, any-off}
 use Rattle.rules.specs.Refusals.{groupBits, named, anyNamed}
-use Rattle.rules.specs.Internal.Closure.{Names}
+use Rattle.rules.specs.Internal.Closure.{Names, inside}
 
 -- ---- the first bit, and the others
 
-named-first : (g : ℕ) → named g 0 ≡ eqb (g % 2) 1
+pub named-first : (g : ℕ) → named g 0 ≡ eqb (g % 2) 1
 unfolding named
 named-first g = rw (pow-zero, div-one)
 
-named-half : (g t : ℕ) → named g (suc t) ≡ named (g / 2) t
+pub named-half : (g t : ℕ) → named g (suc t) ≡ named (g / 2) t
 unfolding named
 named-half g t = rw (pow-succ' 2 t, ← div-div-eq-div-mul g 2 (2 ^ t))
 
@@ -98,6 +99,18 @@ one-fits t n h = omega (arith, add-fits 0 t n (pow-pos n) h (named-zero t))
 -- as it is shifted in a word of n bits
 pub shifted : (t n : ℕ) → t < n → 1 * 2 ^ t % 2 ^ n ≡ 2 ^ t
 shifted t n h = ap (λ (x : ℕ). x % 2 ^ n) (one-mul (2 ^ t)) ∙ mod-eq-of-lt (one-fits t n h)
+
+-- ---- all takes
+
+pub named-all : (n t : ℕ) → t < n → named (2 ^ n - 1) t ≡ true
+named-all zero t h = absurd (omega arith)
+named-all (suc n) zero h =
+    let p : 2 ^ suc n ≡ 2 * 2 ^ n = pow-succ' 2 n in
+    named-first (2 ^ suc n - 1) ∙ eq-eqb ((2 ^ suc n - 1) % 2) 1 (omega (arith, pow-pos n))
+named-all (suc n) (suc t) h =
+    let p : 2 ^ suc n ≡ 2 * 2 ^ n = pow-succ' 2 n in
+    let e : (2 ^ suc n - 1) / 2 ≡ 2 ^ n - 1 = omega (arith, pow-pos n) in
+    named-half (2 ^ suc n - 1) t ∙ ap (λ (x : ℕ). named x t) e ∙ named-all n t (omega arith)
 
 -- ---- a test that holds of none of the named takes
 
@@ -181,3 +194,54 @@ module _ {f : ℕ → Bool} {t v : ℕ} (names : Names f t v) where
 
   pub names-off : f t ≡ false → Names f (t + 1) v
   names-off e = reach v (omega (arith, names .bits, one-fits t (t + 1) (omega arith))) (λ u h. refl) (past ∙ sym e)
+
+-- ---- two volumes
+
+pub named-and : (v w t : ℕ) → named (bitAnd v w) t ≡ named v t and named w t
+unfolding named
+named-and v w t =
+    let a : ℕ = v / 2 ^ t in
+    let b : ℕ = w / 2 ^ t in
+    rw (and-shr v w t, and-step a b) (digit (bitAnd (a / 2) (b / 2)) (a % 2) (b % 2) (omega arith) (omega arith))
+  where
+    digit : (q x z : ℕ) → x < 2 → z < 2 → eqb ((q * 2 + min x z) % 2) 1 ≡ eqb x 1 and eqb z 1
+    digit q zero zero h k = ne-eqb ((q * 2 + 0) % 2) 1 (omega arith)
+    digit q zero (suc zero) h k = ne-eqb ((q * 2 + 0) % 2) 1 (omega arith)
+    digit q (suc zero) zero h k = ne-eqb ((q * 2 + 0) % 2) 1 (omega arith)
+    digit q (suc zero) (suc zero) h k = eq-eqb ((q * 2 + 1) % 2) 1 (omega arith)
+    digit q zero (suc (suc z)) h k = absurd (omega arith)
+    digit q (suc zero) (suc (suc z)) h k = absurd (omega arith)
+    digit q (suc (suc x)) z h k = absurd (omega arith)
+
+pub named-or : (v w t : ℕ) → named (bitOr v w) t ≡ named v t or named w t
+unfolding named
+named-or v w t =
+    let a : ℕ = v / 2 ^ t in
+    let b : ℕ = w / 2 ^ t in
+    rw (or-shr v w t, or-step a b) (digit (bitOr (a / 2) (b / 2)) (a % 2) (b % 2) (omega arith) (omega arith))
+  where
+    digit : (q x z : ℕ) → x < 2 → z < 2 → eqb ((q * 2 + max x z) % 2) 1 ≡ eqb x 1 or eqb z 1
+    digit q zero zero h k = ne-eqb ((q * 2 + 0) % 2) 1 (omega arith)
+    digit q zero (suc zero) h k = eq-eqb ((q * 2 + 1) % 2) 1 (omega arith)
+    digit q (suc zero) zero h k = eq-eqb ((q * 2 + 1) % 2) 1 (omega arith)
+    digit q (suc zero) (suc zero) h k = eq-eqb ((q * 2 + 1) % 2) 1 (omega arith)
+    digit q zero (suc (suc z)) h k = absurd (omega arith)
+    digit q (suc zero) (suc (suc z)) h k = absurd (omega arith)
+    digit q (suc (suc x)) z h k = absurd (omega arith)
+
+-- as the code tests that every take of v is one of w
+pub inside-and : (v w : ℕ) → v < 2 ^ groupBits → eqb (bitAnd v w) v ≡ inside v w
+unfolding inside
+inside-and v w fits = same-test (eqb (bitAnd v w) v) (inside v w) to of
+  where
+    to : eqb (bitAnd v w) v ≡ true → every groupBits (λ t. not (named v t) or named w t) ≡ true
+    to e = every-all (λ t. not (named v t) or named w t) groupBits (λ t h. implying (named v t) (named w t) (λ n.
+        both (named v t) (named w t) (sym (named-and v w t) ∙ ap (λ (x : ℕ). named x t) (eqb-true (bitAnd v w) v e) ∙ n) .1))
+
+    of : every groupBits (λ t. not (named v t) or named w t) ≡ true → eqb (bitAnd v w) v ≡ true
+    of e = eq-eqb (bitAnd v w) v (named-same groupBits (bitAnd v w) v (omega (arith, and-le-l v w)) fits (λ t h.
+        named-and v w t ∙ met (named v t) (named w t) (every-at (λ t. not (named v t) or named w t) groupBits t e h)))
+      where
+        met : (n m : Bool) → not n or m ≡ true → n and m ≡ n
+        met true m e = e
+        met false m e = refl

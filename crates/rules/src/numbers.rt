@@ -87,10 +87,10 @@ pub const WRONG_STATUS: u8 = 23;
 // parcel not waiting
 pub const NOT_WAITING: u8 = 24;
 
-// all takes opened
+// as many takes opened as the session's limit
 pub const ALL_OPENED: u8 = 25;
 
-// all places of parcels waiting
+// as many parcels waiting as the session's limit
 pub const ALL_WAITING: u8 = 26;
 
 // next parcel number is 65,535
@@ -102,16 +102,20 @@ pub const LAST_INCARNATION: u8 = 28;
 // volume empty
 pub const EMPTY_GROUP: u8 = 29;
 
-// a named take has all its signings
+// a named take has as many signings as the session's limit
 pub const ALL_CHECKPOINTED: u8 = 30;
 
 // some take has unrelated marks in the parcel and in what the receiver rests on
 pub const UNRELATED: u8 = 31;
 
-// conversion back: a life number or list entry over 255
+// conversion back: a life number or list entry over 255, or limits other than 16, 32 and 15
 pub const TOO_WIDE: u8 = 32;
-// width of a window outside 1 to 256
-pub const WRONG_WIDTH: u8 = 35;
 
 // begin: a limit out of range
 pub const OUT_OF_RANGE: u8 = 33;
+
+// how many volumes are ready: a size outside 1 to 16
+pub const WRONG_SIZE: u8 = 34;
+
+// worst window: a width outside 1 to 256
+pub const WRONG_WIDTH: u8 = 35;

@@ -17,6 +17,7 @@ use Rattle.rules.specs.Pack.{pack, unpack}
 use Rattle.rules.specs.Form.{wellFormed}
 use Rattle.rules.specs.Internal.Well.{WellFormed}
 use Rattle.rules.specs.Calls.{wrongLength, beginAnswer, freshImage, beginImage, stateAfter, stepsIn, runAnswer, replyAt, ranImage, ranReplies, runImage, runReplies, queryRefusal, showRefusal}
+use Rattle.rules.specs.ReadyGroups.{readyRefusal}
 use Rattle.rules.proofs.Pack.Sizes.{length-pack}
 use Rattle.rules.proofs.Pack.RoundTrip.{unpack-pack}
 use Rattle.rules.proofs.Form.Packed.{formed-pack}
@@ -24,8 +25,8 @@ use Rattle.rules.proofs.Pack.Fresh.{pack-fresh}
 use Rattle.rules.proofs.Keep.State.{well-fresh}
 use Rattle.rules.proofs.Keep.Step.{keeps-after}
 use Rattle.session.specs.Provenance.{Provenance, emptyProvenance, statusNumber, isMissing}
-use Rattle.session.specs.Fed.{Call, begin, run, show, provenanceQueryRefusal, callRefusal, ProvenanceCall, provenance-refuses, provenance-begins, provenance-runs, provenance-offers, provenance-names, provenance-hears, provenance-shows}
-use Rattle.session.specs.Trace.{Answer, begun, ran, refusalIn, Performed, beginning, running, offering, naming, hearing, showing, Matches, CallStepsRight, run-right, begin-right, offer-right, smallest-right, heard-right, show-right, CallRight}
+use Rattle.session.specs.Fed.{Call, begin, run, counts, show, provenanceQueryRefusal, callRefusal, ProvenanceCall, provenance-refuses, provenance-begins, provenance-runs, provenance-offers, provenance-names, provenance-hears, provenance-counts, provenance-shows}
+use Rattle.session.specs.Trace.{Answer, begun, ran, refusalIn, Performed, beginning, running, offering, naming, hearing, counting, showing, Matches, CallStepsRight, run-right, begin-right, offer-right, smallest-right, heard-right, counts-right, show-right, CallRight}
 use Rattle.session.proofs.Model.{view}
 use Rattle.session.proofs.Relation.{Rel, fresh-rel}
 use Rattle.session.proofs.Sign.{rel-sound}
@@ -74,6 +75,10 @@ module _ {y : Layout} {img : List ℕ} {b : Provenance} (h : Holds y img b) wher
       let n : unpack y img .opened ≡ b .opened = h .rel .opened in
       let k : transactorAt (unpack y img) t .status ≡ statusNumber (b .holders t .status) = holds-matches t .status in
       rw (right-length, right-form, k, n)
+
+  counts-same : (n : ℕ) → readyRefusal y img n ≡ callRefusal y b (counts n)
+  unfolding readyRefusal
+  counts-same n = rw (right-length, right-form)
 
   show-same : (n : ℕ) → showRefusal y img n ≡ callRefusal y b (show n)
   unfolding showRefusal
@@ -157,4 +162,5 @@ module _ {y : Layout} (z : layout.Fitting y) {img : List ℕ} {b : Provenance} (
   call-right (offering {t} f) = called-as (kept provenance-offers) (query-same h t) offer-right h
   call-right (naming {t} f) = called-as (kept provenance-names) (query-same h t) smallest-right h
   call-right (hearing {t}) = called-as (kept provenance-hears) (query-same h t) heard-right h
+  call-right (counting {n}) = called-as (kept provenance-counts) (counts-same h n) counts-right h
   call-right (showing {n}) = called-as (kept provenance-shows) (show-same h n) show-right h

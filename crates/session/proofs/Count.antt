@@ -27,7 +27,7 @@ use Rattle.rules.proofs.Keep.Step.{keeps-after, replies-fit, fitting-base}
 use Rattle.session.specs.Count.{made, received, lost, once, countSteps, countCall, count, waiting}
 use Rattle.session.specs.Provenance.{Provenance}
 use Rattle.session.specs.Fed.{Call, begin, run}
-use Rattle.session.specs.Trace.{Answer, begun, ran, Performed, beginning, running, offering, naming, hearing, showing, Trace, called}
+use Rattle.session.specs.Trace.{Answer, begun, ran, Performed, beginning, running, offering, naming, hearing, counting, showing, Trace, called}
 use Rattle.session.specs.Trace as trace
 use Rattle.session.proofs.Model.{viewMessage, view}
 use Rattle.session.proofs.Relation.{all2-length}
@@ -200,6 +200,7 @@ module _ {y : Layout} (z : Fitting y) {img : List ℕ} {b : Provenance} (h : Hol
   call-counted (offering f) = before
   call-counted (naming f) = before
   call-counted hearing = before
+  call-counted counting = before
   call-counted showing = before
 
 -- In a session grown from a fresh one, counting only from its last accepted begin, parcels made, counted from the steps, are

@@ -39,8 +39,8 @@ module _ {y : Layout} (z : Fitting y) where
 
 -- A trace is a session grown from a fresh one: "an accepted begin, then any list of begins, runs, offers and shows on that
 -- image, refused ones included. Each gets the image as the last left it", and with them any that ask which takes to put in the
--- volume (document 02, W1), or whether all heard is frozen (W4). Its calls are performed by the definitions that the contracts of
--- begin, run, offer, smallest_group, all_heard_stable and show cite. Every begin brings its own limits (W7), so one trace may go
+-- volume (document 02, W1), whether all heard is frozen (W4), or how many volumes are ready (W10). Its calls are performed by the definitions that the contracts of
+-- begin, run, offer, smallest_group, all_heard_stable, ready_count and show cite. Every begin brings its own limits (W7), so one trace may go
 -- through sessions with different ones. For every layout whose counts fit their fields and every trace there is a
 -- book, fed the trace's calls alone (ProvenanceOf; no other book is fed them: provenance-unique), such that at every call, and
 -- at every step of every run:

@@ -1,8 +1,8 @@
 -- From contract to trace: for each call, what its function's contract promises is the call performed, and nothing else is.
 -- The left side of each law is the `ensures` of the function of that name (crate `ledger`, src/lib.rt): img, after: the image at
 -- entry and exit; replies, given: the replies at entry and exit; r: the answer, or what the lent number takes. What is offered
--- or named is the number in the answer, or none. Offer, smallest_group, all_heard_stable and show borrow the image to read it, so it
--- stays.
+-- or named is the number in the answer, or none. Offer, smallest_group, all_heard_stable, ready_count and show borrow the image to
+-- read it, so it stays.
 use Prim.Native.Nat.{ℕ}
 use mathlib.Core.Bool.{Bool}
 use mathlib.Core.Path.{_≡_, refl}
@@ -14,8 +14,9 @@ use Rattle.rules.specs.Layout.{Limits, base}
 use Rattle.rules.specs.Calls.{beginAnswer, beginImage, runAnswer, runImage, runReplies, queryRefusal, Offers, showRefusal, shown}
 use Rattle.rules.specs.Groups.{Smallest}
 use Rattle.rules.specs.Heard.{heardAnswer}
-use Rattle.session.specs.Fed.{begin, run, offer, smallest, heard, show}
-use Rattle.session.specs.Trace.{begun, ran, offered, grouped, told, showed, refusalIn, Performed, beginning, running, offering, naming, hearing, showing}
+use Rattle.rules.specs.ReadyGroups.{readyRefusal, readyAnswer}
+use Rattle.session.specs.Fed.{begin, run, offer, smallest, heard, counts, show}
+use Rattle.session.specs.Trace.{begun, ran, offered, grouped, told, counted, showed, refusalIn, Performed, beginning, running, offering, naming, hearing, counting, showing}
 
 -- ---- what a performed call gives
 
@@ -36,6 +37,10 @@ smallest-gives (naming f) = (refl, f)
 heard-gives : {img after : List ℕ} {t r : ℕ} {stable : Bool} → Performed base img (heard t) (told r stable) after
     → (r ≡ queryRefusal base img t) × (stable ≡ heardAnswer base img t)
 heard-gives hearing = (refl, refl)
+
+counts-gives : {img after : List ℕ} {size r n : ℕ} → Performed base img (counts size) (counted r n) after
+    → (r ≡ readyRefusal base img size) × (n ≡ readyAnswer base img size)
+counts-gives counting = (refl, refl)
 
 show-gives : {img after bytes : List ℕ} {n r : ℕ} → Performed base img (show n) (showed r bytes) after → (bytes ≡ shown base img n) × (r ≡ showRefusal base img n)
 show-gives showing = (refl, refl)
@@ -69,12 +74,17 @@ pub heard-promises : {img : List ℕ} {t r : ℕ} {stable : Bool}
     ↔ Performed base img (heard t) (told r stable) img
 heard-promises = (λ e. rw (e .0, e .1) hearing, heard-gives)
 
+pub counts-promises : {img : List ℕ} {size r n : ℕ}
+    → ((r ≡ readyRefusal base img size) × (n ≡ readyAnswer base img size))
+    ↔ Performed base img (counts size) (counted r n) img
+counts-promises = (λ e. rw (e .0, e .1) counting, counts-gives)
+
 pub show-promises : {img bytes : List ℕ} {n r : ℕ}
     → ((bytes ≡ shown base img n) × (r ≡ showRefusal base img n))
     ↔ Performed base img (show n) (showed r bytes) img
 show-promises = (λ e. rw (e .0, e .1) showing, show-gives)
 
 -- the refusal that is claimed to be the book's is the answer itself, or what the lent number takes
-pub refusal-promised : (r : ℕ) (bytes : List ℕ) (n : Option ℕ) (b : Bool)
-    → (refusalIn (begun r) ≡ r) × (refusalIn (ran r bytes) ≡ r) × (refusalIn (offered r n) ≡ r) × (refusalIn (grouped r n) ≡ r) × (refusalIn (told r b) ≡ r) × (refusalIn (showed r bytes) ≡ r)
-refusal-promised r bytes n b = (refl, refl, refl, refl, refl, refl)
+pub refusal-promised : (r k : ℕ) (bytes : List ℕ) (n : Option ℕ) (b : Bool)
+    → (refusalIn (begun r) ≡ r) × (refusalIn (ran r bytes) ≡ r) × (refusalIn (offered r n) ≡ r) × (refusalIn (grouped r n) ≡ r) × (refusalIn (told r b) ≡ r) × (refusalIn (counted r k) ≡ r) × (refusalIn (showed r bytes) ≡ r)
+refusal-promised r k bytes n b = (refl, refl, refl, refl, refl, refl, refl)

@@ -13,8 +13,8 @@ use Rattle.rules.specs.Calls.{wrongLength, beginAnswer}
 use Rattle.rules.proofs.Calls.Begin.{begin-accepted}
 use Rattle.rules.proofs.Keep.Step.{fitting-base}
 use Rattle.session.specs.Provenance.{Provenance}
-use Rattle.session.specs.Fed.{Call, begin, run, offer, smallest, heard, show, ProvenanceOf}
-use Rattle.session.specs.Trace.{Answer, Performed, beginning, running, offering, naming, hearing, showing, Trace, opened, called, callsOf, Right}
+use Rattle.session.specs.Fed.{Call, begin, run, offer, smallest, heard, counts, show, ProvenanceOf}
+use Rattle.session.specs.Trace.{Answer, Performed, beginning, running, offering, naming, hearing, counting, showing, Trace, opened, called, callsOf, Right}
 use Rattle.session.proofs.Unique.{provenance-unique}
 use Rattle.session.proofs.Calls.{Holds}
 use Rattle.session.proofs.Queries.{offers-exist, smallest-exist}
@@ -29,6 +29,7 @@ performs h (run list o start end lent) = (_, _, running)
 performs {y} {img} h (offer t) = (_, _, offering (offers-exist y img t .1))
 performs h (smallest t) = (_, _, naming (smallest-exist (h .well) t .1))
 performs h (heard t) = (_, _, hearing)
+performs h (counts n) = (_, _, counting)
 performs h (show n) = (_, _, showing)
 
 -- ---- every list of calls, the last one first

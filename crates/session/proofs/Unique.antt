@@ -8,7 +8,7 @@ use Rattle.rules.proofs.Calls.Begin.{begin-accepted}
 use Rattle.session.specs.Provenance.{Provenance}
 use Rattle.session.specs.Steps.{ProvenanceStep}
 use Rattle.session.specs.Fed as provenance
-use Rattle.session.specs.Fed.{Call, ProvenanceSteps, ProvenanceCall, provenance-refuses, provenance-begins, provenance-runs, provenance-offers, provenance-names, provenance-hears, provenance-shows, ProvenanceOf, new-provenance, fed}
+use Rattle.session.specs.Fed.{Call, ProvenanceSteps, ProvenanceCall, provenance-refuses, provenance-begins, provenance-runs, provenance-offers, provenance-names, provenance-hears, provenance-counts, provenance-shows, ProvenanceOf, new-provenance, fed}
 use Rattle.session.specs.Trace.{Trace, callsOf, Right, opened-right, called-right}
 use Rattle.session.proofs.Kept.{provenance-determined}
 
@@ -24,6 +24,7 @@ call-determined (provenance-refuses n) (provenance-runs z p) = absurd (n z)
 call-determined (provenance-refuses n) (provenance-offers z) = refl
 call-determined (provenance-refuses n) (provenance-names z) = refl
 call-determined (provenance-refuses n) (provenance-hears z) = refl
+call-determined (provenance-refuses n) (provenance-counts z) = refl
 call-determined (provenance-refuses n) (provenance-shows z) = refl
 call-determined (provenance-begins z) (provenance-refuses n) = absurd (n z)
 call-determined (provenance-begins z) (provenance-begins k) = refl
@@ -35,6 +36,8 @@ call-determined (provenance-names z) (provenance-refuses n) = refl
 call-determined (provenance-names z) (provenance-names y) = refl
 call-determined (provenance-hears z) (provenance-refuses n) = refl
 call-determined (provenance-hears z) (provenance-hears y) = refl
+call-determined (provenance-counts z) (provenance-refuses n) = refl
+call-determined (provenance-counts z) (provenance-counts y) = refl
 call-determined (provenance-shows z) (provenance-refuses n) = refl
 call-determined (provenance-shows z) (provenance-shows y) = refl
 

@@ -35,7 +35,7 @@ use Rattle.session.specs.Provenance.{Live, Holder, Provenance}
 use Rattle.session.specs.Grounds.{Equal}
 use Rattle.session.specs.Steps.{provenanceRefusal, signing}
 use Rattle.session.specs.Fed.{Call}
-use Rattle.session.specs.Trace.{Answer, Performed, beginning, running, offering, naming, hearing, showing, Trace, called, SigningRight, checkpointed, uncheckpointed, StepRight}
+use Rattle.session.specs.Trace.{Answer, Performed, beginning, running, offering, naming, hearing, counting, showing, Trace, called, SigningRight, checkpointed, uncheckpointed, StepRight}
 use Rattle.session.specs.Waiting.{ReadyGroup, Grounded, Falls, falls-back, vanishes, falls-last, Stands, NoSigning, Waits, Waiting, none, one-more}
 use Rattle.session.proofs.Model.{MessageView, own, findMessage, knownMap, view}
 use Rattle.session.proofs.Tables.{pick-view}
@@ -294,6 +294,7 @@ module _ (y : Layout) (z : Fitting y) where
     call-keeps τ w (offering q) before = before
     call-keeps τ w (naming q) before = before
     call-keeps τ w hearing before = before
+    call-keeps τ w counting before = before
     call-keeps τ w showing before = before
 
     calls-keep : {img after : List ℕ} → Trace y img → Waiting y img after → P (unpack y img) → P (unpack y after)

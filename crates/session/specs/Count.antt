@@ -11,8 +11,8 @@ use Rattle.rules.specs.Step.{stepBytes, stepAt, receive, lose, done, dropped, f
 use Rattle.rules.specs.Refusals.{sends}
 use Rattle.rules.specs.Pack.{unpack}
 use Rattle.rules.specs.Calls.{stepsIn}
-use Rattle.session.specs.Fed.{Call, begin, run, offer, smallest, heard, show}
-use Rattle.session.specs.Trace.{Answer, begun, ran, offered, grouped, told, showed, refusalIn, Trace, opened, called}
+use Rattle.session.specs.Fed.{Call, begin, run, offer, smallest, heard, counts, show}
+use Rattle.session.specs.Trace.{Answer, begun, ran, offered, grouped, told, counted, showed, refusalIn, Trace, opened, called}
 
 -- ---- what is counted, by a step's kind and the first byte of its reply
 
@@ -45,6 +45,7 @@ repliesIn (ran r replies) = replies
 repliesIn (offered r message) = []
 repliesIn (grouped r group) = []
 repliesIn (told r stable) = []
+repliesIn (counted r n) = []
 repliesIn (showed r bytes) = []
 
 -- a call, n counted before it: an accepted begin counts from 0, an accepted run adds its steps
@@ -55,6 +56,7 @@ countCall f (run list o start end lent) a n =
 countCall f (offer t) a n = n
 countCall f (smallest t) a n = n
 countCall f (heard t) a n = n
+countCall f (counts k) a n = n
 countCall f (show k) a n = n
 
 -- the whole session

@@ -1,13 +1,14 @@
--- Document 01, "The book of demand 3": the calls that it is fed, and what it does at each. Document 02, W1 and W4: one call more each.
+-- Document 01, "The book of demand 3": the calls that it is fed, and what it does at each. Document 02, W1, W4 and W10: one call more each.
 use Prim.Native.Nat.{ℕ, suc, _-_}
 use mathlib.Core.Bool.{true, not}
 use mathlib.Core.Path.{_≡_}
 use mathlib.Core.List.{List, [], _∷_}
 use lib.ListN.{length}
 use lib.Dec.{eqb, leb}
-use Rattle.octets.specs.Bytes.{pick, part, Octets}
+use Rattle.octets.specs.Bytes.{pick, _and_, part, Octets}
 use Rattle.rules.specs.Layout.{Layout, Limits, inRange}
 use Rattle.rules.specs.Step.{stepAt}
+use Rattle.rules.specs.Refusals.{groupBits}
 -- both are about the caller's list alone
 use Rattle.rules.specs.Calls.{wrongPart, stepsIn}
 use Rattle.session.specs.Provenance.{annihilated, statusNumber, Provenance, emptyProvenance, isMissing}
@@ -23,6 +24,8 @@ pub data Call : Type 0 where
   smallest : (transactor : ℕ) → Call
   -- "all heard frozen": given a take, whether every other entry of its two maps is frozen
   heard : (transactor : ℕ) → Call
+  -- "How many volumes are ready": given a size, how many volumes of just that many takes could be signed now
+  counts : (size : ℕ) → Call
   show : (message : ℕ) → Call
 
 -- ---- what the book does at a call
@@ -38,6 +41,7 @@ callRefusal y b (run list o start end lent) = pick (wrongPart list start end) 17
 callRefusal y b (offer t) = provenanceQueryRefusal b t
 callRefusal y b (smallest t) = provenanceQueryRefusal b t
 callRefusal y b (heard t) = provenanceQueryRefusal b t
+callRefusal y b (counts n) = pick (not (leb 1 n and leb n groupBits)) 34 0
 callRefusal y b (show n) = pick (isMissing n (b .messages)) 24 0
 
 -- the first i steps of a part
@@ -45,8 +49,8 @@ pub data ProvenanceSteps (y : Layout) (b : Provenance) (steps : List ℕ) : ℕ 
   none : ProvenanceSteps y b steps 0 b
   more : {i : ℕ} {c d : Provenance} → ProvenanceSteps y b steps i c → ProvenanceStep y c (stepAt steps i) d → ProvenanceSteps y b steps (suc i) d
 
--- Offer, show and whatever is refused change nothing in it, nor do naming a volume and asking what was heard: the image is only read.
--- An accepted begin empties it and sets its limits.
+-- Offer, show and whatever is refused change nothing in it, nor do naming a volume, asking what was heard and counting volumes:
+-- the image is only read. An accepted begin empties it and sets its limits.
 pub data ProvenanceCall (y : Layout) (b : Provenance) : Call → Provenance → Type 1 where
   provenance-refuses : {c : Call} → (callRefusal y b c ≡ 0 → ⊥) → ProvenanceCall y b c b
   provenance-begins : {m : Limits} → callRefusal y b (begin m) ≡ 0 → ProvenanceCall y b (begin m) (emptyProvenance m)
@@ -57,6 +61,7 @@ pub data ProvenanceCall (y : Layout) (b : Provenance) : Call → Provenance → 
   provenance-offers : {t : ℕ} → callRefusal y b (offer t) ≡ 0 → ProvenanceCall y b (offer t) b
   provenance-names : {t : ℕ} → callRefusal y b (smallest t) ≡ 0 → ProvenanceCall y b (smallest t) b
   provenance-hears : {t : ℕ} → callRefusal y b (heard t) ≡ 0 → ProvenanceCall y b (heard t) b
+  provenance-counts : {n : ℕ} → callRefusal y b (counts n) ≡ 0 → ProvenanceCall y b (counts n) b
   provenance-shows : {n : ℕ} → callRefusal y b (show n) ≡ 0 → ProvenanceCall y b (show n) b
 
 -- the book that is fed these calls, the last one first, and nothing else; the first one is an accepted begin

@@ -16,20 +16,22 @@ use Rattle.rules.specs.Pack.{unpack}
 use Rattle.rules.specs.Calls.{beginAnswer, beginImage, runAnswer, runImage, runReplies, stateAfter, stepsIn, queryRefusal, Offers, showRefusal, shown}
 use Rattle.rules.specs.Groups.{Smallest}
 use Rattle.rules.specs.Heard.{heardAnswer}
+use Rattle.rules.specs.ReadyGroups.{readyRefusal, readyAnswer}
 use Rattle.session.specs.Provenance.{statusNumber, Live, Holder, Provenance, emptyProvenance}
 use Rattle.session.specs.Grounds.{Equal, Sound}
 use Rattle.session.specs.Steps.{provenanceRefusal, ProvenanceStep}
-use Rattle.session.specs.Fed.{Call, begin, run, offer, smallest, heard, show, callRefusal, ProvenanceCall}
+use Rattle.session.specs.Fed.{Call, begin, run, offer, smallest, heard, counts, show, callRefusal, ProvenanceCall}
 
 -- ---- calls performed
 
--- what a call gives back: its answer or refusal, and the replies, the parcel's number, the volume, yes or no, or the part of the image
+-- what a call gives back: its answer or refusal, and the replies, the parcel's number, the volume, yes or no, how many, or the part of the image
 pub data Answer : Type 0 where
   begun : ℕ → Answer
   ran : ℕ → List ℕ → Answer
   offered : ℕ → Option ℕ → Answer
   grouped : ℕ → Option ℕ → Answer
   told : ℕ → Bool → Answer
+  counted : ℕ → ℕ → Answer
   showed : ℕ → List ℕ → Answer
 
 abbrev pub refusalIn : Answer → ℕ
@@ -38,10 +40,11 @@ refusalIn (ran r replies) = r
 refusalIn (offered r message) = r
 refusalIn (grouped r group) = r
 refusalIn (told r stable) = r
+refusalIn (counted r n) = r
 refusalIn (showed r bytes) = r
 
 -- A call performed on an image: what it gives back and leaves, by the definitions that the contracts of begin, run, offer,
--- smallest_group, all_heard_stable and show cite.
+-- smallest_group, all_heard_stable, ready_count and show cite.
 pub data Performed (y : Layout) (img : List ℕ) : Call → Answer → List ℕ → Type 0 where
   beginning : {m : Limits} → Performed y img (begin m) (begun (beginAnswer y m img)) (beginImage y m img)
   running : {list : List ℕ} {o : Octets list} {start end : ℕ} {replies : List ℕ}
@@ -51,6 +54,7 @@ pub data Performed (y : Layout) (img : List ℕ) : Call → Answer → List ℕ 
   offering : {t : ℕ} {message : Option ℕ} → Offers y img t message → Performed y img (offer t) (offered (queryRefusal y img t) message) img
   naming : {t : ℕ} {group : Option ℕ} → Smallest y img t group → Performed y img (smallest t) (grouped (queryRefusal y img t) group) img
   hearing : {t : ℕ} → Performed y img (heard t) (told (queryRefusal y img t) (heardAnswer y img t)) img
+  counting : {n : ℕ} → Performed y img (counts n) (counted (readyRefusal y img n) (readyAnswer y img n)) img
   showing : {n : ℕ} → Performed y img (show n) (showed (showRefusal y img n) (shown y img n)) img
 
 -- A session grown from a fresh one: an accepted begin, then any list of calls, each on the image that the last one left.
@@ -114,6 +118,7 @@ pub data CallStepsRight (y : Layout) (img : List ℕ) (b : Provenance) (c : Prov
   offer-right : {t : ℕ} {a : Answer} → CallStepsRight y img b c (offer t) a
   smallest-right : {t : ℕ} {a : Answer} → CallStepsRight y img b c (smallest t) a
   heard-right : {t : ℕ} {a : Answer} → CallStepsRight y img b c (heard t) a
+  counts-right : {n : ℕ} {a : Answer} → CallStepsRight y img b c (counts n) a
   show-right : {n : ℕ} {a : Answer} → CallStepsRight y img b c (show n) a
 
 -- One call, from the image and the book b to the image after and the book d.

@@ -14,7 +14,7 @@ use Rattle.rules.specs.Step.{stepAt, receive, sign, done, fallenBack, vanished}
 use Rattle.rules.specs.Rules.{entryReady, stepOf}
 use Rattle.rules.specs.Groups.{signing}
 use Rattle.rules.specs.Calls.{stepsIn}
-use Rattle.session.specs.Fed.{Call, begin, run, offer, smallest, heard, show}
+use Rattle.session.specs.Fed.{Call, begin, run, offer, smallest, heard, counts, show}
 use Rattle.session.specs.Trace.{Answer, Performed}
 
 -- volume v is ready: the step that signs it would reply 0
@@ -54,6 +54,7 @@ Waits (run list o start end lent) = NoSigning (part start (end - start) list) 0 
 Waits (offer t) = Unit
 Waits (smallest t) = Unit
 Waits (heard t) = Unit
+Waits (counts n) = Unit
 Waits (show n) = Unit
 
 -- such calls, one after the other, from the image img to the one after them

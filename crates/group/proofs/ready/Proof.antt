@@ -9,7 +9,8 @@ use Rattle.octets.proofs.Zero.{Held, held-none, held-more}
 use Rattle.rules.specs.Layout.{base}
 use Rattle.rules.specs.Pack.{unpack}
 use Rattle.rules.specs.Internal.Closure.{pairReady, stableNamed}
-use Rattle.rules.proofs.Groups.Ready.{namedReady, ready-end, ready-unnamed, present-stable, present-loose, ready-named, ready-unmet, kept-at}
+use Rattle.rules.proofs.Groups.Ready.{namedReady, ready-end, ready-unnamed, present-stable, present-loose, ready-named, ready-unmet}
+use Rattle.group.proofs.Presenting.{kept-named}
 use Rattle.group.proofs.ready.Statement.{statement}
 use Rattle.group.proofs.ready.Tie as tie
 
@@ -32,7 +33,7 @@ all-stable c = present-stable base _ _ (c .before .presents .ensures) (c .if1 .l
 kept-ready-requires : tie.Need-kept-ready-requires Inv-loop μ-loop Inv-named μ-named
 kept-ready-requires c κs =
     let p = c .before .before .before .before .before .before .before in
-    (search needs, search needs, search needs, kept-at base _ _ (p .before .presents .ensures) (all-stable p) (p .before .before .before .pre .well) _ (search needs))
+    (search needs, search needs, search needs, kept-named base _ _ (p .before .presents .ensures) (p .if1 .left) (p .before .before .before .pre .well) _ (search needs))
 
 named-again : tie.Need-named-again Inv-loop μ-loop Inv-named μ-named
 named-again c =

@@ -21,22 +21,22 @@ accepted c =
     let a = query-accepted base _ _ (sym (c .before .query-refusal .ensures) ∙ c .if1 .left) in
     (good-formed _ (a .long) (octets-of _ (c .before .before .shared-slice-known .given)) (a .formed), a .below)
 
-closure-requires : tie.Need-closure-requires
-closure-requires c κs = accepted c
+needs-of-requires : tie.Need-needs-of-requires
+needs-of-requires c κs = accepted c .0
 
-can-checkpoint-requires : tie.Need-can-checkpoint-requires
-can-checkpoint-requires c κs = accepted (c .before) .0
+closure-requires : tie.Need-closure-requires
+closure-requires c κs = accepted (c .before) .1
 
 returns-2 : tie.Need-returns-2
 unfolding bound
 returns-2 c =
-    let p = c .before .before in
-    grouped-some base _ _ _ (p .before .before .query-refusal .ensures) (p .before .if1 .left) refl _ (p .closure .ensures) _ (c .before .can-checkpoint .ensures) (search needs) (c .if2 .taken)
+    let n = c .before .before .before in
+    grouped-some base _ _ _ (n .before .before .query-refusal .ensures) (n .before .if1 .left) (accepted (n .before) .0 .well) refl (n .needs-of .ensures) _ (c .before .before .closure .ensures) _ (c .before .is-inside .ensures) (search needs) (c .if2 .taken)
 
 returns-3 : tie.Need-returns-3
 returns-3 c =
-    let p = c .before .before in
-    grouped-none base _ _ _ (p .before .before .query-refusal .ensures) (p .before .if1 .left) refl _ (p .closure .ensures) _ (c .before .can-checkpoint .ensures) (c .if2 .left)
+    let n = c .before .before .before in
+    grouped-none base _ _ _ (n .before .before .query-refusal .ensures) (n .before .if1 .left) (accepted (n .before) .0 .well) refl (n .needs-of .ensures) _ (c .before .before .closure .ensures) _ (c .before .is-inside .ensures) (c .if2 .left)
 
 pub smallest-group-spec : {M : Type 1} → statement M
 smallest-group-spec =
@@ -44,7 +44,8 @@ smallest-group-spec =
     (tie.spec
     (λ c κs. search needs)
     returns
+    needs-of-requires
     closure-requires
-    can-checkpoint-requires
+    (λ c κs. search needs)
     returns-2
     returns-3)

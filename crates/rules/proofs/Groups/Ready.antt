@@ -4,10 +4,9 @@ use mathlib.Core.Bool.{Bool, true, false, not}
 use mathlib.Core.Path.{_≡_, refl, sym, ap, _∙_, subst}
 use mathlib.Core.List.{List}
 use native.Mathlib.Omega.{arith}
-use borrow.Author.Tests.{not-true, not-false}
 use lib.Dec.{eqb, leb}
-use Rattle.octets.specs.Bytes.{_and_, _or_, part, every, any}
-use Rattle.octets.proofs.Zero.{both, every-same, every-all, every-at, every-off, Held, held-all, held-fails, any-none, any-more, any-on}
+use Rattle.octets.specs.Bytes.{_and_, _or_, part, every}
+use Rattle.octets.proofs.Zero.{both, every-same, every-all, every-at, every-off, Held, held-all, held-fails}
 use Rattle.octets.proofs.Tests.{never, or-none, implied, implying}
 use Rattle.marks.specs.declared.History.{History}
 use Rattle.marks.specs.Incarnation.{checkpointedIn, sameIncarnation}
@@ -20,13 +19,13 @@ use Rattle.maps.proofs.Packed.{bounded-at, mapOk-bounded}
 use Rattle.rules.specs.Layout.{Layout, base, historyBytes, stateAt, creationAt, transactorAddress}
 use Rattle.rules.specs.Status.{unused, ready, busy, annihilated}
 use Rattle.rules.specs.State.{Transactor, State, bare, live, transactorAt, ownHistory}
-use Rattle.rules.specs.Refusals.{named, anyNamed, groupBits}
+use Rattle.rules.specs.Refusals.{named, groupBits}
 use Rattle.rules.specs.Rules.{entryReady, mapReady, transactorReady, groupReady}
 use Rattle.rules.specs.Pack.{unpackDependences, unpack}
 use Rattle.rules.specs.Internal.Well.{Live, idle, working, TransactorFormed, not-opened, gone, alive, WellFormed}
 use Rattle.rules.specs.Internal.Good.{Good}
 use Rattle.rules.specs.Internal.Guards.{blocksAt}
-use Rattle.rules.specs.Internal.Closure.{storedReady, pairReady, stableNamed, Presents, Kept, vouchedAt, checkpointedAt, lacking, missing}
+use Rattle.rules.specs.Internal.Closure.{storedReady, pairReady, stableNamed, Presents, Kept, vouchedAt, checkpointedAt}
 use Rattle.rules.proofs.Bits.{named-same}
 use Rattle.rules.proofs.Pack.Loads.{held-at, history-at, read-state, read-creation}
 
@@ -35,33 +34,6 @@ use Rattle.rules.proofs.Pack.Loads.{held-at, history-at, read-state, re
 pub blocks-full : (s : State) (t n : ℕ) → n ≡ ownHistory t (transactorAt s t) .count → leb (s .limits .checkpoints) n ≡ blocksAt s 30 t
 unfolding blocksAt
 blocks-full s t n e = ap (leb (s .limits .checkpoints)) e
-
--- ---- a loop over the takes: f holds of none of the first t that g names
-
-pub record NoneNamed (g : ℕ) (f : ℕ → Bool) (t : ℕ) : Type 0 where
-  pub within : t ≤ groupBits
-  pub none : any t (λ u. named g u and f u) ≡ false
-
-pub none-first : (g : ℕ) (f : ℕ → Bool) → NoneNamed g f 0
-none-first g f = record { within = omega arith; none = any-none (λ u. named g u and f u) }
-
-module _ {g : ℕ} {f : ℕ → Bool} {t : ℕ} (none : NoneNamed g f t) where
-  pub none-unnamed : t < groupBits → named g t ≡ false → NoneNamed g f (t + 1)
-  none-unnamed h e = record { within = omega arith; none = any-more (λ u. named g u and f u) t (none .none) (rw e) }
-
-  module _ (h : t < groupBits) (e : named g t ≡ true) where
-    pub none-more : f t ≡ false → NoneNamed g f (t + 1)
-    none-more o = record { within = omega arith; none = any-more (λ u. named g u and f u) t (none .none) (rw (e, o)) }
-
-    pub none-found : f t ≡ true → true ≡ anyNamed g f
-    unfolding anyNamed
-    none-found o = sym (any-on (λ u. named g u and f u) groupBits t h (rw (e, o)))
-
-  pub none-all : groupBits ≤ t → false ≡ anyNamed g f
-  unfolding anyNamed
-  none-all h =
-      let e : t ≡ groupBits = omega arith in
-      sym (rw e at (none .none))
 
 -- ---- a take that is frozen is live
 
@@ -90,25 +62,6 @@ module _ {y : Layout} {s : State} (well : WellFormed y s) (t : ℕ) (below : t <
 
 pub own-count : (img : List ℕ) → Good img → (t : ℕ) → t < base .transactors → (h : History) → h ≡ ownHistory t (transactorAt (unpack base img) t) → h .count ≤ base .places
 own-count img good t below h e = rw e (bounded-at (base .places) (transactorAt (unpack base img) t .state) (mapOk-bounded (good .well .packable .transactors t below .state)) t)
-
-module _ (y : Layout) (img : List ℕ) (g at u : ℕ) where
-  abbrev present : Bool
-  present = presentIn (part at (historyBytes y) img)
-
-  pub stored-absent : not present ≡ true → true ≡ storedReady y img g at u
-  unfolding storedReady
-  stored-absent e = rw e
-
-  module _ (there : not present ≡ false) where
-    pub stored-dead : not (live (transactorAt (unpack y img) u)) ≡ true → false ≡ storedReady y img g at u
-    unfolding storedReady entryReady
-    stored-dead l = rw (there, not-true (live (transactorAt (unpack y img) u)) l)
-
-    pub stored-live : not (live (transactorAt (unpack y img) u)) ≡ false
-        → (h own : History) → h ≡ unpackHistory (y .width) (y .places) (part at (historyBytes y) img) → own ≡ ownHistory u (transactorAt (unpack y img) u)
-        → (n : Bool) → n ≡ named g u → checkpointedIn (incarnationOf h) (incarnationOf own) or (n and sameIncarnation (incarnationOf h) (incarnationOf own)) ≡ storedReady y img g at u
-    unfolding storedReady entryReady
-    stored-live l h own p q n m = rw (there, not-false (live (transactorAt (unpack y img) u)) l, ← p, ← q, ← m)
 
 -- ---- with what is kept of the named takes
 
@@ -255,7 +208,7 @@ module _ (y : Layout) (img : List ℕ) (g t : ℕ) where
 
 module _ (y : Layout) (s : State) (g : ℕ) where
   -- not all are: not ready
-  pub ready-unstable : every (y .transactors) (stableNamed s g) ≡ false → false ≡ groupReady y s g
+  ready-unstable : every (y .transactors) (stableNamed s g) ≡ false → false ≡ groupReady y s g
   unfolding groupReady stableNamed transactorReady
   ready-unstable e = go (groupReady y s g) refl
     where
@@ -294,21 +247,12 @@ module _ (y : Layout) (s : State) (g : ℕ) where
         go true e = absurd (off (same e))
         go false e = refl
 
-    -- what the walk has of each take
-    pub kept-at : every (y .transactors) (stableNamed s g) ≡ true → WellFormed y s → (u : ℕ) → u < y .transactors → Kept s g u (entryOf l u)
-    unfolding stableNamed
-    kept-at all well u h = record {
-      there = λ n. alive-live (stable-alive well u h (implied (named g u) (ownHistory u (transactorAt s u) .stable) (every-at (stableNamed s g) (y .transactors) u all h) n) .1);
-      own = present .own u h;
+    -- what the walk has of each take: of a frozen one that it is live, and its own mark
+    pub kept-stable : WellFormed y s → (u : ℕ) → u < y .transactors → Kept s v u (entryOf l u)
+    kept-stable well u h = record {
+      there = λ n. alive-live (stable-alive well u h (flags n .1) .1);
+      own = λ n. present .own u h (flags n .0);
     }
-
--- ---- a take that the group lacks
-
-module _ (y : Layout) (img : List ℕ) (g u : ℕ) where
-  pub missing-named : not (named g u) ≡ false → missing y img g u ≡ false
-  unfolding missing
-  missing-named o = rw o
-
-  pub missing-unnamed : (v : Bool) → not (named g u) ≡ true → lacking y img g u ≡ v → missing y img g u ≡ v
-  unfolding missing
-  missing-unnamed v o e = rw (o, e)
+      where
+        flags : named v u ≡ true → (named g u ≡ true) × (ownHistory u (transactorAt s u) .stable ≡ true)
+        flags n = both (named g u) (ownHistory u (transactorAt s u) .stable) (sym (present .stable .exactly u h) ∙ n)

@@ -2,23 +2,29 @@
 use Prim.Native.Nat.{ℕ, zero, suc}
 use mathlib.Core.Bool.{Bool, true, false}
 use mathlib.Core.Path.{_≡_, refl, sym, _∙_}
+use mathlib.Core.Logic.{_↔_}
 use native.Mathlib.Omega.{arith}
-use borrow.Author.Tests.{ne-eqb}
+use borrow.Author.Tests.{eq-eqb, ne-eqb, eqb-true, eqb-false, leb-false, lt-leb}
 use lib.Dec.{eqb}
 use Rattle.octets.specs.Bytes.{pick, _and_}
+use Rattle.octets.proofs.Tests.{pick-zero}
+use Rattle.octets.proofs.Zero.{both}
 use Rattle.rules.specs.Layout.{Layout}
-use Rattle.rules.specs.State.{State}
+use Rattle.rules.specs.Status.{annihilated}
+use Rattle.rules.specs.State.{State, transactorAt, ownHistory}
 use Rattle.rules.specs.Step.{done, notReady}
-use Rattle.rules.specs.Refusals.{malformed}
+use Rattle.rules.specs.Refusals.{malformed, anyNamed}
 use Rattle.rules.specs.Rules.{Result, groupReady, checkpointGroup, answer, applySign, stepOf}
 use Rattle.rules.specs.Groups.{signing}
-use Rattle.rules.specs.Internal.Guards.{groupRefusal}
+use Rattle.rules.specs.ReadyGroups.{readyGroup, Ready}
+use Rattle.rules.specs.Internal.Guards.{blocksAt, namedRefusal, groupRefusal}
+use Rattle.rules.proofs.Bits.{named-at, unnamed-all}
 use Rattle.rules.proofs.ByKind.Refused.{refuses}
 use Rattle.rules.proofs.ByKind.Applied.{applies}
 
 module _ (y : Layout) (s : State) (v : ℕ) where
   -- none of the table's refusals of a signing, and ready
-  pub signing-done : eqb (stepOf y s (signing v) .reply .outcome) done ≡ eqb (groupRefusal s v) 0 and groupReady y s v
+  signing-done : eqb (stepOf y s (signing v) .reply .outcome) done ≡ eqb (groupRefusal s v) 0 and groupReady y s v
   unfolding stepOf applySign malformed
   signing-done =
       rw (refuses y s (signing v) refl .sign refl, applies y s (signing v) .sign refl)
@@ -32,9 +38,48 @@ module _ (y : Layout) (s : State) (v : ℕ) where
       go zero false = refl
       go (suc n) e = let h = ne-eqb (suc n) 0 (omega arith) in rw h h
 
-  -- by its tests
-  pub signing-refused : (groupRefusal s v ≡ 0 → ⊥) → false ≡ eqb (stepOf y s (signing v) .reply .outcome) done
-  signing-refused n = sym (signing-done ∙ rw (ne-eqb (groupRefusal s v) 0 n))
+module _ (y : Layout) (s : State) where
+  -- a named take blocks, by its number
+  abbrev blocked : ℕ → ℕ → Bool
+  blocked v n = anyNamed v (blocksAt s n)
 
-  pub signing-ready : groupRefusal s v ≡ 0 → groupReady y s v ≡ eqb (stepOf y s (signing v) .reply .outcome) done
-  signing-ready e = sym (signing-done ∙ rw e)
+  -- what a signing needs, of a volume that names one
+  record Signable (v : ℕ) : Type 0 where
+    opened : blocked v 21 ≡ false
+    there : blocked v 22 ≡ false
+    room : blocked v 30 ≡ false
+    ready : groupReady y s v ≡ true
+
+  signable : (v : ℕ) → stepOf y s (signing v) .reply .outcome ≡ done → (v ≡ 0 → ⊥) × Signable v
+  unfolding groupRefusal namedRefusal
+  signable v e =
+      let a = both (eqb (groupRefusal s v) 0) (groupReady y s v) (sym (signing-done y s v) ∙ eq-eqb (stepOf y s (signing v) .reply .outcome) done e) in
+      let b = pick-zero (eqb v 0) 29 _ (omega arith) (eqb-true (groupRefusal s v) 0 (a .0)) in
+      let c = pick-zero (blocked v 21) 21 _ (omega arith) (b .1) in
+      let d = pick-zero (blocked v 22) 22 _ (omega arith) (c .1) in
+      (eqb-false v 0 (b .0), record { opened = c .0; there = d .0; room = pick-zero (blocked v 30) 30 0 (omega arith) (d .1) .0; ready = a .1 })
+
+  signs : (v : ℕ) → (v ≡ 0 → ⊥) → Signable v → stepOf y s (signing v) .reply .outcome ≡ done
+  unfolding groupRefusal namedRefusal
+  signs v n a = eqb-true (stepOf y s (signing v) .reply .outcome) done (signing-done y s v ∙ rw (ne-eqb v 0 n, a .opened, a .there, a .room, a .ready))
+
+  -- take by take: which volumes are ready
+  pub ready-exactly : (v : ℕ) → (readyGroup y s v ≡ true) ↔ Ready y s v
+  unfolding readyGroup blocksAt
+  ready-exactly v = (
+    λ e.
+        let a = signable v (eqb-true (stepOf y s (signing v) .reply .outcome) done e) in
+        record {
+          names = a .0;
+          opened = λ t h n. leb-false (s .opened) t (named-at v (blocksAt s 21) t (a .1 .opened) h n);
+          there = λ t h n. eqb-false (transactorAt s t .status) annihilated (named-at v (blocksAt s 22) t (a .1 .there) h n);
+          room = λ t h n. leb-false (s .limits .checkpoints) (ownHistory t (transactorAt s t) .count) (named-at v (blocksAt s 30) t (a .1 .room) h n);
+          rule = a .1 .ready;
+        },
+    λ r. eq-eqb (stepOf y s (signing v) .reply .outcome) done (signs v (r .names) (record {
+      opened = unnamed-all v (blocksAt s 21) (λ t h n. lt-leb (s .opened) t (r .opened t h n));
+      there = unnamed-all v (blocksAt s 22) (λ t h n. ne-eqb (transactorAt s t .status) annihilated (r .there t h n));
+      room = unnamed-all v (blocksAt s 30) (λ t h n. lt-leb (s .limits .checkpoints) (ownHistory t (transactorAt s t) .count) (r .room t h n));
+      ready = r .rule;
+    })),
+  )

@@ -1,65 +1,37 @@
--- The smallest volume that could be signed: the closure, or none. What blocks a volume blocks each one around it, so if the
--- closure cannot be signed, none can.
-use Prim.Native.Nat.{ℕ, _<_}
+-- The smallest volume that could be signed: the closure, or none. A ready volume with the take has all that the closure has, so if one of
+-- these cannot be in a ready volume, there is none.
+use Prim.Native.Nat.{ℕ, _≤_, _<_}
 use mathlib.Core.Bool.{Bool, true, false, not}
 use mathlib.Core.Path.{_≡_, refl, sym, ap, _∙_}
 use mathlib.Core.List.{List}
 use mathlib.Core.Option.{Option, none, some}
-use mathlib.Core.Logic.{_↔_}
+use mathlib.Core.Logic.{_↔_, ⊎-elim}
 use native.Mathlib.Omega.{arith}
-use borrow.Author.Tests.{eq-eqb, ne-eqb, eqb-true, eqb-false, leb-false, lt-leb}
-use lib.Dec.{eqb}
+use borrow.Author.Tests.{eq-eqb, eqb-true, eqb-false}
 use Rattle.octets.specs.Bytes.{_or_, Octets}
 use Rattle.octets.specs.Numbers.{bound}
-use Rattle.octets.proofs.Tests.{never, pick-zero, implied, same-test}
+use Rattle.octets.proofs.Chunks.{sides}
+use Rattle.octets.proofs.Tests.{never, implied, same-test}
 use Rattle.octets.proofs.Zero.{both, every-at}
 use Rattle.rules.specs.Layout.{Layout, base}
+use Rattle.rules.specs.Status.{annihilated}
 use Rattle.rules.specs.State.{State, transactorAt, ownHistory}
 use Rattle.rules.specs.Step.{done}
-use Rattle.rules.specs.Refusals.{named, anyNamed, groupBits}
+use Rattle.rules.specs.Refusals.{named, groupBits}
 use Rattle.rules.specs.Rules.{transactorReady, groupReady, stepOf}
 use Rattle.rules.specs.Pack.{unpack}
 use Rattle.rules.specs.Calls.{queryRefusal}
-use Rattle.rules.specs.Internal.Well.{WellFormed}
 use Rattle.rules.specs.Groups.{signing, Checkpointable, Meets, Within, Smallest, refused, nothing, smallest}
-use Rattle.rules.specs.Internal.Guards.{blocksAt, namedRefusal, groupRefusal}
-use Rattle.rules.specs.Internal.Closure.{Closure}
+use Rattle.rules.specs.ReadyGroups.{readyGroup, Ready}
+use Rattle.rules.specs.Internal.Well.{WellFormed}
+use Rattle.rules.specs.Internal.Closure.{Needed, inside, Closure}
 use Rattle.rules.proofs.Form.State.{formed-state}
-use Rattle.rules.proofs.Bits.{named-same, named-zero, named-at, unnamed-all}
-use Rattle.rules.proofs.Groups.Signable.{signing-done}
+use Rattle.rules.proofs.Bits.{named-same, named-zero, named-past}
+use Rattle.rules.proofs.Groups.Signable.{ready-exactly}
 use Rattle.rules.proofs.Groups.Ready.{stable-alive, alive-there}
-use Rattle.rules.proofs.Groups.Closure.{closed-ready}
+use Rattle.rules.proofs.Groups.Closure.{inside-at, inside-all}
+use Rattle.rules.proofs.Groups.Needs.{ready-inside, ready-closed, closed-ready}
 use Rattle.rules.proofs.Calls.Query.{query-accepted}
-
--- none of the takes of w, none of those of v
-anyNamed-within : (v w : ℕ) (f : ℕ → Bool) → Within v w → anyNamed w f ≡ false → anyNamed v f ≡ false
-unfolding Within
-anyNamed-within v w f inside e = unnamed-all v f (λ t h n. named-at w f t e h (inside t n))
-
-module _ (y : Layout) (s : State) where
-  -- a named take blocks, by its number
-  abbrev blocked : ℕ → ℕ → Bool
-  blocked v n = anyNamed v (blocksAt s n)
-
-  -- what a signing needs, of a volume that names one
-  record Signable (v : ℕ) : Type 0 where
-    opened : blocked v 21 ≡ false
-    there : blocked v 22 ≡ false
-    room : blocked v 30 ≡ false
-    ready : groupReady y s v ≡ true
-
-  signable : (v : ℕ) → stepOf y s (signing v) .reply .outcome ≡ done → Signable v
-  unfolding groupRefusal namedRefusal
-  signable v e =
-      let a = both (eqb (groupRefusal s v) 0) (groupReady y s v) (sym (signing-done y s v) ∙ eq-eqb (stepOf y s (signing v) .reply .outcome) done e) in
-      let b = pick-zero (eqb v 0) 29 _ (omega arith) (eqb-true (groupRefusal s v) 0 (a .0)) in
-      let c = pick-zero (blocked v 21) 21 _ (omega arith) (b .1) in
-      let d = pick-zero (blocked v 22) 22 _ (omega arith) (c .1) in
-      record { opened = c .0; there = d .0; room = pick-zero (blocked v 30) 30 0 (omega arith) (d .1) .0; ready = a .1 }
-
-  signs : (v : ℕ) → (v ≡ 0 → ⊥) → Signable v → stepOf y s (signing v) .reply .outcome ≡ done
-  unfolding groupRefusal namedRefusal
-  signs v n a = eqb-true (stepOf y s (signing v) .reply .outcome) done (signing-done y s v ∙ rw (ne-eqb v 0 n, a .opened, a .there, a .room, a .ready))
 
 -- in a well-formed state: the sets of takes with t, none of them with all its signings, that meet the signing rule
 module _ {y : Layout} {s : State} (well : WellFormed y s) (size : y .transactors ≡ groupBits) where
@@ -69,29 +41,28 @@ module _ {y : Layout} {s : State} (well : WellFormed y s) (size : y .transactors
     stable = both (ownHistory t (transactorAt s t) .stable) _
         (implied (named v t) (transactorReady y s v t) (every-at (λ t. not (named v t) or transactorReady y s v t) (y .transactors) t ready (omega arith)) name) .0
 
-    stands : (blocksAt s 21 t ≡ false) × (blocksAt s 22 t ≡ false)
-    unfolding blocksAt
-    stands = let a = stable-alive well t (omega arith) stable in (lt-leb (s .opened) t (a .0), alive-there (a .1))
+    stands : (t < s .opened) × (transactorAt s t .status ≡ annihilated → ⊥)
+    stands = let a = stable-alive well t (omega arith) stable in (a .0, eqb-false (transactorAt s t .status) annihilated (alive-there (a .1)))
 
   pub checkpointable-rule : (t v : ℕ) → Checkpointable y s t v ↔ Meets y s t v
-  unfolding blocksAt
+  unfolding readyGroup
   checkpointable-rule t v = (
-    λ c. let a = signable y s v (c .signs) in record {
+    λ c. let a = ready-exactly y s v .0 (eq-eqb (stepOf y s (signing v) .reply .outcome) done (c .signs)) in record {
       bits = c .bits;
       contains = c .contains;
-      room = λ u h n. leb-false (s .limits .checkpoints) (ownHistory u (transactorAt s u) .count)
-          (named-at v (blocksAt s 30) u (a .room) (omega arith) n);
-      ready = a .ready;
+      room = λ u h n. a .room u (omega arith) n;
+      ready = a .rule;
     },
     λ r. record {
       bits = r .bits;
       contains = r .contains;
-      signs = signs y s v (λ z. never (sym (r .contains) ∙ rw z (named-zero t))) (record {
-        opened = unnamed-all v (blocksAt s 21) (λ u h n. stands v (r .ready) u h n .0);
-        there = unnamed-all v (blocksAt s 22) (λ u h n. stands v (r .ready) u h n .1);
-        room = unnamed-all v (blocksAt s 30) (λ u h n. lt-leb (s .limits .checkpoints) (ownHistory u (transactorAt s u) .count) (r .room u (omega arith) n));
-        ready = r .ready;
-      });
+      signs = eqb-true (stepOf y s (signing v) .reply .outcome) done (ready-exactly y s v .1 (record {
+        names = λ z. never (sym (r .contains) ∙ rw z (named-zero t));
+        opened = λ u h n. stands v (r .ready) u h n .0;
+        there = λ u h n. stands v (r .ready) u h n .1;
+        room = λ u h n. r .room u (omega arith) n;
+        rule = r .ready;
+      }));
     },
   )
 
@@ -102,29 +73,37 @@ module _ (y : Layout) (img : List ℕ) (t r : ℕ) (is : r ≡ queryRefusal y im
   pub grouped-refused : (r ≡ 0 → ⊥) → (r ≡ queryRefusal y img t) × Smallest y img t none
   grouped-refused n = (is, refused (λ (f : queryRefusal y img t ≡ 0). n (is ∙ f)))
 
-  module _ (zero : r ≡ 0) (size : y .transactors ≡ groupBits) (g : ℕ) (closure : Closure y img t g)
-      (b : Bool) (tested : b ≡ eqb (stepOf y s (signing g) .reply .outcome) done) where
-    -- it can be signed if one with the take can
-    closure-signs : (w : ℕ) → Checkpointable y s t w → stepOf y s (signing g) .reply .outcome ≡ done
-    closure-signs w c =
-        let a = signable y s w (c .signs) in
-        let inside = closure .least w (c .contains) (a .ready) in
-        signs y s g (λ z. never (sym (closure .contains) ∙ rw z (named-zero t))) (record {
-          opened = anyNamed-within g w (blocksAt s 21) inside (a .opened);
-          there = anyNamed-within g w (blocksAt s 22) inside (a .there);
-          room = anyNamed-within g w (blocksAt s 30) inside (a .room);
-          ready = closed-ready y img (omega arith) g w inside (a .ready) (closure .closed);
-        })
+  module _ (zero : r ≡ 0) (well : WellFormed y (unpack y img)) (size : y .transactors ≡ groupBits) {l : List ℕ} {v : ℕ} (found : Needed y img l v) (g : ℕ) (closure : Closure l t g)
+      (b : Bool) (tested : b ≡ inside g v) where
+    ready-of : (w : ℕ) → Checkpointable y s t w → Ready y s w
+    unfolding readyGroup
+    ready-of w c = ready-exactly y s w .0 (eq-eqb (stepOf y s (signing w) .reply .outcome) done (c .signs))
+
+    within : (w : ℕ) → Checkpointable y s t w → inside g w ≡ true
+    within w c = closure .least w (c .contains) (ready-closed y img well size found w (ready-of w c))
 
     pub grouped-none : b ≡ false → (r ≡ queryRefusal y img t) × Smallest y img t none
-    grouped-none e = (is, nothing (sym is ∙ zero) (λ w c. eqb-false (stepOf y s (signing g) .reply .outcome) done (sym tested ∙ e) (closure-signs w c)))
+    grouped-none e = (
+      is,
+      nothing (sym is ∙ zero) (λ w c. never (sym (inside-all g v (λ u h n.
+          inside-at w v (ready-inside y img well size found w (ready-of w c)) u h (inside-at g w (within w c) u h n))) ∙ sym tested ∙ e)),
+    )
 
     pub grouped-some : g < bound 2 → b ≡ true → (r ≡ queryRefusal y img t) × Smallest y img t (some g)
+    unfolding readyGroup Within bound
     grouped-some fits e = (
       is,
       smallest (sym is ∙ zero)
-          (record { bits = fits; contains = closure .contains; signs = eqb-true (stepOf y s (signing g) .reply .outcome) done (sym tested ∙ e) })
-          (λ w c. closure .least w (c .contains) (signable y s w (c .signs) .ready)),
+          (record {
+            bits = fits;
+            contains = closure .contains;
+            signs = eqb-true (stepOf y s (signing g) .reply .outcome) done (ready-exactly y s g .1
+                (closed-ready y img well size found g (λ z. never (sym (closure .contains) ∙ rw z (named-zero t))) (sym tested ∙ e) (closure .closed)));
+          })
+          (λ w c u n. ⊎-elim
+          (λ (h : u < groupBits). inside-at g w (within w c) u h n)
+          (λ (h : groupBits ≤ u). never (sym n ∙ named-past g u groupBits fits h))
+          (sides u groupBits)),
     )
 
 module _ (y : Layout) (img : List ℕ) (t : ℕ) (o : Octets img) (size : y .transactors ≡ groupBits) (z : queryRefusal y img t ≡ 0) where

@@ -1,9 +1,12 @@
--- The signing rule and the smallest volume, as the code tests the image.
+-- The signing rule, and what the takes need of a volume, as the code tests the image.
 use Prim.Native.Nat.{ℕ, _+_, _*_, _^_, _<_}
-use mathlib.Core.Bool.{Bool, true, false, not}
+use mathlib.Core.Bool.{Bool, true, not}
 use mathlib.Core.Path.{_≡_}
 use mathlib.Core.List.{List}
-use Rattle.octets.specs.Bytes.{_and_, _or_, part}
+use lib.Dec.{eqb}
+use lib.ListN.{getD}
+use Rattle.octets.specs.Bytes.{pick, _and_, _or_, part, every}
+use Rattle.octets.specs.Numbers.{bound}
 use Rattle.marks.specs.declared.History.{History}
 use Rattle.marks.specs.Incarnation.{checkpointedIn, sameIncarnation}
 use Rattle.marks.specs.History.{incarnationOf}
@@ -11,10 +14,11 @@ use Rattle.marks.specs.Packed.{presentIn, unpackHistory}
 use Rattle.maps.specs.Map.{entryOf}
 use Rattle.rules.specs.Layout.{Layout, historyBytes, stateAt, creationAt, transactorAddress}
 use Rattle.rules.specs.State.{State, live, transactorAt, ownHistory}
-use Rattle.rules.specs.Refusals.{named, anyNamed}
-use Rattle.rules.specs.Rules.{entryReady, groupReady}
+use Rattle.rules.specs.Refusals.{groupBits, named}
+use Rattle.rules.specs.Rules.{entryReady}
 use Rattle.rules.specs.Pack.{unpack}
-use Rattle.rules.specs.Groups.{Within}
+use Rattle.rules.specs.ReadyGroups.{howMany, sizeOf}
+use Rattle.rules.specs.Internal.Guards.{blocksAt}
 
 -- the mark packed in img from at on, if there is one, of take u
 unfoldable pub storedReady : Layout → List ℕ → ℕ → ℕ → ℕ → Bool
@@ -62,18 +66,57 @@ checkpointedAt y img at u =
     live (transactorAt (unpack y img) u)
     and checkpointedIn (incarnationOf (unpackHistory (y .width) (y .places) (part at (historyBytes y) img))) (incarnationOf (ownHistory u (transactorAt (unpack y img) u)))
 
--- ---- document 02, W1
+-- ---- document 02, W10: what the takes need of a volume
 
--- an entry u in the maps of a named take is not ready
-unfoldable pub lacking : Layout → List ℕ → ℕ → ℕ → Bool
-lacking y img g u = anyNamed g (λ t. not (pairReady y img g t u))
+-- What the mark packed in img from at on, if there is one, of take u asks of a volume of takes of g: 0 nothing, 1 that it names u, 2 what no
+-- such volume gives.
+unfoldable pub askedAt : Layout → List ℕ → ℕ → ℕ → ℕ → ℕ
+askedAt y img g at u = pick (storedReady y img 0 at u) 0 (pick (storedReady y img g at u) 1 2)
 
--- take u is not named, and lacking
-unfoldable pub missing : Layout → List ℕ → ℕ → ℕ → Bool
-missing y img g u = not (named g u) and lacking y img g u
+-- what the entries u of the state and creation maps of take t ask
+unfoldable pub pairAsks : Layout → List ℕ → ℕ → ℕ → ℕ → ℕ
+pairAsks y img g t u = pick (pairReady y img 0 t u) 0 (pick (pairReady y img g t u) 1 2)
 
--- a volume with take t, within every ready one, in which no take is missing
-pub record Closure (y : Layout) (img : List ℕ) (t g : ℕ) : Type 0 where
+-- take t needs take u: without it, t's entries u are not ready
+unfoldable pub needsOf : Layout → List ℕ → ℕ → ℕ → Bool
+needsOf y img t u = not (pairReady y img 0 t u)
+
+-- take t can be in a ready volume of takes of g: it is one of them, has room for a signing, and its entries ask for no more than g
+unfoldable pub able : Layout → List ℕ → ℕ → ℕ → Bool
+able y img g t = named g t and not (blocksAt (unpack y img) 30 t) and every (y .transactors) (pairReady y img g t)
+
+-- whether take t is, and what it then needs
+pub record Row (y : Layout) (img : List ℕ) (g t need : ℕ) (met : Bool) : Type 0 where
+  pub is : met ≡ able y img g t
+  pub needed : met ≡ true → Names (needsOf y img t) (y .transactors) need
+
+-- of every take; g are the frozen ones
+pub record Needed (y : Layout) (img : List ℕ) (l : List ℕ) (v : ℕ) : Type 0 where
+  pub g : ℕ
+  pub stable : Names (λ t. ownHistory t (transactorAt (unpack y img) t) .stable) (y .transactors) g
+  pub members : Names (able y img g) (y .transactors) v
+  pub needed : (t : ℕ) → t < y .transactors → able y img g t ≡ true → Names (needsOf y img t) (y .transactors) (getD l t 0)
+
+-- ---- volumes, by a list of what each take needs
+
+-- every take of v is one of w
+unfoldable pub inside : ℕ → ℕ → Bool
+inside v w = every groupBits (λ t. not (named v t) or named w t)
+
+-- volume w names takes of v alone, and what each of them needs
+unfoldable pub meets : List ℕ → ℕ → ℕ → Bool
+meets l v w = inside w v and every groupBits (λ t. not (named w t) or inside (getD l t 0) w)
+
+-- how many volumes with that many takes do
+unfoldable pub metCount : List ℕ → ℕ → ℕ → ℕ
+metCount l v size = howMany (bound 2) (λ w. eqb (sizeOf w) size and meets l v w)
+
+-- it names what each of its takes needs
+unfoldable pub Closed : List ℕ → ℕ → Type 0
+Closed l w = (t : ℕ) → t < groupBits → named w t ≡ true → inside (getD l t 0) w ≡ true
+
+-- the least such volume with take t
+pub record Closure (l : List ℕ) (t g : ℕ) : Type 0 where
   pub contains : named g t ≡ true
-  pub least : (w : ℕ) → named w t ≡ true → groupReady y (unpack y img) w ≡ true → Within g w
-  pub closed : (u : ℕ) → u < y .transactors → missing y img g u ≡ false
+  pub closed : Closed l g
+  pub least : (w : ℕ) → named w t ≡ true → Closed l w → inside g w ≡ true

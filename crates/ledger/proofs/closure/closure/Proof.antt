@@ -1,35 +1,49 @@
--- While a transactor is missing, the first that is missing joins the group.
-use Prim.Native.Nat.{_-_, _^_}
-use mathlib.Core.Path.{refl}
+-- While a named transactor lacks one that it needs, all that it needs join the group.
+use Prim.Native.Nat.{_+_, _-_, _*_, _^_, _<_}
+use mathlib.Core.Path.{sym, _∙_, subst}
+use mathlib.Core.Logic.{⊎-elim}
 use native.Mathlib.Omega.{arith}
 use borrow.Author.Needs.{needs}
-use Rattle.rules.specs.Layout.{base}
+use Rattle.octets.proofs.Tests.{passed, failed}
 use Rattle.rules.specs.Refusals.{groupBits}
-use Rattle.rules.proofs.Bits.{shifted}
-use Rattle.rules.proofs.Groups.Closure.{Growing, growing-first, growing-fits, growing-less, growing-more, growing-end}
+use Rattle.rules.proofs.Bits.{one-fits, shifted}
+use Rattle.rules.proofs.Groups.Closure.{Growing, growing-first, growing-unnamed, growing-met, growing-more, growing-less, growing-end}
 use Rattle.ledger.proofs.closure.closure.Statement.{statement}
 use Rattle.ledger.proofs.closure.closure.Tie as tie
 
 abbrev Inv-loop : tie.InvT-loop
-Inv-loop image t group₀ u₀ group u = Growing base image t group u
+Inv-loop t list group₀ u₀ group u = (group < 2 ^ groupBits) × Growing (list .need) t u group
 
 abbrev μ-loop : tie.MeasureT-loop
-μ-loop image t group₀ u₀ group u = 2 ^ groupBits - group
+μ-loop t list group₀ u₀ group u = 17 * (2 ^ groupBits - group) + (groupBits - u)
 
 loop-holds : tie.Need-loop-holds Inv-loop μ-loop
-loop-holds c = growing-first base _ refl _ (search needs) _ _ (shifted _ groupBits (search needs)) (c .first-missing .ensures .0)
-
-add-group : tie.Need-add-group Inv-loop μ-loop
-add-group c = omega (arith, growing-fits base _ refl _ _ _ (c .before .loop .inv) (search needs) _ (shifted _ groupBits (search needs)))
+loop-holds c =
+    let e = shifted (c .args .t) groupBits (search needs) in
+    (omega (arith, e, one-fits (c .args .t) groupBits (search needs)), growing-first _ _ _ e)
 
 loop-less : tie.Need-loop-less Inv-loop μ-loop
-loop-less c = growing-less base _ refl _ _ _ (c .before .before .loop .inv) (search needs) _ (shifted _ groupBits (search needs))
+loop-less c =
+    let n = c .before .before .before .before in
+    let l = n .before .before .before .loop in
+    omega (arith, growing-less (l .inv .1) (search needs) (sym (n .before .is-named .ensures) ∙ n .if1 .taken) (failed (c .before .before .is-inside .ensures) (c .before .if2 .taken)) (l .inv .0), c .joined .ensures)
 
 loop-again : tie.Need-loop-again Inv-loop μ-loop
-loop-again c = growing-more base _ refl _ _ _ (c .before .before .loop .inv) (search needs) _ (shifted _ groupBits (search needs)) _ (c .first-missing2 .ensures .0)
+loop-again c =
+    let n = c .before .before .before .before in
+    let l = n .before .before .before .loop in
+    (search needs, subst (Growing _ _ 0) (sym (c .joined .ensures)) (growing-more (l .inv .1) (search needs) (sym (n .before .is-named .ensures) ∙ n .if1 .taken)))
 
-returns : tie.Need-returns Inv-loop μ-loop
-returns c = growing-end base _ refl _ _ _ (c .before .loop .inv) (search needs)
+loop-less-2 : tie.Need-loop-less-2 Inv-loop μ-loop
+loop-less-2 c = omega arith
+
+loop-again-2 : tie.Need-loop-again-2 Inv-loop μ-loop
+loop-again-2 c =
+    let l = c .before .before .before .loop in
+    ⊎-elim
+    (λ w. (l .inv .0, growing-met (l .inv .1) (search needs) (passed (w .2 .ensures) (w .3 .left))))
+    (λ w. (l .inv .0, growing-unnamed (l .inv .1) (search needs) (sym (c .before .is-named .ensures) ∙ w .left)))
+    (c .if1 .came)
 
 pub closure-spec : {M : Type 1} → statement M
 closure-spec =
@@ -39,12 +53,15 @@ closure-spec =
     μ-loop
     (λ c. search needs)
     (λ c. search needs)
-    (λ c κs. search needs)
     loop-holds
+    (λ c κs. search needs)
     (λ c. search needs)
     (λ c. search needs)
-    add-group
+    (λ c κs. search needs)
     (λ c κs. search needs)
     loop-less
     loop-again
-    returns)
+    (λ c. search needs)
+    loop-less-2
+    loop-again-2
+    (λ c. growing-end (c .before .loop .inv .1) (search needs)))
