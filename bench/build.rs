@@ -1,4 +1,5 @@
-//! Links the static library of crate ledger_c, from target/staticlib or from the folder that LEDGER_LIBRARY names.
+//! Links the static library of crate ledger_c, and with the feature `engine` that of engine_c, from target/staticlib or from the folder that
+//! LEDGER_LIBRARY names.
 
 use std::env;
 
@@ -6,7 +7,10 @@ fn main() {
     let here = env::var("CARGO_MANIFEST_DIR").unwrap();
     let folder = env::var("LEDGER_LIBRARY").unwrap_or(format!("{here}/../target/staticlib"));
     println!("cargo:rustc-link-search=native={folder}");
-    println!("cargo:rustc-link-lib=static=ledger_c");
     println!("cargo:rerun-if-env-changed=LEDGER_LIBRARY");
-    println!("cargo:rerun-if-changed={folder}/libledger_c.a");
+    let engine = env::var("CARGO_FEATURE_ENGINE").is_ok();
+    for name in ["ledger_c", "engine_c"].iter().take(1 + engine as usize) {
+        println!("cargo:rustc-link-lib=static={name}");
+        println!("cargo:rerun-if-changed={folder}/lib{name}.a");
+    }
 }

@@ -1,4 +1,4 @@
-//! The proved library, as include/ledger.h declares it, behind safe functions. No call of it has a precondition besides
+//! The proved library, as include/ledger.h and include/engine.h declare it, behind safe functions. No call of it has a precondition besides
 //! valid slices, so nothing is tested here before a call.
 
 /// The number that stands for "no parcel": a parcel's is at most 65,534.
@@ -47,6 +47,19 @@ extern "C" {
     fn ledger_back(source: *const u8, source_length: usize, target: *mut u8, target_length: usize) -> u8;
     fn ledger_show(image: *const u8, image_length: usize, number: u16, refusal: *mut u8) -> Part;
     fn ledger_worst_window(replies: *const u8, replies_length: usize, width: usize, refusal: *mut u8) -> Worst;
+}
+
+#[cfg(feature = "engine")]
+extern "C" {
+    fn engine_play(
+        list: *const u8,
+        list_length: usize,
+        takes: usize,
+        parcels: usize,
+        signings: usize,
+        replies: *mut u8,
+        replies_length: usize,
+    ) -> u8;
 }
 
 pub fn begin(image: &mut [u8], takes: usize, parcels: usize, signings: usize) -> u8 {
@@ -138,4 +151,10 @@ pub fn worst_window(replies: &[u8], width: usize) -> Result<(usize, usize), u8> 
         return Err(refusal);
     }
     Ok((worst.count, worst.place))
+}
+
+#[cfg(feature = "engine")]
+pub fn play(list: &[u8], takes: usize, parcels: usize, signings: usize, replies: &mut [u8]) -> u8 {
+    let (r, m) = (replies.as_mut_ptr(), replies.len());
+    unsafe { engine_play(list.as_ptr(), list.len(), takes, parcels, signings, r, m) }
 }

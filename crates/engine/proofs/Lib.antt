@@ -1,15 +1,6 @@
-pub mod Seek
-pub mod Exact
-pub mod BookSets
-pub mod Forward
-pub mod Newest
-pub mod Maps
-pub mod Replies
-pub mod Replied
-pub mod Tells
-pub mod Plays
-pub mod Walks
-pub mod Worded
-pub mod Engine
-pub mod Walked
-pub mod WayBack
+mod Advancing
+mod Answers
+pub mod Ledger
+mod Playing
+mod Ranges
+mod Steps

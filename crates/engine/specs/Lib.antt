@@ -1,3 +1,2 @@
-pub mod Chain
-pub mod Back
+pub mod Play
 pub mod Internal

@@ -43,7 +43,7 @@ fn own(image: &[u8], t: usize) -> History
 }
 
 // Whether the group names a transactor from number n on.
-fn names_from(group: u16, n: usize) -> bool
+pub fn names_from(group: u16, n: usize) -> bool
     ensures { λ r. ⌜ r ≡ anyNamed group (leb n) ⌝ }
 {
     if TRANSACTORS <= n {

@@ -21,15 +21,14 @@ use image::messages;
 use maps::stability;
 use rules::Grouped;
 use rules::Offered;
-use rules::Reply;
 use rules::numbers;
 use steps::packed;
 ghost use mathlib.Core.Path.{_≡_};
-ghost use Prim.Native.Nat.{_+_, _*_, _/_, _≤_};
+ghost use Prim.Native.Nat.{_*_, _/_};
 ghost use lib.ListN.{length};
-ghost use Rattle.octets.specs.Bytes.{put, zeros};
+ghost use Rattle.octets.specs.Bytes.{zeros};
 ghost use Rattle.rules.specs.Layout.{base, limitsOf, imageBytes};
-ghost use Rattle.rules.specs.Step.{packReply, stepBytes};
+ghost use Rattle.rules.specs.Step.{stepBytes};
 ghost use Rattle.rules.specs.Internal.Good.{Good};
 ghost use Rattle.rules.specs.Calls.{beginAnswer, beginImage, runAnswer, runImage, runReplies, ranImage, ranReplies, queryRefusal, offeredNumber, Offers, showRefusal, shown};
 ghost use Rattle.rules.specs.Groups.{groupNumber, Smallest};
@@ -73,16 +72,6 @@ fn refresh(image: &mut [u8])
 
 // ---- run
 
-fn encode(replies: &mut [u8], at: usize, r: Reply)
-    requires { ⌜ at + stepBytes ≤ length (now replies) ⌝ }
-    ensures { λ _. ⌜ now (replies .exit) ≡ put at (packReply r) (now (replies .entry)) ⌝ }
-{
-    replies[at] = r.outcome;
-    replies[at + 1] = r.transactor;
-    octets::store16(replies, at + 2, r.message);
-    octets::store32(replies, at + 4, r.value);
-}
-
 // Runs a list of whole steps.
 fn run_steps(image: &mut [u8], list: &[u8], replies: &mut [u8])
     requires { ⌜ Good (now image) × (length (now replies) ≡ length (now list)) × (stepBytes * (length (now list) / stepBytes) ≡ length (now list)) ⌝ }
@@ -93,7 +82,7 @@ fn run_steps(image: &mut [u8], list: &[u8], replies: &mut [u8])
     while i < n {
         let p = packed::decode(list, STEP * i);
         let r = steps::step(image, p);
-        encode(replies, STEP * i, r);
+        packed::encode(replies, STEP * i, r);
         i += 1;
     }
 }

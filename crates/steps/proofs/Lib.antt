@@ -1,5 +1,6 @@
 mod Decoding
 mod Effects
+mod Encoding
 mod Fields
 mod Images
 mod Locals

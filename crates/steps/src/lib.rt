@@ -96,7 +96,7 @@ fn uses_value(kind: u8) -> bool
     kind == numbers::WRITE
 }
 
-fn malformed(p: Step) -> bool
+pub fn malformed(p: Step) -> bool
     ensures { λ r. ⌜ r ≡ refusals.malformed p ⌝ }
 {
     let kind = p.kind;

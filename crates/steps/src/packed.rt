@@ -1,10 +1,11 @@
-// A step of a packed list.
+// Steps and replies of packed lists.
+use rules::Reply;
 use rules::Step;
 ghost use mathlib.Core.Path.{_≡_};
 ghost use Prim.Native.Nat.{_+_, _≤_};
 ghost use lib.ListN.{length};
-ghost use Rattle.octets.specs.Bytes.{part};
-ghost use Rattle.rules.specs.Step.{unpackStep, stepBytes};
+ghost use Rattle.octets.specs.Bytes.{put, part};
+ghost use Rattle.rules.specs.Step.{unpackStep, packReply, stepBytes};
 
 pub fn decode(list: &[u8], at: usize) -> Step
     requires { ⌜ at + stepBytes ≤ length (now list) ⌝ }
@@ -22,4 +23,14 @@ pub fn decode(list: &[u8], at: usize) -> Step
         message,
         value,
     }
+}
+
+pub fn encode(replies: &mut [u8], at: usize, r: Reply)
+    requires { ⌜ at + stepBytes ≤ length (now replies) ⌝ }
+    ensures { λ _. ⌜ now (replies .exit) ≡ put at (packReply r) (now (replies .entry)) ⌝ }
+{
+    replies[at] = r.outcome;
+    replies[at + 1] = r.transactor;
+    octets::store16(replies, at + 2, r.message);
+    octets::store32(replies, at + 4, r.value);
 }

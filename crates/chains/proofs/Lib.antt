@@ -1,0 +1,16 @@
+pub mod Seek
+pub mod Exact
+pub mod BookSets
+pub mod Forward
+pub mod Newest
+pub mod Maps
+pub mod Replies
+pub mod Replied
+pub mod Tells
+pub mod Plays
+pub mod Walks
+pub mod Worded
+pub mod Following
+pub mod Engine
+pub mod Walked
+pub mod WayBack

@@ -1,0 +1,74 @@
+-- Past the test for 20 each kind is asked as its function wants it.
+use mathlib.Core.Bool.{false}
+use mathlib.Core.Path.{_≡_, refl, sym, _∙_}
+use borrow.Author.Needs.{needs}
+use Rattle.rules.specs.Step.{root, letter, new, send, lose}
+use Rattle.rules.specs.Refusals as refusals
+use Rattle.rules.proofs.Keep.Kinds.{lowest, highest}
+use Rattle.rules.proofs.ByKind.Refused.{kind-formed}
+use Rattle.tables.proofs.Outcomes.{malformed-done}
+use Rattle.engine.proofs.Advancing.{asked, advance-any}
+use Rattle.engine.proofs.advance.Statement.{statement}
+use Rattle.engine.proofs.advance.Tie as tie
+
+abbrev start : tie.Else1 → tie.Start
+start c = c .before .before .before .before
+
+-- past the test for 20
+well : (c : tie.Else1) → refusals.malformed (start c .args .p) ≡ false
+well c = sym (c .before .malformed .ensures) ∙ c .if1 .left
+
+returns : tie.Need-returns
+returns c = advance-any _ _ _ _ _ _ _ (malformed-done (sym (c .before .before .malformed .ensures) ∙ c .before .if1 .taken) _ (c .answered .ensures))
+
+root-requires : tie.Need-root-requires
+root-requires c κs = asked (start (c .before) .pre) (well (c .before)) root (c .match .keys1)
+
+letter-requires : tie.Need-letter-requires
+letter-requires c κs = asked (start (c .before) .pre) (well (c .before)) letter (c .match .keys2)
+
+receive-requires : tie.Need-receive-requires
+receive-requires c κs = (start (c .before) .pre, well (c .before), c .match .keys3)
+
+new-requires : tie.Need-new-requires
+new-requires c κs = asked (start (c .before) .pre) (well (c .before)) new (c .match .keys4)
+
+send-requires : tie.Need-send-requires
+send-requires c κs = asked (start (c .before) .pre) (well (c .before)) send (c .match .keys5)
+
+lose-requires : tie.Need-lose-requires
+lose-requires c κs = asked (start (c .before) .pre) (well (c .before)) lose (c .match .keys6)
+
+sign-requires : tie.Need-sign-requires
+sign-requires c κs = (start (c .before) .pre, well (c .before), c .match .keys7)
+
+local-requires : tie.Need-local-requires
+local-requires c κs =
+    let e = c .before in
+    let n = c .match .rest in
+    let low = lowest _ (n .0 .0 .0 .0 .0 .0 .1) (n .0 .0 .0 .0 .0 .1) (n .0 .0 .0 .0 .1) (n .0 .0 .0 .1) (n .0 .0 .1) in
+    (asked (start e .pre) (well e) _ refl, low, highest _ (kind-formed _ (well e)) (n .0 .1) (n .1))
+
+pub advance-spec : {M : Type 1} → statement M
+advance-spec =
+    tie.close
+    (tie.spec
+    (λ c κs. search needs)
+    (λ c κs. search needs)
+    returns
+    root-requires
+    letter-requires
+    receive-requires
+    new-requires
+    send-requires
+    lose-requires
+    sign-requires
+    local-requires
+    (λ c. advance-any _ _ _ _ _ _ _ (c .root .ensures))
+    (λ c. advance-any _ _ _ _ _ _ _ (c .letter .ensures))
+    (λ c. search needs)
+    (λ c. advance-any _ _ _ _ _ _ _ (c .new .ensures))
+    (λ c. advance-any _ _ _ _ _ _ _ (c .send .ensures))
+    (λ c. advance-any _ _ _ _ _ _ _ (c .lose .ensures))
+    (λ c. search needs)
+    (λ c. advance-any _ _ _ _ _ _ _ (c .local .ensures)))

@@ -1,0 +1,225 @@
+-- The refusals, case by case.
+use Prim.Native.Nat.{ℕ, _+_, _≤_, _<_}
+use mathlib.Core.Bool.{Bool, true, false, not}
+use mathlib.Core.Path.{_≡_, sym, _∙_, subst}
+use mathlib.Core.Logic.{⊎-elim}
+use native.Mathlib.Omega.{arith}
+use lib.Dec.{eqb, leb}
+use borrow.Author.Tests.{eq-eqb, ne-eqb, eqb-false, le-leb, lt-leb, leb-false}
+use Rattle.octets.specs.Bytes.{_and_, any}
+use Rattle.octets.specs.Numbers.{bound}
+use Rattle.octets.proofs.Chunks.{sides}
+use Rattle.octets.proofs.Tests.{never, pick-zero}
+use Rattle.octets.proofs.Zero.{any-none, any-more, any-on}
+use Rattle.rules.specs.Layout.{lastNumber}
+use Rattle.rules.specs.Status.{ready, busy, annihilated}
+use Rattle.rules.specs.Step.{fall}
+use Rattle.rules.specs.Refusals.{groupBits, named, anyNamed}
+use Rattle.rules.proofs.Bits.{named-past, named-at}
+use Rattle.chains.specs.declared.rows.Row.{Row}
+use Rattle.chains.specs.declared.rows.Slot.{Slot}
+use Rattle.registers.specs.declared.register.Register.{Register}
+use Rattle.registers.specs.Internal.Register.{rowAt, Fits, Room}
+use Rattle.registers.specs.Internal.Guards.{lastRow, localGuard, busyGuard, crowdedGuard, receiptGuard, rowBlocks, groupBlocked, groupGuard}
+
+-- ---- kinds 5 to 10
+
+module _ (k : ℕ) (x : Row) where
+  pub local-gone : x .status ≡ annihilated → 22 ≡ localGuard k x
+  unfolding localGuard
+  local-gone e = rw (eq-eqb (x .status) annihilated e)
+
+  module _ (there : x .status ≡ annihilated → ⊥) (c : Bool) (tested : c ≡ leb k fall and not (eqb (x .status) busy)) where
+    pub local-idle : c ≡ true → 23 ≡ localGuard k x
+    unfolding localGuard
+    local-idle e = rw (ne-eqb (x .status) annihilated there, ← tested, e)
+
+    module _ (works : c ≡ false) where
+      pub local-early : k < fall → 0 ≡ localGuard k x
+      unfolding localGuard
+      local-early h = rw (ne-eqb (x .status) annihilated there, ← tested, works, lt-leb fall k h)
+
+      module _ (late : fall ≤ k) where
+        pub local-stable : x .stable ≡ true → 0 ≡ localGuard k x
+        unfolding localGuard
+        local-stable s = rw (ne-eqb (x .status) annihilated there, ← tested, works, le-leb fall k late, s)
+
+        pub local-last : x .stable ≡ false → (l : Bool) → l ≡ lastRow x → l ≡ true → 28 ≡ localGuard k x
+        unfolding localGuard
+        local-last s l q e = rw (ne-eqb (x .status) annihilated there, ← tested, works, le-leb fall k late, ← q, e, s)
+
+        pub local-free : x .stable ≡ false → (l : Bool) → l ≡ lastRow x → l ≡ false → 0 ≡ localGuard k x
+        unfolding localGuard
+        local-free s l q e = rw (ne-eqb (x .status) annihilated there, ← tested, works, le-leb fall k late, ← q, e, s)
+
+  -- no refusal
+  pub local-falls : localGuard k x ≡ 0 → leb fall k and not (x .stable) and lastRow x ≡ false
+  unfolding localGuard
+  local-falls z =
+      let a = pick-zero (eqb (x .status) annihilated) 22 _ (omega arith) z in
+      let b = pick-zero (leb k fall and not (eqb (x .status) busy)) 23 _ (omega arith) (a .1) in
+      pick-zero (leb fall k and not (x .stable) and lastRow x) 28 0 (omega arith) (b .1) .0
+
+-- ---- 21 to 23
+
+module _ (x : Register) (t : ℕ) where
+  pub busy-unopened : x .opened ≤ t → 21 ≡ busyGuard x t
+  unfolding busyGuard
+  busy-unopened h = rw (le-leb (x .opened) t h)
+
+  module _ (opened : t < x .opened) where
+    pub busy-gone : rowAt (x .rows) t .status ≡ annihilated → 22 ≡ busyGuard x t
+    unfolding busyGuard
+    busy-gone e = rw (lt-leb (x .opened) t opened, eq-eqb (rowAt (x .rows) t .status) annihilated e)
+
+    module _ (there : rowAt (x .rows) t .status ≡ annihilated → ⊥) where
+      pub busy-idle : (rowAt (x .rows) t .status ≡ busy → ⊥) → 23 ≡ busyGuard x t
+      unfolding busyGuard
+      busy-idle n = rw (lt-leb (x .opened) t opened, ne-eqb (rowAt (x .rows) t .status) annihilated there, ne-eqb (rowAt (x .rows) t .status) busy n)
+
+      pub busy-free : rowAt (x .rows) t .status ≡ busy → 0 ≡ busyGuard x t
+      unfolding busyGuard
+      busy-free e = rw (lt-leb (x .opened) t opened, ne-eqb (rowAt (x .rows) t .status) annihilated there, eq-eqb (rowAt (x .rows) t .status) busy e)
+
+-- ---- 26, 27
+
+module _ (x : Register) where
+  pub crowded-full : x .messages ≤ x .waiting → 26 ≡ crowdedGuard x
+  unfolding crowdedGuard
+  crowded-full h = rw (le-leb (x .messages) (x .waiting) h)
+
+  module _ (room : x .waiting < x .messages) where
+    pub crowded-numbered : x .next ≡ lastNumber → 27 ≡ crowdedGuard x
+    unfolding crowdedGuard
+    crowded-numbered e = rw (lt-leb (x .messages) (x .waiting) room, eq-eqb (x .next) lastNumber e)
+
+    pub crowded-free : (x .next ≡ lastNumber → ⊥) → 0 ≡ crowdedGuard x
+    unfolding crowdedGuard
+    crowded-free n = rw (lt-leb (x .messages) (x .waiting) room, ne-eqb (x .next) lastNumber n)
+
+  -- no refusal
+  pub crowded-room : crowdedGuard x ≡ 0 → (x .waiting < x .messages) × (x .next ≡ lastNumber → ⊥)
+  unfolding crowdedGuard
+  crowded-room z =
+      let a = pick-zero (leb (x .messages) (x .waiting)) 26 _ (omega arith) z in
+      let b = pick-zero (eqb (x .next) lastNumber) 27 0 (omega arith) (a .1) in
+      (leb-false (x .messages) (x .waiting) (a .0), eqb-false (x .next) lastNumber (b .0))
+
+-- ---- a receipt
+
+module _ (x : Register) (m : Slot) where
+  abbrev status : ℕ
+  status = rowAt (x .rows) (m .addressee) .status
+
+  pub receipt-missing : m .missing ≡ true → 24 ≡ receiptGuard x m
+  unfolding receiptGuard
+  receipt-missing e = rw e
+
+  module _ (waits : m .missing ≡ false) where
+    pub receipt-gone : status ≡ annihilated → 22 ≡ receiptGuard x m
+    unfolding receiptGuard
+    receipt-gone e = rw (waits, eq-eqb status annihilated e)
+
+    module _ (there : status ≡ annihilated → ⊥) where
+      pub receipt-busy : (status ≡ ready → ⊥) → 23 ≡ receiptGuard x m
+      unfolding receiptGuard
+      receipt-busy n = rw (waits, ne-eqb status annihilated there, ne-eqb status ready n)
+
+      pub receipt-free : status ≡ ready → 0 ≡ receiptGuard x m
+      unfolding receiptGuard
+      receipt-free e = rw (waits, ne-eqb status annihilated there, eq-eqb status ready e)
+
+  -- no refusal
+  pub receipt-waits : receiptGuard x m ≡ 0 → m .missing ≡ false
+  unfolding receiptGuard
+  receipt-waits z = pick-zero (m .missing) 24 _ (omega arith) z .0
+
+-- 28
+module _ (x : Row) (d f : Bool) where
+  pub falls-not : d ≡ false → f ≡ false → false ≡ not d and f and lastRow x
+  falls-not e q = rw (e, q)
+
+  pub falls-is : d ≡ false → f ≡ true → (l : Bool) → l ≡ lastRow x → l ≡ not d and f and lastRow x
+  falls-is e q l h = rw (e, q) h
+
+-- ---- a signing
+
+module _ (number n : ℕ) (x : Row) where
+  pub blocks-gone : number ≡ 22 → eqb (x .status) annihilated ≡ rowBlocks number n x
+  unfolding rowBlocks
+  blocks-gone e = rw e
+
+  pub blocks-full : number ≡ 30 → leb n (x .checkpoints) ≡ rowBlocks number n x
+  unfolding rowBlocks
+  blocks-full e = rw e
+
+  pub blocks-loose : (number ≡ 22 → ⊥) → (number ≡ 30 → ⊥) → not (x .stable) ≡ rowBlocks number n x
+  unfolding rowBlocks
+  blocks-loose a b = rw (ne-eqb number 22 a, ne-eqb number 30 b)
+
+-- after t turns no named take blocks
+pub record Unblocked (x : Register) (g number t : ℕ) : Type 0 where
+  pub within : t ≤ groupBits
+  pub none : any t (λ u. named g u and rowBlocks number (x .checkpoints) (rowAt (x .rows) u)) ≡ false
+
+pub unblocked-first : (x : Register) (g number : ℕ) → Unblocked x g number 0
+unblocked-first x g number = record { within = omega arith; none = any-none _ }
+
+module _ {x : Register} {g number t : ℕ} (u : Unblocked x g number t) where
+  pub unblocked-end : groupBits ≤ t → false ≡ groupBlocked x g number
+  unfolding groupBlocked anyNamed
+  unblocked-end h =
+      let w = u .within in
+      let e : t ≡ groupBits = omega arith in
+      sym (subst (λ (i : ℕ). any i (λ u. named g u and rowBlocks number (x .checkpoints) (rowAt (x .rows) u)) ≡ false) e (u .none))
+
+  module _ (below : t < groupBits) where
+    pub unblocked-unnamed : named g t ≡ false → Unblocked x g number (t + 1)
+    unblocked-unnamed o = record { within = omega arith; none = any-more (λ u. named g u and rowBlocks number (x .checkpoints) (rowAt (x .rows) u)) t (u .none) (rw o) }
+
+    module _ (name : named g t ≡ true) (b : Bool) (tested : b ≡ rowBlocks number (x .checkpoints) (rowAt (x .rows) t)) where
+      pub unblocked-found : b ≡ true → true ≡ groupBlocked x g number
+      unfolding groupBlocked anyNamed
+      unblocked-found e = sym (any-on (λ u. named g u and rowBlocks number (x .checkpoints) (rowAt (x .rows) u)) groupBits t below (rw (name, ← tested) e))
+
+      pub unblocked-more : b ≡ false → Unblocked x g number (t + 1)
+      unblocked-more e = record { within = omega arith; none = any-more (λ u. named g u and rowBlocks number (x .checkpoints) (rowAt (x .rows) u)) t (u .none) (rw (name, ← tested) e) }
+
+module _ (x : Register) (g : ℕ) where
+  pub group-empty : g ≡ 0 → 29 ≡ groupGuard x g
+  unfolding groupGuard
+  group-empty e = rw (eq-eqb g 0 e)
+
+  module _ (names : g ≡ 0 → ⊥) (a : Bool) (opened : a ≡ anyNamed g (leb (x .opened))) where
+    pub group-unopened : a ≡ true → 21 ≡ groupGuard x g
+    unfolding groupGuard
+    group-unopened e = rw (ne-eqb g 0 names, ← opened, e)
+
+    module _ (off : a ≡ false) (b : Bool) (there : b ≡ groupBlocked x g 22) where
+      pub group-gone : b ≡ true → 22 ≡ groupGuard x g
+      unfolding groupGuard
+      group-gone e = rw (ne-eqb g 0 names, ← opened, off, ← there, e)
+
+      module _ (none : b ≡ false) (c : Bool) (full : c ≡ groupBlocked x g 30) where
+        pub group-full : c ≡ true → 30 ≡ groupGuard x g
+        unfolding groupGuard
+        group-full e = rw (ne-eqb g 0 names, ← opened, off, ← there, none, ← full, e)
+
+        pub group-free : c ≡ false → 0 ≡ groupGuard x g
+        unfolding groupGuard
+        group-free e = rw (ne-eqb g 0 names, ← opened, off, ← there, none, ← full, e)
+
+  -- no refusal: every named take can be signed once more
+  pub group-room : g < bound 2 → x .checkpoints < 256 → groupGuard x g ≡ 0 → Room g (x .rows)
+  unfolding groupGuard groupBlocked rowBlocks Fits bound
+  group-room bits most z = record {
+    fits = λ t n.
+        let a = pick-zero (eqb g 0) 29 _ (omega arith) z in
+        let b = pick-zero (anyNamed g (leb (x .opened))) 21 _ (omega arith) (a .1) in
+        let c = pick-zero (groupBlocked x g 22) 22 _ (omega arith) (b .1) in
+        let d = pick-zero (groupBlocked x g 30) 30 0 (omega arith) (c .1) in
+        ⊎-elim
+        (λ (h : t < groupBits). let k = leb-false (x .checkpoints) (rowAt (x .rows) t .checkpoints) (named-at g (λ t. leb (x .checkpoints) (rowAt (x .rows) t .checkpoints)) t (d .0) h n) in omega arith)
+        (λ (h : groupBits ≤ t). never (sym n ∙ named-past g t groupBits bits h))
+        (sides t groupBits);
+  }

@@ -1,0 +1,4 @@
+mod Checkpointing
+pub mod Guarding
+mod Rows
+pub mod Views

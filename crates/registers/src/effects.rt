@@ -1,0 +1,149 @@
+// What steps do to one transactor.
+use chains::rows::Row;
+use chains::rows::RowEffect;
+use image::limits;
+use rules::numbers;
+ghost use mathlib.Core.Path.{_≡_};
+ghost use mathlib.Core.Bool.{false, not};
+ghost use Prim.Native.Nat.{_<_, _≤_};
+ghost use lib.Dec.{leb};
+ghost use Rattle.octets.specs.Bytes.{_and_};
+ghost use Rattle.rules.specs.Step.{read, fall};
+ghost use Rattle.chains.specs.Internal.Tables.{rowStays, rollbackRow, localRow, receiveRow};
+ghost use Rattle.registers.specs.Internal.Register.{checkpointedRow, Fits};
+ghost use Rattle.registers.specs.Internal.Guards.{lastRow};
+
+// A transactor not opened; one that is gone differs in the status.
+pub const UNUSED: Row = Row {
+    status: numbers::UNUSED,
+    stable: false,
+    checkpoints: 0,
+    incarnation: 0,
+    value: 0,
+    saved: 0,
+};
+
+// 28: whether it has been checkpointed and is at the largest incarnation number.
+pub fn is_last(x: Row) -> bool
+    ensures { λ r. ⌜ r ≡ lastRow x ⌝ }
+{
+    if x.checkpoints == 0 {
+        return false;
+    }
+    limits::LAST <= x.incarnation
+}
+
+fn stays(outcome: u8, row: Row) -> RowEffect
+    ensures { λ r. ⌜ r ≡ rowStays outcome row ⌝ }
+{
+    RowEffect {
+        outcome,
+        value: 0,
+        row,
+    }
+}
+
+// Never checkpointed, it is gone; else the next incarnation with the saved value.
+fn rollback(x: Row) -> RowEffect
+    requires { ⌜ lastRow x ≡ false ⌝ }
+    ensures { λ r. ⌜ r ≡ rollbackRow x ⌝ }
+{
+    if x.checkpoints == 0 {
+        let mut gone = UNUSED;
+        gone.status = numbers::ANNIHILATED;
+        return stays(numbers::VANISHED, gone);
+    }
+    stays(
+        numbers::FALLEN_BACK,
+        Row {
+            status: numbers::READY,
+            stable: false,
+            checkpoints: x.checkpoints,
+            incarnation: x.incarnation + 1,
+            value: x.saved,
+            saved: x.saved,
+        },
+    )
+}
+
+// Kinds 5 to 8.
+fn work(mut x: Row, kind: u8, value: u32) -> RowEffect
+    requires { ⌜ (read ≤ kind) × (kind < fall) ⌝ }
+    ensures { λ r. ⌜ r ≡ localRow kind value x ⌝ }
+{
+    if kind == numbers::READ {
+        return RowEffect {
+            outcome: numbers::DONE,
+            value: x.value,
+            row: x,
+        };
+    }
+    if kind == numbers::WRITE {
+        if x.stable {
+            return stays(numbers::HELD, x);
+        }
+        x.value = value;
+        return stays(numbers::DONE, x);
+    }
+    if kind == numbers::FREEZE {
+        x.stable = true;
+        return stays(numbers::DONE, x);
+    }
+    x.status = numbers::READY;
+    stays(numbers::DONE, x)
+}
+
+// Kinds 5 to 10.
+pub fn local(mut x: Row, kind: u8, value: u32) -> RowEffect
+    requires { ⌜ (read ≤ kind) × (leb fall kind and not (x .stable) and lastRow x ≡ false) ⌝ }
+    ensures { λ r. ⌜ r ≡ localRow kind value x ⌝ }
+{
+    if kind < numbers::FALL {
+        return work(x, kind, value);
+    }
+    if !x.stable {
+        return rollback(x);
+    }
+    if kind != numbers::FALL {
+        return stays(numbers::HELD, x);
+    }
+    x.status = numbers::READY;
+    stays(numbers::HELD, x)
+}
+
+// The receipt of a message.
+pub fn receive(mut x: Row, dropped: bool, falls: bool, content: u32) -> RowEffect
+    requires { ⌜ not dropped and falls and lastRow x ≡ false ⌝ }
+    ensures { λ r. ⌜ r ≡ receiveRow dropped falls content x ⌝ }
+{
+    if dropped {
+        return stays(numbers::DROPPED, x);
+    }
+    if falls {
+        return rollback(x);
+    }
+    x.status = numbers::BUSY;
+    RowEffect {
+        outcome: numbers::DONE,
+        value: content,
+        row: x,
+    }
+}
+
+// Checkpointed, if it is named.
+pub fn checkpointed(x: Row, named: bool) -> Row
+    requires { ⌜ Fits named x ⌝ }
+    ensures { λ r. ⌜ r ≡ checkpointedRow named x ⌝ }
+{
+    if !named {
+        return x;
+    }
+    Row {
+        status: numbers::READY,
+        stable: false,
+        checkpoints: x.checkpoints + 1,
+        incarnation: 0,
+        value: x.value,
+        saved: x.value,
+    }
+}

@@ -1,0 +1,3 @@
+mod Applied
+pub mod Outcomes
+mod Refused
