@@ -1,7 +1,7 @@
 -- What the two calls answer and leave, test by test.
 use Prim.Native.Nat.{ℕ}
-use mathlib.Core.Bool.{Bool, true, false, not}
-use mathlib.Core.Path.{_≡_, refl, ap, sym, _∙_}
+use mathlib.Core.Bool.{true, false}
+use mathlib.Core.Path.{_≡_, refl, sym, _∙_}
 use mathlib.Core.List.{List}
 use lib.Dec.{eqb}
 use lib.ListN.{length}
@@ -10,7 +10,7 @@ use Rattle.octets.specs.Bytes.{put, Octets}
 use Rattle.octets.proofs.Put.{put-whole}
 use Rattle.rules.specs.Layout.{narrow, base, imageBytes}
 use Rattle.rules.specs.Form.{wellFormed}
-use Rattle.rules.specs.Convert.{forward, back, tooWide, forwardAnswer, forwardImage, backAnswer, backImage}
+use Rattle.rules.specs.Convert.{forward, tooWide, forwardAnswer, forwardImage, backAnswer, backImage}
 use Rattle.rules.specs.Internal.Recast.{recast, widened}
 use Rattle.rules.proofs.Convert.Recast.{length-widened, widened-forward, widened-formed, back-recast}
 

@@ -8,7 +8,7 @@ use native.Mathlib.Omega.{arith}
 use lib.ListN.{length, drop, replicate, length-append}
 use Rattle.octets.specs.Bytes.{put, part, chunks, allZero}
 use Rattle.octets.proofs.Put.{put-behind, put-whole, part-part, length-part, length-put}
-use Rattle.octets.proofs.Chunks.{step, chunks-same, chunks-add, put-none}
+use Rattle.octets.proofs.Chunks.{step, chunks-same, chunks-add}
 use Rattle.octets.proofs.Runs.{lengths, put-next, zero-behind}
 use Rattle.marks.specs.Packed.{historySize}
 use Rattle.maps.specs.Packed.{entryBytes}

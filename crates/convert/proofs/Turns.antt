@@ -1,15 +1,15 @@
 -- The loops over the numbers of one history: what they have put after i turns.
 use Prim.Native.Nat.{ℕ, _+_, _*_, _/_, _%_, _≤_, _<_, _-_}
 use mathlib.Core.Bool.{true}
-use mathlib.Core.Path.{_≡_, refl, ap, sym, _∙_, subst}
+use mathlib.Core.Path.{_≡_, refl, ap, sym, _∙_}
 use mathlib.Core.List.{List, [], _∷_, _++_}
 use native.Mathlib.Omega.{arith}
-use lib.ListN.{length, getD, set, drop, length-append}
-use Rattle.octets.specs.Bytes.{put, part, chunks, zeros, allZero, Octets}
+use lib.ListN.{length, getD, set, drop}
+use Rattle.octets.specs.Bytes.{put, part, chunks, allZero, Octets}
 use Rattle.octets.specs.Numbers.{be, ofBe}
-use Rattle.octets.proofs.Put.{put-part, put-append, put-behind, put-one, part-one, part-part, length-part, length-put, drop-put, getD-part, getD-put-after, octet}
-use Rattle.octets.proofs.Numbers.{length-be, be-one, put-be-one, ofBe-first}
-use Rattle.octets.proofs.Zero.{zeros-is, allZero-at, allZero-drop, allZero-part, allZero-past}
+use Rattle.octets.proofs.Put.{put-part, put-behind, put-one, part-one, part-part, length-part, length-put, getD-part, getD-put-after, octet}
+use Rattle.octets.proofs.Numbers.{length-be, put-be-one, ofBe-first}
+use Rattle.octets.proofs.Zero.{allZero-part, allZero-past}
 use Rattle.octets.proofs.Chunks.{length-chunks, put-more}
 use Rattle.octets.proofs.Runs.{zero-at}
 use Rattle.marks.specs.Packed.{loadNumberAt}

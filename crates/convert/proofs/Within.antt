@@ -7,13 +7,13 @@ use native.Mathlib.Omega.{arith}
 use native.Mathlib.Numerals.{add-one}
 use lib.Bits.{bitOr}
 use lib.Dec.{eqb, leb}
-use lib.ListN.{length, getD}
+use lib.ListN.{getD}
 use borrow.Author.Tests.{le-leb, lt-leb, eq-eqb, ne-eqb}
-use Rattle.octets.specs.Bytes.{_and_, _or_, part, every, Octets}
+use Rattle.octets.specs.Bytes.{_and_, part, every, Octets}
 use Rattle.octets.proofs.Put.{getD-part, octets-part}
 use Rattle.octets.proofs.Zero.{or-zero}
 use Rattle.marks.specs.Packed.{presentIn}
-use Rattle.rules.specs.Layout.{Layout, base, widest, stateAt, dependencesAt, transactorAddress, messageAddress}
+use Rattle.rules.specs.Layout.{base, widest, stateAt, dependencesAt, transactorAddress, messageAddress}
 use Rattle.rules.specs.Pack.{waitingIn, unpack}
 use Rattle.rules.specs.Convert.{largestNarrow, limitsAre, stateWithin, tooWide}
 use Rattle.rules.specs.Internal.HighBytes.{entryWithin, entriesWithin}

@@ -13,7 +13,7 @@ use Rattle.octets.proofs.Tests.{or-none}
 use Rattle.octets.proofs.Chunks.{sides, length-tabulate, getD-tabulate, tabulate-same, tabulate-getD}
 use Rattle.octets.proofs.Zero.{every-all, every-at}
 use Rattle.marks.specs.declared.History.{History}
-use Rattle.marks.specs.History.{initialHistory, newerOf, isOlder}
+use Rattle.marks.specs.History.{initialHistory, isOlder}
 use Rattle.marks.proofs.Histories.{Newer, newer-view, newer-idem, newer-older}
 use Rattle.maps.specs.declared.DependenceMap.{DependenceMap}
 use Rattle.maps.specs.Map.{heldAt, historyAt, emptyMap, withEntry, singleton, isEmpty, joinedHistory, choosesRight, joinedHeldAt, joinedHistoryAt, joinOf}

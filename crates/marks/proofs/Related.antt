@@ -2,11 +2,11 @@
 use Prim.Native.Nat.{ℕ, suc, _≤_, _<_}
 use mathlib.Core.Bool.{Bool, true, false, false≢true}
 use mathlib.Core.Path.{_≡_, refl, ap, sym, _∙_}
-use mathlib.Core.List.{List, [], _∷_, _++_}
+use mathlib.Core.List.{List, _∷_, _++_}
 use mathlib.Core.Logic.{_⊎_, inl, inr, _↔_, ⊎-elim}
 use native.Mathlib.Omega.{arith}
 use lib.Dec.{eqb, ltb}
-use lib.ListN.{length, drop, getD, length-append}
+use lib.ListN.{length, drop, length-append}
 use borrow.Author.Tests.{ltb-true, ltb-false, eqb-true, eqb-false}
 use Rattle.octets.specs.Bytes.{pick}
 use Rattle.octets.proofs.Zero.{both}
@@ -15,7 +15,7 @@ use Rattle.marks.specs.declared.Relation.the-variants.{Same, LeftCheckpo
 use Rattle.marks.specs.Incarnation.{Incarnation, sameList, beginsWith, strictPrefix, supersededBy, checkpointedIn, sameIncarnation, Superseded, lower, passed, Checkpointed, begins}
 use Rattle.marks.specs.Relation.{turned, byNumbers, byNextEntry, nextEntry, relationOf, isSame, isLeftCheckpointed, isLeftSuperseded, isUnrelated}
 use Rattle.marks.proofs.Trail.{Along, clash, there, places, Precedes}
-use Rattle.marks.proofs.Order.{checkpointed-precedes, superseded-precedes, precedes-eq, precedes-size, precedes-antisym, precedes-split, under-split, comparable, superseded-not-checkpointed, superseded-ne, checkpointed-ne}
+use Rattle.marks.proofs.Order.{checkpointed-precedes, superseded-precedes, precedes-eq, precedes-size, precedes-antisym, comparable, superseded-not-checkpointed, superseded-ne, checkpointed-ne}
 use Rattle.marks.proofs.Tests.{not-test, sameList-test, strict-to, strict-of, superseded-test, checkpointed-test, same-test}
 
 -- ---- what each answer means

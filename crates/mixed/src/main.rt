@@ -8,7 +8,7 @@
 use image::layout::IMAGE;
 use libc::STDIN_FILENO;
 use libc::STDOUT_FILENO;
-ghost use Prim.Native.Nat.{_≤_, _<_};
+ghost use Prim.Native.Nat.{_<_};
 
 // Bytes and steps of a part, parts of a session, parts, and bytes of them all.
 const PART: usize = 2000;

@@ -1,7 +1,7 @@
 -- Repeated offers (document 02, W2) on a layout of one take: two rounds, computed by the definitions. So the hypotheses of
 -- `InOrder.rounds-in-order` can be met, and by more than bare offers and receipts.
 use Prim.Native.Nat.{ℕ, zero, suc, _+_, _*_, _^_, _≤_, _<_}
-use mathlib.Core.Bool.{Bool, true, false}
+use mathlib.Core.Bool.{true}
 use mathlib.Core.Path.{_≡_, refl}
 use mathlib.Core.List.{List, [], _∷_, _++_}
 use mathlib.Core.Option.{some}
@@ -11,7 +11,7 @@ use Rattle.octets.specs.Bytes.{put, part, chunks, tabulate, zeros, allZero, eve
 use Rattle.octets.specs.Numbers.{be, ofBe}
 use Rattle.octets.proofs.Put.{octets-append}
 use Rattle.octets.proofs.Numbers.{octets-be}
-use Rattle.marks.specs.Incarnation.{sameList, beginsWith, strictPrefix, supersededBy, checkpointedIn, sameIncarnation}
+use Rattle.marks.specs.Incarnation.{sameList, beginsWith, strictPrefix, supersededBy}
 use Rattle.marks.specs.Relation.{byNumbers, byNextEntry, relationOf}
 use Rattle.marks.specs.History.{newerOf}
 use Rattle.marks.specs.News.{showsStable, informed}
@@ -25,9 +25,9 @@ use Rattle.rules.specs.Step.{unpackStep, stepAt, packReply}
 use Rattle.rules.specs.Pack.{packTransactor, packMessage, packTransactorAt, packMessageAt, packHead, packLimits, packFront, pack, unpackTransactor, unpackMessage, transactorPart, messagePart, unpackTransactorAt, unpackMessageAt, vacantAt, waitingIn, unpackLimits, unpack}
 use Rattle.rules.specs.Form.{limitsZero, mapFormed, transactorZeros, messageZeros, statusRight, ownHeld, savedRight, readyRight, annihilatedRight, noGap, inOrder, numberRight, addresseeRight, wellFormed}
 use Rattle.rules.specs.Refusals.{named, anyNamed, malformed, notWaiting, emptyGroup, unopened, isGone, wrongStatus, unrelatedReceipt, allOpened, allWaiting, allNumbered, allCheckpointed, atLast, lastRollsBack, refusalOf}
-use Rattle.rules.specs.Rules.{messageUnrelated, receiptUnrelated, rollback, readBy, writeBy, freezeBy, finishBy, fallBy, failBy, localBy, messageSuperseded, receiverSuperseded, receiveBy, receiptRollsBack, seen, refusal, opened, applyRoot, applyLetter, applyReceive, applyLocal, applyLose, apply, stepOf, carried}
+use Rattle.rules.specs.Rules.{messageUnrelated, receiptUnrelated, rollback, readBy, writeBy, freezeBy, finishBy, fallBy, failBy, localBy, messageSuperseded, receiverSuperseded, receiveBy, receiptRollsBack, seen, refusal, opened, applyRoot, applyLetter, applyReceive, applyLocal, applyLose, apply, stepOf}
 use Rattle.rules.specs.Calls.{stateAfter, replyAt, beginAnswer, freshImage, beginImage, wrongPart, runAnswer, ranImage, ranReplies, runImage, runReplies, stepsIn, queryRefusal, WaitsFor, Offers, waiting}
-use Rattle.rules.specs.InOrder.{Spares, Receives, Sparing, none, one-more, Received, run, Rounds, no-round, round}
+use Rattle.rules.specs.InOrder.{Spares, Sparing, none, one-more, Received, run, Rounds, no-round, round}
 use Rattle.rules.proofs.InOrder.{spares-refused, spares-other}
 
 -- one take and four parcels, of which the session allows three

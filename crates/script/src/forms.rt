@@ -1,7 +1,7 @@
 // The table of operations: five bytes each, of which the last is a space.
 use crate::bytes::get;
 use crate::numbers;
-ghost use Prim.Native.Nat.{_≤_, _<_};
+ghost use Prim.Native.Nat.{_<_};
 
 // Whether the row at i is that of the letter op with so many numbers.
 fn matches(forms: &[u8], i: usize, op: u8, count: u8) -> bool

@@ -1,16 +1,16 @@
 -- Offer and smallest_group have an answer on every image that holds a state related to a book.
 use Prim.Native.Nat.{ℕ, zero, suc, _+_, _^_, _≤_, _<_}
-use mathlib.Core.Bool.{Bool, true, false, true≢false, false≢true}
+use mathlib.Core.Bool.{Bool, true, false, false≢true}
 use mathlib.Core.Path.{_≡_, refl, ap, sym, _∙_, subst}
 use mathlib.Core.List.{List}
-use mathlib.Core.Logic.{_⊎_, inl, inr, ⊎-elim, _↔_}
+use mathlib.Core.Logic.{_⊎_, inl, inr, ⊎-elim}
 use mathlib.Core.Option.{Option, none, some}
 use native.Mathlib.Decide.{ℕ-discrete, decLe, decLt}
 use native.Mathlib.Nat.{pow-le-pow-right}
 use native.Mathlib.Omega.{arith}
 use lib.Dec.{eqb, leb}
 use lib.ListN.{length}
-use borrow.Author.Tests.{eqb-true, eqb-false, eq-eqb, ne-eqb}
+use borrow.Author.Tests.{eq-eqb, ne-eqb}
 use Rattle.octets.specs.Bytes.{pick, _and_, _or_}
 use Rattle.octets.specs.Numbers.{bound}
 use Rattle.octets.proofs.Chunks.{cases}
@@ -21,12 +21,12 @@ use Rattle.marks.specs.History.{HistoryView}
 use Rattle.rules.specs.Layout.{Layout}
 use Rattle.rules.specs.Status.{annihilated}
 use Rattle.rules.specs.State.{State, messageAt}
-use Rattle.rules.specs.Step.{sign, done, notReady}
+use Rattle.rules.specs.Step.{done, notReady}
 use Rattle.rules.specs.Refusals.{Seen, groupBits, named, anyNamed, malformed, notWaiting, emptyGroup, unopened, isGone, wrongStatus, unrelatedReceipt, allOpened, allWaiting, allNumbered, allCheckpointed, lastRollsBack, refusalOf}
-use Rattle.rules.specs.Rules.{Result, seen, refusal, groupReady, applySign, answer, stepOf}
+use Rattle.rules.specs.Rules.{Result, seen, refusal, groupReady, applySign, stepOf}
 use Rattle.rules.specs.Pack.{unpack}
 use Rattle.rules.specs.Internal.Well.{WellFormed}
-use Rattle.rules.specs.Calls.{queryRefusal, WaitsFor, LowestFor, Offers}
+use Rattle.rules.specs.Calls.{queryRefusal, Offers}
 use Rattle.rules.specs.Calls as offering
 use Rattle.rules.specs.Groups.{signing, Checkpointable, Within, Smallest}
 use Rattle.rules.specs.Groups as grouping
@@ -38,7 +38,7 @@ use Rattle.session.proofs.Model.{own, view}
 use Rattle.session.proofs.Tables.{pick-view, and-of}
 use Rattle.session.proofs.Accepted.{named-within, named-below}
 use Rattle.session.proofs.Sign.{EntryReady, Ready}
-use Rattle.session.proofs.ViewStep.{readyAt, ready-at, ready-same}
+use Rattle.session.proofs.ViewStep.{ready-at, ready-same}
 use Rattle.session.proofs.Step.{apply-sign}
 
 -- ---- offer: the lowest number among the parcels that wait for the take

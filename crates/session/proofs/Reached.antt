@@ -19,7 +19,7 @@ use Rattle.session.specs.Trace.{Trace, callsOf}
 use Rattle.session.proofs.Model.{Ledger, view}
 use Rattle.session.proofs.Relation.{present, Whole, Rel, whole-known}
 use Rattle.session.proofs.Relation as relation
-use Rattle.session.proofs.Sign.{Settled, checkpointedNow-of, checkpointedNow-to, own-has, own-uncheckpointed, settled-equal}
+use Rattle.session.proofs.Sign.{checkpointedNow-of, checkpointedNow-to, own-has, own-uncheckpointed, settled-equal}
 use Rattle.session.proofs.Unique.{provenance-unique, right-provenance, steps-determined}
 use Rattle.session.proofs.Run.{run-right, steps-provenance}
 use Rattle.session.proofs.Demand3.{grown}

@@ -1,5 +1,5 @@
 -- Showing a message: what is shown of it is its map, packed.
-use Prim.Native.Nat.{ℕ, _+_, _<_}
+use Prim.Native.Nat.{ℕ, _<_}
 use mathlib.Core.Bool.{true, not}
 use mathlib.Core.Path.{_≡_, sym, ap, _∙_, subst}
 use mathlib.Core.List.{List}
@@ -12,7 +12,7 @@ use Rattle.octets.proofs.Put.{length-part, octets-part}
 use Rattle.octets.proofs.Tests.{pick-zero}
 use Rattle.maps.specs.Packed.{unpackMap}
 use Rattle.maps.proofs.Packed.{pack-unpackMap}
-use Rattle.rules.specs.Layout.{Layout, imageBytes, messageBytes, dependencesAt, messageAddress, mapBytes}
+use Rattle.rules.specs.Layout.{Layout, imageBytes, messageBytes, dependencesAt, mapBytes}
 use Rattle.rules.specs.State.{messageAt, placeOf}
 use Rattle.rules.specs.Pack.{packDependences, messagePart, waitingIn, unpack}
 use Rattle.rules.specs.Form.{mapFormed, wellFormed}

@@ -1,20 +1,20 @@
 -- 32 is read off the first bytes of the numbers, mark by mark.
-use Prim.Native.Nat.{ℕ, zero, suc, _+_, _*_, _≤_, _<_}
-use mathlib.Core.Bool.{Bool, true, false, not}
-use mathlib.Core.Path.{_≡_, refl, ap, sym, _∙_}
+use Prim.Native.Nat.{ℕ, _+_, _*_, _≤_, _<_}
+use mathlib.Core.Bool.{Bool, true, not}
+use mathlib.Core.Path.{_≡_, ap, sym, _∙_}
 use mathlib.Core.List.{List}
 use native.Mathlib.Omega.{arith}
 use lib.Dec.{eqb, leb}
-use lib.ListN.{length, getD}
+use lib.ListN.{getD}
 use borrow.Author.Tests.{leb-true, le-leb, eqb-true, eq-eqb}
-use Rattle.octets.specs.Bytes.{pick, _and_, _or_, part, every, Octets}
+use Rattle.octets.specs.Bytes.{_and_, _or_, part, every, Octets}
 use Rattle.octets.specs.Numbers.{ofBe}
 use Rattle.octets.proofs.Tests.{same-test, and-assoc}
 use Rattle.octets.proofs.Put.{getD-part, octet}
 use Rattle.octets.proofs.Zero.{every-same}
 use Rattle.octets.proofs.Chunks.{getD-tabulate}
 use Rattle.octets.proofs.Runs.{every-add}
-use Rattle.marks.specs.Packed.{loadNumberAt, unpackHistory, presentIn}
+use Rattle.marks.specs.Packed.{loadNumberAt, unpackHistory}
 use Rattle.maps.specs.Map.{heldAt, historyAt}
 use Rattle.rules.specs.Layout.{Layout, historyBytes, mapBytes, stateAt, creationAt, behaviourAt, dependencesAt, transactorAddress, messageAddress}
 use Rattle.rules.specs.State.{transactorAt, messageAt}

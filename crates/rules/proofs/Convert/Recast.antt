@@ -9,8 +9,8 @@ use native.Mathlib.Nat.{zero-add}
 use lib.Dec.{ltb}
 use borrow.Author.Tests.{not-false}
 use lib.ListN.{length, getD, length-append}
-use Rattle.octets.specs.Bytes.{pick, _and_, part, chunks, tabulate, zeros, Octets}
-use Rattle.octets.specs.Numbers.{be, ofBe, bound}
+use Rattle.octets.specs.Bytes.{_and_, part, chunks, Octets}
+use Rattle.octets.specs.Numbers.{be, bound}
 use Rattle.octets.proofs.Tests.{same-test}
 use Rattle.octets.proofs.Put.{part-left, part-part, part-whole, length-part, getD-part, octets-part, octets-append}
 use Rattle.octets.proofs.Numbers.{be-one, octets-be}
@@ -19,13 +19,11 @@ use Rattle.octets.proofs.Chunks.{step, sides, tabulate-same, chunks-same, octet
 use Rattle.marks.specs.declared.History.{History}
 use Rattle.marks.specs.Packed.{historySize, packNumberAt, unpackHistory}
 use Rattle.marks.proofs.Packed.{packable-unpack}
-use Rattle.maps.specs.declared.DependenceMap.{DependenceMap}
-use Rattle.maps.specs.Map.{heldAt, historyAt}
-use Rattle.maps.specs.Packed.{entryBytes, unpackMap}
+use Rattle.maps.specs.Packed.{entryBytes}
 use Rattle.maps.proofs.Packed.{history-unpack}
-use Rattle.rules.specs.Layout.{Layout, Limits, limitsOf, widest, Fitting, mapBytes, stateAt, creationAt, behaviourAt, dependencesAt, transactorBytes, messageBytes, headBytes, limitsBytes, transactorAddress, messageAddress, imageBytes, narrow, base}
+use Rattle.rules.specs.Layout.{Layout, Limits, limitsOf, widest, Fitting, mapBytes, stateAt, creationAt, behaviourAt, dependencesAt, transactorBytes, messageBytes, headBytes, limitsBytes, transactorAddress, imageBytes, narrow, base}
 use Rattle.rules.specs.State.{State, transactorAt, messageAt, placeFrom}
-use Rattle.rules.specs.Pack.{packTransactor, packTransactorAt, packMessageAt, packHead, packLimits, packFront, pack, unpackTransactor, unpackMessage, unpackDependences, transactorPart, messagePart, unpackTransactorAt, unpackMessageAt, vacantAt, waitingIn, unpackLimits, unpack}
+use Rattle.rules.specs.Pack.{packTransactorAt, packMessageAt, packHead, packLimits, packFront, pack, unpackTransactor, unpackMessage, unpackDependences, transactorPart, messagePart, unpackTransactorAt, unpackMessageAt, vacantAt, waitingIn, unpackLimits, unpack}
 use Rattle.rules.specs.Form.{wellFormed}
 use Rattle.rules.specs.Internal.Well.{Packable, WellFormed}
 use Rattle.rules.proofs.Pack.Sizes.{length-pack, octets-pack, length-packHead, length-packLimits, length-packFront, octets-packLimits, length-packTransactorAt, length-packMessageAt}

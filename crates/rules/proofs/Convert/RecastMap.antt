@@ -1,25 +1,22 @@
 -- Marks and maps written in another width say the same, and back in the first width are the first bytes.
-use Prim.Native.Nat.{ℕ, zero, suc, _+_, _*_, _≤_, _<_}
-use mathlib.Core.Bool.{Bool, true, false}
+use Prim.Native.Nat.{ℕ, _+_, _*_, _≤_, _<_}
+use mathlib.Core.Bool.{Bool}
 use mathlib.Core.Path.{_≡_, refl, ap, sym, _∙_}
 use mathlib.Core.List.{List, _++_, append-assoc}
 use native.Mathlib.Omega.{arith}
-use native.Mathlib.Nat.{zero-add, add-zero, mul-zero, mul-suc}
-use mathlib.Core.Logic.{⊎-elim}
 use lib.ListN.{length, getD, length-append}
-use Rattle.octets.specs.Bytes.{part, chunks, tabulate, zeros, Octets}
+use Rattle.octets.specs.Bytes.{part, chunks, zeros, Octets}
 use Rattle.octets.specs.Numbers.{be, ofBe, bound}
-use Rattle.octets.proofs.Put.{part-left, part-right, part-part, part-add, part-whole, part-one, length-part, getD-part, octets-part, octets-append}
-use Rattle.octets.proofs.Numbers.{length-be, octets-be, be-zero, ofBe-be, be-ofBe, ofBe-bound}
-use Rattle.octets.proofs.Zero.{length-zeros, part-zeros, getD-zeros, zeros-append, chunks-zeros}
-use Rattle.octets.proofs.Chunks.{step, cases, chunks-suc, tabulate-same, getD-tabulate, chunks-same, length-chunks, part-chunks, chunks-parts, chunks-add, octets-chunks}
+use Rattle.octets.proofs.Put.{part-left, part-whole, length-part, getD-part, octets-part}
+use Rattle.octets.proofs.Numbers.{length-be, be-zero, ofBe-be, be-ofBe, ofBe-bound}
+use Rattle.octets.proofs.Zero.{part-zeros, getD-zeros, zeros-append, chunks-zeros}
+use Rattle.octets.proofs.Chunks.{step, tabulate-same, getD-tabulate, chunks-same, length-chunks, part-chunks, chunks-parts, chunks-add}
 use Rattle.octets.proofs.Runs.{joined, run-back, behind, further, lengths, part-of}
 use Rattle.marks.specs.declared.History.{History}
-use Rattle.marks.specs.History.{Roomy, initialHistory}
+use Rattle.marks.specs.History.{Roomy}
 use Rattle.marks.specs.Packed.{historySize, bit, packNumberAt, packHistory, loadNumberAt, unpackHistory, presentIn, Packable}
-use Rattle.marks.proofs.Packed.{length-packNumberAt, length-packHistory, unpack-packHistory, unpack-zeros}
+use Rattle.marks.proofs.Packed.{length-packNumberAt, unpack-packHistory, unpack-zeros}
 use Rattle.maps.specs.declared.DependenceMap.{DependenceMap}
-use Rattle.maps.specs.Map.{heldAt, historyAt}
 use Rattle.maps.specs.Packed.{mapSize, packEntry, packEntryAt, packMap, entryBytes, unpackHeldAt, unpackHistoryAt, unpackMap}
 use Rattle.maps.specs.Internal.Fitting.{EntryOk, present, absent, MapOk}
 use Rattle.maps.proofs.Packed.{entry-packMap}

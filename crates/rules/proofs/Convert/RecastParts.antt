@@ -1,16 +1,16 @@
 -- A take and a parcel written in another width; whether limits are stored does not matter to them.
-use Prim.Native.Nat.{ℕ, zero, suc, _+_, _*_, _/_, _%_, _≤_, _<_}
-use mathlib.Core.Bool.{Bool, true, false}
+use Prim.Native.Nat.{ℕ, _+_, _*_, _≤_}
+use mathlib.Core.Bool.{Bool}
 use mathlib.Core.Path.{_≡_, refl, ap, sym, _∙_}
 use mathlib.Core.List.{List, _++_}
 use native.Mathlib.Omega.{arith}
-use native.Mathlib.Nat.{zero-add, add-zero}
+use native.Mathlib.Nat.{zero-add}
 use lib.ListN.{length, getD, length-append}
-use Rattle.octets.specs.Bytes.{part, chunks, zeros, Octets}
-use Rattle.octets.specs.Numbers.{be, ofBe, bound}
+use Rattle.octets.specs.Bytes.{part, zeros, Octets}
+use Rattle.octets.specs.Numbers.{be, bound}
 use Rattle.octets.proofs.Put.{part-left, part-part, part-whole, length-part, getD-part, octets-part}
 use Rattle.octets.proofs.Numbers.{length-be}
-use Rattle.octets.proofs.Zero.{part-zeros, zeros-append, length-zeros}
+use Rattle.octets.proofs.Zero.{part-zeros, zeros-append}
 use Rattle.maps.specs.declared.DependenceMap.{DependenceMap}
 use Rattle.maps.specs.Packed.{packMap, unpackMap}
 use Rattle.maps.specs.Map.{emptyMap}
@@ -21,7 +21,7 @@ use Rattle.rules.specs.Pack.{packDependences, packTransactor, packMessag
 use Rattle.rules.specs.Internal.Well.{DependencesOk, TransactorOk, MessageOk}
 use Rattle.rules.specs.Internal.Widths.{resized}
 use Rattle.rules.specs.Internal.Recast.{recastMap, recastPart, recastTransactor, recastMessage}
-use Rattle.octets.proofs.Runs.{joined, behind, further}
+use Rattle.octets.proofs.Runs.{joined, behind}
 use Rattle.rules.proofs.Convert.RecastMap.{length-recastMap, unpack-recastMap, recastMap-back, recastMap-pack}
 
 -- ---- runs of two and of four

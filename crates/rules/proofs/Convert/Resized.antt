@@ -1,26 +1,25 @@
 -- A well-formed state is well-formed in every layout that has room for its numbers and its limits.
-use Prim.Native.Nat.{ℕ, suc, _+_, _≤_, _<_}
+use Prim.Native.Nat.{ℕ, _+_, _≤_, _<_}
 use mathlib.Core.Bool.{Bool, true, false, not}
-use mathlib.Core.Path.{_≡_, refl, sym, ap, _∙_}
+use mathlib.Core.Path.{_≡_, refl, sym, _∙_}
 use native.Mathlib.Omega.{arith}
 use lib.ListN.{length, getD}
 use lib.Dec.{leb}
 use borrow.Author.Tests.{leb-true, le-leb}
 use mathlib.Core.Logic.{⊎-elim}
-use Rattle.octets.specs.Bytes.{pick, _and_, _or_, every}
+use Rattle.octets.specs.Bytes.{_or_, every}
 use Rattle.octets.specs.Numbers.{bound}
 use Rattle.octets.proofs.Tests.{implied, implying, never}
 use Rattle.octets.proofs.Zero.{both, every-all, every-at}
 use Rattle.octets.proofs.Chunks.{sides}
 use Rattle.marks.specs.declared.History.{History}
 use Rattle.marks.specs.History.{Roomy}
-use Rattle.marks.specs.Packed.{Packable}
 use Rattle.maps.specs.declared.DependenceMap.{DependenceMap}
 use Rattle.maps.specs.Map.{heldAt, historyAt}
 use Rattle.maps.specs.Internal.Fitting.{EntryOk, present, absent, MapOk}
 use Rattle.rules.specs.Layout.{Layout, Limits, widest, Fitting}
 use Rattle.rules.specs.State.{Transactor, Message, State, transactorAt, messageAt}
-use Rattle.rules.specs.Internal.Well.{DependencesOk, TransactorOk, MessageOk, Packable as Storable, Alive, LimitsOk, stored, counted, Allowed, TransactorFormed, not-opened, gone, alive, WellFormed}
+use Rattle.rules.specs.Internal.Well.{TransactorOk, MessageOk, LimitsOk, stored, counted, Allowed, TransactorFormed, not-opened, gone, alive, WellFormed}
 use Rattle.rules.specs.Convert.{historyWithin, mapWithin, transactorWithin, messageWithin, stateWithin}
 use Rattle.rules.specs.Internal.Widths.{resized}
 use Rattle.rules.proofs.Ranges.{allowed-ok}

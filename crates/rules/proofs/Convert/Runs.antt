@@ -1,8 +1,8 @@
 -- W6 of steps: a session carried forward gives the replies that the old one would, as long as the old one gives no 28.
-use Prim.Native.Nat.{ℕ, zero, suc, _+_, _-_, _*_, _≤_, _<_}
-use mathlib.Core.Bool.{Bool, true, false, not}
+use Prim.Native.Nat.{ℕ, zero, suc, _-_, _*_, _≤_, _<_}
+use mathlib.Core.Bool.{Bool, true, false}
 use mathlib.Core.Path.{_≡_, refl, ap, sym, _∙_}
-use mathlib.Core.List.{List, _++_}
+use mathlib.Core.List.{List}
 use native.Mathlib.Omega.{arith}
 use lib.Dec.{eqb}
 use lib.ListN.{length, getD, length-append}
@@ -22,7 +22,7 @@ use Rattle.rules.specs.Pack.{pack, unpack}
 use Rattle.rules.specs.Form.{wellFormed}
 use Rattle.rules.specs.Internal.Well.{WellFormed}
 use Rattle.rules.specs.declared.Reply.{Reply}
-use Rattle.rules.specs.Calls.{wrongLength, wrongPart, stateAfter, replyAt, stepsIn, runAnswer, ranImage, ranReplies, runImage, runReplies}
+use Rattle.rules.specs.Calls.{stateAfter, replyAt, stepsIn, runAnswer, ranImage, ranReplies, runImage, runReplies}
 use Rattle.rules.proofs.Pack.RoundTrip.{unpack-pack}
 use Rattle.rules.proofs.Pack.Sizes.{length-pack, octets-pack}
 use Rattle.rules.proofs.Form.Packed.{formed-pack}

@@ -3,18 +3,16 @@ use Prim.Native.Nat.{ℕ, _≤_, _<_}
 use mathlib.Core.Bool.{Bool, true, false, not}
 use mathlib.Core.Path.{_≡_, refl, ap, sym, _∙_}
 use native.Mathlib.Omega.{arith}
-use native.Mathlib.Decide.{ℕ-discrete}
 use lib.Dec.{eqb, ltb, leb}
 use borrow.Author.Tests.{leb-false, lt-leb}
-use Rattle.octets.specs.Numbers.{bound}
 use Rattle.octets.specs.Bytes.{pick, _and_, _or_}
-use Rattle.octets.proofs.Tests.{or-off, never}
+use Rattle.octets.proofs.Tests.{or-off}
 use Rattle.rules.specs.Layout.{Layout, largest}
 use Rattle.rules.specs.State.{State}
 use Rattle.rules.specs.declared.Step.{Step}
 use Rattle.rules.specs.Step.{receive, fall, fail}
 use Rattle.rules.specs.Refusals.{Seen, malformed, notWaiting, emptyGroup, unopened, isGone, wrongStatus, unrelatedReceipt, allOpened, allWaiting, allNumbered, allCheckpointed, atLast, lastRollsBack, refusalOf}
-use Rattle.rules.specs.Rules.{messageSuperseded, receiverSuperseded, receiptRollsBack, messageUnrelated, receiptUnrelated, seen, refusal, rollback, carried, readBy, writeBy, finishBy, fallBy, failBy, localBy, receiveBy, mapReady, transactorReady, groupReady, checkpointBy, checkpointAt, checkpointGroup, applyRoot, applyLetter, applyReceive, applyNew, applySend, applyLocal, applySign, apply, stepOf, answer}
+use Rattle.rules.specs.Rules.{messageSuperseded, receiverSuperseded, receiptRollsBack, messageUnrelated, receiptUnrelated, seen, refusal, rollback, carried, readBy, writeBy, finishBy, fallBy, failBy, localBy, receiveBy, mapReady, transactorReady, groupReady, checkpointBy, checkpointAt, checkpointGroup, applyRoot, applyLetter, applyReceive, applyNew, applySend, applyLocal, applySign, apply, stepOf}
 use Rattle.rules.proofs.Keep.Step.{refused-same}
 use Rattle.rules.specs.Internal.Widths.{resized}
 

@@ -1,6 +1,6 @@
 -- After i turns the first i entries are joined, the others still the left map's; of those past the end the packed map holds none.
 use Prim.Native.Nat.{_+_, _-_, _≤_}
-use mathlib.Core.Path.{refl, sym, _∙_, subst}
+use mathlib.Core.Path.{sym, _∙_, subst}
 use mathlib.Core.Logic.{⊎-elim}
 use native.Mathlib.Omega.{arith}
 use Rattle.marks.specs.Packed.{width, places}
