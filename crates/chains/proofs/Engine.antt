@@ -41,7 +41,7 @@ use Rattle.rules.proofs.Keep.State.{well-fresh}
 use Rattle.session.proofs.Relation.{fresh-rel}
 use Rattle.session.proofs.ViewState.{view-fresh}
 use lib.ListN.{take, drop, take-append-drop, replicate, length-replicate, getD-replicate, List·getD-eq-default}
-use Rattle.session.specs.Provenance.{unused, blank, Provenance, emptyProvenance, find, isMissing}
+use Rattle.session.specs.Provenance.{unused, blank, Incarnations, Holder, WaitingMessage, Provenance, emptyProvenance, find, isMissing, anyEntry, supersededEntry, anySuperseded}
 use Rattle.session.specs.Grounds.{Equal}
 use Rattle.session.specs.Steps.{isDropped, isRolledBack, provenanceRefusal}
 use Rattle.session.proofs.Model.{own, view}
@@ -91,6 +91,21 @@ module _ (r : Reply) (ok : ReplyOk r) where
   unfolding unpackTold
   told-packed = λ i. record { outcome = first-two .0 i; transactor = first-two .1 i; message = (ap (ofBe 2) number-part ∙ ofBe-be 2 (r .message) (ok .message)) i }
 
+-- ---- a parcel without a life
+
+any-none : (zs : Incarnations) → anyEntry (λ x. anyEntry (supersededEntry x) []) zs ≡ false
+unfolding anyEntry
+any-none [] = refl
+any-none (z ∷ zs) = any-none zs
+
+dropped-none : (h : Holder) (q : WaitingMessage) → q .incarnations ≡ [] → isDropped h q ≡ false
+unfolding isDropped anySuperseded anyEntry
+dropped-none h q e = rw e
+
+rolledBack-none : (h : Holder) (q : WaitingMessage) → q .incarnations ≡ [] → isRolledBack h q ≡ false
+unfolding isRolledBack anySuperseded
+rolledBack-none h q e = ap (λ (X : Incarnations). anyEntry (λ x. anyEntry (supersededEntry x) X) (h .state ++ h .creation)) e ∙ any-none (h .state ++ h .creation)
+
 -- ---- every list of steps from a fresh session
 
 fresh-tells : (y : Layout) (m : Limits) → Tells (emptyProvenance m) (fresh y m) (freshTables m)
@@ -106,7 +121,7 @@ fresh-tells y m = record {
       (λ (h : y .transactors ≤ t). subst (λ x. RowRel (blank unused) x (emptyRow state.unused)) (sym (List·getD-eq-default (replicate (y .transactors) (bare y state.unused)) noTransactor {n = t} (rw length-replicate h)))
       (record { status = refl; stable = refl; checkpoints = refl; incarnation = refl; value = refl; saved = refl }))
       (sides t (y .transactors));
-  messages = λ n. record { missing = refl; addressee = refl; content = refl };
+  messages = λ n. record { missing = refl; addressee = refl; content = refl; letter = λ e. refl };
 }
 
 pub reply-long : (y : Layout) (s : State) (steps : List ℕ) (k : ℕ) → length (replyAt y s steps k) ≡ stepBytes
@@ -261,6 +276,18 @@ module _ (y : Layout) (m : Limits) (z : Fitting y) (range : inRange y m ≡ true
   replies-fit-bytes i =
       let h = from-fresh i in
       subst ReplyOk (sym (step-is z well rel steps octets i (x i .replies) (x i .tables) (all-taken z well rel steps octets i (x i .replies) (h .replies)) (h .tells) .reply)) (replies-fit z well steps octets i)
+
+  -- The receipt of a letter rests on no chain: it is not dropped, and nobody falls.
+  pub letter-walks : (i : ℕ) → engineAfter y m steps i .tables .messages (stepAt steps i .message) .letter ≡ true
+      → (receiptWalk (engineAfter y m steps i .tables) steps (engineAfter y m steps i .replies) i (stepAt steps i .message) .leftSuperseded ≡ false)
+      × (receiptWalk (engineAfter y m steps i .tables) steps (engineAfter y m steps i .replies) i (stepAt steps i .message) .rightSuperseded ≡ false)
+  letter-walks i e =
+      let h = from-fresh i in
+      let so-far = all-taken z well rel steps octets i (x i .replies) (h .replies) in
+      let none = h .tells .messages (stepAt steps i .message) .letter e in (
+        drops z well rel steps octets i (x i .replies) (x i .tables) so-far (h .tells) ∙ dropped-none _ _ none,
+        rolls z well rel steps octets i (x i .replies) (x i .tables) so-far (h .tells) ∙ rolledBack-none _ _ none,
+      )
 
   -- For every layout and limits, every list of steps from a fresh image: the engine replies what the ledger does. It is the ledger's
   -- run that stands on the right, by the definition that the contract of run cites.

@@ -5,14 +5,14 @@ use mathlib.Core.Path.{_≡_, refl, ap, sym, _∙_}
 use mathlib.Core.List.{List}
 use native.Mathlib.Nat.{div-one}
 use native.Mathlib.Omega.{arith}
-use lib.Bits.{bitAnd, bitOr}
+use lib.Bits.{bitAnd, bitOr, and-zero-l, and-zero-r, or-zero-r, xor-zero-r}
 use lib.Dec.{eqb, leb, ltb}
 use lib.ListN.{length, getD, set, replicate, length-set, length-replicate}
 use lib.Seq.{getD-set-same, getD-set-other}
 use borrow.Author.Tests.{eq-eqb, ne-eqb, eqb-true, eqb-false, lt-leb, le-leb}
 use Rattle.octets.specs.Bytes.{pick, _and_, _or_, any, every, part}
-use Rattle.octets.proofs.Tests.{and-assoc}
-use Rattle.octets.proofs.Zero.{any-off, every-at}
+use Rattle.octets.proofs.Tests.{never, and-assoc}
+use Rattle.octets.proofs.Zero.{both, any-off, every-at}
 use Rattle.marks.specs.Incarnation.{Incarnation}
 use Rattle.rules.specs.declared.Step.{Step}
 use Rattle.rules.specs.Step.{stepBytes, unpackStep, stepAt, done, held, dropped, fallenBack, vanished, notReady, root, letter, receive, new, send, read, write, freeze, finish, fall, lose, sign}
@@ -28,7 +28,7 @@ use Rattle.chains.specs.declared.words.Event.the-variants.{Nothing, Clea
 use Rattle.chains.specs.declared.words.Side.{Side}
 use Rattle.chains.specs.declared.words.Trail.{Trail}
 use Rattle.chains.specs.declared.words.Walker.{Walker}
-use Rattle.chains.specs.Internal.Words.{bitOf, without, meet, rollbackWords, receiptWords, localWords, eventWords, rolledBackWord, checkpointedWord, metOver, onLeft, onRight, followedOn, passedOver, messagesOver, trailOver, Follower, following, walkerWith, followerOver, followerStep, followBack, trailFrom, walkerFrom, verdict, verdictOf, placesIn}
+use Rattle.chains.specs.Internal.Words.{bitOf, without, meet, rollbackWords, receiptWords, localWords, eventWords, changesNothing, rolledBackWord, checkpointedWord, sideOver, metOver, onLeft, onRight, followedOn, passedOver, messagesOver, trailOver, Follower, following, walkerWith, followerOver, followerStep, followBack, trailFrom, walkerFrom, verdict, verdictOf, placesIn}
 use Rattle.chains.proofs.Worded.{Says, says-nothing, says-cleared, says-sent, says-taken, says-opens, says-reads, says-writes, says-finishes, says-renewed, says-annihilated, says-cleared-renewed, says-cleared-annihilated, same-places, left-back, right-back, side-met, and-true, and-false, named-and, named-or, named-without}
 
 -- ---- one more step
@@ -252,6 +252,34 @@ follows-all steps replies (suc i) x y h o =
     let k = h i (omega arith) in
     follows-all steps replies i (followerStep (stepAt steps i) (replies i) x) (overStep (stepAt steps i) (replies i) y) (λ j b. h j (omega arith))
     (follows-step (stepAt steps i) (replies i) x y (step-transactor steps i) (k .0) (k .1) o)
+
+-- ---- a step that changed nothing
+
+over-nothing : (x : Follower) → followerOver Nothing 0 0 x ≡ x
+unfolding followerOver walkerWith passedOver messagesOver sideOver metOver
+over-nothing x = simp (and-zero-l, and-zero-r, or-zero-r, xor-zero-r)
+
+-- a signing that was not ready
+step-unready : (p : Step) (w : Told) (x : Follower) → w .outcome ≡ notReady → p .kind ≡ sign → followerStep p w x ≡ x
+unfolding followerStep eventWords rolledBackWord checkpointedWord
+step-unready p w x e k = rw (e, k) (over-nothing x)
+
+pub step-unchanged : (p : Step) (w : Told) (x : Follower) → changesNothing p w ≡ true → x ≡ followerStep p w x
+unfolding changesNothing followerStep
+step-unchanged p w x e = go (ltb notReady (w .outcome)) refl e
+  where
+    go : (c : Bool) → ltb notReady (w .outcome) ≡ c → c or eqb (w .outcome) notReady and eqb (p .kind) sign ≡ true → x ≡ followerStep p w x
+    go true h q = rw h
+    go false h q = let b = both (eqb (w .outcome) notReady) (eqb (p .kind) sign) q in sym (step-unready p w x (eqb-true (w .outcome) notReady (b .0)) (eqb-true (p .kind) sign (b .1)))
+
+-- no other is refused
+pub step-changed : (p : Step) (w : Told) → changesNothing p w ≡ false → ltb notReady (w .outcome) ≡ false
+unfolding changesNothing
+step-changed p w e = go (ltb notReady (w .outcome)) e
+  where
+    go : (c : Bool) → c or eqb (w .outcome) notReady and eqb (p .kind) sign ≡ false → c ≡ false
+    go true q = never q
+    go false q = refl
 
 -- ---- from the start
 

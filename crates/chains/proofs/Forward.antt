@@ -15,7 +15,7 @@ use Rattle.marks.proofs.Order.{precedes-refl, precedes-next, precedes-eq, prece
 use Rattle.marks.proofs.Histories.{_⊑_, ⊑-refl}
 use Rattle.maps.specs.Table.{updated}
 use Rattle.maps.proofs.Tables.{updated-view, updated-same, updated-other}
-use Rattle.rules.specs.Layout.{Layout, Limits}
+use Rattle.rules.specs.Layout.{Layout}
 use Rattle.rules.specs.declared.Step.{Step}
 use Rattle.rules.specs.Step.{root, letter, receive, new, send, read, write, freeze, finish, fall, fail, lose, sign}
 use Rattle.rules.specs.Refusals.{named}

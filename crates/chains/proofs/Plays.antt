@@ -11,10 +11,10 @@ use borrow.Author.Tests.{eqb-true, eqb-false, eq-eqb, ne-eqb, le-leb}
 use Rattle.octets.specs.Bytes.{pick, _and_, _or_}
 use Rattle.octets.specs.Numbers.{bound}
 use Rattle.maps.specs.declared.DependenceMap.{DependenceMap}
+use Rattle.octets.proofs.Tests.{never}
 use Rattle.maps.specs.Table.{updated}
-use Rattle.rules.specs.Layout.{Layout, Limits}
+use Rattle.rules.specs.Layout.{Layout}
 use Rattle.rules.specs.State.{Transactor, Message, State, transactorAt, messageAt, withTransactor, withOpened, withMessage, withoutMessage, placeOf}
-use Rattle.rules.specs.Status.{ready}
 use Rattle.rules.specs.declared.Step.{Step}
 use Rattle.rules.specs.Step.{done, notReady, root, letter, receive, new, send, fail, lose, sign}
 use Rattle.rules.specs.Refusals.{Seen, named, anyNamed, notWaiting, unopened, isGone, wrongStatus, unrelatedReceipt, allOpened, allWaiting, allNumbered, allCheckpointed, atLast, lastRollsBack, refusalOf}
@@ -34,7 +34,7 @@ use Rattle.session.proofs.Related.{receipt-related}
 use Rattle.session.proofs.Seen.{same-seen}
 use Rattle.session.proofs.ViewStep.{Applicable, applicable, same-refusal}
 use Rattle.session.proofs.ViewRules.{droppedAt, rolledBackAt}
-use Rattle.chains.specs.Internal.Tables.{Row, Slot, Tables, emptySlot, withRow, openRow, withSlot, withoutSlot, checkpointRow, checkpointRows, receiveRow, Played, playReceive, playLocal, playApplied, seenIn, playRefusal, play}
+use Rattle.chains.specs.Internal.Tables.{Row, Slot, Tables, openedRow, filledSlot, emptySlot, withRow, openRow, withSlot, withoutSlot, checkpointRow, checkpointRows, receiveRow, Played, playReceive, playLocal, playApplied, seenIn, playRefusal, play}
 use Rattle.chains.proofs.Seek.{seek, seek-append, seek-without, length-without}
 use Rattle.chains.proofs.BookSets.{NumberedBook, updated-self, missing-is, remove-is, find-remove, find-append, missing-remove, missing-append}
 use Rattle.chains.proofs.Replied as replied
@@ -50,10 +50,6 @@ pub record Plays (c : Provenance) (res : Result) (pl : Played) : Type 0 where
   pub reply : pl .reply ≡ res .reply
   pub tells : Tells c (res .state) (pl .tables)
 
--- the row of a take that was just opened, with text v
-abbrev openedRow : ℕ → Row
-openedRow v = record { status = ready; stable = false; checkpoints = 0; incarnation = 0; value = v; saved = 0 }
-
 -- a take opened
 open-tells : {b : Provenance} {s : State} {T : Tables} → Tells b s T → T .opened ≡ s .opened → s .opened < length (s .transactors)
     → (v : ℕ) (k : Holder) (x : Transactor) → RowRel k x (openedRow v) → Tells (provenance.withOpened b k) (opened s x) (openRow T v)
@@ -65,7 +61,7 @@ open-tells {b} {s} {T} tells e h v k x r = record {
   waiting = tells .waiting;
   rows = λ u. subst (λ (X : ℕ → Transactor). RowRel (updated (b .holders) (b .opened) k u) (X u) (updated (T .rows) (T .opened) (openedRow v) u))
       (sym (transactor-opened s x h)) (put (sym e ∙ tells .opened) (tells .opened) u);
-  messages = λ n. record { missing = tells .messages n .missing; addressee = tells .messages n .addressee; content = tells .messages n .content };
+  messages = tells .messages;
 }
   where
     put : s .opened ≡ b .opened → T .opened ≡ b .opened → (u : ℕ) → RowRel (updated (b .holders) (b .opened) k u) (updated (transactorAt s) (s .opened) x u) (updated (T .rows) (T .opened) (openedRow v) u)
@@ -89,20 +85,29 @@ module _ {y : Layout} {s : State} (well : WellFormed y s) {b : Provenance} (rel 
 
   -- ---- a parcel more
 
-  content-append : (to v : ℕ) (M : DependenceMap) (n : ℕ) → updated (T .messages) (T .next) (record { missing = false; addressee = to; content = v }) n .content
+  content-append : (c : Bool) (to v : ℕ) (M : DependenceMap) (n : ℕ) → updated (T .messages) (T .next) (filledSlot c to v) n .content
       ≡ contentIn n (s .messages ++ (record { addressee = to; number = s .next; value = v; dependences = M } ∷ []))
   unfolding contentIn
-  content-append to v M n =
+  content-append c to v M n =
       let m : Message = record { addressee = to; number = s .next; value = v; dependences = M } in
-      let z : Slot = record { missing = false; addressee = to; content = v } in
+      let z : Slot = filledSlot c to v in
       through (λ a. a .content) (T .messages) (λ k. seek (λ m. m .number) (λ m. m .value) 0 k (s .messages)) (λ k. tells .messages k .content) (T .next) (s .next) same-next z v refl n
       ∙ sym (seek-append (λ m. m .number) (λ m. m .value) 0 m refl (state-rising well) n)
 
-  with-slot : (to v : ℕ) (X : Incarnations) (M : DependenceMap) → Tells (withWaitingMessage b to X) (withMessage s to v M) (withSlot T to v)
-  unfolding withSlot withMessage
-  with-slot to v X M =
+  -- a letter has no life
+  letter-append : (c : Bool) (to v : ℕ) (X : Incarnations) → (c ≡ true → X ≡ []) → (n : ℕ) → updated (T .messages) (T .next) (filledSlot c to v) n .letter ≡ true
+      → find n (b .messages ++ (record { number = b .next; addressee = to; incarnations = X } ∷ [])) .incarnations ≡ []
+  letter-append c to v X none n =
       let q : WaitingMessage = record { number = b .next; addressee = to; incarnations = X } in
-      let z : Slot = record { missing = false; addressee = to; content = v } in
+      let z : Slot = filledSlot c to v in
+      rw (tells .next) (λ e. find-append (λ q. q .incarnations) q refl numbered n
+      ∙ updated-both (λ n (a : Slot) (Y : Incarnations). a .letter ≡ true → Y ≡ []) (T .messages) (λ k. find k (b .messages) .incarnations) (b .next) z X none (λ k d. tells .messages k .letter) n e)
+
+  with-slot : (c : Bool) (to v : ℕ) (X : Incarnations) → (c ≡ true → X ≡ []) → (M : DependenceMap) → Tells (withWaitingMessage b to X) (withMessage s to v M) (withSlot T c to v)
+  unfolding withSlot withMessage
+  with-slot c to v X none M =
+      let q : WaitingMessage = record { number = b .next; addressee = to; incarnations = X } in
+      let z : Slot = filledSlot c to v in
       record {
         limits = tells .limits;
         opened = tells .opened;
@@ -114,7 +119,8 @@ module _ {y : Layout} {s : State} (well : WellFormed y s) {b : Provenance} (rel 
               ∙ sym (missing-append q refl numbered n);
           addressee = through (λ a. a .addressee) (T .messages) (λ k. find k (b .messages) .addressee) (λ k. tells .messages k .addressee) (T .next) (b .next) (tells .next) z to refl n
               ∙ sym (find-append (λ q. q .addressee) q refl numbered n);
-          content = content-append to v M n;
+          content = content-append c to v M n;
+          letter = letter-append c to v X none n;
         };
       }
 
@@ -145,6 +151,8 @@ module _ {y : Layout} {s : State} (well : WellFormed y s) {b : Provenance} (rel 
       missing = through (λ a. a .missing) (T .messages) (λ k. isMissing k (b .messages)) (λ k. tells .messages k .missing) n n refl emptySlot true refl k ∙ sym (missing-remove n numbered k);
       addressee = through (λ a. a .addressee) (T .messages) (λ k. find k (b .messages) .addressee) (λ k. tells .messages k .addressee) n n refl emptySlot 0 refl k ∙ sym (find-remove (λ q. q .addressee) n numbered k);
       content = content-without n k;
+      letter = λ e. find-remove (λ q. q .incarnations) n numbered k
+          ∙ updated-both (λ n (a : Slot) (Y : Incarnations). a .letter ≡ true → Y ≡ []) (T .messages) (λ k. find k (b .messages) .incarnations) n emptySlot [] (λ z. refl) (λ k d. tells .messages k .letter) k e;
     };
   }
 
@@ -158,7 +166,7 @@ module _ {y : Layout} {s : State} (well : WellFormed y s) {b : Provenance} (rel 
     next = tells .next;
     waiting = tells .waiting;
     rows = λ u. subst (λ (X : ℕ → Transactor). RowRel (updated (b .holders) t h u) (X u) (updated (T .rows) t r u)) (sym (transactor-with s t x (inside t k))) (rows-put t t t refl refl h x r z u);
-    messages = λ n. record { missing = tells .messages n .missing; addressee = tells .messages n .addressee; content = tells .messages n .content };
+    messages = tells .messages;
   }
 
   -- ---- a volume signed
@@ -172,7 +180,7 @@ module _ {y : Layout} {s : State} (well : WellFormed y s) {b : Provenance} (rel 
     waiting = tells .waiting;
     rows = λ t. subst (λ (x : Transactor). RowRel (checkpointedAt b g t) x (pick (named g t) (checkpointRow (T .rows t)) (T .rows t))) (sym (transactor-checkpoint well g bounded t))
         (pick-each RowRel (named g t) (named g t) (named g t) refl refl _ _ _ _ _ _ (λ e. checkpoint-rel well rel t (T .rows t) (tells .rows t)) (λ e. tells .rows t));
-    messages = λ n. record { missing = tells .messages n .missing; addressee = tells .messages n .addressee; content = tells .messages n .content };
+    messages = tells .messages;
   }
 
   -- ---- a parcel received
@@ -188,7 +196,7 @@ module _ {y : Layout} {s : State} (well : WellFormed y s) {b : Provenance} (rel 
         next = tells .next;
         waiting = w .waiting;
         rows = with-row t h x r k z .rows;
-        messages = λ k. record { missing = w .messages k .missing; addressee = w .messages k .addressee; content = w .messages k .content };
+        messages = w .messages;
       }
 
   -- ---- every step that is not refused
@@ -220,7 +228,7 @@ module _ {y : Layout} {s : State} (well : WellFormed y s) {b : Provenance} (rel 
           next = w .next;
           waiting = w .waiting;
           rows = λ u. subst (RowRel (updated (b .holders) t h u) (transactorAt (withTransactor s t x) u)) (updated-self (T .rows) t u) (w .rows u);
-          messages = λ k. record { missing = w .messages k .missing; addressee = w .messages k .addressee; content = w .messages k .content };
+          messages = w .messages;
         }
 
     new-plays : t < y .transactors → s .opened < y .transactors → Plays (opensChild b t) (applyNew y s p) (record { reply = answer done (T .opened) 0 0; tables = openRow T (p .value) })
@@ -235,13 +243,13 @@ module _ {y : Layout} {s : State} (well : WellFormed y s) {b : Provenance} (rel 
               (record { status = refl; stable = refl; checkpoints = refl; incarnation = refl; value = refl; saved = refl });
         }
 
-    letter-plays : Plays (withWaitingMessage b t []) (applyLetter y s p) (record { reply = answer done t (T .next) 0; tables = withSlot T t (p .value) })
+    letter-plays : Plays (withWaitingMessage b t []) (applyLetter y s p) (record { reply = answer done t (T .next) 0; tables = withSlot T true t (p .value) })
     unfolding applyLetter
-    letter-plays = record { reply = λ i. answer done t (same-next i) 0; tells = with-slot t (p .value) [] _ }
+    letter-plays = record { reply = λ i. answer done t (same-next i) 0; tells = with-slot true t (p .value) [] (λ e. refl) _ }
 
-    send-plays : (X : Incarnations) → Plays (withWaitingMessage b (p .other) X) (applySend y s p) (record { reply = answer done t (T .next) 0; tables = withSlot T (p .other) (p .value) })
+    send-plays : (X : Incarnations) → Plays (withWaitingMessage b (p .other) X) (applySend y s p) (record { reply = answer done t (T .next) 0; tables = withSlot T false (p .other) (p .value) })
     unfolding applySend
-    send-plays X = record { reply = λ i. answer done t (same-next i) 0; tells = with-slot (p .other) (p .value) X _ }
+    send-plays X = record { reply = λ i. answer done t (same-next i) 0; tells = with-slot false (p .other) (p .value) X (λ e. never (sym e)) _ }
 
     lose-plays : T .messages n .missing ≡ false → Plays (withoutWaitingMessage b n) (applyLose s p) (record { reply = answer done 0 n 0; tables = withoutSlot T n })
     unfolding applyLose

@@ -7,13 +7,12 @@ use mathlib.Core.Logic.{_≢_, ⊎-elim}
 use native.Mathlib.Omega.{arith}
 use lib.Dec.{eqb}
 use lib.ListN.{length, getD, take, drop, length-append, List·getD-eq-default}
-use lib.Seq.{getD-set-same, getD-set-other}
 use borrow.Author.Tests.{eqb-true, eqb-false}
 use Rattle.octets.specs.Bytes.{pick, tabulate}
 use Rattle.octets.proofs.Chunks.{sides, length-tabulate, getD-tabulate}
 use Rattle.marks.specs.History.{checkpointedView}
 use Rattle.maps.specs.Table.{updated}
-use Rattle.maps.proofs.Tables.{updated-is}
+use Rattle.maps.proofs.Tables.{set-updated}
 use Rattle.rules.specs.Layout.{Layout}
 use Rattle.rules.specs.State.{Transactor, Message, State, noTransactor, noMessage, transactorAt, messageAt, ownHistory, withTransactor, withOpened, withMessage, withoutMessage, placeOf}
 use Rattle.rules.specs.State as state
@@ -134,8 +133,7 @@ module _ {y : Layout} {s : State} (well : WellFormed y s) {b : Provenance} (rel 
 module _ (s : State) (t : ℕ) (x : Transactor) (below : t < length (s .transactors)) where
   pub transactor-with : transactorAt (withTransactor s t x) ≡ updated (transactorAt s) t x
   unfolding transactorAt withTransactor
-  transactor-with = λ i u. updated-is (λ u. getD (s .transactors) u noTransactor) t x (λ u. getD (state.withTransactor s t x .transactors) u noTransactor)
-      (getD-set-same (s .transactors) t x noTransactor below) (λ u k. getD-set-other (s .transactors) t u x noTransactor (λ e. k (sym e))) u i
+  transactor-with = set-updated (s .transactors) t x noTransactor below
 
 pub transactor-opened : (s : State) (x : Transactor) → s .opened < length (s .transactors) → transactorAt (opened s x) ≡ updated (transactorAt s) (s .opened) x
 unfolding opened withOpened transactorAt withTransactor
@@ -212,10 +210,12 @@ state-rising {y} {s} well = go (s .messages) 0 (omega arith) (λ k h. well .numb
 
 -- ---- the whole
 
-pub record SlotRel (b : Provenance) (s : State) (n : ℕ) (slot : Slot) : Type 0 where
-  pub missing : slot .missing ≡ isMissing n (b .messages)
-  pub addressee : slot .addressee ≡ find n (b .messages) .addressee
-  pub content : slot .content ≡ contentIn n (s .messages)
+-- parcel number n, where qs wait in the book and ms in the ledger
+pub record SlotRel (qs : List WaitingMessage) (ms : List Message) (n : ℕ) (slot : Slot) : Type 0 where
+  pub missing : slot .missing ≡ isMissing n qs
+  pub addressee : slot .addressee ≡ find n qs .addressee
+  pub content : slot .content ≡ contentIn n ms
+  pub letter : slot .letter ≡ true → find n qs .incarnations ≡ []
 
 pub record Tells (b : Provenance) (s : State) (T : Tables) : Type 0 where
   pub limits : T .limits ≡ b .limits
@@ -223,4 +223,4 @@ pub record Tells (b : Provenance) (s : State) (T : Tables) : Type 0 where
   pub next : T .next ≡ b .next
   pub waiting : T .waiting ≡ length (b .messages)
   pub rows : (t : ℕ) → RowRel (b .holders t) (transactorAt s t) (T .rows t)
-  pub messages : (n : ℕ) → SlotRel b s n (T .messages n)
+  pub messages : (n : ℕ) → SlotRel (b .messages) (s .messages) n (T .messages n)

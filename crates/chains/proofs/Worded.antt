@@ -3,11 +3,11 @@ use Prim.Native.Nat.{ℕ, zero, suc, _+_, _*_, _/_, _%_, _^_, _<_, min, max}
 use mathlib.Core.Bool.{Bool, true, false, not, false≢true}
 use mathlib.Core.Path.{_≡_, refl, ap, sym, _∙_}
 use mathlib.Core.List.{List}
-use mathlib.Core.Logic.{_⊎_, inl, inr, _≢_}
+use mathlib.Core.Logic.{_≢_}
 use native.Mathlib.Omega.{arith}
 use lib.Bits.{bitAnd, bitOr, bitXor, differ, and-shr, or-shr, xor-shr, and-step, or-step, xor-step, and-le-r}
 use lib.Dec.{eqb}
-use lib.ListN.{length, getD, set}
+use lib.ListN.{length, set}
 use borrow.Author.Tests.{eq-eqb, ne-eqb, eqb-true}
 use Rattle.octets.specs.Bytes.{pick, _and_, _or_}
 use Rattle.rules.specs.Refusals.{named}
@@ -34,14 +34,6 @@ odd x = eqb (x % 2) 1
 -- the last bit of r, which is v
 last-bit : (r A v : ℕ) → r ≡ A * 2 + v → v < 2 → odd r ≡ eqb v 1
 last-bit r A v e h = ap (λ n. eqb n 1) (let q : r % 2 ≡ v = omega arith in q)
-
-which : (n : ℕ) → (n % 2 ≡ 0) ⊎ (n % 2 ≡ 1)
-which n = go (n % 2) refl (omega arith)
-  where
-    go : (k : ℕ) → n % 2 ≡ k → k < 2 → (n % 2 ≡ 0) ⊎ (n % 2 ≡ 1)
-    go zero e h = inl e
-    go (suc zero) e h = inr e
-    go (suc (suc k)) e h = absurd (omega arith)
 
 module _ (op : ℕ → ℕ → ℕ) (f : ℕ → ℕ → ℕ) (F : Bool → Bool → Bool) (step : (a b : ℕ) → op a b ≡ op (a / 2) (b / 2) * 2 + f (a % 2) (b % 2))
     (small : (x y : ℕ) → x < 2 → y < 2 → f x y < 2) (table : (x y : ℕ) → x < 2 → y < 2 → eqb (f x y) 1 ≡ F (eqb x 1) (eqb y 1)) where

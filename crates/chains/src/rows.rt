@@ -18,6 +18,8 @@ pub struct Row {
 pub struct Slot {
     // no parcel waits with it
     pub missing: bool,
+    // it is a letter, and carries no life
+    pub letter: bool,
     pub addressee: u8,
     // the text
     pub content: u32,

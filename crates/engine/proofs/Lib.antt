@@ -4,3 +4,4 @@ pub mod Ledger
 mod Playing
 mod Ranges
 mod Steps
+pub mod Usual

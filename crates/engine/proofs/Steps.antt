@@ -30,14 +30,14 @@ use Rattle.engine.proofs.Ranges.{Ranged, Fine, ranged-fresh, ranged-ste
 
 -- ---- replies in a longer list
 
-told-left : (l k : List ℕ) (j : ℕ) → stepBytes * j + stepBytes ≤ length l → toldIn (l ++ k) j ≡ toldIn l j
+pub told-left : (l k : List ℕ) (j : ℕ) → stepBytes * j + stepBytes ≤ length l → toldIn (l ++ k) j ≡ toldIn l j
 unfolding toldIn
 told-left l k j h = ap unpackTold (part-left (stepBytes * j) stepBytes l k h)
 
 told-put : (l k : List ℕ) (j : ℕ) → stepBytes * j + stepBytes ≤ length l → toldIn (put 0 l k) j ≡ toldIn l j
 told-put l k j h = ap (λ (b : List ℕ). toldIn b j) (put-def 0 l k) ∙ told-left l (drop (0 + length l) k) j h
 
-told-last : (l : List ℕ) (r : Reply) (j : ℕ) → length l ≡ stepBytes * j → ReplyOk r → toldIn (l ++ packReply r) j ≡ told r
+pub told-last : (l : List ℕ) (r : Reply) (j : ℕ) → length l ≡ stepBytes * j → ReplyOk r → toldIn (l ++ packReply r) j ≡ told r
 unfolding toldIn
 told-last l r j e ok =
     let z : stepBytes * j ≡ length l + 0 = omega arith in
@@ -96,6 +96,10 @@ module _ (m : Limits) (range : inRange base m ≡ true) (steps : List ℕ) (octe
 
     walk-same : (w : Walk) → walkBack steps (toldIn replies) i w ≡ walkBack steps (toldIn (x i .replies)) i w
     walk-same = walk-replies steps (toldIn replies) (toldIn (x i .replies)) i same-told
+
+    pub receipt-same : (T : Tables) (n : ℕ) → receiptWalk T steps replies i n ≡ receiptWalk T steps (engineAfter base m steps i .replies) i n
+    unfolding receiptWalk
+    receipt-same T n = walk-same (receiptStart n (T .messages n .addressee))
 
     pub step-same : (T : Tables) → playStep base steps replies i T ≡ playStep base steps (engineAfter base m steps i .replies) i T
     unfolding playStep receiptWalk readyIn signWalk

@@ -1,33 +1,36 @@
 // The engine without maps (document 02, W11): the replies to a list of steps from a fresh session, by tables and by walks back over the
 // list.
+use chains::rows::Row;
 use chains::rows::Slot;
 use image::layout::LONGEST;
 use image::layout::STEP;
 use image::limits;
+use registers::effects;
 use registers::guards;
 use registers::register::Register;
 use rules::Step;
 use rules::numbers;
 use steps::packed;
+use tables::GroupTurn;
+use tables::Operands;
 use tables::Turn;
+use walks::NUMBERS;
 ghost use mathlib.Core.Path.{_≡_};
-ghost use mathlib.Core.Bool.{true, false};
-ghost use Prim.Native.Nat.{_*_, _/_, _≤_};
-ghost use lib.ListN.{length};
+ghost use mathlib.Core.Bool.{false};
 ghost use Rattle.octets.specs.Bytes.{pick};
-ghost use Rattle.rules.specs.Layout.{base, limitsOf, inRange};
+ghost use Rattle.rules.specs.Layout.{base, limitsOf};
 ghost use Rattle.rules.specs.Step as kinds;
-ghost use Rattle.rules.specs.Step.{stepBytes};
 ghost use Rattle.rules.specs.Refusals.{sends, malformed};
-ghost use Rattle.rules.specs.Calls.{freshImage, ranReplies, longest};
+ghost use Rattle.rules.specs.Calls.{freshImage, ranReplies};
+ghost use Rattle.chains.specs.Internal.Engine.{Walkable};
+ghost use Rattle.tables.specs.Internal.Turns.{subjectOf};
 ghost use Rattle.engine.specs.Play.{playAnswer, playReplies};
-ghost use Rattle.engine.specs.Internal.Advance.{placed, Advances, Ahead};
+ghost use Rattle.engine.specs.Internal.Advance.{placed, Advances, AdvancesGroup, Ahead, Playable};
 
-// Numbers of messages: one for each step at most.
-const PLACES: usize = 1024;
+// A place for each message number, and one, where no message ever waits, for all numbers that no message can have.
+const PLACES: usize = NUMBERS + 1;
 
-// Where the slot of the message number that a step looks at stands: one more place, where no message ever waits, is for all numbers
-// that no message can have.
+// Where the slot of the message number that a step looks at stands.
 fn place(next: u16, p: Step) -> usize
     ensures { λ r. ⌜ r ≡ placed (pick (sends (p .kind)) next (p .message)) ⌝ }
 {
@@ -46,20 +49,35 @@ fn within(n: u16) -> usize
     ensures { λ r. ⌜ r ≡ placed n ⌝ }
 {
     let at = n as usize;
-    if PLACES <= at {
-        return PLACES;
+    if NUMBERS <= at {
+        return NUMBERS;
     }
     at
 }
 
-// A receipt: the walk is done only where the table would not refuse it otherwise.
-fn receive(list: &[u8], replies: &[u8], i: usize, x: Register, slot: Slot, p: Step) -> Turn
-    requires { ⌜ Ahead (now list) (now replies) i x slot p × (malformed p ≡ false) × (p .kind ≡ kinds.receive) ⌝ }
-    ensures { λ r. ⌜ Advances (now (list .entry)) (now (replies .entry)) i x slot p r ⌝ }
+// Whose row a step looks at, by the slot that it looks at.
+fn subject(p: Step, slot: Slot) -> usize
+    ensures { λ r. ⌜ r ≡ subjectOf p slot ⌝ }
 {
-    let r = guards::receipt(x, slot);
+    if p.kind == numbers::RECEIVE {
+        return slot.addressee as usize;
+    }
+    p.transactor as usize
+}
+
+// A receipt: the walk is done only where the table would not refuse it otherwise, and for no letter, which rests on nothing.
+fn receive(list: &[u8], replies: &[u8], i: usize, x: Operands, p: Step) -> Turn
+    requires { ⌜ Ahead (now list) (now replies) i x p × (malformed p ≡ false) × (p .kind ≡ kinds.receive) ⌝ }
+    ensures { λ r. ⌜ Advances (now (list .entry)) (now (replies .entry)) i x p r ⌝ }
+{
+    let slot = x.slot;
+    let row = x.row;
+    let r = guards::receipt(slot, row);
     if r != 0 {
-        return tables::answered(x, slot, r);
+        return tables::answered(x, r);
+    }
+    if slot.letter {
+        return tables::receive(x, p, false, false);
     }
     let c = walks::receipt(
         list,
@@ -68,67 +86,86 @@ fn receive(list: &[u8], replies: &[u8], i: usize, x: Register, slot: Slot, p: St
         p.message as usize,
         slot.addressee as usize,
     );
-    tables::receive(x, slot, p, c.dropped, c.falls)
+    tables::receive(x, p, c.dropped, c.falls)
 }
 
-// A signing: the walk is done only where the table does not refuse it, and every named transactor is stable.
-fn sign(list: &[u8], replies: &[u8], i: usize, x: Register, slot: Slot, p: Step) -> Turn
-    requires { ⌜ Ahead (now list) (now replies) i x slot p × (malformed p ≡ false) × (p .kind ≡ kinds.sign) ⌝ }
-    ensures { λ r. ⌜ Advances (now (list .entry)) (now (replies .entry)) i x slot p r ⌝ }
-{
-    let group = p.message;
-    let r = guards::group(x, group);
-    if r != 0 {
-        return tables::answered(x, slot, r);
-    }
-    if guards::blocked(x, group, numbers::NOT_READY) {
-        return tables::sign(x, slot, p, false);
-    }
-    tables::sign(x, slot, p, walks::grounded(list, replies, i, group))
-}
-
-// One step, of any kind.
-fn advance(list: &[u8], replies: &[u8], i: usize, x: Register, slot: Slot, p: Step) -> Turn
-    requires { ⌜ Ahead (now list) (now replies) i x slot p ⌝ }
-    ensures { λ r. ⌜ Advances (now (list .entry)) (now (replies .entry)) i x slot p r ⌝ }
+// One step, of any kind but a signing.
+fn advance(list: &[u8], replies: &[u8], i: usize, x: Operands, p: Step) -> Turn
+    requires { ⌜ Ahead (now list) (now replies) i x p × (p .kind ≡ kinds.sign → ⊥) ⌝ }
+    ensures { λ r. ⌜ Advances (now (list .entry)) (now (replies .entry)) i x p r ⌝ }
 {
     if steps::malformed(p) {
-        return tables::answered(x, slot, numbers::MALFORMED);
+        return tables::answered(x, numbers::MALFORMED);
     }
     let kind = p.kind;
     match kind {
-        numbers::ROOT => tables::root(x, slot, p),
-        numbers::LETTER => tables::letter(x, slot, p),
-        numbers::RECEIVE => receive(list, replies, i, x, slot, p),
-        numbers::NEW => tables::new(x, slot, p),
-        numbers::SEND => tables::send(x, slot, p),
-        numbers::LOSE => tables::lose(x, slot, p),
-        numbers::SIGN => sign(list, replies, i, x, slot, p),
-        _ => tables::local(x, slot, p),
+        numbers::ROOT => tables::root(x, p),
+        numbers::LETTER => tables::letter(x, p),
+        numbers::RECEIVE => receive(list, replies, i, x, p),
+        numbers::NEW => tables::new(x, p),
+        numbers::SEND => tables::send(x, p),
+        numbers::LOSE => tables::lose(x, p),
+        _ => tables::local(x, p),
     }
 }
 
-// Plays a list of whole steps: the register and the slots by value, the replies so far in their buffer, where the walks read them.
+// A signing: the walk is done only where the table does not refuse it, and every named transactor is stable.
+fn sign(list: &[u8], replies: &[u8], i: usize, x: Register, rows: [Row; 16], p: Step) -> GroupTurn
+    requires { ⌜ Walkable (now list) (now replies) i × (p .kind ≡ kinds.sign) ⌝ }
+    ensures { λ r. ⌜ AdvancesGroup (now (list .entry)) (now (replies .entry)) i x rows p r ⌝ }
+{
+    if steps::malformed(p) {
+        return tables::group_answered(rows, numbers::MALFORMED);
+    }
+    let group = p.message;
+    let r = guards::group(x, rows, group);
+    if r != 0 {
+        return tables::group_answered(rows, r);
+    }
+    if guards::blocked(rows, x.checkpoints, group, numbers::NOT_READY) {
+        return tables::sign(x, rows, p, false);
+    }
+    tables::sign(x, rows, p, walks::grounded(list, replies, i, group))
+}
+
+// Plays a list of whole steps: the register by value, the rows and the slots in arrays of which a step looks at one place, but for a
+// signing; the replies so far in their buffer, where the walks read them.
 fn play_steps(list: &[u8], transactors: u8, messages: u8, checkpoints: u8, replies: &mut [u8])
-    requires { ⌜ (inRange base (limitsOf transactors messages checkpoints) ≡ true) × (length (now replies) ≡ length (now list))
-        × (stepBytes * (length (now list) / stepBytes) ≡ length (now list)) × (length (now list) ≤ longest) ⌝ }
+    requires { ⌜ Playable (limitsOf transactors messages checkpoints) (now list) (now replies) ⌝ }
     ensures { λ _. ⌜ now (replies .exit) ≡ ranReplies base (freshImage base (limitsOf transactors messages checkpoints)) (now (list .entry)) ⌝ }
 {
     let n = list.len() / STEP;
     let mut x = Register::fresh(transactors, messages, checkpoints);
-    let mut slots = [tables::EMPTY; 1025];
+    let mut rows = [effects::UNUSED; 16];
+    let mut slots = [tables::EMPTY; PLACES];
     let mut i: usize = 0;
     while i < n {
-        let p = packed::decode(list, STEP * i);
-        let at = place(x.next, p);
-        let slot = slots[at];
-        let u = advance(list, replies, i, x, slot, p);
-        let after = u.register;
-        x = after;
-        let left = u.slot;
-        slots[at] = left;
-        let reply = u.reply;
-        packed::encode(replies, STEP * i, reply);
+        let from = STEP * i;
+        let p = packed::decode(list, from);
+        if p.kind == numbers::SIGN {
+            let u = sign(list, replies, i, x, rows, p);
+            let after = u.rows;
+            rows = after;
+            let reply = u.reply;
+            packed::encode(replies, from, reply);
+        } else {
+            let k = place(x.next, p);
+            let slot = slots[k];
+            let t = subject(p, slot);
+            let row = rows[t];
+            let o = Operands::of(x, t, row, slot);
+            let u = advance(list, replies, i, o, p);
+            let left = u.operands;
+            let register = left.register;
+            x = register;
+            let at = left.at;
+            let changed = left.row;
+            rows[at] = changed;
+            let put = left.slot;
+            slots[k] = put;
+            let reply = u.reply;
+            packed::encode(replies, from, reply);
+        }
         i += 1;
     }
 }

@@ -1,9 +1,12 @@
 -- Tables that change at one place.
-use Prim.Native.Nat.{ℕ}
+use Prim.Native.Nat.{ℕ, _<_}
 use mathlib.Core.Bool.{Bool, true, false}
-use mathlib.Core.Path.{_≡_, refl, subst}
+use mathlib.Core.Path.{_≡_, refl, sym, subst}
+use mathlib.Core.List.{List}
 use mathlib.Core.Logic.{_≢_}
 use lib.Dec.{eqb}
+use lib.ListN.{length, getD, set}
+use lib.Seq.{getD-set-same, getD-set-other}
 use borrow.Author.Tests.{eqb-true, eqb-false, eq-eqb, ne-eqb}
 use Rattle.octets.specs.Bytes.{pick}
 use Rattle.maps.specs.Table.{updated}
@@ -30,3 +33,7 @@ updated-view {A} P f t x p q u = go (eqb t u) refl
 -- a table that is x at t and f elsewhere
 pub updated-is : {A : Type 0} (f : ℕ → A) (t : ℕ) (x : A) (g : ℕ → A) → g t ≡ x → ((u : ℕ) → t ≢ u → g u ≡ f u) → (u : ℕ) → g u ≡ updated f t x u
 updated-is f t x g here else = updated-view (λ u z. g u ≡ z) f t x here else
+
+-- a list that changes at one place, as a table
+pub set-updated : {A : Type 0} (l : List A) (t : ℕ) (x d : A) → t < length l → (λ u. getD (set l t x) u d) ≡ updated (λ u. getD l u d) t x
+set-updated l t x d h = λ i u. updated-is (λ u. getD l u d) t x (λ u. getD (set l t x) u d) (getD-set-same l t x d h) (λ u n. getD-set-other l t u x d (λ e. n (sym e))) u i

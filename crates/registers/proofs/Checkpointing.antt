@@ -35,6 +35,7 @@ module _ {g : ℕ} {before rows : List Row} {t : ℕ} (c : Checkpointing g befor
   pub checkpointing-all : g < bound 2 → groupBits ≤ t → CheckpointedRows g before rows
   unfolding bound
   checkpointing-all bits h = record {
+    long = c .long;
     at = λ u. c .at u ∙ ap (λ b. checkpointedRow b (rowAt before u)) (⊎-elim
         (λ (k : u < groupBits). rw (lt-ltb u t (omega arith)))
         (λ (k : groupBits ≤ u). let w = c .within in rw (le-ltb u t (omega arith)) (sym (named-past g u groupBits bits k)))

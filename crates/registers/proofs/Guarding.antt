@@ -2,6 +2,7 @@
 use Prim.Native.Nat.{ℕ, _+_, _≤_, _<_}
 use mathlib.Core.Bool.{Bool, true, false, not}
 use mathlib.Core.Path.{_≡_, sym, _∙_, subst}
+use mathlib.Core.List.{List}
 use mathlib.Core.Logic.{⊎-elim}
 use native.Mathlib.Omega.{arith}
 use lib.Dec.{eqb, leb}
@@ -62,24 +63,24 @@ module _ (k : ℕ) (x : Row) where
 
 -- ---- 21 to 23
 
-module _ (x : Register) (t : ℕ) where
-  pub busy-unopened : x .opened ≤ t → 21 ≡ busyGuard x t
+module _ (n t : ℕ) (x : Row) where
+  pub busy-unopened : n ≤ t → 21 ≡ busyGuard n t x
   unfolding busyGuard
-  busy-unopened h = rw (le-leb (x .opened) t h)
+  busy-unopened h = rw (le-leb n t h)
 
-  module _ (opened : t < x .opened) where
-    pub busy-gone : rowAt (x .rows) t .status ≡ annihilated → 22 ≡ busyGuard x t
+  module _ (opened : t < n) where
+    pub busy-gone : x .status ≡ annihilated → 22 ≡ busyGuard n t x
     unfolding busyGuard
-    busy-gone e = rw (lt-leb (x .opened) t opened, eq-eqb (rowAt (x .rows) t .status) annihilated e)
+    busy-gone e = rw (lt-leb n t opened, eq-eqb (x .status) annihilated e)
 
-    module _ (there : rowAt (x .rows) t .status ≡ annihilated → ⊥) where
-      pub busy-idle : (rowAt (x .rows) t .status ≡ busy → ⊥) → 23 ≡ busyGuard x t
+    module _ (there : x .status ≡ annihilated → ⊥) where
+      pub busy-idle : (x .status ≡ busy → ⊥) → 23 ≡ busyGuard n t x
       unfolding busyGuard
-      busy-idle n = rw (lt-leb (x .opened) t opened, ne-eqb (rowAt (x .rows) t .status) annihilated there, ne-eqb (rowAt (x .rows) t .status) busy n)
+      busy-idle k = rw (lt-leb n t opened, ne-eqb (x .status) annihilated there, ne-eqb (x .status) busy k)
 
-      pub busy-free : rowAt (x .rows) t .status ≡ busy → 0 ≡ busyGuard x t
+      pub busy-free : x .status ≡ busy → 0 ≡ busyGuard n t x
       unfolding busyGuard
-      busy-free e = rw (lt-leb (x .opened) t opened, ne-eqb (rowAt (x .rows) t .status) annihilated there, eq-eqb (rowAt (x .rows) t .status) busy e)
+      busy-free e = rw (lt-leb n t opened, ne-eqb (x .status) annihilated there, eq-eqb (x .status) busy e)
 
 -- ---- 26, 27
 
@@ -107,30 +108,27 @@ module _ (x : Register) where
 
 -- ---- a receipt
 
-module _ (x : Register) (m : Slot) where
-  abbrev status : ℕ
-  status = rowAt (x .rows) (m .addressee) .status
-
-  pub receipt-missing : m .missing ≡ true → 24 ≡ receiptGuard x m
+module _ (m : Slot) (x : Row) where
+  pub receipt-missing : m .missing ≡ true → 24 ≡ receiptGuard m x
   unfolding receiptGuard
   receipt-missing e = rw e
 
   module _ (waits : m .missing ≡ false) where
-    pub receipt-gone : status ≡ annihilated → 22 ≡ receiptGuard x m
+    pub receipt-gone : x .status ≡ annihilated → 22 ≡ receiptGuard m x
     unfolding receiptGuard
-    receipt-gone e = rw (waits, eq-eqb status annihilated e)
+    receipt-gone e = rw (waits, eq-eqb (x .status) annihilated e)
 
-    module _ (there : status ≡ annihilated → ⊥) where
-      pub receipt-busy : (status ≡ ready → ⊥) → 23 ≡ receiptGuard x m
+    module _ (there : x .status ≡ annihilated → ⊥) where
+      pub receipt-busy : (x .status ≡ ready → ⊥) → 23 ≡ receiptGuard m x
       unfolding receiptGuard
-      receipt-busy n = rw (waits, ne-eqb status annihilated there, ne-eqb status ready n)
+      receipt-busy n = rw (waits, ne-eqb (x .status) annihilated there, ne-eqb (x .status) ready n)
 
-      pub receipt-free : status ≡ ready → 0 ≡ receiptGuard x m
+      pub receipt-free : x .status ≡ ready → 0 ≡ receiptGuard m x
       unfolding receiptGuard
-      receipt-free e = rw (waits, ne-eqb status annihilated there, eq-eqb status ready e)
+      receipt-free e = rw (waits, ne-eqb (x .status) annihilated there, eq-eqb (x .status) ready e)
 
   -- no refusal
-  pub receipt-waits : receiptGuard x m ≡ 0 → m .missing ≡ false
+  pub receipt-waits : receiptGuard m x ≡ 0 → m .missing ≡ false
   unfolding receiptGuard
   receipt-waits z = pick-zero (m .missing) 24 _ (omega arith) z .0
 
@@ -158,68 +156,68 @@ module _ (number n : ℕ) (x : Row) where
   blocks-loose a b = rw (ne-eqb number 22 a, ne-eqb number 30 b)
 
 -- after t turns no named take blocks
-pub record Unblocked (x : Register) (g number t : ℕ) : Type 0 where
+pub record Unblocked (R : ℕ → Row) (n g number t : ℕ) : Type 0 where
   pub within : t ≤ groupBits
-  pub none : any t (λ u. named g u and rowBlocks number (x .checkpoints) (rowAt (x .rows) u)) ≡ false
+  pub none : any t (λ u. named g u and rowBlocks number n (R u)) ≡ false
 
-pub unblocked-first : (x : Register) (g number : ℕ) → Unblocked x g number 0
-unblocked-first x g number = record { within = omega arith; none = any-none _ }
+pub unblocked-first : (R : ℕ → Row) (n g number : ℕ) → Unblocked R n g number 0
+unblocked-first R n g number = record { within = omega arith; none = any-none _ }
 
-module _ {x : Register} {g number t : ℕ} (u : Unblocked x g number t) where
-  pub unblocked-end : groupBits ≤ t → false ≡ groupBlocked x g number
+module _ {R : ℕ → Row} {n g number t : ℕ} (u : Unblocked R n g number t) where
+  pub unblocked-end : groupBits ≤ t → false ≡ groupBlocked R n g number
   unfolding groupBlocked anyNamed
   unblocked-end h =
       let w = u .within in
       let e : t ≡ groupBits = omega arith in
-      sym (subst (λ (i : ℕ). any i (λ u. named g u and rowBlocks number (x .checkpoints) (rowAt (x .rows) u)) ≡ false) e (u .none))
+      sym (subst (λ (i : ℕ). any i (λ u. named g u and rowBlocks number n (R u)) ≡ false) e (u .none))
 
   module _ (below : t < groupBits) where
-    pub unblocked-unnamed : named g t ≡ false → Unblocked x g number (t + 1)
-    unblocked-unnamed o = record { within = omega arith; none = any-more (λ u. named g u and rowBlocks number (x .checkpoints) (rowAt (x .rows) u)) t (u .none) (rw o) }
+    pub unblocked-unnamed : named g t ≡ false → Unblocked R n g number (t + 1)
+    unblocked-unnamed o = record { within = omega arith; none = any-more (λ u. named g u and rowBlocks number n (R u)) t (u .none) (rw o) }
 
-    module _ (name : named g t ≡ true) (b : Bool) (tested : b ≡ rowBlocks number (x .checkpoints) (rowAt (x .rows) t)) where
-      pub unblocked-found : b ≡ true → true ≡ groupBlocked x g number
+    module _ (name : named g t ≡ true) (b : Bool) (tested : b ≡ rowBlocks number n (R t)) where
+      pub unblocked-found : b ≡ true → true ≡ groupBlocked R n g number
       unfolding groupBlocked anyNamed
-      unblocked-found e = sym (any-on (λ u. named g u and rowBlocks number (x .checkpoints) (rowAt (x .rows) u)) groupBits t below (rw (name, ← tested) e))
+      unblocked-found e = sym (any-on (λ u. named g u and rowBlocks number n (R u)) groupBits t below (rw (name, ← tested) e))
 
-      pub unblocked-more : b ≡ false → Unblocked x g number (t + 1)
-      unblocked-more e = record { within = omega arith; none = any-more (λ u. named g u and rowBlocks number (x .checkpoints) (rowAt (x .rows) u)) t (u .none) (rw (name, ← tested) e) }
+      pub unblocked-more : b ≡ false → Unblocked R n g number (t + 1)
+      unblocked-more e = record { within = omega arith; none = any-more (λ u. named g u and rowBlocks number n (R u)) t (u .none) (rw (name, ← tested) e) }
 
-module _ (x : Register) (g : ℕ) where
-  pub group-empty : g ≡ 0 → 29 ≡ groupGuard x g
+module _ (x : Register) (R : ℕ → Row) (g : ℕ) where
+  pub group-empty : g ≡ 0 → 29 ≡ groupGuard x R g
   unfolding groupGuard
   group-empty e = rw (eq-eqb g 0 e)
 
   module _ (names : g ≡ 0 → ⊥) (a : Bool) (opened : a ≡ anyNamed g (leb (x .opened))) where
-    pub group-unopened : a ≡ true → 21 ≡ groupGuard x g
+    pub group-unopened : a ≡ true → 21 ≡ groupGuard x R g
     unfolding groupGuard
     group-unopened e = rw (ne-eqb g 0 names, ← opened, e)
 
-    module _ (off : a ≡ false) (b : Bool) (there : b ≡ groupBlocked x g 22) where
-      pub group-gone : b ≡ true → 22 ≡ groupGuard x g
+    module _ (off : a ≡ false) (b : Bool) (there : b ≡ groupBlocked R (x .checkpoints) g 22) where
+      pub group-gone : b ≡ true → 22 ≡ groupGuard x R g
       unfolding groupGuard
       group-gone e = rw (ne-eqb g 0 names, ← opened, off, ← there, e)
 
-      module _ (none : b ≡ false) (c : Bool) (full : c ≡ groupBlocked x g 30) where
-        pub group-full : c ≡ true → 30 ≡ groupGuard x g
+      module _ (none : b ≡ false) (c : Bool) (full : c ≡ groupBlocked R (x .checkpoints) g 30) where
+        pub group-full : c ≡ true → 30 ≡ groupGuard x R g
         unfolding groupGuard
         group-full e = rw (ne-eqb g 0 names, ← opened, off, ← there, none, ← full, e)
 
-        pub group-free : c ≡ false → 0 ≡ groupGuard x g
+        pub group-free : c ≡ false → 0 ≡ groupGuard x R g
         unfolding groupGuard
         group-free e = rw (ne-eqb g 0 names, ← opened, off, ← there, none, ← full, e)
 
-  -- no refusal: every named take can be signed once more
-  pub group-room : g < bound 2 → x .checkpoints < 256 → groupGuard x g ≡ 0 → Room g (x .rows)
-  unfolding groupGuard groupBlocked rowBlocks Fits bound
-  group-room bits most z = record {
-    fits = λ t n.
-        let a = pick-zero (eqb g 0) 29 _ (omega arith) z in
-        let b = pick-zero (anyNamed g (leb (x .opened))) 21 _ (omega arith) (a .1) in
-        let c = pick-zero (groupBlocked x g 22) 22 _ (omega arith) (b .1) in
-        let d = pick-zero (groupBlocked x g 30) 30 0 (omega arith) (c .1) in
-        ⊎-elim
-        (λ (h : t < groupBits). let k = leb-false (x .checkpoints) (rowAt (x .rows) t .checkpoints) (named-at g (λ t. leb (x .checkpoints) (rowAt (x .rows) t .checkpoints)) t (d .0) h n) in omega arith)
-        (λ (h : groupBits ≤ t). never (sym n ∙ named-past g t groupBits bits h))
-        (sides t groupBits);
-  }
+-- no refusal: every named take can be signed once more
+pub group-room : (x : Register) (rows : List Row) (g : ℕ) → g < bound 2 → x .checkpoints < 256 → groupGuard x (rowAt rows) g ≡ 0 → Room g rows
+unfolding groupGuard groupBlocked rowBlocks Fits bound
+group-room x rows g bits most z = record {
+  fits = λ t n.
+      let a = pick-zero (eqb g 0) 29 _ (omega arith) z in
+      let b = pick-zero (anyNamed g (leb (x .opened))) 21 _ (omega arith) (a .1) in
+      let c = pick-zero (groupBlocked (rowAt rows) (x .checkpoints) g 22) 22 _ (omega arith) (b .1) in
+      let d = pick-zero (groupBlocked (rowAt rows) (x .checkpoints) g 30) 30 0 (omega arith) (c .1) in
+      ⊎-elim
+      (λ (h : t < groupBits). let k = leb-false (x .checkpoints) (rowAt rows t .checkpoints) (named-at g (λ t. leb (x .checkpoints) (rowAt rows t .checkpoints)) t (d .0) h n) in omega arith)
+      (λ (h : groupBits ≤ t). never (sym n ∙ named-past g t groupBits bits h))
+      (sides t groupBits);
+}

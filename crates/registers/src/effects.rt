@@ -1,6 +1,8 @@
-// What steps do to one transactor.
+// What steps do to one transactor, and a signing to those of a group.
 use chains::rows::Row;
 use chains::rows::RowEffect;
+use group::is_named;
+use image::layout::TRANSACTORS;
 use image::limits;
 use rules::numbers;
 ghost use mathlib.Core.Path.{_≡_};
@@ -9,8 +11,8 @@ ghost use Prim.Native.Nat.{_<_, _≤_};
 ghost use lib.Dec.{leb};
 ghost use Rattle.octets.specs.Bytes.{_and_};
 ghost use Rattle.rules.specs.Step.{read, fall};
-ghost use Rattle.chains.specs.Internal.Tables.{rowStays, rollbackRow, localRow, receiveRow};
-ghost use Rattle.registers.specs.Internal.Register.{checkpointedRow, Fits};
+ghost use Rattle.chains.specs.Internal.Tables.{rowStays, openedRow, rollbackRow, localRow, receiveRow};
+ghost use Rattle.registers.specs.Internal.Register.{checkpointedRow, CheckpointedRows, Fits, Room};
 ghost use Rattle.registers.specs.Internal.Guards.{lastRow};
 
 // A transactor not opened; one that is gone differs in the status.
@@ -22,6 +24,20 @@ pub const UNUSED: Row = Row {
     value: 0,
     saved: 0,
 };
+
+// One that has been opened.
+pub fn opened(value: u32) -> Row
+    ensures { λ r. ⌜ r ≡ openedRow value ⌝ }
+{
+    Row {
+        status: numbers::READY,
+        stable: false,
+        checkpoints: 0,
+        incarnation: 0,
+        value,
+        saved: 0,
+    }
+}
 
 // 28: whether it has been checkpointed and is at the largest incarnation number.
 pub fn is_last(x: Row) -> bool
@@ -146,4 +162,18 @@ pub fn checkpointed(x: Row, named: bool) -> Row
         value: x.value,
         saved: x.value,
     }
+}
+
+// Every transactor that the group names is checkpointed.
+pub fn checkpointed_group(mut rows: [Row; 16], group: u16) -> [Row; 16]
+    requires { ⌜ Room group rows ⌝ }
+    ensures { λ r. ⌜ CheckpointedRows group rows r ⌝ }
+{
+    let mut t: usize = 0;
+    while t < TRANSACTORS {
+        let row = rows[t];
+        rows[t] = checkpointed(row, is_named(group, t));
+        t += 1;
+    }
+    rows
 }

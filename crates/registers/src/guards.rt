@@ -9,12 +9,11 @@ use image::limits;
 use rules::numbers;
 ghost use mathlib.Core.Path.{_≡_};
 ghost use mathlib.Core.Bool.{not};
-ghost use Prim.Native.Nat.{_<_};
 ghost use lib.Dec.{eqb, leb};
 ghost use Rattle.octets.specs.Bytes.{_and_};
 ghost use Rattle.rules.specs.Status as status;
 ghost use Rattle.rules.specs.Step.{fall};
-ghost use Rattle.rules.specs.Refusals.{groupBits};
+ghost use Rattle.registers.specs.Internal.Register.{rowAt};
 ghost use Rattle.registers.specs.Internal.Guards.{lastRow, localGuard, busyGuard, crowdedGuard, receiptGuard, rowBlocks, groupBlocked, groupGuard};
 
 // Whether the kind asks a busy transactor, and it is not.
@@ -50,15 +49,12 @@ pub fn local(x: Row, kind: u8) -> u8
 }
 
 // 21, 22, 23 of a transactor that must be busy.
-pub fn busy(x: Register, t: usize) -> u8
-    requires { ⌜ t < groupBits ⌝ }
-    ensures { λ r. ⌜ r ≡ busyGuard x t ⌝ }
+pub fn busy(opened: u8, t: u8, row: Row) -> u8
+    ensures { λ r. ⌜ r ≡ busyGuard opened t row ⌝ }
 {
-    let opened = x.opened as usize;
     if opened <= t {
         return numbers::UNOPENED;
     }
-    let row = x.rows[t];
     if row.status == numbers::ANNIHILATED {
         return numbers::GONE;
     }
@@ -82,15 +78,12 @@ pub fn crowded(x: Register) -> u8
 }
 
 // 24, 22, 23 of a receipt.
-pub fn receipt(x: Register, slot: Slot) -> u8
-    requires { ⌜ slot .addressee < groupBits ⌝ }
-    ensures { λ r. ⌜ r ≡ receiptGuard x slot ⌝ }
+pub fn receipt(slot: Slot, row: Row) -> u8
+    ensures { λ r. ⌜ r ≡ receiptGuard slot row ⌝ }
 {
     if slot.missing {
         return numbers::NOT_WAITING;
     }
-    let t = slot.addressee as usize;
-    let row = x.rows[t];
     if row.status == numbers::ANNIHILATED {
         return numbers::GONE;
     }
@@ -127,14 +120,14 @@ fn blocks(x: Row, most: u8, number: u8) -> bool
 }
 
 // Whether some named transactor does.
-pub fn blocked(x: Register, group: u16, number: u8) -> bool
-    ensures { λ r. ⌜ r ≡ groupBlocked x group number ⌝ }
+pub fn blocked(rows: [Row; 16], most: u8, group: u16, number: u8) -> bool
+    ensures { λ r. ⌜ r ≡ groupBlocked (rowAt rows) most group number ⌝ }
 {
     let mut t: usize = 0;
     while t < TRANSACTORS {
         if is_named(group, t) {
-            let row = x.rows[t];
-            if blocks(row, x.checkpoints, number) {
+            let row = rows[t];
+            if blocks(row, most, number) {
                 return true;
             }
         }
@@ -144,8 +137,8 @@ pub fn blocked(x: Register, group: u16, number: u8) -> bool
 }
 
 // 29, 21, 22, 30 of a signing.
-pub fn group(x: Register, group: u16) -> u8
-    ensures { λ r. ⌜ r ≡ groupGuard x group ⌝ }
+pub fn group(x: Register, rows: [Row; 16], group: u16) -> u8
+    ensures { λ r. ⌜ r ≡ groupGuard x (rowAt rows) group ⌝ }
 {
     if group == 0 {
         return numbers::EMPTY_GROUP;
@@ -153,10 +146,10 @@ pub fn group(x: Register, group: u16) -> u8
     if group::names_from(group, x.opened as usize) {
         return numbers::UNOPENED;
     }
-    if blocked(x, group, numbers::GONE) {
+    if blocked(rows, x.checkpoints, group, numbers::GONE) {
         return numbers::GONE;
     }
-    if blocked(x, group, numbers::ALL_CHECKPOINTED) {
+    if blocked(rows, x.checkpoints, group, numbers::ALL_CHECKPOINTED) {
         return numbers::ALL_CHECKPOINTED;
     }
     0

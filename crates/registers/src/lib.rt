@@ -1,4 +1,4 @@
-// The engine's tables by value (document 02, W11): what it keeps of each transactor, the changes, and the refusals that they answer.
+// What the engine keeps, by value (document 02, W11): a row for each transactor, the other numbers, the changes, and the refusals.
 pub mod effects;
 pub mod guards;
 pub mod register;

@@ -1,17 +1,11 @@
-// What the engine keeps, by value, but for the messages.
-use crate::effects;
-use chains::rows::Row;
-use group::is_named;
-use image::layout::TRANSACTORS;
-use rules::numbers;
+// What the engine keeps, by value, but for the transactors and the messages, which stand in arrays of their own.
 ghost use mathlib.Core.Path.{_≡_};
 ghost use Prim.Native.Nat.{_<_};
-ghost use lib.ListN.{set};
 ghost use Rattle.rules.specs.Refusals.{groupBits};
-ghost use Rattle.registers.specs.Internal.Register.{freshRegister, withRows, withOpened, withNumber, withoutNumber, Room, CheckpointedRows, CheckpointedBy};
+ghost use Rattle.registers.specs.Internal.Register.{freshRegister, withOpened, withNumber, withoutNumber};
 
 // The session's limits (transactors opened, messages waiting, checkpoints of one transactor), transactors opened, the next message
-// number, messages waiting, the transactors.
+// number, messages waiting.
 pub struct Register {
     pub transactors: u8,
     pub messages: u8,
@@ -19,21 +13,6 @@ pub struct Register {
     pub opened: u8,
     pub next: u16,
     pub waiting: u8,
-    pub rows: [Row; 16],
-}
-
-// Every transactor that the group names is checkpointed.
-fn checkpointed(mut rows: [Row; 16], group: u16) -> [Row; 16]
-    requires { ⌜ Room group rows ⌝ }
-    ensures { λ r. ⌜ CheckpointedRows group rows r ⌝ }
-{
-    let mut t: usize = 0;
-    while t < TRANSACTORS {
-        let row = rows[t];
-        rows[t] = effects::checkpointed(row, is_named(group, t));
-        t += 1;
-    }
-    rows
 }
 
 impl Register {
@@ -47,32 +26,14 @@ impl Register {
             opened: 0,
             next: 0,
             waiting: 0,
-            rows: [effects::UNUSED; 16],
         }
     }
 
-    pub fn with_row(mut self, t: usize, row: Row) -> Register
-        requires { ⌜ t < groupBits ⌝ }
-        ensures { λ r. ⌜ r ≡ withRows self (set (self .rows) t row) ⌝ }
-    {
-        self.rows[t] = row;
-        self
-    }
-
     // One more transactor.
-    pub fn with_opened(mut self, value: u32) -> Register
+    pub fn with_opened(mut self) -> Register
         requires { ⌜ self .opened < groupBits ⌝ }
-        ensures { λ r. ⌜ r ≡ withOpened self value ⌝ }
+        ensures { λ r. ⌜ r ≡ withOpened self ⌝ }
     {
-        let t = self.opened as usize;
-        self.rows[t] = Row {
-            status: numbers::READY,
-            stable: false,
-            checkpoints: 0,
-            incarnation: 0,
-            value,
-            saved: 0,
-        };
         self.opened += 1;
         self
     }
@@ -94,17 +55,6 @@ impl Register {
         if 0 < self.waiting {
             self.waiting -= 1;
         }
-        self
-    }
-
-    // The group checkpointed.
-    pub fn with_checkpoints(mut self, group: u16) -> Register
-        requires { ⌜ Room group (self .rows) ⌝ }
-        ensures { λ r. ⌜ CheckpointedBy group self r ⌝ }
-    {
-        let rows = self.rows;
-        let after = checkpointed(rows, group);
-        self.rows = after;
         self
     }
 }

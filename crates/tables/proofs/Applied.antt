@@ -1,6 +1,6 @@
 -- What a step that is not refused makes of the tables, kind by kind.
 use Prim.Native.Nat.{_≤_}
-use mathlib.Core.Bool.{Bool}
+use mathlib.Core.Bool.{Bool, true, false}
 use mathlib.Core.Path.{_≡_}
 use Rattle.octets.specs.Bytes.{pick}
 use Rattle.rules.specs.declared.Step.{Step}
@@ -11,10 +11,10 @@ use Rattle.chains.specs.Internal.Tables.{Tables, openRow, withSlot, withoutSlot
 
 pub record Applies (T : Tables) (p : Step) (d f g : Bool) : Type 0 where
   pub root : p .kind ≡ root → playApplied T p d f g ≡ record { reply = answer done (T .opened) 0 0; tables = openRow T (p .value) }
-  pub letter : p .kind ≡ letter → playApplied T p d f g ≡ record { reply = answer done (p .transactor) (T .next) 0; tables = withSlot T (p .transactor) (p .value) }
+  pub letter : p .kind ≡ letter → playApplied T p d f g ≡ record { reply = answer done (p .transactor) (T .next) 0; tables = withSlot T true (p .transactor) (p .value) }
   pub receive : p .kind ≡ receive → playApplied T p d f g ≡ playReceive T p d f
   pub new : p .kind ≡ new → playApplied T p d f g ≡ record { reply = answer done (T .opened) 0 0; tables = openRow T (p .value) }
-  pub send : p .kind ≡ send → playApplied T p d f g ≡ record { reply = answer done (p .transactor) (T .next) 0; tables = withSlot T (p .other) (p .value) }
+  pub send : p .kind ≡ send → playApplied T p d f g ≡ record { reply = answer done (p .transactor) (T .next) 0; tables = withSlot T false (p .other) (p .value) }
   pub local : read ≤ p .kind → p .kind ≤ fail → playApplied T p d f g ≡ playLocal T p
   pub lose : p .kind ≡ lose → playApplied T p d f g ≡ record { reply = answer done 0 (p .message) 0; tables = withoutSlot T (p .message) }
   pub sign : p .kind ≡ sign → playApplied T p d f g

@@ -1,29 +1,34 @@
 -- What each kind of step gives: refused, or done.
 use Prim.Native.Nat.{ℕ, _≤_, _<_}
 use mathlib.Core.Bool.{Bool, true, false, not}
-use mathlib.Core.Path.{_≡_, refl, ap, sym, _∙_, subst}
+use mathlib.Core.Path.{_≡_, refl, ap, sym, _∙_}
+use mathlib.Core.List.{List}
 use native.Mathlib.Omega.{arith}
-use lib.Dec.{leb}
-use lib.ListN.{length, set}
+use lib.Dec.{eqb, leb}
+use lib.ListN.{length}
 use borrow.Author.Tests.{le-leb, lt-leb, ne-eqb}
 use Rattle.octets.specs.Bytes.{pick, _and_}
 use Rattle.octets.proofs.Tests.{and-assoc}
 use Rattle.maps.specs.Table.{updated}
 use Rattle.rules.specs.Layout.{base}
 use Rattle.rules.specs.declared.Step.{Step}
+use Rattle.rules.specs.declared.Reply.{Reply}
 use Rattle.rules.specs.Step.{done, notReady, root, letter, receive, new, send, read, fail, lose, sign}
 use Rattle.rules.specs.Refusals.{groupBits, sends, malformed}
 use Rattle.rules.specs.Rules.{answer}
 use Rattle.rules.proofs.ByKind.Guards.{first, first-taken, first-left}
+use Rattle.chains.specs.declared.rows.Row.{Row}
 use Rattle.chains.specs.declared.rows.Slot.{Slot}
 use Rattle.chains.specs.declared.rows.RowEffect.{RowEffect}
-use Rattle.chains.specs.Internal.Tables.{Tables, emptySlot, withRow, openRow, withSlot, withoutSlot, localRow, receiveRow, playRefusal, Played, play, playApplied, playReceive, playLocal}
+use Rattle.chains.specs.Internal.Tables.{Tables, emptySlot, openRow, withSlot, withoutSlot, localRow, receiveRow, playRefusal, Played, play, playApplied, playReceive, playLocal}
 use Rattle.registers.specs.declared.register.Register.{Register}
+use Rattle.tables.specs.declared.Operands.{Operands}
 use Rattle.tables.specs.declared.Turn.{Turn}
-use Rattle.registers.specs.Internal.Register.{rowAt, viewOf, withRows, withOpened, withoutNumber, CheckpointedBy}
+use Rattle.tables.specs.declared.GroupTurn.{GroupTurn}
+use Rattle.registers.specs.Internal.Register.{rowAt, viewOf, withoutNumber, CheckpointedRows}
 use Rattle.registers.specs.Internal.Guards.{lastRow, localGuard, busyGuard, crowdedGuard, receiptGuard, groupGuard}
-use Rattle.tables.specs.Internal.Turns.{placeOf, answers, opens, sendsTo, playedOf, TurnsBy, Turns, Receives, Signs, Asked}
-use Rattle.registers.proofs.Views.{same-slot, view-opened, view-row, view-checkpoint, view-number, view-without}
+use Rattle.tables.specs.Internal.Turns.{placeOf, subjectOf, answers, answersGroup, opens, sendsTo, Holds, playedOf, playedGroup, TurnsBy, Turns, Receives, Signs, Asked}
+use Rattle.registers.proofs.Views.{same-at, view-opened, view-checkpoint, view-number, view-without}
 use Rattle.tables.proofs.Applied.{applies}
 use Rattle.tables.proofs.Refused.{refused-malformed, refuses}
 
@@ -36,272 +41,314 @@ module _ (T : Tables) (p : Step) (d f g : Bool) where
   unfolding play
   play-applied e = rw e
 
--- the receipt of parcel m
-abbrev receivedOf : Register → Step → (ℕ → Slot) → Bool → Bool → Slot → Played
-receivedOf x p F d f m =
-    let w : RowEffect = receiveRow d f (m .content) (rowAt (x .rows) (m .addressee)) in
-    record { reply = answer (w .outcome) (m .addressee) (p .message) (w .value); tables = withoutSlot (withRow (viewOf x F) (m .addressee) (w .row)) (p .message) }
+abbrev played : Reply → Tables → Played
+played r T = record { reply = r; tables = T }
 
-received : (x : Register) (p : Step) (F : ℕ → Slot) (d f : Bool) (m : Slot) → F (p .message) ≡ m → receivedOf x p F d f m ≡ playReceive (viewOf x F) p d f
-unfolding playReceive viewOf
-received x p F d f m q = subst (λ (m : Slot). receivedOf x p F d f m ≡ playReceive (viewOf x F) p d f) q refl
+module _ (x : Operands) (p : Step) where
+  abbrev reg : Register
+  reg = x .register
 
-module _ (x : Register) (m : Slot) (p : Step) where
-  opens-by : length (x .rows) ≡ groupBits → x .opened < groupBits → (F : ℕ → Slot) → F (placeOf x p) ≡ m
-      → (u : Turn) → u ≡ opens x m (p .value) → playedOf u F (placeOf x p) ≡ record { reply = answer done (x .opened) 0 0; tables = openRow (viewOf x F) (p .value) }
-  unfolding playedOf
-  opens-by l h F q u e =
-      ap (λ u. playedOf u F (placeOf x p)) e
-      ∙ ap (λ T. record { reply = answer done (x .opened) 0 0; tables = T }) (ap (viewOf (withOpened x (p .value))) (same-slot F (placeOf x p) m q) ∙ view-opened x l F (p .value) h)
+  abbrev place : ℕ
+  place = placeOf reg p
 
-  sends-by : placeOf x p ≡ x .next → (t to v : ℕ) (F : ℕ → Slot) (u : Turn) → u ≡ sendsTo x t to v
-      → playedOf u F (placeOf x p) ≡ record { reply = answer done t (x .next) 0; tables = withSlot (viewOf x F) to v }
-  unfolding playedOf
-  sends-by n t to v F u e =
-      ap (λ u. playedOf u F (placeOf x p)) e
-      ∙ ap (λ k. playedOf (sendsTo x t to v) F k) n
-      ∙ ap (λ T. record { reply = answer done t (x .next) 0; tables = T }) (view-number x F to v)
+  -- of a letter and a send the next number, else the step's own
+  next-place : (k : ℕ) → p .kind ≡ k → sends k ≡ true → place ≡ reg .next
+  unfolding placeOf
+  next-place k e h = rw (e, h)
 
-  -- the others look at their own parcel number
-  own-place : (k : ℕ) → p .kind ≡ k → sends k ≡ false → placeOf x p ≡ p .message
+  own-place : (k : ℕ) → p .kind ≡ k → sends k ≡ false → place ≡ p .message
   unfolding placeOf
   own-place k e h = rw (e, h)
 
-  module _ (long : length (x .rows) ≡ groupBits) (F : ℕ → Slot) (same : F (placeOf x p) ≡ m) where
-    local-by : p .transactor < groupBits → (e : RowEffect) → e ≡ localRow (p .kind) (p .value) (rowAt (x .rows) (p .transactor))
-        → record { reply = answer (e .outcome) (p .transactor) 0 (e .value); tables = viewOf (withRows x (set (x .rows) (p .transactor) (e .row))) (updated F (placeOf x p) m) } ≡ playLocal (viewOf x F) p
-    unfolding playLocal viewOf
-    local-by h e k =
-        let t = p .transactor in
-        let w : RowEffect = localRow (p .kind) (p .value) (rowAt (x .rows) t) in
-        ap (λ (e : RowEffect). record { reply = answer (e .outcome) t 0 (e .value); tables = viewOf (withRows x (set (x .rows) t (e .row))) (updated F (placeOf x p) m) }) k
-        ∙ ap (λ (T : Tables). record { reply = answer (w .outcome) t 0 (w .value); tables = T })
-        (ap (viewOf (withRows x (set (x .rows) t (w .row)))) (same-slot F (placeOf x p) m same) ∙ view-row x long F t (w .row) h)
+  -- of a receipt its receiver, else the step's own take
+  pub receiver : x .at ≡ subjectOf p (x .slot) → p .kind ≡ receive → x .at ≡ x .slot .addressee
+  unfolding subjectOf
+  receiver e k = e ∙ rw k
 
-    receive-by : placeOf x p ≡ p .message → m .addressee < groupBits → (d f : Bool) (e : RowEffect) → e ≡ receiveRow d f (m .content) (rowAt (x .rows) (m .addressee))
-        → record {
-          reply = answer (e .outcome) (m .addressee) (p .message) (e .value);
-          tables = viewOf (withoutNumber (withRows x (set (x .rows) (m .addressee) (e .row)))) (updated F (placeOf x p) emptySlot);
-        } ≡ playReceive (viewOf x F) p d f
-    receive-by n h d f e k =
-        let t = m .addressee in
-        let w : RowEffect = receiveRow d f (m .content) (rowAt (x .rows) t) in
-        ap (λ (e : RowEffect). record { reply = answer (e .outcome) t (p .message) (e .value); tables = viewOf (withoutNumber (withRows x (set (x .rows) t (e .row)))) (updated F (placeOf x p) emptySlot) }) k
-        ∙ ap (λ (T : Tables). record { reply = answer (w .outcome) t (p .message) (w .value); tables = T }) (
-        ap (λ (n : ℕ). viewOf (withoutNumber (withRows x (set (x .rows) t (w .row)))) (updated F n emptySlot)) n
-        ∙ view-without (withRows x (set (x .rows) t (w .row))) F (p .message)
-        ∙ ap (λ (T : Tables). withoutSlot T (p .message)) (view-row x long F t (w .row) h))
-        ∙ received x p F d f m (ap F (sym n) ∙ same)
+  own-transactor : x .at ≡ subjectOf p (x .slot) → eqb (p .kind) receive ≡ false → x .at ≡ p .transactor
+  unfolding subjectOf
+  own-transactor e k = e ∙ rw k
 
-module _ {x : Register} {m : Slot} {p : Step} where
+  module _ (R : ℕ → Row) (F : ℕ → Slot) (holds : Holds x p R F) where
+    abbrev same-rows : updated R (x .at) (x .row) ≡ R
+    same-rows = same-at R (x .at) (x .row) (holds .row)
+
+    abbrev same-slots : updated F place (x .slot) ≡ F
+    same-slots = same-at F place (x .slot) (holds .slot)
+
+    -- nothing changed
+    stays-by : (n : ℕ) → playedOf (answers x n) R F place ≡ played (answer n 0 0 0) (viewOf reg R F)
+    unfolding playedOf
+    stays-by n = λ i. played (answer n 0 0 0) (viewOf reg (same-rows i) (same-slots i))
+
+    opens-by : (v : ℕ) → playedOf (opens x v) R F place ≡ played (answer done (reg .opened) 0 0) (openRow (viewOf reg R F) v)
+    unfolding playedOf
+    opens-by v = (λ i. played (answer done (reg .opened) 0 0) (viewOf (opens x v .operands .register) (updated R (reg .opened) (opens x v .operands .row)) (same-slots i)))
+        ∙ ap (played (answer done (reg .opened) 0 0)) (view-opened reg R F v)
+
+    sends-by : place ≡ reg .next → (c : Bool) (t to v : ℕ) → playedOf (sendsTo x c t to v) R F place ≡ played (answer done t (reg .next) 0) (withSlot (viewOf reg R F) c to v)
+    unfolding playedOf
+    sends-by n c t to v = (λ i. played (answer done t (reg .next) 0) (viewOf (sendsTo x c t to v .operands .register) (same-rows i) (updated F (n i) (sendsTo x c t to v .operands .slot))))
+        ∙ ap (played (answer done t (reg .next) 0)) (view-number reg R F c to v)
+
+    -- what the operands' take is
+    seen : (t : ℕ) → x .at ≡ t → x .row ≡ R t
+    seen t e = sym (holds .row) ∙ ap R e
+
+    local-by : x .at ≡ p .transactor → (e : RowEffect) → e ≡ localRow (p .kind) (p .value) (x .row)
+        → playedOf (record { reply = answer (e .outcome) (p .transactor) 0 (e .value); operands = record { register = reg; at = x .at; row = e .row; slot = x .slot } }) R F place ≡ playLocal (viewOf reg R F) p
+    unfolding playedOf playLocal viewOf
+    local-by at e k =
+        let q : e ≡ localRow (p .kind) (p .value) (R (p .transactor)) = k ∙ ap (localRow (p .kind) (p .value)) (seen (p .transactor) at) in
+        λ i. played (answer (q i .outcome) (p .transactor) 0 (q i .value)) (viewOf reg (updated R (at i) (q i .row)) (same-slots i))
+
+    module _ (own : place ≡ p .message) where
+      -- the operands' parcel is the step's
+      message : x .slot ≡ F (p .message)
+      message = sym (holds .slot) ∙ ap F own
+
+      lose-by : (z : Register) → z ≡ withoutNumber reg
+          → playedOf (record { reply = answer done 0 (p .message) 0; operands = record { register = z; at = x .at; row = x .row; slot = emptySlot } }) R F place ≡ played (answer done 0 (p .message) 0) (withoutSlot (viewOf reg R F) (p .message))
+      unfolding playedOf
+      lose-by z e = (λ i. played (answer done 0 (p .message) 0) (viewOf (e i) (same-rows i) (updated F (own i) emptySlot))) ∙ ap (played (answer done 0 (p .message) 0)) (view-without reg R F (p .message))
+
+      receive-by : x .at ≡ x .slot .addressee → (d f : Bool) (e : RowEffect) → e ≡ receiveRow d f (x .slot .content) (x .row) → (z : Register) → z ≡ withoutNumber reg
+          → playedOf (record { reply = answer (e .outcome) (x .slot .addressee) (p .message) (e .value); operands = record { register = z; at = x .at; row = e .row; slot = emptySlot } }) R F place
+          ≡ playReceive (viewOf reg R F) p d f
+      unfolding playedOf playReceive viewOf withoutSlot
+      receive-by at d f e k z w =
+          let m : x .slot ≡ F (p .message) = message in
+          let t : x .at ≡ F (p .message) .addressee = at ∙ ap (λ (m : Slot). m .addressee) m in
+          let q : e ≡ receiveRow d f (F (p .message) .content) (R (F (p .message) .addressee)) = k ∙ λ i. receiveRow d f (m i .content) (seen (F (p .message) .addressee) t i) in
+          λ i. played (answer (q i .outcome) (m i .addressee) (p .message) (q i .value)) (viewOf (w i) (updated R (t i) (q i .row)) (updated F (own i) emptySlot))
+
+module _ {x : Operands} {p : Step} where
   -- ---- a number alone
 
-  answers-by : (d f g : Bool) (n : ℕ) → (n ≡ 0 → ⊥) → ((F : ℕ → Slot) → F (placeOf x p) ≡ m → playRefusal base (viewOf x F) p d f ≡ n)
-      → (u : Turn) → u ≡ answers x m n → TurnsBy d f g x m p u
-  unfolding playedOf
+  answers-by : (d f g : Bool) (n : ℕ) → (n ≡ 0 → ⊥) → ((R : ℕ → Row) (F : ℕ → Slot) → Holds x p R F → playRefusal base (viewOf (x .register) R F) p d f ≡ n)
+      → (u : Turn) → u ≡ answers x n → TurnsBy d f g x p u
   answers-by d f g n z h u e = record {
-    plays = λ F q.
-        ap (λ u. playedOf u F (placeOf x p)) e
-        ∙ ap (λ G. record { reply = answer n 0 0 0; tables = viewOf x G }) (same-slot F (placeOf x p) m q)
-        ∙ play-refused (viewOf x F) p d f g n z (h F q);
+    plays = λ R F l. ap (λ (u : Turn). playedOf u R F (placeOf (x .register) p)) e ∙ stays-by x p R F l n ∙ play-refused (viewOf (x .register) R F) p d f g n z (h R F l);
+    within = λ k. omega (arith, ap (λ (u : Turn). u .operands .at) e);
   }
 
-  answers-all : (n : ℕ) → (n ≡ 0 → ⊥) → ((F : ℕ → Slot) (d f : Bool) → F (placeOf x p) ≡ m → playRefusal base (viewOf x F) p d f ≡ n) → (u : Turn) → u ≡ answers x m n → Turns x m p u
-  answers-all n z h u e = record { by = λ d f g. answers-by d f g n z (λ F q. h F d f q) u e }
+  answers-all : (n : ℕ) → (n ≡ 0 → ⊥) → ((R : ℕ → Row) (F : ℕ → Slot) (d f : Bool) → Holds x p R F → playRefusal base (viewOf (x .register) R F) p d f ≡ n) → (u : Turn) → u ≡ answers x n → Turns x p u
+  answers-all n z h u e = record { by = λ d f g. answers-by d f g n z (λ R F l. h R F d f l) u e }
 
-  applied-by : (d f g : Bool) → ((F : ℕ → Slot) → F (placeOf x p) ≡ m → playRefusal base (viewOf x F) p d f ≡ 0)
-      → (u : Turn) → ((F : ℕ → Slot) → F (placeOf x p) ≡ m → playedOf u F (placeOf x p) ≡ playApplied (viewOf x F) p d f g) → TurnsBy d f g x m p u
-  applied-by d f g h u k = record { plays = λ F q. k F q ∙ play-applied (viewOf x F) p d f g (h F q) }
+  applied-by : (d f g : Bool) → ((R : ℕ → Row) (F : ℕ → Slot) → Holds x p R F → playRefusal base (viewOf (x .register) R F) p d f ≡ 0)
+      → (u : Turn) → ((R : ℕ → Row) (F : ℕ → Slot) → Holds x p R F → playedOf u R F (placeOf (x .register) p) ≡ playApplied (viewOf (x .register) R F) p d f g)
+      → (x .at < groupBits → u .operands .at < groupBits) → TurnsBy d f g x p u
+  applied-by d f g h u k w = record { plays = λ R F l. k R F l ∙ play-applied (viewOf (x .register) R F) p d f g (h R F l); within = w }
 
-  pub malformed-done : malformed p ≡ true → (u : Turn) → u ≡ answers x m 20 → Turns x m p u
-  malformed-done e u q = answers-all 20 (omega arith) (λ F d f z. refused-malformed x F p d f e) u q
+  pub malformed-done : malformed p ≡ true → (u : Turn) → u ≡ answers x 20 → Turns x p u
+  malformed-done e u q = answers-all 20 (omega arith) (λ R F d f l. refused-malformed (x .register) R F p d f e) u q
 
   -- ---- root, new: one more take
 
-  module _ (a : Asked root x m p) where
-    pub root-full : x .transactors ≤ x .opened → (u : Turn) → u ≡ answers x m 25 → Turns x m p u
-    root-full h u e = answers-all 25 (omega arith) (λ F d f q. refuses x F p d f (a .formed) .root (a .kind) ∙ rw (le-leb (x .transactors) (x .opened) h)) u e
+  opens-turn : ((R : ℕ → Row) (F : ℕ → Slot) (d f : Bool) → Holds x p R F → playRefusal base (viewOf (x .register) R F) p d f ≡ 0)
+      → ((T : Tables) (d f g : Bool) → playApplied T p d f g ≡ played (answer done (T .opened) 0 0) (openRow T (p .value)))
+      → x .register .opened < groupBits → (u : Turn) → u ≡ opens x (p .value) → Turns x p u
+  unfolding viewOf
+  opens-turn free kind h u e = record {
+    by = λ d f g. applied-by d f g (λ R F l. free R F d f l) u
+        (λ R F l. ap (λ (u : Turn). playedOf u R F (placeOf (x .register) p)) e ∙ opens-by x p R F l (p .value) ∙ sym (kind (viewOf (x .register) R F) d f g))
+        (λ k. omega (arith, ap (λ (u : Turn). u .operands .at) e));
+  }
 
-    pub root-done : length (x .rows) ≡ groupBits → x .opened < x .transactors → (u : Turn) → u ≡ opens x m (p .value) → Turns x m p u
-    unfolding viewOf
-    root-done l h u e = record {
-      by = λ d f g. applied-by d f g (λ F q. refuses x F p d f (a .formed) .root (a .kind) ∙ rw (lt-leb (x .transactors) (x .opened) h)) u
-          (λ F q. opens-by x m p l (omega (arith, a .limits)) F q u e ∙ sym (applies (viewOf x F) p d f g .root (a .kind)));
-    }
+  module _ (a : Asked root x p) where
+    pub root-full : x .register .transactors ≤ x .register .opened → (u : Turn) → u ≡ answers x 25 → Turns x p u
+    root-full h u e = answers-all 25 (omega arith) (λ R F d f l. refuses (x .register) R F p d f (a .formed) .root (a .kind) ∙ rw (le-leb (x .register .transactors) (x .register .opened) h)) u e
 
-  module _ (a : Asked new x m p) where
+    pub root-done : x .register .opened < x .register .transactors → (u : Turn) → u ≡ opens x (p .value) → Turns x p u
+    root-done h u e = opens-turn
+        (λ R F d f l. refuses (x .register) R F p d f (a .formed) .root (a .kind) ∙ rw (lt-leb (x .register .transactors) (x .register .opened) h))
+        (λ T d f g. applies T p d f g .root (a .kind)) (omega (arith, a .limits)) u e
+
+  module _ (a : Asked new x p) where
     abbrev full : ℕ
-    full = pick (leb (x .transactors) (x .opened)) 25 0
+    full = pick (leb (x .register .transactors) (x .register .opened)) 25 0
 
-    pub new-idle : (r : ℕ) → r ≡ busyGuard x (p .transactor) → (r ≡ 0 → ⊥) → (u : Turn) → u ≡ answers x m r → Turns x m p u
-    new-idle r k z u e = answers-all r z (λ F d f q. refuses x F p d f (a .formed) .new (a .kind) ∙ first-taken (busyGuard x (p .transactor)) full r k z) u e
+    abbrev idle : ℕ
+    idle = busyGuard (x .register .opened) (p .transactor) (x .row)
 
-    module _ (r : ℕ) (works : r ≡ busyGuard x (p .transactor)) (zero : r ≡ 0) where
-      new-left : (F : ℕ → Slot) (d f : Bool) → playRefusal base (viewOf x F) p d f ≡ full
-      new-left F d f = refuses x F p d f (a .formed) .new (a .kind) ∙ first-left (busyGuard x (p .transactor)) full r works zero
+    new-transactor : x .at ≡ p .transactor
+    new-transactor = own-transactor x p (a .subject) (rw (a .kind))
 
-      pub new-full : x .transactors ≤ x .opened → (u : Turn) → u ≡ answers x m 25 → Turns x m p u
-      new-full h u e = answers-all 25 (omega arith) (λ F d f q. new-left F d f ∙ rw (le-leb (x .transactors) (x .opened) h)) u e
+    new-left : (R : ℕ → Row) (F : ℕ → Slot) (d f : Bool) → Holds x p R F → playRefusal base (viewOf (x .register) R F) p d f ≡ first idle full
+    new-left R F d f l = refuses (x .register) R F p d f (a .formed) .new (a .kind) ∙ ap (λ (z : Row). first (busyGuard (x .register .opened) (p .transactor) z) full) (sym (seen x p R F l (p .transactor) new-transactor))
 
-      pub new-done : length (x .rows) ≡ groupBits → x .opened < x .transactors → (u : Turn) → u ≡ opens x m (p .value) → Turns x m p u
-      unfolding viewOf
-      new-done l h u e = record {
-        by = λ d f g. applied-by d f g (λ F q. new-left F d f ∙ rw (lt-leb (x .transactors) (x .opened) h)) u
-            (λ F q. opens-by x m p l (omega (arith, a .limits)) F q u e ∙ sym (applies (viewOf x F) p d f g .new (a .kind)));
-      }
+    pub new-idle : (r : ℕ) → r ≡ idle → (r ≡ 0 → ⊥) → (u : Turn) → u ≡ answers x r → Turns x p u
+    new-idle r k z u e = answers-all r z (λ R F d f l. new-left R F d f l ∙ first-taken idle full r k z) u e
+
+    module _ (r : ℕ) (works : r ≡ idle) (zero : r ≡ 0) where
+      new-works : (R : ℕ → Row) (F : ℕ → Slot) (d f : Bool) → Holds x p R F → playRefusal base (viewOf (x .register) R F) p d f ≡ full
+      new-works R F d f l = new-left R F d f l ∙ first-left idle full r works zero
+
+      pub new-full : x .register .transactors ≤ x .register .opened → (u : Turn) → u ≡ answers x 25 → Turns x p u
+      new-full h u e = answers-all 25 (omega arith) (λ R F d f l. new-works R F d f l ∙ rw (le-leb (x .register .transactors) (x .register .opened) h)) u e
+
+      pub new-done : x .register .opened < x .register .transactors → (u : Turn) → u ≡ opens x (p .value) → Turns x p u
+      new-done h u e = opens-turn (λ R F d f l. new-works R F d f l ∙ rw (lt-leb (x .register .transactors) (x .register .opened) h)) (λ T d f g. applies T p d f g .new (a .kind)) (omega (arith, a .limits)) u e
 
   -- ---- letter, send: one more parcel
 
-  module _ (a : Asked letter x m p) where
-    letter-place : placeOf x p ≡ x .next
-    unfolding placeOf
-    letter-place = rw (a .kind)
+  sends-turn : placeOf (x .register) p ≡ x .register .next → (c : Bool) (to : ℕ)
+      → ((R : ℕ → Row) (F : ℕ → Slot) (d f : Bool) → Holds x p R F → playRefusal base (viewOf (x .register) R F) p d f ≡ 0)
+      → ((T : Tables) (d f g : Bool) → playApplied T p d f g ≡ played (answer done (p .transactor) (T .next) 0) (withSlot T c to (p .value)))
+      → (u : Turn) → u ≡ sendsTo x c (p .transactor) to (p .value) → Turns x p u
+  unfolding viewOf
+  sends-turn n c to free kind u e = record {
+    by = λ d f g. applied-by d f g (λ R F l. free R F d f l) u
+        (λ R F l. ap (λ (u : Turn). playedOf u R F (placeOf (x .register) p)) e ∙ sends-by x p R F l n c (p .transactor) to (p .value) ∙ sym (kind (viewOf (x .register) R F) d f g))
+        (λ k. omega (arith, ap (λ (u : Turn). u .operands .at) e));
+  }
 
-    pub letter-unopened : x .opened ≤ p .transactor → (u : Turn) → u ≡ answers x m 21 → Turns x m p u
-    letter-unopened h u e = answers-all 21 (omega arith) (λ F d f q. refuses x F p d f (a .formed) .letter (a .kind) ∙ rw (le-leb (x .opened) (p .transactor) h)) u e
+  module _ (a : Asked letter x p) where
+    pub letter-unopened : x .register .opened ≤ p .transactor → (u : Turn) → u ≡ answers x 21 → Turns x p u
+    letter-unopened h u e = answers-all 21 (omega arith) (λ R F d f l. refuses (x .register) R F p d f (a .formed) .letter (a .kind) ∙ rw (le-leb (x .register .opened) (p .transactor) h)) u e
 
-    module _ (opened : p .transactor < x .opened) (r : ℕ) (crowded : r ≡ crowdedGuard x) where
-      letter-left : (F : ℕ → Slot) (d f : Bool) → playRefusal base (viewOf x F) p d f ≡ r
-      letter-left F d f = refuses x F p d f (a .formed) .letter (a .kind) ∙ rw (lt-leb (x .opened) (p .transactor) opened) (sym crowded)
+    module _ (opened : p .transactor < x .register .opened) (r : ℕ) (crowded : r ≡ crowdedGuard (x .register)) where
+      letter-left : (R : ℕ → Row) (F : ℕ → Slot) (d f : Bool) → playRefusal base (viewOf (x .register) R F) p d f ≡ r
+      letter-left R F d f = refuses (x .register) R F p d f (a .formed) .letter (a .kind) ∙ rw (lt-leb (x .register .opened) (p .transactor) opened) (sym crowded)
 
-      pub letter-crowded : (r ≡ 0 → ⊥) → (u : Turn) → u ≡ answers x m r → Turns x m p u
-      letter-crowded z u e = answers-all r z (λ F d f q. letter-left F d f) u e
+      pub letter-crowded : (r ≡ 0 → ⊥) → (u : Turn) → u ≡ answers x r → Turns x p u
+      letter-crowded z u e = answers-all r z (λ R F d f l. letter-left R F d f) u e
 
-      pub letter-done : r ≡ 0 → (u : Turn) → u ≡ sendsTo x (p .transactor) (p .transactor) (p .value) → Turns x m p u
-      unfolding viewOf
-      letter-done z u e = record {
-        by = λ d f g. applied-by d f g (λ F q. letter-left F d f ∙ z) u
-            (λ F q. sends-by x m p (letter-place) (p .transactor) (p .transactor) (p .value) F u e ∙ sym (applies (viewOf x F) p d f g .letter (a .kind)));
-      }
+      pub letter-done : r ≡ 0 → (u : Turn) → u ≡ sendsTo x true (p .transactor) (p .transactor) (p .value) → Turns x p u
+      letter-done z u e = sends-turn (next-place x p letter (a .kind) refl) true (p .transactor) (λ R F d f l. letter-left R F d f ∙ z) (λ T d f g. applies T p d f g .letter (a .kind)) u e
 
-  module _ (a : Asked send x m p) where
-    send-place : placeOf x p ≡ x .next
-    unfolding placeOf
-    send-place = rw (a .kind)
+  module _ (a : Asked send x p) where
+    abbrev resting : ℕ
+    resting = busyGuard (x .register .opened) (p .transactor) (x .row)
 
-    pub send-unopened : x .opened ≤ p .other → (u : Turn) → u ≡ answers x m 21 → Turns x m p u
-    send-unopened h u e = answers-all 21 (omega arith) (λ F d f q. refuses x F p d f (a .formed) .send (a .kind) ∙ rw (le-leb (x .opened) (p .other) h)) u e
+    pub send-unopened : x .register .opened ≤ p .other → (u : Turn) → u ≡ answers x 21 → Turns x p u
+    send-unopened h u e = answers-all 21 (omega arith) (λ R F d f l. refuses (x .register) R F p d f (a .formed) .send (a .kind) ∙ rw (le-leb (x .register .opened) (p .other) h)) u e
 
-    module _ (opened : p .other < x .opened) (w : ℕ) (works : w ≡ busyGuard x (p .transactor)) where
-      pub send-idle : (w ≡ 0 → ⊥) → (u : Turn) → u ≡ answers x m w → Turns x m p u
-      send-idle z u e = answers-all w z (λ F d f q. refuses x F p d f (a .formed) .send (a .kind) ∙ rw (lt-leb (x .opened) (p .other) opened)
-          (first-taken (busyGuard x (p .transactor)) (crowdedGuard x) w works z)) u e
+    module _ (opened : p .other < x .register .opened) (w : ℕ) (works : w ≡ resting) where
+      send-opened : (R : ℕ → Row) (F : ℕ → Slot) (d f : Bool) → Holds x p R F → playRefusal base (viewOf (x .register) R F) p d f ≡ first resting (crowdedGuard (x .register))
+      send-opened R F d f l = refuses (x .register) R F p d f (a .formed) .send (a .kind) ∙ rw (lt-leb (x .register .opened) (p .other) opened)
+          (ap (λ (z : Row). first (busyGuard (x .register .opened) (p .transactor) z) (crowdedGuard (x .register))) (sym (seen x p R F l (p .transactor) (own-transactor x p (a .subject) (rw (a .kind))))))
 
-      module _ (zero : w ≡ 0) (r : ℕ) (crowded : r ≡ crowdedGuard x) where
-        send-left : (F : ℕ → Slot) (d f : Bool) → playRefusal base (viewOf x F) p d f ≡ r
-        send-left F d f = refuses x F p d f (a .formed) .send (a .kind) ∙ rw (lt-leb (x .opened) (p .other) opened)
-            (first-left (busyGuard x (p .transactor)) (crowdedGuard x) w works zero ∙ sym crowded)
+      pub send-idle : (w ≡ 0 → ⊥) → (u : Turn) → u ≡ answers x w → Turns x p u
+      send-idle z u e = answers-all w z (λ R F d f l. send-opened R F d f l ∙ first-taken resting (crowdedGuard (x .register)) w works z) u e
 
-        pub send-crowded : (r ≡ 0 → ⊥) → (u : Turn) → u ≡ answers x m r → Turns x m p u
-        send-crowded z u e = answers-all r z (λ F d f q. send-left F d f) u e
+      module _ (zero : w ≡ 0) (r : ℕ) (crowded : r ≡ crowdedGuard (x .register)) where
+        send-left : (R : ℕ → Row) (F : ℕ → Slot) (d f : Bool) → Holds x p R F → playRefusal base (viewOf (x .register) R F) p d f ≡ r
+        send-left R F d f l = send-opened R F d f l ∙ first-left resting (crowdedGuard (x .register)) w works zero ∙ sym crowded
 
-        pub send-done : r ≡ 0 → (u : Turn) → u ≡ sendsTo x (p .transactor) (p .other) (p .value) → Turns x m p u
-        unfolding viewOf
-        send-done z u e = record {
-          by = λ d f g. applied-by d f g (λ F q. send-left F d f ∙ z) u
-              (λ F q. sends-by x m p (send-place) (p .transactor) (p .other) (p .value) F u e ∙ sym (applies (viewOf x F) p d f g .send (a .kind)));
-        }
+        pub send-crowded : (r ≡ 0 → ⊥) → (u : Turn) → u ≡ answers x r → Turns x p u
+        send-crowded z u e = answers-all r z send-left u e
+
+        pub send-done : r ≡ 0 → (u : Turn) → u ≡ sendsTo x false (p .transactor) (p .other) (p .value) → Turns x p u
+        send-done z u e = sends-turn (next-place x p send (a .kind) refl) false (p .other) (λ R F d f l. send-left R F d f l ∙ z) (λ T d f g. applies T p d f g .send (a .kind)) u e
 
   -- ---- kinds 5 to 10
 
-  module _ (a : Asked (p .kind) x m p) (low : read ≤ p .kind) (high : p .kind ≤ fail) where
-    pub local-unopened : x .opened ≤ p .transactor → (u : Turn) → u ≡ answers x m 21 → Turns x m p u
-    local-unopened h u e = answers-all 21 (omega arith) (λ F d f q. refuses x F p d f (a .formed) .local low high ∙ rw (le-leb (x .opened) (p .transactor) h)) u e
+  module _ (a : Asked (p .kind) x p) (low : read ≤ p .kind) (high : p .kind ≤ fail) where
+    local-transactor : x .at ≡ p .transactor
+    local-transactor = own-transactor x p (a .subject) (ne-eqb (p .kind) receive (omega arith))
 
-    module _ (opened : p .transactor < x .opened) (r : ℕ) (refused : r ≡ localGuard (p .kind) (rowAt (x .rows) (p .transactor))) where
-      local-left : (F : ℕ → Slot) (d f : Bool) → playRefusal base (viewOf x F) p d f ≡ r
-      local-left F d f = refuses x F p d f (a .formed) .local low high ∙ rw (lt-leb (x .opened) (p .transactor) opened) (sym refused)
+    pub local-unopened : x .register .opened ≤ p .transactor → (u : Turn) → u ≡ answers x 21 → Turns x p u
+    local-unopened h u e = answers-all 21 (omega arith) (λ R F d f l. refuses (x .register) R F p d f (a .formed) .local low high ∙ rw (le-leb (x .register .opened) (p .transactor) h)) u e
 
-      pub local-refused : (r ≡ 0 → ⊥) → (u : Turn) → u ≡ answers x m r → Turns x m p u
-      local-refused z u e = answers-all r z (λ F d f q. local-left F d f) u e
+    module _ (opened : p .transactor < x .register .opened) (r : ℕ) (refused : r ≡ localGuard (p .kind) (x .row)) where
+      local-left : (R : ℕ → Row) (F : ℕ → Slot) (d f : Bool) → Holds x p R F → playRefusal base (viewOf (x .register) R F) p d f ≡ r
+      local-left R F d f l = refuses (x .register) R F p d f (a .formed) .local low high ∙ rw (lt-leb (x .register .opened) (p .transactor) opened)
+          (ap (localGuard (p .kind)) (sym (seen x p R F l (p .transactor) local-transactor)) ∙ sym refused)
 
-      pub local-done : length (x .rows) ≡ groupBits → r ≡ 0 → (e : RowEffect) → e ≡ localRow (p .kind) (p .value) (rowAt (x .rows) (p .transactor))
-          → (z : Register) → z ≡ withRows x (set (x .rows) (p .transactor) (e .row)) → Turns x m p (record { reply = answer (e .outcome) (p .transactor) 0 (e .value); register = z; slot = m })
-      unfolding playedOf
-      local-done l zero e k z w = record {
-        by = λ d f g. applied-by d f g (λ F q. local-left F d f ∙ zero) _
-            (λ F q. ap (λ (z : Register). record { reply = answer (e .outcome) (p .transactor) 0 (e .value); tables = viewOf z (updated F (placeOf x p) m) }) w ∙ local-by x m p l F q (a .transactor) e k ∙ sym (applies (viewOf x F) p d f g .local low high));
+      pub local-refused : (r ≡ 0 → ⊥) → (u : Turn) → u ≡ answers x r → Turns x p u
+      local-refused z u e = answers-all r z local-left u e
+
+      pub local-done : r ≡ 0 → (e : RowEffect) → e ≡ localRow (p .kind) (p .value) (x .row)
+          → Turns x p (record { reply = answer (e .outcome) (p .transactor) 0 (e .value); operands = record { register = x .register; at = x .at; row = e .row; slot = x .slot } })
+      local-done zero e k = record {
+        by = λ d f g. applied-by d f g (λ R F l. local-left R F d f l ∙ zero) _ (λ R F l. local-by x p R F l local-transactor e k ∙ sym (applies (viewOf (x .register) R F) p d f g .local low high)) (λ k. k);
       }
 
   -- ---- lose
 
-  module _ (a : Asked lose x m p) where
-    lose-place : placeOf x p ≡ p .message
-    lose-place = own-place x m p lose (a .kind) refl
+  module _ (a : Asked lose x p) where
+    lose-place : placeOf (x .register) p ≡ p .message
+    lose-place = own-place x p lose (a .kind) refl
 
-    lose-left : (F : ℕ → Slot) (d f : Bool) → F (placeOf x p) ≡ m → playRefusal base (viewOf x F) p d f ≡ pick (m .missing) 24 0
-    lose-left F d f q = refuses x F p d f (a .formed) .lose (a .kind) ∙ ap (λ (m : Slot). pick (m .missing) 24 0) (ap F (sym lose-place) ∙ q)
+    lose-left : (R : ℕ → Row) (F : ℕ → Slot) (d f : Bool) → Holds x p R F → playRefusal base (viewOf (x .register) R F) p d f ≡ pick (x .slot .missing) 24 0
+    lose-left R F d f l = refuses (x .register) R F p d f (a .formed) .lose (a .kind) ∙ ap (λ (m : Slot). pick (m .missing) 24 0) (sym (message x p R F l lose-place))
 
-    pub lose-missing : m .missing ≡ true → (u : Turn) → u ≡ answers x m 24 → Turns x m p u
-    lose-missing h u e = answers-all 24 (omega arith) (λ F d f q. lose-left F d f q ∙ rw h) u e
+    pub lose-missing : x .slot .missing ≡ true → (u : Turn) → u ≡ answers x 24 → Turns x p u
+    lose-missing h u e = answers-all 24 (omega arith) (λ R F d f l. lose-left R F d f l ∙ rw h) u e
 
-    pub lose-done : m .missing ≡ false → (z : Register) → z ≡ withoutNumber x → Turns x m p (record { reply = answer done 0 (p .message) 0; register = z; slot = emptySlot })
-    unfolding playedOf
+    pub lose-done : x .slot .missing ≡ false → (z : Register) → z ≡ withoutNumber (x .register)
+        → Turns x p (record { reply = answer done 0 (p .message) 0; operands = record { register = z; at = x .at; row = x .row; slot = emptySlot } })
     lose-done h z e = record {
-      by = λ d f g. applied-by d f g (λ F q. lose-left F d f q ∙ rw h) _ (λ F q.
-          ap (λ (z : Register). record { reply = answer done 0 (p .message) 0; tables = viewOf z (updated F (placeOf x p) emptySlot) }) e
-          ∙ ap (λ (n : ℕ). record { reply = answer done 0 (p .message) 0; tables = viewOf (withoutNumber x) (updated F n emptySlot) }) lose-place
-          ∙ ap (λ (T : Tables). record { reply = answer done 0 (p .message) 0; tables = T }) (view-without x F (p .message))
-          ∙ sym (applies (viewOf x F) p d f g .lose (a .kind)));
+      by = λ d f g. applied-by d f g (λ R F l. lose-left R F d f l ∙ rw h) _ (λ R F l. lose-by x p R F l lose-place z e ∙ sym (applies (viewOf (x .register) R F) p d f g .lose (a .kind))) (λ k. k);
     }
 
   -- ---- receive
 
-  module _ (a : Asked receive x m p) where
-    receive-place : placeOf x p ≡ p .message
-    receive-place = own-place x m p receive (a .kind) refl
+  module _ (a : Asked receive x p) where
+    receive-place : placeOf (x .register) p ≡ p .message
+    receive-place = own-place x p receive (a .kind) refl
+
+    receive-transactor : x .at ≡ x .slot .addressee
+    receive-transactor = receiver x p (a .subject) (a .kind)
 
     abbrev falling : Bool → Bool → ℕ
-    falling d f = pick ((not d and f) and lastRow (rowAt (x .rows) (m .addressee))) 28 0
+    falling d f = pick ((not d and f) and lastRow (x .row)) 28 0
 
-    receive-left : (F : ℕ → Slot) (d f : Bool) → F (placeOf x p) ≡ m → playRefusal base (viewOf x F) p d f ≡ first (receiptGuard x m) (falling d f)
-    receive-left F d f q = refuses x F p d f (a .formed) .receive (a .kind)
-        ∙ ap (λ (m : Slot). first (receiptGuard x m) (pick ((not d and f) and lastRow (rowAt (x .rows) (m .addressee))) 28 0)) (ap F (sym receive-place) ∙ q)
+    receive-left : (R : ℕ → Row) (F : ℕ → Slot) (d f : Bool) → Holds x p R F → playRefusal base (viewOf (x .register) R F) p d f ≡ first (receiptGuard (x .slot) (x .row)) (falling d f)
+    receive-left R F d f l =
+        let m : x .slot ≡ F (p .message) = message x p R F l receive-place in
+        let z : x .row ≡ R (F (p .message) .addressee) = seen x p R F l (F (p .message) .addressee) (receive-transactor ∙ ap (λ (m : Slot). m .addressee) m) in
+        refuses (x .register) R F p d f (a .formed) .receive (a .kind) ∙ sym (λ i. first (receiptGuard (m i) (z i)) (pick ((not d and f) and lastRow (z i)) 28 0))
 
-    pub receive-refused : (r : ℕ) → r ≡ receiptGuard x m → (r ≡ 0 → ⊥) → (u : Turn) → u ≡ answers x m r → Turns x m p u
-    receive-refused r k z u e = answers-all r z (λ F d f q. receive-left F d f q ∙ first-taken (receiptGuard x m) (falling d f) r k z) u e
+    pub receive-refused : (r : ℕ) → r ≡ receiptGuard (x .slot) (x .row) → (r ≡ 0 → ⊥) → (u : Turn) → u ≡ answers x r → Turns x p u
+    receive-refused r k z u e = answers-all r z (λ R F d f l. receive-left R F d f l ∙ first-taken (receiptGuard (x .slot) (x .row)) (falling d f) r k z) u e
 
-    module _ (waits : receiptGuard x m ≡ 0) (d f : Bool) where
-      receive-last-left : (F : ℕ → Slot) → F (placeOf x p) ≡ m → (c : Bool) → not d and f and lastRow (rowAt (x .rows) (m .addressee)) ≡ c → playRefusal base (viewOf x F) p d f ≡ pick c 28 0
-      receive-last-left F q c k = receive-left F d f q ∙ first-left (receiptGuard x m) (falling d f) 0 (sym waits) refl ∙ ap (λ (c : Bool). pick c 28 0) (and-assoc (not d) f (lastRow (rowAt (x .rows) (m .addressee))) ∙ k)
+    module _ (waits : receiptGuard (x .slot) (x .row) ≡ 0) (d f : Bool) where
+      receive-last-left : (R : ℕ → Row) (F : ℕ → Slot) → Holds x p R F → (c : Bool) → not d and f and lastRow (x .row) ≡ c → playRefusal base (viewOf (x .register) R F) p d f ≡ pick c 28 0
+      receive-last-left R F l c k = receive-left R F d f l ∙ first-left (receiptGuard (x .slot) (x .row)) (falling d f) 0 (sym waits) refl ∙ ap (λ (c : Bool). pick c 28 0) (and-assoc (not d) f (lastRow (x .row)) ∙ k)
 
-      pub receive-last : not d and f and lastRow (rowAt (x .rows) (m .addressee)) ≡ true → (u : Turn) → u ≡ answers x m 28 → Receives d f x m p u
-      receive-last k u e = record { by = λ g. answers-by d f g 28 (omega arith) (λ F q. receive-last-left F q true k) u e }
+      pub receive-last : not d and f and lastRow (x .row) ≡ true → (u : Turn) → u ≡ answers x 28 → Receives d f x p u
+      receive-last k u e = record { by = λ g. answers-by d f g 28 (omega arith) (λ R F l. receive-last-left R F l true k) u e }
 
-      pub receive-done : length (x .rows) ≡ groupBits → not d and f and lastRow (rowAt (x .rows) (m .addressee)) ≡ false
-          → (e : RowEffect) → e ≡ receiveRow d f (m .content) (rowAt (x .rows) (m .addressee))
-          → (z : Register) → z ≡ withoutNumber (withRows x (set (x .rows) (m .addressee) (e .row)))
-          → Receives d f x m p (record { reply = answer (e .outcome) (m .addressee) (p .message) (e .value); register = z; slot = emptySlot })
-      unfolding playedOf
-      receive-done l k e w z i = record {
-        by = λ g. applied-by d f g (λ F q. receive-last-left F q false k) _
-            (λ F q. ap (λ (z : Register). record { reply = answer (e .outcome) (m .addressee) (p .message) (e .value); tables = viewOf z (updated F (placeOf x p) emptySlot) }) i ∙ receive-by x m p l F q receive-place (a .addressee) d f e w ∙ sym (applies (viewOf x F) p d f g .receive (a .kind)));
+      pub receive-done : not d and f and lastRow (x .row) ≡ false → (e : RowEffect) → e ≡ receiveRow d f (x .slot .content) (x .row) → (z : Register) → z ≡ withoutNumber (x .register)
+          → Receives d f x p (record { reply = answer (e .outcome) (x .slot .addressee) (p .message) (e .value); operands = record { register = z; at = x .at; row = e .row; slot = emptySlot } })
+      receive-done k e w z i = record {
+        by = λ g. applied-by d f g (λ R F l. receive-last-left R F l false k) _
+            (λ R F l. receive-by x p R F l receive-place receive-transactor d f e w z i ∙ sym (applies (viewOf (x .register) R F) p d f g .receive (a .kind))) (λ k. k);
       }
 
-  -- ---- sign
+-- ---- sign
 
-  module _ (a : Asked sign x m p) where
-    sign-left : (F : ℕ → Slot) (d f : Bool) → playRefusal base (viewOf x F) p d f ≡ groupGuard x (p .message)
-    sign-left F d f = refuses x F p d f (a .formed) .sign (a .kind)
+module _ (x : Register) (rows : List Row) (p : Step) where
+  sign-answers : (g : Bool) (n : ℕ) → (n ≡ 0 → ⊥) → ((F : ℕ → Slot) (d f : Bool) → playRefusal base (viewOf x (rowAt rows) F) p d f ≡ n) → (u : GroupTurn) → u ≡ answersGroup rows n → Signs g x rows p u
+  sign-answers g n z h u e = record {
+    plays = λ d f F. ap (λ (u : GroupTurn). playedGroup u x F) e ∙ play-refused (viewOf x (rowAt rows) F) p d f g n z (h F d f);
+    long = λ l. ap (λ (u : GroupTurn). length (u .rows)) e ∙ l;
+  }
 
-    pub sign-refused : (r : ℕ) → r ≡ groupGuard x (p .message) → (r ≡ 0 → ⊥) → (u : Turn) → u ≡ answers x m r → Turns x m p u
-    sign-refused r k z u e = answers-all r z (λ F d f q. sign-left F d f ∙ sym k) u e
+  pub sign-malformed : malformed p ≡ true → (g : Bool) (u : GroupTurn) → u ≡ answersGroup rows 20 → Signs g x rows p u
+  sign-malformed e g = sign-answers g 20 (omega arith) (λ F d f. refused-malformed x (rowAt rows) F p d f e)
 
-    module _ (free : groupGuard x (p .message) ≡ 0) where
-      pub sign-unready : (g : Bool) → g ≡ false → (u : Turn) → u ≡ answers x m notReady → Signs g x m p u
-      unfolding playedOf
-      sign-unready g k u e = record {
-        by = λ d f. applied-by d f g (λ F q. sign-left F d f ∙ free) u (λ F q.
-            ap (λ (u : Turn). playedOf u F (placeOf x p)) e
-            ∙ ap (λ (G : ℕ → Slot). record { reply = answer notReady 0 0 0; tables = viewOf x G }) (same-slot F (placeOf x p) m q)
-            ∙ sym (applies (viewOf x F) p d f g .sign (a .kind) ∙ rw k));
+  module _ (formed : malformed p ≡ false) (kind : p .kind ≡ sign) where
+    sign-left : (F : ℕ → Slot) (d f : Bool) → playRefusal base (viewOf x (rowAt rows) F) p d f ≡ groupGuard x (rowAt rows) (p .message)
+    sign-left F d f = refuses x (rowAt rows) F p d f formed .sign kind
+
+    pub sign-refused : (r : ℕ) → r ≡ groupGuard x (rowAt rows) (p .message) → (r ≡ 0 → ⊥) → (g : Bool) (u : GroupTurn) → u ≡ answersGroup rows r → Signs g x rows p u
+    sign-refused r k z g = sign-answers g r z (λ F d f. sign-left F d f ∙ sym k)
+
+    module _ (free : groupGuard x (rowAt rows) (p .message) ≡ 0) (g : Bool) where
+      pub sign-unready : g ≡ false → (u : GroupTurn) → u ≡ answersGroup rows notReady → Signs g x rows p u
+      sign-unready k u e = record {
+        plays = λ d f F. ap (λ (u : GroupTurn). playedGroup u x F) e
+            ∙ sym (applies (viewOf x (rowAt rows) F) p d f g .sign kind ∙ rw k) ∙ play-applied (viewOf x (rowAt rows) F) p d f g (sign-left F d f ∙ free);
+        long = λ l. ap (λ (u : GroupTurn). length (u .rows)) e ∙ l;
       }
 
-      pub sign-done : length (x .rows) ≡ groupBits → (g : Bool) → g ≡ true → (z : Register) → CheckpointedBy (p .message) x z → (u : Turn) → u ≡ answers z m done → Signs g x m p u
-      unfolding playedOf
-      sign-done l g k z c u e = record {
-        by = λ d f. applied-by d f g (λ F q. sign-left F d f ∙ free) u (λ F q.
-            ap (λ (u : Turn). playedOf u F (placeOf x p)) e
-            ∙ ap (λ (T : Tables). record { reply = answer done 0 0 0; tables = T }) (ap (viewOf z) (same-slot F (placeOf x p) m q) ∙ view-checkpoint x l F (p .message) z c)
-            ∙ sym (applies (viewOf x F) p d f g .sign (a .kind) ∙ rw k));
+      pub sign-done : g ≡ true → (after : List Row) → CheckpointedRows (p .message) rows after → (u : GroupTurn) → u ≡ answersGroup after done → Signs g x rows p u
+      sign-done k after c u e = record {
+        plays = λ d f F. ap (λ (u : GroupTurn). playedGroup u x F) e
+            ∙ ap (played (answer done 0 0 0)) (view-checkpoint x F (p .message) rows after c)
+            ∙ sym (applies (viewOf x (rowAt rows) F) p d f g .sign kind ∙ rw k) ∙ play-applied (viewOf x (rowAt rows) F) p d f g (sign-left F d f ∙ free);
+        long = λ l. ap (λ (u : GroupTurn). length (u .rows)) e ∙ c .long;
       }

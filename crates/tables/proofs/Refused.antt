@@ -16,15 +16,16 @@ use Rattle.rules.specs.Step.{root, letter, receive, new, send, read, fall, fail
 use Rattle.rules.specs.Refusals.{malformed, notWaiting, emptyGroup, unopened, isGone, wrongStatus, unrelatedReceipt, allOpened, allWaiting, allNumbered, allCheckpointed, atLast, lastRollsBack, refusalOf}
 use Rattle.rules.proofs.ByKind.Guards.{first}
 use Rattle.rules.proofs.ByKind.Refused.{otherwise}
+use Rattle.chains.specs.declared.rows.Row.{Row}
 use Rattle.chains.specs.declared.rows.Slot.{Slot}
 use Rattle.chains.specs.Internal.Tables.{seenIn, playRefusal}
 use Rattle.registers.specs.declared.register.Register.{Register}
-use Rattle.registers.specs.Internal.Register.{rowAt, viewOf}
+use Rattle.registers.specs.Internal.Register.{viewOf}
 use Rattle.registers.specs.Internal.Guards.{lastRow, localGuard, busyGuard, crowdedGuard, receiptGuard, rowBlocks, groupBlocked, groupGuard}
 
-pub refused-malformed : (x : Register) (F : ℕ → Slot) (p : Step) (d f : Bool) → malformed p ≡ true → playRefusal base (viewOf x F) p d f ≡ 20
+pub refused-malformed : (x : Register) (R : ℕ → Row) (F : ℕ → Slot) (p : Step) (d f : Bool) → malformed p ≡ true → playRefusal base (viewOf x R F) p d f ≡ 20
 unfolding playRefusal refusalOf
-refused-malformed x F p d f e = rw e
+refused-malformed x R F p d f e = rw e
 
 -- three tests, and then r
 three : (i j k : ℕ) (a b c : Bool) (r : ℕ) → 0 < i → 0 < j → 0 < k → first (pick a i (pick b j (pick c k 0))) r ≡ pick a i (pick b j (pick c k r))
@@ -33,15 +34,13 @@ three i j k false true c r p q s = rw (ne-eqb j 0 (λ e. omega arith))
 three i j k false false true r p q s = rw (ne-eqb k 0 (λ e. omega arith))
 three i j k false false false r p q s = refl
 
-busy-first : (x : Register) (t r : ℕ) → first (busyGuard x t) r
-    ≡ pick (leb (x .opened) t) 21 (pick (eqb (rowAt (x .rows) t .status) annihilated) 22 (pick (not (eqb (rowAt (x .rows) t .status) busy)) 23 r))
+busy-first : (n t : ℕ) (x : Row) (r : ℕ) → first (busyGuard n t x) r ≡ pick (leb n t) 21 (pick (eqb (x .status) annihilated) 22 (pick (not (eqb (x .status) busy)) 23 r))
 unfolding busyGuard
-busy-first x t r = three 21 22 23 (leb (x .opened) t) (eqb (rowAt (x .rows) t .status) annihilated) (not (eqb (rowAt (x .rows) t .status) busy)) r (omega arith) (omega arith) (omega arith)
+busy-first n t x r = three 21 22 23 (leb n t) (eqb (x .status) annihilated) (not (eqb (x .status) busy)) r (omega arith) (omega arith) (omega arith)
 
-receipt-first : (x : Register) (m : Slot) (r : ℕ) → first (receiptGuard x m) r
-    ≡ pick (m .missing) 24 (pick (eqb (rowAt (x .rows) (m .addressee) .status) annihilated) 22 (pick (not (eqb (rowAt (x .rows) (m .addressee) .status) ready)) 23 r))
+receipt-first : (m : Slot) (x : Row) (r : ℕ) → first (receiptGuard m x) r ≡ pick (m .missing) 24 (pick (eqb (x .status) annihilated) 22 (pick (not (eqb (x .status) ready)) 23 r))
 unfolding receiptGuard
-receipt-first x m r = three 24 22 23 (m .missing) (eqb (rowAt (x .rows) (m .addressee) .status) annihilated) (not (eqb (rowAt (x .rows) (m .addressee) .status) ready)) r (omega arith) (omega arith) (omega arith)
+receipt-first m x r = three 24 22 23 (m .missing) (eqb (x .status) annihilated) (not (eqb (x .status) ready)) r (omega arith) (omega arith) (omega arith)
 
 -- one number for two conditions
 either : (a b : Bool) (n r : ℕ) → pick (a or b) n r ≡ pick b n (pick a n r)
@@ -60,9 +59,9 @@ falling k high = ⊎-elim
     go true e h = rw (le-leb fall k h)
     go false e h = let n = eqb-false k fall e in rw (le-leb fall k h, eq-eqb k fail (omega arith))
 
-module _ (x : Register) (F : ℕ → Slot) (p : Step) (d f : Bool) where
+module _ (x : Register) (R : ℕ → Row) (F : ℕ → Slot) (p : Step) (d f : Bool) where
   abbrev refusal : ℕ
-  refusal = playRefusal base (viewOf x F) p d f
+  refusal = playRefusal base (viewOf x R F) p d f
 
   abbrev t : ℕ
   t = p .transactor
@@ -70,12 +69,12 @@ module _ (x : Register) (F : ℕ → Slot) (p : Step) (d f : Bool) where
   pub record Refuses : Type 0 where
     pub root : p .kind ≡ root → refusal ≡ pick (leb (x .transactors) (x .opened)) 25 0
     pub letter : p .kind ≡ letter → refusal ≡ pick (leb (x .opened) t) 21 (crowdedGuard x)
-    pub receive : p .kind ≡ receive → refusal ≡ first (receiptGuard x (F (p .message))) (pick ((not d and f) and lastRow (rowAt (x .rows) (F (p .message) .addressee))) 28 0)
-    pub new : p .kind ≡ new → refusal ≡ first (busyGuard x t) (pick (leb (x .transactors) (x .opened)) 25 0)
-    pub send : p .kind ≡ send → refusal ≡ pick (leb (x .opened) (p .other)) 21 (first (busyGuard x t) (crowdedGuard x))
-    pub local : read ≤ p .kind → p .kind ≤ fail → refusal ≡ pick (leb (x .opened) t) 21 (localGuard (p .kind) (rowAt (x .rows) t))
+    pub receive : p .kind ≡ receive → refusal ≡ first (receiptGuard (F (p .message)) (R (F (p .message) .addressee))) (pick ((not d and f) and lastRow (R (F (p .message) .addressee))) 28 0)
+    pub new : p .kind ≡ new → refusal ≡ first (busyGuard (x .opened) t (R t)) (pick (leb (x .transactors) (x .opened)) 25 0)
+    pub send : p .kind ≡ send → refusal ≡ pick (leb (x .opened) (p .other)) 21 (first (busyGuard (x .opened) t (R t)) (crowdedGuard x))
+    pub local : read ≤ p .kind → p .kind ≤ fail → refusal ≡ pick (leb (x .opened) t) 21 (localGuard (p .kind) (R t))
     pub lose : p .kind ≡ lose → refusal ≡ pick (F (p .message) .missing) 24 0
-    pub sign : p .kind ≡ sign → refusal ≡ groupGuard x (p .message)
+    pub sign : p .kind ≡ sign → refusal ≡ groupGuard x R (p .message)
 
   pub refuses : malformed p ≡ false → Refuses
   unfolding playRefusal refusalOf notWaiting emptyGroup unopened isGone wrongStatus unrelatedReceipt allOpened allWaiting allNumbered allCheckpointed atLast lastRollsBack seenIn viewOf lastRow localGuard crowdedGuard rowBlocks groupBlocked groupGuard

@@ -1,5 +1,6 @@
 // The steps on the engine's tables, kind by kind: no map, and no walk (document 02, W11). Each refuses in the table's order, or replies
-// and changes the tables.
+// and changes what it looks at; of a receipt and of a signing the caller has asked all refusals that need no walk.
+use chains::rows::Row;
 use chains::rows::Slot;
 use registers::effects;
 use registers::guards;
@@ -8,29 +9,60 @@ use rules::Reply;
 use rules::Step;
 use rules::numbers;
 ghost use mathlib.Core.Path.{_≡_};
+ghost use mathlib.Core.Bool.{false};
 ghost use Prim.Native.Nat.{_≤_, _<_};
 ghost use Rattle.rules.specs.Step.{root, letter, receive, new, send, read, fail, lose, sign};
-ghost use Rattle.rules.specs.Refusals.{groupBits};
+ghost use Rattle.rules.specs.Refusals.{groupBits, malformed};
+ghost use Rattle.registers.specs.Internal.Register.{rowAt};
 ghost use Rattle.registers.specs.Internal.Guards.{receiptGuard, groupGuard};
-ghost use Rattle.tables.specs.Internal.Turns.{Turns, Receives, Signs, Asked, answers, opens, sendsTo};
+ghost use Rattle.tables.specs.Internal.Turns.{Turns, Receives, Signs, Asked, operandsOf, answers, answersGroup, opens, sendsTo};
 
-// A step's reply, and what it leaves: the register, and the slot of the message number that it looks at.
+// What a step but a signing looks at, and what it leaves: the register, a transactor, and the slot of a message number.
+pub struct Operands {
+    pub register: Register,
+    // Which transactor: after a root or a new the one that was opened.
+    pub at: usize,
+    pub row: Row,
+    pub slot: Slot,
+}
+
+// A step's reply, and what it leaves.
 pub struct Turn {
     pub reply: Reply,
-    pub register: Register,
-    pub slot: Slot,
+    pub operands: Operands,
+}
+
+// A signing's, which looks at all transactors and at no message.
+pub struct GroupTurn {
+    pub reply: Reply,
+    pub rows: [Row; 16],
 }
 
 // No message waits.
 pub const EMPTY: Slot = Slot {
     missing: true,
+    letter: false,
     addressee: 0,
     content: 0,
 };
 
+impl Operands {
+    // On one line where a loop makes them.
+    pub fn of(register: Register, at: usize, row: Row, slot: Slot) -> Operands
+        ensures { λ r. ⌜ r ≡ operandsOf register at row slot ⌝ }
+    {
+        Operands {
+            register,
+            at,
+            row,
+            slot,
+        }
+    }
+}
+
 // A reply that is an outcome or a refusal alone; nothing changes.
-pub fn answered(x: Register, slot: Slot, number: u8) -> Turn
-    ensures { λ r. ⌜ r ≡ answers x slot number ⌝ }
+pub fn answered(x: Operands, number: u8) -> Turn
+    ensures { λ r. ⌜ r ≡ answers x number ⌝ }
 {
     Turn {
         reply: Reply {
@@ -39,18 +71,35 @@ pub fn answered(x: Register, slot: Slot, number: u8) -> Turn
             message: 0,
             value: 0,
         },
-        register: x,
-        slot,
+        operands: x,
+    }
+}
+
+// A signing's reply, which is a number alone, with the rows that it leaves.
+pub fn group_answered(rows: [Row; 16], number: u8) -> GroupTurn
+    ensures { λ r. ⌜ r ≡ answersGroup rows number ⌝ }
+{
+    GroupTurn {
+        reply: Reply {
+            outcome: number,
+            transactor: 0,
+            message: 0,
+            value: 0,
+        },
+        rows,
     }
 }
 
 // One more transactor, a child or not.
-fn opening(x: Register, slot: Slot, value: u32) -> Turn
-    requires { ⌜ x .opened < groupBits ⌝ }
-    ensures { λ r. ⌜ r ≡ opens x slot value ⌝ }
+fn opening(x: Operands, value: u32) -> Turn
+    requires { ⌜ x .register .opened < groupBits ⌝ }
+    ensures { λ r. ⌜ r ≡ opens x value ⌝ }
 {
-    let t = x.opened;
-    let register = x.with_opened(value);
+    let before = x.register;
+    let slot = x.slot;
+    let t = before.opened;
+    let register = before.with_opened();
+    let row = effects::opened(value);
     Turn {
         reply: Reply {
             outcome: numbers::DONE,
@@ -58,18 +107,24 @@ fn opening(x: Register, slot: Slot, value: u32) -> Turn
             message: 0,
             value: 0,
         },
-        register,
-        slot,
+        operands: Operands {
+            register,
+            at: t as usize,
+            row,
+            slot,
+        },
     }
 }
 
-// One more message, by transactor t.
-fn sending(x: Register, t: u8, to: u8, content: u32) -> Turn
-    requires { ⌜ (x .next < 65535) × (x .waiting < 255) ⌝ }
-    ensures { λ r. ⌜ r ≡ sendsTo x t to content ⌝ }
+// One more message, by transactor t, or a letter to it.
+fn sending(x: Operands, letter: bool, t: u8, to: u8, content: u32) -> Turn
+    requires { ⌜ (x .register .next < 65535) × (x .register .waiting < 255) ⌝ }
+    ensures { λ r. ⌜ r ≡ sendsTo x letter t to content ⌝ }
 {
-    let number = x.next;
-    let register = x.with_number();
+    let before = x.register;
+    let row = x.row;
+    let number = before.next;
+    let register = before.with_number();
     Turn {
         reply: Reply {
             outcome: numbers::DONE,
@@ -77,90 +132,100 @@ fn sending(x: Register, t: u8, to: u8, content: u32) -> Turn
             message: number,
             value: 0,
         },
-        register,
-        slot: Slot {
-            missing: false,
-            addressee: to,
-            content,
+        operands: Operands {
+            register,
+            at: x.at,
+            row,
+            slot: Slot {
+                missing: false,
+                letter,
+                addressee: to,
+                content,
+            },
         },
     }
 }
 
-pub fn root(x: Register, slot: Slot, p: Step) -> Turn
-    requires { ⌜ Asked root x slot p ⌝ }
-    ensures { λ r. ⌜ Turns x slot p r ⌝ }
+pub fn root(x: Operands, p: Step) -> Turn
+    requires { ⌜ Asked root x p ⌝ }
+    ensures { λ r. ⌜ Turns x p r ⌝ }
 {
-    if x.transactors <= x.opened {
-        return answered(x, slot, numbers::ALL_OPENED);
+    let register = x.register;
+    if register.transactors <= register.opened {
+        return answered(x, numbers::ALL_OPENED);
     }
-    opening(x, slot, p.value)
+    opening(x, p.value)
 }
 
-pub fn letter(x: Register, slot: Slot, p: Step) -> Turn
-    requires { ⌜ Asked letter x slot p ⌝ }
-    ensures { λ r. ⌜ Turns x slot p r ⌝ }
+pub fn letter(x: Operands, p: Step) -> Turn
+    requires { ⌜ Asked letter x p ⌝ }
+    ensures { λ r. ⌜ Turns x p r ⌝ }
 {
     let to = p.transactor;
-    if x.opened <= to {
-        return answered(x, slot, numbers::UNOPENED);
+    let register = x.register;
+    if register.opened <= to {
+        return answered(x, numbers::UNOPENED);
     }
-    let r = guards::crowded(x);
+    let r = guards::crowded(register);
     if r != 0 {
-        return answered(x, slot, r);
+        return answered(x, r);
     }
-    sending(x, to, to, p.value)
+    sending(x, true, to, to, p.value)
 }
 
-pub fn new(x: Register, slot: Slot, p: Step) -> Turn
-    requires { ⌜ Asked new x slot p ⌝ }
-    ensures { λ r. ⌜ Turns x slot p r ⌝ }
+pub fn new(x: Operands, p: Step) -> Turn
+    requires { ⌜ Asked new x p ⌝ }
+    ensures { λ r. ⌜ Turns x p r ⌝ }
 {
-    let r = guards::busy(x, p.transactor as usize);
+    let register = x.register;
+    let row = x.row;
+    let r = guards::busy(register.opened, p.transactor, row);
     if r != 0 {
-        return answered(x, slot, r);
+        return answered(x, r);
     }
-    if x.transactors <= x.opened {
-        return answered(x, slot, numbers::ALL_OPENED);
+    if register.transactors <= register.opened {
+        return answered(x, numbers::ALL_OPENED);
     }
-    opening(x, slot, p.value)
+    opening(x, p.value)
 }
 
-pub fn send(x: Register, slot: Slot, p: Step) -> Turn
-    requires { ⌜ Asked send x slot p ⌝ }
-    ensures { λ r. ⌜ Turns x slot p r ⌝ }
+pub fn send(x: Operands, p: Step) -> Turn
+    requires { ⌜ Asked send x p ⌝ }
+    ensures { λ r. ⌜ Turns x p r ⌝ }
 {
-    if x.opened <= p.other {
-        return answered(x, slot, numbers::UNOPENED);
+    let register = x.register;
+    if register.opened <= p.other {
+        return answered(x, numbers::UNOPENED);
     }
-    let w = guards::busy(x, p.transactor as usize);
+    let row = x.row;
+    let w = guards::busy(register.opened, p.transactor, row);
     if w != 0 {
-        return answered(x, slot, w);
+        return answered(x, w);
     }
-    let r = guards::crowded(x);
+    let r = guards::crowded(register);
     if r != 0 {
-        return answered(x, slot, r);
+        return answered(x, r);
     }
-    sending(x, p.transactor, p.other, p.value)
+    sending(x, false, p.transactor, p.other, p.value)
 }
 
 // Kinds 5 to 10.
-pub fn local(x: Register, slot: Slot, p: Step) -> Turn
-    requires { ⌜ Asked (p .kind) x slot p × (read ≤ p .kind) × (p .kind ≤ fail) ⌝ }
-    ensures { λ r. ⌜ Turns x slot p r ⌝ }
+pub fn local(x: Operands, p: Step) -> Turn
+    requires { ⌜ Asked (p .kind) x p × (read ≤ p .kind) × (p .kind ≤ fail) ⌝ }
+    ensures { λ r. ⌜ Turns x p r ⌝ }
 {
-    let t = p.transactor as usize;
-    let opened = x.opened as usize;
-    if opened <= t {
-        return answered(x, slot, numbers::UNOPENED);
+    let register = x.register;
+    if register.opened <= p.transactor {
+        return answered(x, numbers::UNOPENED);
     }
-    let row = x.rows[t];
+    let row = x.row;
     let r = guards::local(row, p.kind);
     if r != 0 {
-        return answered(x, slot, r);
+        return answered(x, r);
     }
     let e = effects::local(row, p.kind, p.value);
     let after = e.row;
-    let register = x.with_row(t, after);
+    let slot = x.slot;
     Turn {
         reply: Reply {
             outcome: e.outcome,
@@ -168,19 +233,26 @@ pub fn local(x: Register, slot: Slot, p: Step) -> Turn
             message: 0,
             value: e.value,
         },
-        register,
-        slot,
+        operands: Operands {
+            register,
+            at: x.at,
+            row: after,
+            slot,
+        },
     }
 }
 
-pub fn lose(x: Register, slot: Slot, p: Step) -> Turn
-    requires { ⌜ Asked lose x slot p ⌝ }
-    ensures { λ r. ⌜ Turns x slot p r ⌝ }
+pub fn lose(x: Operands, p: Step) -> Turn
+    requires { ⌜ Asked lose x p ⌝ }
+    ensures { λ r. ⌜ Turns x p r ⌝ }
 {
+    let slot = x.slot;
     if slot.missing {
-        return answered(x, slot, numbers::NOT_WAITING);
+        return answered(x, numbers::NOT_WAITING);
     }
-    let register = x.without_number();
+    let before = x.register;
+    let row = x.row;
+    let register = before.without_number();
     Turn {
         reply: Reply {
             outcome: numbers::DONE,
@@ -188,24 +260,29 @@ pub fn lose(x: Register, slot: Slot, p: Step) -> Turn
             message: p.message,
             value: 0,
         },
-        register,
-        slot: EMPTY,
+        operands: Operands {
+            register,
+            at: x.at,
+            row,
+            slot: EMPTY,
+        },
     }
 }
 
 // A receipt that the table refuses for 28 at most.
-pub fn receive(x: Register, slot: Slot, p: Step, dropped: bool, falls: bool) -> Turn
-    requires { ⌜ Asked receive x slot p × (receiptGuard x slot ≡ 0) ⌝ }
-    ensures { λ r. ⌜ Receives dropped falls x slot p r ⌝ }
+pub fn receive(x: Operands, p: Step, dropped: bool, falls: bool) -> Turn
+    requires { ⌜ Asked receive x p × (receiptGuard (x .slot) (x .row) ≡ 0) ⌝ }
+    ensures { λ r. ⌜ Receives dropped falls x p r ⌝ }
 {
-    let t = slot.addressee as usize;
-    let row = x.rows[t];
+    let row = x.row;
     if guards::last_receipt(row, dropped, falls) {
-        return answered(x, slot, numbers::LAST_INCARNATION);
+        return answered(x, numbers::LAST_INCARNATION);
     }
+    let slot = x.slot;
     let e = effects::receive(row, dropped, falls, slot.content);
     let after = e.row;
-    let register = x.with_row(t, after).without_number();
+    let before = x.register;
+    let register = before.without_number();
     Turn {
         reply: Reply {
             outcome: e.outcome,
@@ -213,18 +290,23 @@ pub fn receive(x: Register, slot: Slot, p: Step, dropped: bool, falls: bool) -> 
             message: p.message,
             value: e.value,
         },
-        register,
-        slot: EMPTY,
+        operands: Operands {
+            register,
+            at: x.at,
+            row: after,
+            slot: EMPTY,
+        },
     }
 }
 
 // A signing that the table does not refuse.
-pub fn sign(x: Register, slot: Slot, p: Step, ready: bool) -> Turn
-    requires { ⌜ Asked sign x slot p × (groupGuard x (p .message) ≡ 0) ⌝ }
-    ensures { λ r. ⌜ Signs ready x slot p r ⌝ }
+pub fn sign(x: Register, rows: [Row; 16], p: Step, ready: bool) -> GroupTurn
+    requires { ⌜ (malformed p ≡ false) × (p .kind ≡ sign) × (groupGuard x (rowAt rows) (p .message) ≡ 0) ⌝ }
+    ensures { λ r. ⌜ Signs ready x rows p r ⌝ }
 {
     if !ready {
-        return answered(x, slot, numbers::NOT_READY);
+        return group_answered(rows, numbers::NOT_READY);
     }
-    answered(x.with_checkpoints(p.message), slot, numbers::DONE)
+    let after = effects::checkpointed_group(rows, p.message);
+    group_answered(after, numbers::DONE)
 }

@@ -4,7 +4,7 @@ use chains::words::Told;
 use rules::Step;
 use rules::numbers;
 ghost use mathlib.Core.Path.{_≡_};
-ghost use Rattle.chains.specs.Internal.Words.{bitOf, rollbackWords, receiptWords, localWords, eventWords, rolledBackWord, checkpointedWord};
+ghost use Rattle.chains.specs.Internal.Words.{bitOf, rollbackWords, receiptWords, localWords, eventWords, changesNothing, rolledBackWord, checkpointedWord};
 
 // The word of transactor t, or of none.
 fn bit(t: u8) -> u16
@@ -90,6 +90,19 @@ pub fn event(p: Step, w: Told) -> Event
         }
         _ => local(kind, w.outcome, t),
     }
+}
+
+// Whether a step changed nothing: it was refused, or a signing that was not ready. It saves the walk the look at an event.
+pub fn unchanged(p: Step, w: Told) -> bool
+    ensures { λ r. ⌜ r ≡ changesNothing p w ⌝ }
+{
+    if w.outcome > numbers::NOT_READY {
+        return true;
+    }
+    if w.outcome != numbers::NOT_READY {
+        return false;
+    }
+    p.kind == numbers::SIGN
 }
 
 // The transactors that were rolled back and live on.

@@ -5,6 +5,7 @@ mod sides;
 use chains::words::Event;
 use chains::words::Told;
 use chains::words::Walker;
+use image::layout::LONGEST;
 use image::layout::STEP;
 use rules::Step;
 use rules::numbers;
@@ -15,12 +16,11 @@ ghost use mathlib.Core.Bool.{not};
 ghost use lib.ListN.{length};
 ghost use Rattle.octets.specs.Bytes.{_and_, part};
 ghost use Rattle.rules.specs.Step.{stepBytes};
-ghost use Rattle.chains.specs.Internal.Walk.{walkBack, receiptStart};
-ghost use Rattle.chains.specs.Internal.Engine.{unpackTold, toldIn, signWalk, Walkable};
+ghost use Rattle.chains.specs.Internal.Engine.{unpackTold, toldIn, receiptBack, signWalk, Walkable};
 ghost use Rattle.chains.specs.Internal.Words.{following, followerOver, followerStep, followBack, verdictOf, walkerFrom};
 
-// The messages that 1,024 steps can make.
-const MESSAGES: usize = 1024;
+// Message numbers that a list can give: one for each step at most.
+pub const NUMBERS: usize = LONGEST / STEP;
 
 // Every transactor.
 const ALL: u16 = 65535;
@@ -69,11 +69,11 @@ fn over(e: Event, fell: u16, signed: u16, x: Walker, messages: &mut [u16]) -> Wa
     sides::joined(x, q, fell, signed)
 }
 
-// Back over a step; a refused one did nothing.
+// Back over a step.
 fn over_step(p: Step, w: Told, x: Walker, messages: &mut [u16]) -> Walker
     ensures { λ r. ⌜ following r (now (messages .exit)) ≡ followerStep p w (following x (now (messages .entry))) ⌝ }
 {
-    if w.outcome > numbers::NOT_READY {
+    if events::unchanged(p, w) {
         return x;
     }
     let fell = events::rolled_back(w);
@@ -162,10 +162,10 @@ fn start(ground: u16, found: u16, allowed: u16) -> Walker
 // The receipt of message n by transactor t, after i steps: the message is followed on the left, state and creation of t on the right.
 pub fn receipt(list: &[u8], replies: &[u8], i: usize, n: usize, t: usize) -> Compared
     requires { ⌜ Walkable (now list) (now replies) i × (n < 1024) × (t < 16) ⌝ }
-    ensures { λ r. ⌜ (r .dropped ≡ walkBack (now (list .entry)) (toldIn (now (replies .entry))) i (receiptStart n t) .leftSuperseded)
-        × (r .falls ≡ walkBack (now (list .entry)) (toldIn (now (replies .entry))) i (receiptStart n t) .rightSuperseded) ⌝ }
+    ensures { λ r. ⌜ (r .dropped ≡ receiptBack (now (list .entry)) (now (replies .entry)) i n t .leftSuperseded)
+        × (r .falls ≡ receiptBack (now (list .entry)) (now (replies .entry)) i n t .rightSuperseded) ⌝ }
 {
-    let mut messages = [0u16; MESSAGES];
+    let mut messages = [0u16; NUMBERS];
     messages[n] = sides::LEFT;
     let met = walk(list, replies, i, start(1 << t, 0, ALL), &mut messages);
     Compared {
@@ -179,7 +179,7 @@ pub fn grounded(list: &[u8], replies: &[u8], i: usize, group: u16) -> bool
     requires { ⌜ Walkable (now list) (now replies) i ⌝ }
     ensures { λ r. ⌜ r ≡ not (signWalk (now (list .entry)) (now (replies .entry)) i group .rightSuperseded) and not (signWalk (now (list .entry)) (now (replies .entry)) i group .unallowed) ⌝ }
 {
-    let mut messages = [0u16; MESSAGES];
+    let mut messages = [0u16; NUMBERS];
     let met = walk(list, replies, i, start(group, ALL, group), &mut messages);
     met & UNGROUNDED == 0
 }

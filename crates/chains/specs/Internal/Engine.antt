@@ -32,9 +32,12 @@ pub record Walkable (steps replies : List ℕ) (i : ℕ) : Type 0 where
 unfoldable pub allStable : Tables → ℕ → Bool
 allStable T g = every groupBits (λ t. not (named g t) or T .rows t .stable)
 
--- the walk for the receipt of parcel n, and that for a signing of volume g, over the first i steps
+-- the walk for the receipt of parcel n by take t, here by its addressee, and that for a signing of volume g, over the first i steps
+abbrev pub receiptBack : List ℕ → List ℕ → ℕ → ℕ → ℕ → Walk
+receiptBack steps replies i n t = walkBack steps (toldIn replies) i (receiptStart n t)
+
 unfoldable pub receiptWalk : Tables → List ℕ → List ℕ → ℕ → ℕ → Walk
-receiptWalk T steps replies i n = walkBack steps (toldIn replies) i (receiptStart n (T .messages n .addressee))
+receiptWalk T steps replies i n = receiptBack steps replies i n (T .messages n .addressee)
 
 unfoldable pub signWalk : List ℕ → List ℕ → ℕ → ℕ → Walk
 signWalk steps replies i g = walkBack steps (toldIn replies) i (signStart g)

@@ -11,8 +11,9 @@ use Rattle.rules.specs.declared.Reply.{Reply}
 use Rattle.rules.specs.Step.{done, held, dropped, fallenBack, vanished, notReady, root, letter, receive, new, send, read, write, freeze, finish, fall, lose, sign}
 use Rattle.rules.specs.Refusals.{Seen, named, refusalOf}
 use Rattle.rules.specs.Rules.{answer}
--- A take: status, frozen, signings, life number, text, saved text. A parcel number: whether none waits with it; its addressee, its
--- text. What a step on a take replies and leaves: outcome, text read, the take. All are structs of the code, passed by value.
+-- A take: status, frozen, signings, life number, text, saved text. A parcel number: whether none waits with it; whether it is a letter,
+-- which carries no life; its addressee, its text. What a step on a take replies and leaves: outcome, text read, the take. All are
+-- structs of the code, passed by value.
 pub use Rattle.chains.specs.declared.rows.Row.{Row}
 pub use Rattle.chains.specs.declared.rows.Slot.{Slot}
 pub use Rattle.chains.specs.declared.rows.RowEffect.{RowEffect}
@@ -30,7 +31,15 @@ abbrev pub emptyRow : ℕ → Row
 emptyRow status = record { status = status; stable = false; checkpoints = 0; incarnation = 0; value = 0; saved = 0 }
 
 abbrev pub emptySlot : Slot
-emptySlot = record { missing = true; addressee = 0; content = 0 }
+emptySlot = record { missing = true; letter = false; addressee = 0; content = 0 }
+
+-- a take just opened, with text v
+abbrev pub openedRow : ℕ → Row
+openedRow v = record { status = ready; stable = false; checkpoints = 0; incarnation = 0; value = v; saved = 0 }
+
+-- a parcel that waits for take to, with text v; c: a letter
+abbrev pub filledSlot : Bool → ℕ → ℕ → Slot
+filledSlot c to v = record { missing = false; letter = c; addressee = to; content = v }
 
 -- a fresh session
 abbrev pub freshTables : Limits → Tables
@@ -113,19 +122,19 @@ openRow T v = record {
   opened = T .opened + 1;
   next = T .next;
   waiting = T .waiting;
-  rows = updated (T .rows) (T .opened) (record { status = ready; stable = false; checkpoints = 0; incarnation = 0; value = v; saved = 0 });
+  rows = updated (T .rows) (T .opened) (openedRow v);
   messages = T .messages;
 }
 
--- one more parcel
-unfoldable pub withSlot : Tables → ℕ → ℕ → Tables
-withSlot T to v = record {
+-- one more parcel; c: a letter
+unfoldable pub withSlot : Tables → Bool → ℕ → ℕ → Tables
+withSlot T c to v = record {
   limits = T .limits;
   opened = T .opened;
   next = T .next + 1;
   waiting = T .waiting + 1;
   rows = T .rows;
-  messages = updated (T .messages) (T .next) (record { missing = false; addressee = to; content = v });
+  messages = updated (T .messages) (T .next) (filledSlot c to v);
 }
 
 -- parcel n received or lost
@@ -157,10 +166,10 @@ playLocal T p =
 unfoldable pub playApplied : Tables → Step → Bool → Bool → Bool → Played
 playApplied T p d r g =
     pick (eqb (p .kind) root) (record { reply = answer done (T .opened) 0 0; tables = openRow T (p .value) })
-    (pick (eqb (p .kind) letter) (record { reply = answer done (p .transactor) (T .next) 0; tables = withSlot T (p .transactor) (p .value) })
+    (pick (eqb (p .kind) letter) (record { reply = answer done (p .transactor) (T .next) 0; tables = withSlot T true (p .transactor) (p .value) })
     (pick (eqb (p .kind) receive) (playReceive T p d r)
     (pick (eqb (p .kind) new) (record { reply = answer done (T .opened) 0 0; tables = openRow T (p .value) })
-    (pick (eqb (p .kind) send) (record { reply = answer done (p .transactor) (T .next) 0; tables = withSlot T (p .other) (p .value) })
+    (pick (eqb (p .kind) send) (record { reply = answer done (p .transactor) (T .next) 0; tables = withSlot T false (p .other) (p .value) })
     (pick (eqb (p .kind) lose) (record { reply = answer done 0 (p .message) 0; tables = withoutSlot T (p .message) })
     (pick (eqb (p .kind) sign)
     (pick g (record { reply = answer done 0 0 0; tables = checkpointRows T (p .message) }) (record { reply = answer notReady 0 0 0; tables = T }))

@@ -5,7 +5,7 @@ use mathlib.Core.List.{List}
 use lib.Bits.{bitAnd, bitOr, bitXor}
 use lib.Dec.{eqb, leb, ltb}
 use lib.ListN.{getD, set}
-use Rattle.octets.specs.Bytes.{pick, _and_, any}
+use Rattle.octets.specs.Bytes.{pick, _and_, _or_, any}
 use Rattle.rules.specs.declared.Step.{Step}
 use Rattle.rules.specs.Step.{stepAt, done, held, dropped, fallenBack, vanished, notReady, root, letter, receive, new, send, read, write, freeze, finish, fall, lose, sign}
 use Rattle.rules.specs.Refusals.{groupBits, named}
@@ -70,6 +70,10 @@ eventWords p w =
     (localWords (p .kind) (w .outcome) t)))))))
 
 -- the takes that fell back; those that were signed
+-- a step that was refused, and a signing that was not ready
+unfoldable pub changesNothing : Step → Told → Bool
+changesNothing p w = ltb notReady (w .outcome) or eqb (w .outcome) notReady and eqb (p .kind) sign
+
 unfoldable pub rolledBackWord : Told → ℕ
 rolledBackWord w = pick (eqb (w .outcome) fallenBack) (bitOf (w .transactor)) 0
 

@@ -1,9 +1,11 @@
 -- Past the test for 20 each kind is asked as its function wants it.
+use Prim.Native.Nat.{_<_}
 use mathlib.Core.Bool.{false}
 use mathlib.Core.Path.{_≡_, refl, sym, _∙_}
 use borrow.Author.Needs.{needs}
 use Rattle.rules.specs.Step.{root, letter, new, send, lose}
 use Rattle.rules.specs.Refusals as refusals
+use Rattle.rules.specs.Refusals.{groupBits}
 use Rattle.rules.proofs.Keep.Kinds.{lowest, highest}
 use Rattle.rules.proofs.ByKind.Refused.{kind-formed}
 use Rattle.tables.proofs.Outcomes.{malformed-done}
@@ -19,35 +21,35 @@ well : (c : tie.Else1) → refusals.malformed (start c .args .p) ≡ false
 well c = sym (c .before .malformed .ensures) ∙ c .if1 .left
 
 returns : tie.Need-returns
-returns c = advance-any _ _ _ _ _ _ _ (malformed-done (sym (c .before .before .malformed .ensures) ∙ c .before .if1 .taken) _ (c .answered .ensures))
+returns c = advance-any _ _ _ _ _ _ (c .before .before .before .before .before .pre .0 .within) (malformed-done (sym (c .before .before .malformed .ensures) ∙ c .before .if1 .taken) _ (c .answered .ensures))
 
 root-requires : tie.Need-root-requires
-root-requires c κs = asked (start (c .before) .pre) (well (c .before)) root (c .match .keys1)
+root-requires c κs = asked (start (c .before) .pre .0) (well (c .before)) root (c .match .keys1)
 
 letter-requires : tie.Need-letter-requires
-letter-requires c κs = asked (start (c .before) .pre) (well (c .before)) letter (c .match .keys2)
+letter-requires c κs = asked (start (c .before) .pre .0) (well (c .before)) letter (c .match .keys2)
 
 receive-requires : tie.Need-receive-requires
-receive-requires c κs = (start (c .before) .pre, well (c .before), c .match .keys3)
+receive-requires c κs = (start (c .before) .pre .0, well (c .before), c .match .keys3)
 
 new-requires : tie.Need-new-requires
-new-requires c κs = asked (start (c .before) .pre) (well (c .before)) new (c .match .keys4)
+new-requires c κs = asked (start (c .before) .pre .0) (well (c .before)) new (c .match .keys4)
 
 send-requires : tie.Need-send-requires
-send-requires c κs = asked (start (c .before) .pre) (well (c .before)) send (c .match .keys5)
+send-requires c κs = asked (start (c .before) .pre .0) (well (c .before)) send (c .match .keys5)
 
 lose-requires : tie.Need-lose-requires
-lose-requires c κs = asked (start (c .before) .pre) (well (c .before)) lose (c .match .keys6)
-
-sign-requires : tie.Need-sign-requires
-sign-requires c κs = (start (c .before) .pre, well (c .before), c .match .keys7)
+lose-requires c κs = asked (start (c .before) .pre .0) (well (c .before)) lose (c .match .keys6)
 
 local-requires : tie.Need-local-requires
 local-requires c κs =
     let e = c .before in
     let n = c .match .rest in
-    let low = lowest _ (n .0 .0 .0 .0 .0 .0 .1) (n .0 .0 .0 .0 .0 .1) (n .0 .0 .0 .0 .1) (n .0 .0 .0 .1) (n .0 .0 .1) in
-    (asked (start e .pre) (well e) _ refl, low, highest _ (kind-formed _ (well e)) (n .0 .1) (n .1))
+    let low = lowest _ (n .0 .0 .0 .0 .0 .1) (n .0 .0 .0 .0 .1) (n .0 .0 .0 .1) (n .0 .0 .1) (n .0 .1) in
+    (asked (start e .pre .0) (well e) _ refl, low, highest _ (kind-formed _ (well e)) (n .1) (start e .pre .1))
+
+within : (c : tie.Else1) → start c .args .x .at < groupBits
+within c = start c .pre .0 .within
 
 pub advance-spec : {M : Type 1} → statement M
 advance-spec =
@@ -62,13 +64,11 @@ advance-spec =
     new-requires
     send-requires
     lose-requires
-    sign-requires
     local-requires
-    (λ c. advance-any _ _ _ _ _ _ _ (c .root .ensures))
-    (λ c. advance-any _ _ _ _ _ _ _ (c .letter .ensures))
+    (λ c. advance-any _ _ _ _ _ _ (within (c .before .before)) (c .root .ensures))
+    (λ c. advance-any _ _ _ _ _ _ (within (c .before .before)) (c .letter .ensures))
     (λ c. search needs)
-    (λ c. advance-any _ _ _ _ _ _ _ (c .new .ensures))
-    (λ c. advance-any _ _ _ _ _ _ _ (c .send .ensures))
-    (λ c. advance-any _ _ _ _ _ _ _ (c .lose .ensures))
-    (λ c. search needs)
-    (λ c. advance-any _ _ _ _ _ _ _ (c .local .ensures)))
+    (λ c. advance-any _ _ _ _ _ _ (within (c .before .before)) (c .new .ensures))
+    (λ c. advance-any _ _ _ _ _ _ (within (c .before .before)) (c .send .ensures))
+    (λ c. advance-any _ _ _ _ _ _ (within (c .before .before)) (c .lose .ensures))
+    (λ c. advance-any _ _ _ _ _ _ (within (c .before .before)) (c .local .ensures)))

@@ -33,7 +33,7 @@ cast-play-steps-3 : tie.Need-cast-play-steps-3
 cast-play-steps-3 c = omega (arith, bounds c .checkpoints .1)
 
 play-steps-requires : tie.Need-play-steps-requires
-play-steps-requires c κs = (range (c .before), search needs, omega arith, search needs)
+play-steps-requires c κs = record { range = range (c .before); room = search needs; whole = omega arith; short = search needs }
 
 returns-5 : tie.Need-returns-5
 returns-5 c =

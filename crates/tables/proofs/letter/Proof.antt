@@ -8,23 +8,27 @@ use Rattle.tables.proofs.letter.Statement.{statement}
 use Rattle.tables.proofs.letter.Tie as tie
 
 returns-2 : tie.Need-returns-2
-returns-2 c = letter-crowded (c .before .before .before .before .before .pre) (search needs) _ (c .before .before .crowded .ensures) (search needs) _ (c .answered2 .ensures)
+returns-2 c =
+    let b = c .before .before in
+    letter-crowded (b .before .before .before .before .pre) (search needs) _ (b .crowded .ensures) (search needs) _ (c .answered2 .ensures)
 
 sending-requires : tie.Need-sending-requires
 sending-requires c κs =
     let r = crowded-room _ (sym (c .before .crowded .ensures) ∙ c .if2 .left) in
-    let s = c .before .before .before .before in
+    let s = c .before .before .before .before .before in
     (omega arith, omega arith)
 
 returns-3 : tie.Need-returns-3
-returns-3 c = letter-done (c .before .before .before .before .before .pre) (search needs) _ (c .before .before .crowded .ensures) (search needs) _ (c .sending .ensures)
+returns-3 c =
+    let b = c .before .before in
+    letter-done (b .before .before .before .before .pre) (search needs) _ (b .crowded .ensures) (search needs) _ (c .sending .ensures)
 
 pub letter-spec : {M : Type 1} → statement M
 letter-spec =
     tie.close
     (tie.spec
     (λ c κs. search needs)
-    (λ c. letter-unopened (c .before .before .before .pre) (search needs) _ (c .answered .ensures))
+    (λ c. letter-unopened (c .before .before .before .before .pre) (search needs) _ (c .answered .ensures))
     (λ c κs. search needs)
     (λ c κs. search needs)
     returns-2

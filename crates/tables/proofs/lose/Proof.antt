@@ -9,6 +9,6 @@ lose-spec =
     tie.close
     (tie.spec
     (λ c κs. search needs)
-    (λ c. lose-missing (c .before .before .pre) (search needs) _ (c .answered .ensures))
+    (λ c. lose-missing (c .before .before .before .pre) (search needs) _ (c .answered .ensures))
     (λ c κs. search needs)
-    (λ c. lose-done (c .before .before .pre) (search needs) _ (c .without-number .ensures)))
+    (λ c. lose-done (c .before .before .before .before .before .pre) (search needs) _ (c .without-number .ensures)))

@@ -1,43 +1,33 @@
 -- Refused as a busy transactor is, all opened, or one more.
-use mathlib.Core.Path.{_≡_}
 use native.Mathlib.Omega.{arith}
-use lib.ListN.{length}
-use Rattle.rules.specs.Refusals.{groupBits}
 use borrow.Author.Needs.{needs}
-use Rattle.registers.proofs.Views.{length-of-map}
 use Rattle.tables.proofs.Outcomes.{new-idle, new-full, new-done}
 use Rattle.tables.proofs.new.Statement.{statement}
 use Rattle.tables.proofs.new.Tie as tie
 
-long : (s : tie.Start) → length (s .args .x .rows) ≡ groupBits
-long s = search (needs, length-of-map)
-
-busy-requires : tie.Need-busy-requires
-busy-requires c κs = c .before .pre .transactor
-
 returns : tie.Need-returns
-returns c = new-idle (c .before .before .before .before .pre) _ (c .before .before .busy .ensures) (search needs) _ (c .answered .ensures)
+returns c =
+    let b = c .before .before in
+    new-idle (b .before .before .before .pre) _ (b .busy .ensures) (search needs) _ (c .answered .ensures)
 
 returns-2 : tie.Need-returns-2
 returns-2 c =
     let b = c .before .before .before .before in
-    new-full (b .before .before .pre) _ (b .busy .ensures) (search needs) (search needs) _ (c .answered2 .ensures)
+    new-full (b .before .before .before .pre) _ (b .busy .ensures) (search needs) (search needs) _ (c .answered2 .ensures)
 
 opening-requires : tie.Need-opening-requires
-opening-requires c κs = omega (arith, c .before .before .before .before .before .pre .limits)
+opening-requires c κs = omega (arith, c .before .before .before .before .before .before .pre .limits)
 
 returns-3 : tie.Need-returns-3
 returns-3 c =
     let b = c .before .before .before .before in
-    let s = b .before .before in
-    new-done (s .pre) _ (b .busy .ensures) (search needs) (long s) (search needs) _ (c .opening .ensures)
+    new-done (b .before .before .before .pre) _ (b .busy .ensures) (search needs) (search needs) _ (c .opening .ensures)
 
 pub new-spec : {M : Type 1} → statement M
 new-spec =
     tie.close
     (tie.spec
-    (λ c. search needs)
-    busy-requires
+    (λ c κs. search needs)
     (λ c κs. search needs)
     returns
     (λ c κs. search needs)

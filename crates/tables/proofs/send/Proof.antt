@@ -7,38 +7,34 @@ use Rattle.tables.proofs.Outcomes.{send-unopened, send-idle, send-crowd
 use Rattle.tables.proofs.send.Statement.{statement}
 use Rattle.tables.proofs.send.Tie as tie
 
-busy-requires : tie.Need-busy-requires
-busy-requires c κs = c .before .before .before .before .pre .transactor
-
 returns-2 : tie.Need-returns-2
 returns-2 c =
     let b = c .before .before in
-    send-idle (b .before .before .before .before .before .pre) (b .before .before .if1 .left) _ (b .busy .ensures) (search needs) _ (c .answered2 .ensures)
+    send-idle (b .before .before .before .before .before .before .pre) (b .before .before .if1 .left) _ (b .busy .ensures) (search needs) _ (c .answered2 .ensures)
 
 returns-3 : tie.Need-returns-3
 returns-3 c =
     let b = c .before .before .before .before in
-    send-crowded (b .before .before .before .before .before .pre) (b .before .before .if1 .left) _ (b .busy .ensures) (search needs) _ (c .before .before .crowded .ensures) (search needs) _ (c .answered3 .ensures)
+    send-crowded (b .before .before .before .before .before .before .pre) (b .before .before .if1 .left) _ (b .busy .ensures) (search needs) _ (c .before .before .crowded .ensures) (search needs) _ (c .answered3 .ensures)
 
 sending-requires : tie.Need-sending-requires
 sending-requires c κs =
     let r = crowded-room _ (sym (c .before .crowded .ensures) ∙ c .if3 .left) in
-    let s = c .before .before .before .before .before .before .before .before in
+    let s = c .before .before .before .before .before .before .before .before .before in
     (omega arith, omega arith)
 
 returns-4 : tie.Need-returns-4
 returns-4 c =
     let b = c .before .before .before .before in
-    send-done (b .before .before .before .before .before .pre) (b .before .before .if1 .left) _ (b .busy .ensures) (search needs) _ (c .before .before .crowded .ensures) (search needs) _ (c .sending .ensures)
+    send-done (b .before .before .before .before .before .before .pre) (b .before .before .if1 .left) _ (b .busy .ensures) (search needs) _ (c .before .before .crowded .ensures) (search needs) _ (c .sending .ensures)
 
 pub send-spec : {M : Type 1} → statement M
 send-spec =
     tie.close
     (tie.spec
     (λ c κs. search needs)
-    (λ c. send-unopened (c .before .before .before .before .pre) (search needs) _ (c .answered .ensures))
-    (λ c. search needs)
-    busy-requires
+    (λ c. send-unopened (c .before .before .before .before .before .pre) (search needs) _ (c .answered .ensures))
+    (λ c κs. search needs)
     (λ c κs. search needs)
     returns-2
     (λ c κs. search needs)

@@ -1,16 +1,17 @@
 -- The register is as it says.
 use mathlib.Core.Path.{ap}
-use mathlib.Core.Bool.{false}
+use borrow.Author.Needs.{needs}
 use Rattle.rules.specs.Step.{done}
 use Rattle.rules.specs.Rules.{answer}
-use borrow.Author.Needs.{needs}
+use Rattle.chains.specs.Internal.Tables.{filledSlot}
 use Rattle.tables.proofs.sending.Statement.{statement}
 use Rattle.tables.proofs.sending.Tie as tie
 
 returns : tie.Need-returns
 returns c =
-    let s = c .before .args in
-    ap (λ z. record { reply = answer done (s .t) (s .x .next) 0; register = z; slot = record { missing = false; addressee = s .to; content = s .content } }) (c .with-number .ensures)
+    let s = c .before .before .before .args in
+    let x = s .x in
+    ap (λ z. record { reply = answer done (s .t) (x .register .next) 0; operands = record { register = z; at = x .at; row = x .row; slot = filledSlot (s .letter) (s .to) (s .content) } }) (c .with-number .ensures)
 
 pub sending-spec : {M : Type 1} → statement M
 sending-spec = tie.close (tie.spec (λ c κs. search needs) returns)

@@ -2,58 +2,97 @@
 use Prim.Native.Nat.{ℕ, _≤_, _<_}
 use mathlib.Core.Bool.{Bool, false}
 use mathlib.Core.Path.{_≡_}
+use mathlib.Core.List.{List}
+use lib.Dec.{eqb}
+use lib.ListN.{length}
 use Rattle.octets.specs.Bytes.{pick}
 use Rattle.maps.specs.Table.{updated}
 use Rattle.rules.specs.Layout.{base}
 use Rattle.rules.specs.declared.Step.{Step}
-use Rattle.rules.specs.Step.{done}
+use Rattle.rules.specs.Step.{done, receive}
 use Rattle.rules.specs.Refusals.{groupBits, sends, malformed}
 use Rattle.rules.specs.Rules.{answer}
+use Rattle.chains.specs.declared.rows.Row.{Row}
 use Rattle.chains.specs.declared.rows.Slot.{Slot}
-use Rattle.chains.specs.Internal.Tables.{Played, play}
+use Rattle.chains.specs.Internal.Tables.{openedRow, filledSlot, Played, play}
 use Rattle.registers.specs.declared.register.Register.{Register}
+use Rattle.tables.specs.declared.Operands.{Operands}
 use Rattle.tables.specs.declared.Turn.{Turn}
-use Rattle.registers.specs.Internal.Register.{viewOf, withOpened, withNumber}
+use Rattle.tables.specs.declared.GroupTurn.{GroupTurn}
+use Rattle.registers.specs.Internal.Register.{rowAt, viewOf, withOpened, withNumber}
 
 -- the parcel number that a step looks at, and may change: of a letter or a send the next one
 unfoldable pub placeOf : Register → Step → ℕ
 placeOf x p = pick (sends (p .kind)) (x .next) (p .message)
 
+-- the take that it looks at, where m is what is kept of that parcel number: of a receipt its receiver
+unfoldable pub subjectOf : Step → Slot → ℕ
+subjectOf p m = pick (eqb (p .kind) receive) (m .addressee) (p .transactor)
+
+-- ---- what a step looks at, and leaves
+
+abbrev pub operandsOf : Register → ℕ → Row → Slot → Operands
+operandsOf x t row m = record { register = x; at = t; row = row; slot = m }
+
 -- only a number is replied
-abbrev pub answers : Register → Slot → ℕ → Turn
-answers x m number = record { reply = answer number 0 0 0; register = x; slot = m }
+abbrev pub answers : Operands → ℕ → Turn
+answers x number = record { reply = answer number 0 0 0; operands = x }
+
+abbrev pub answersGroup : List Row → ℕ → GroupTurn
+answersGroup rows number = record { reply = answer number 0 0 0; rows = rows }
 
 -- one more take, with text v
-abbrev pub opens : Register → Slot → ℕ → Turn
-opens x m v = record { reply = answer done (x .opened) 0 0; register = withOpened x v; slot = m }
+abbrev pub opens : Operands → ℕ → Turn
+opens x v = record {
+  reply = answer done (x .register .opened) 0 0;
+  operands = record { register = withOpened (x .register); at = x .register .opened; row = openedRow v; slot = x .slot };
+}
 
--- one more parcel, by take t to take c, with text v
-abbrev pub sendsTo : Register → ℕ → ℕ → ℕ → Turn
-sendsTo x t c v = record { reply = answer done t (x .next) 0; register = withNumber x; slot = record { missing = false; addressee = c; content = v } }
+-- one more parcel, by take t to take u, with text v; c: a letter
+abbrev pub sendsTo : Operands → Bool → ℕ → ℕ → ℕ → Turn
+sendsTo x c t u v = record {
+  reply = answer done t (x .register .next) 0;
+  operands = record { register = withNumber (x .register); at = x .at; row = x .row; slot = filledSlot c u v };
+}
 
--- a turn, with the parcels F but for number n
-unfoldable pub playedOf : Turn → (ℕ → Slot) → ℕ → Played
-playedOf u F n = record { reply = u .reply; tables = viewOf (u .register) (updated F n (u .slot)) }
+-- ---- a turn as a step on the tables
 
--- it is the step on the tables, where the tests of a receipt and of a signing are answered by d, f and g, and m is what they have of
--- the parcel number that the step looks at
-pub record TurnsBy (d f g : Bool) (x : Register) (m : Slot) (p : Step) (u : Turn) : Type 0 where
-  pub plays : (F : ℕ → Slot) → F (placeOf x p) ≡ m → playedOf u F (placeOf x p) ≡ play base (viewOf x F) p d f g
+-- the takes R and the parcels F have the operands of step p: the take and the parcel number that it looks at
+pub record Holds (x : Operands) (p : Step) (R : ℕ → Row) (F : ℕ → Slot) : Type 0 where
+  pub row : R (x .at) ≡ x .row
+  pub slot : F (placeOf (x .register) p) ≡ x .slot
 
--- however they are answered; a receipt where that of a signing is, a signing where those of a receipt are
-pub record Turns (x : Register) (m : Slot) (p : Step) (u : Turn) : Type 0 where
-  pub by : (d f g : Bool) → TurnsBy d f g x m p u
+-- a turn, with the takes R and the parcels F but for what it leaves; n: the parcel number
+unfoldable pub playedOf : Turn → (ℕ → Row) → (ℕ → Slot) → ℕ → Played
+playedOf u R F n = record { reply = u .reply; tables = viewOf (u .operands .register) (updated R (u .operands .at) (u .operands .row)) (updated F n (u .operands .slot)) }
 
-pub record Receives (d f : Bool) (x : Register) (m : Slot) (p : Step) (u : Turn) : Type 0 where
-  pub by : (g : Bool) → TurnsBy d f g x m p u
+abbrev pub playedGroup : GroupTurn → Register → (ℕ → Slot) → Played
+playedGroup u x F = record { reply = u .reply; tables = viewOf x (rowAt (u .rows)) F }
 
-pub record Signs (g : Bool) (x : Register) (m : Slot) (p : Step) (u : Turn) : Type 0 where
-  pub by : (d f : Bool) → TurnsBy d f g x m p u
+-- it is the step on the tables, where the tests of a receipt are answered by d and f, and that of a signing by g; the take that it
+-- leaves is among the sixteen
+pub record TurnsBy (d f g : Bool) (x : Operands) (p : Step) (u : Turn) : Type 0 where
+  pub plays : (R : ℕ → Row) (F : ℕ → Slot) → Holds x p R F → playedOf u R F (placeOf (x .register) p) ≡ play base (viewOf (x .register) R F) p d f g
+  pub within : x .at < groupBits → u .operands .at < groupBits
 
--- a well-formed step of kind k; the takes that it names, and the next one, are among the sixteen
-pub record Asked (k : ℕ) (x : Register) (m : Slot) (p : Step) : Type 0 where
+-- however all three are answered
+pub record Turns (x : Operands) (p : Step) (u : Turn) : Type 0 where
+  pub by : (d f g : Bool) → TurnsBy d f g x p u
+
+-- those of a receipt by d and f, that of a signing however
+pub record Receives (d f : Bool) (x : Operands) (p : Step) (u : Turn) : Type 0 where
+  pub by : (g : Bool) → TurnsBy d f g x p u
+
+-- a signing looks at all takes, which stay sixteen, and at no parcel; its test is answered by g, those of a receipt however
+pub record Signs (g : Bool) (x : Register) (rows : List Row) (p : Step) (u : GroupTurn) : Type 0 where
+  pub plays : (d f : Bool) (F : ℕ → Slot) → playedGroup u x F ≡ play base (viewOf x (rowAt rows) F) p d f g
+  pub long : length rows ≡ groupBits → length (u .rows) ≡ groupBits
+
+-- ---- what is asked
+
+-- a well-formed step of kind k with the take that it looks at; the session's limit of takes is at most sixteen
+pub record Asked (k : ℕ) (x : Operands) (p : Step) : Type 0 where
   pub formed : malformed p ≡ false
   pub kind : p .kind ≡ k
-  pub transactor : p .transactor < groupBits
-  pub addressee : m .addressee < groupBits
-  pub limits : x .transactors ≤ groupBits
+  pub subject : x .at ≡ subjectOf p (x .slot)
+  pub limits : x .register .transactors ≤ groupBits

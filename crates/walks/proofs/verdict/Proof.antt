@@ -1,6 +1,5 @@
 -- A word is not 0 exactly if it names one.
 use borrow.Author.Needs.{needs}
-use mathlib.Core.Path.{_∙_}
 use Rattle.chains.proofs.Following.{verdict-is}
 use Rattle.walks.proofs.verdict.Statement.{statement}
 use Rattle.walks.proofs.verdict.Tie as tie

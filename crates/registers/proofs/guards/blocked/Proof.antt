@@ -4,15 +4,16 @@ use mathlib.Core.Logic.{⊎-elim}
 use mathlib.Core.Path.{sym, _∙_}
 use borrow.Author.Needs.{needs}
 use Rattle.rules.specs.Refusals.{groupBits}
+use Rattle.registers.specs.Internal.Register.{rowAt}
 use Rattle.registers.proofs.Guarding.{Unblocked, unblocked-first, unblocked-end, unblocked-unnamed, unblocked-found, unblocked-more}
 use Rattle.registers.proofs.guards.blocked.Statement.{statement}
 use Rattle.registers.proofs.guards.blocked.Tie as tie
 
 abbrev Inv-loop : tie.InvT-loop
-Inv-loop group number x t₀ t = Unblocked x group number t
+Inv-loop most group number rows t₀ t = Unblocked (rowAt rows) most group number t
 
 abbrev μ-loop : tie.MeasureT-loop
-μ-loop group number x t₀ t = groupBits - t
+μ-loop most group number rows t₀ t = groupBits - t
 
 returns : tie.Need-returns Inv-loop μ-loop
 returns c =
@@ -34,7 +35,7 @@ blocked-spec =
     (tie.spec
     Inv-loop
     μ-loop
-    (λ c. unblocked-first _ _ _)
+    (λ c. unblocked-first _ _ _ _)
     (λ c κs. search needs)
     (λ c. search needs)
     (λ c. search needs)

@@ -8,10 +8,7 @@ pub busy-spec : {M : Type 1} → statement M
 busy-spec =
     tie.close
     (tie.spec
-    (λ c. search needs)
-    (λ c. busy-unopened _ _ (search needs))
-    (λ c. search needs)
-    (λ c. search needs)
-    (λ c. busy-gone _ _ (search needs) (search needs))
-    (λ c. busy-idle _ _ (search needs) (search needs) (search needs))
-    (λ c. busy-free _ _ (search needs) (search needs) (search needs)))
+    (λ c. busy-unopened _ _ _ (search needs))
+    (λ c. busy-gone _ _ _ (search needs) (search needs))
+    (λ c. busy-idle _ _ _ (search needs) (search needs) (search needs))
+    (λ c. busy-free _ _ _ (search needs) (search needs) (search needs)))

@@ -9,9 +9,6 @@ receipt-spec =
     tie.close
     (tie.spec
     (λ c. receipt-missing _ _ (search needs))
-    (λ c. search needs)
-    (λ c. search needs)
-    (λ c. search needs)
     (λ c. receipt-gone _ _ (search needs) (search needs))
     (λ c. receipt-busy _ _ (search needs) (search needs) (search needs))
     (λ c. receipt-free _ _ (search needs) (search needs) (search needs)))

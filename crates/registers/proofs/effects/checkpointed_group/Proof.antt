@@ -5,8 +5,8 @@ use Rattle.rules.specs.Refusals.{groupBits}
 use Rattle.octets.specs.Numbers.{bound}
 use Rattle.registers.proofs.Views.{length-of-map}
 use Rattle.registers.proofs.Checkpointing.{Checkpointing, checkpointing-none, checkpointing-all, checkpointing-fits, checkpointing-more}
-use Rattle.registers.proofs.register.checkpointed.Statement.{statement}
-use Rattle.registers.proofs.register.checkpointed.Tie as tie
+use Rattle.registers.proofs.effects.checkpointed_group.Statement.{statement}
+use Rattle.registers.proofs.effects.checkpointed_group.Tie as tie
 
 abbrev Inv-loop : tie.InvT-loop
 Inv-loop group rows₀ t₀ rows t = Checkpointing group rows₀ t rows
@@ -27,8 +27,8 @@ returns : tie.Need-returns Inv-loop μ-loop
 unfolding bound
 returns c = checkpointing-all (c .before .loop .inv) (search needs) (search needs)
 
-pub checkpointed-spec : {M : Type 1} → statement M
-checkpointed-spec =
+pub checkpointed-group-spec : {M : Type 1} → statement M
+checkpointed-group-spec =
     tie.close
     (tie.spec
     Inv-loop
