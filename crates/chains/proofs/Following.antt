@@ -11,13 +11,13 @@ use lib.ListN.{length, getD, set, replicate, length-set, length-replicate}
 use lib.Seq.{getD-set-same, getD-set-other}
 use borrow.Author.Tests.{eq-eqb, ne-eqb, eqb-true, eqb-false, lt-leb, le-leb}
 use Rattle.octets.specs.Bytes.{pick, _and_, _or_, any, every, part}
-use Rattle.octets.proofs.Tests.{never, and-assoc}
+use Rattle.octets.proofs.Tests.{never, and-true, and-false, and-assoc}
 use Rattle.octets.proofs.Zero.{both, any-off, every-at}
 use Rattle.marks.specs.Incarnation.{Incarnation}
 use Rattle.rules.specs.declared.Step.{Step}
 use Rattle.rules.specs.Step.{stepBytes, unpackStep, stepAt, done, held, dropped, fallenBack, vanished, notReady, root, letter, receive, new, send, read, write, freeze, finish, fall, lose, sign}
 use Rattle.rules.specs.Refusals.{groupBits, named, anyNamed}
-use Rattle.rules.proofs.Bits.{named-zero, named-one, named-from, shifted}
+use Rattle.rules.proofs.Bits.{named-zero, named-one, named-and, named-or, named-from, shifted}
 use Rattle.chains.specs.Chain as chain
 use Rattle.chains.specs.Chain.{Places, groundOf, messageAlone, back}
 use Rattle.chains.specs.Back.{Told, rollbackFrom, receiptFrom, localFrom, eventFrom}
@@ -29,7 +29,7 @@ use Rattle.chains.specs.declared.words.Side.{Side}
 use Rattle.chains.specs.declared.words.Trail.{Trail}
 use Rattle.chains.specs.declared.words.Walker.{Walker}
 use Rattle.chains.specs.Internal.Words.{bitOf, without, meet, rollbackWords, receiptWords, localWords, eventWords, changesNothing, rolledBackWord, checkpointedWord, sideOver, metOver, onLeft, onRight, followedOn, passedOver, messagesOver, trailOver, Follower, following, walkerWith, followerOver, followerStep, followBack, trailFrom, walkerFrom, verdict, verdictOf, placesIn}
-use Rattle.chains.proofs.Worded.{Says, says-nothing, says-cleared, says-sent, says-taken, says-opens, says-reads, says-writes, says-finishes, says-renewed, says-annihilated, says-cleared-renewed, says-cleared-annihilated, same-places, left-back, right-back, side-met, and-true, and-false, named-and, named-or, named-without}
+use Rattle.chains.proofs.Worded.{Says, says-nothing, says-cleared, says-sent, says-taken, says-opens, says-reads, says-writes, says-finishes, says-renewed, says-annihilated, says-cleared-renewed, says-cleared-annihilated, same-places, left-back, right-back, side-met, named-without}
 
 -- ---- one more step
 
@@ -121,11 +121,7 @@ any-either f g (suc n) = rw (any-either f g n) (go (any n f) (any n g) (f n) (g 
 -- a word is not 0 exactly if it names one
 word-any : (w : ℕ) → w < 2 ^ groupBits → not (eqb w 0) ≡ any groupBits (named w)
 unfolding anyNamed
-word-any w h = ap (λ (n : ℕ). not (eqb n 0)) (sym (div-one w)) ∙ named-from w 0 h ∙ any-same (λ t. named w t and leb 0 t) (named w) groupBits (λ u k. rw (le-leb 0 u (omega arith)) (go (named w u)))
-  where
-    go : (c : Bool) → c and true ≡ c
-    go true = refl
-    go false = refl
+word-any w h = ap (λ (n : ℕ). not (eqb n 0)) (sym (div-one w)) ∙ named-from w 0 h ∙ any-same (λ t. named w t and leb 0 t) (named w) groupBits (λ u k. rw (le-leb 0 u (omega arith)) (and-true (named w u)))
 
 -- more in a word: those of d, and those that G names
 any-more : (d w : ℕ) (b : Bool) (G : ℕ → Bool) → any groupBits (named d) ≡ b → ((u : ℕ) → u < groupBits → named w u ≡ G u) → any groupBits (named (bitOr d w)) ≡ b or any groupBits G

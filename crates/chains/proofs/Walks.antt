@@ -11,6 +11,7 @@ use borrow.Author.Tests.{ne-eqb, ltb-true}
 use Rattle.octets.specs.Bytes.{pick, _and_, _or_, any, Octets}
 use Rattle.marks.specs.History.{HistoryView}
 use Rattle.octets.specs.Numbers.{bound}
+use Rattle.octets.proofs.Tests.{or-none, and-false}
 use Rattle.marks.specs.Incarnation.{Incarnation, Superseded, Checkpointed}
 use Rattle.marks.proofs.Trail.{Under}
 use Rattle.marks.proofs.Order.{precedes-eq, precedes-refl, precedes-split, under-split, superseded-ne, superseded-not-checkpointed, checkpointed-irrefl, checkpointed-up, initial-precedes}
@@ -141,10 +142,6 @@ true-or-false : (c : Bool) → (c ≡ true) ⊎ (c ≡ false)
 true-or-false true = inl refl
 true-or-false false = inr refl
 
-or-left : (c : Bool) → c or false ≡ c
-or-left true = refl
-or-left false = refl
-
 or-neither : (c d : Bool) (a b : Bool) → a ≡ false → b ≡ false → c or (d and (a or b)) ≡ c
 or-neither true d a b e f = refl
 or-neither false true a b e f = rw (e, f)
@@ -156,15 +153,15 @@ unfolding over back meets metOf
 over-nothing F S f s x = λ i. record {
   left = x .left;
   right = x .right;
-  leftMet = λ u. or-left (x .leftMet u) i;
-  rightMet = λ u. or-left (x .rightMet u) i;
+  leftMet = λ u. or-none (x .leftMet u) i;
+  rightMet = λ u. or-none (x .rightMet u) i;
   leftPast = λ u. or-neither (x .leftPast u) (x .leftMet u or false) (F u) (S u) (f u) (s u) i;
   rightPast = λ u. or-neither (x .rightPast u) (x .rightMet u or false) (F u) (S u) (f u) (s u) i;
   ended = λ u. quiet u i;
   allowed = x .allowed;
-  leftSuperseded = (ap (λ c. x .leftSuperseded or c) (none-any (λ u. false) groupBits (λ u. refl)) ∙ or-left (x .leftSuperseded)) i;
-  rightSuperseded = (ap (λ c. x .rightSuperseded or c) (none-any (λ u. false) groupBits (λ u. refl)) ∙ or-left (x .rightSuperseded)) i;
-  unallowed = (ap (λ c. x .unallowed or c) (none-any (λ u. false) groupBits (λ u. refl)) ∙ or-left (x .unallowed)) i;
+  leftSuperseded = (ap (λ c. x .leftSuperseded or c) (none-any (λ u. false) groupBits (λ u. refl)) ∙ or-none (x .leftSuperseded)) i;
+  rightSuperseded = (ap (λ c. x .rightSuperseded or c) (none-any (λ u. false) groupBits (λ u. refl)) ∙ or-none (x .rightSuperseded)) i;
+  unallowed = (ap (λ c. x .unallowed or c) (none-any (λ u. false) groupBits (λ u. refl)) ∙ or-none (x .unallowed)) i;
 }
   where
     quiet : (u : ℕ) → pick (F u) true (pick (S u) false (x .ended u)) ≡ x .ended u
@@ -224,11 +221,7 @@ rolledBack-not w u n = rw (ne-eqb (w .outcome) replied.fallenBack n)
 
 checkpointed-not : (p : Step) (w : Told) (u : ℕ) → (w .outcome ≡ done → ⊥) → wasCheckpointed p w u ≡ false
 unfolding wasCheckpointed
-checkpointed-not p w u n = rw (ne-eqb (w .outcome) done n) (neither (eqb (p .kind) sign) (named (p .message) u))
-  where
-    neither : (a c : Bool) → (a and false) and c ≡ false
-    neither true c = refl
-    neither false c = refl
+checkpointed-not p w u n = rw (ne-eqb (w .outcome) done n) (ap (λ (c : Bool). c and named (p .message) u) (and-false (eqb (p .kind) sign)))
 
 -- a step beside an event that does the same
 step-over : (p : Step) (w : Told) (L : ℕ → Incarnation) (e : Event) → Alike (pick (ltb notReady (w .outcome)) chain.nothing (eventFrom p w L)) e → (x : Walk)

@@ -1,17 +1,17 @@
 -- The walk in words: one step of it is one step of the walk on places.
-use Prim.Native.Nat.{ℕ, zero, suc, _+_, _*_, _/_, _%_, _^_, _<_, min, max}
+use Prim.Native.Nat.{ℕ, _^_, _<_}
 use mathlib.Core.Bool.{Bool, true, false, not, false≢true}
 use mathlib.Core.Path.{_≡_, refl, ap, sym, _∙_}
 use mathlib.Core.List.{List}
 use mathlib.Core.Logic.{_≢_}
 use native.Mathlib.Omega.{arith}
-use lib.Bits.{bitAnd, bitOr, bitXor, differ, and-shr, or-shr, xor-shr, and-step, or-step, xor-step, and-le-r}
+use lib.Bits.{bitAnd, bitOr, and-le-r}
 use lib.Dec.{eqb}
 use lib.ListN.{length, set}
 use borrow.Author.Tests.{eq-eqb, ne-eqb, eqb-true}
 use Rattle.octets.specs.Bytes.{pick, _and_, _or_}
 use Rattle.rules.specs.Refusals.{named}
-use Rattle.rules.proofs.Bits.{named-same, named-zero, named-one, one-fits}
+use Rattle.rules.proofs.Bits.{named-same, named-zero, named-one, named-and, named-or, named-xor, one-fits}
 use Rattle.chains.specs.Internal.Words.{without, meet, wordIf, openingCarries, sideOpens, openingMeets, sideOver, metOver, onLeft, onRight, sidesIf, followedOn, messagesOver, placesIn}
 use Rattle.chains.specs.declared.words.Event.{Event}
 use Rattle.chains.specs.declared.words.Event.the-variants.{Nothing, Cleared, Sent, Taken, Opens, Reads, Writes, Finishes, Renewed, Annihilated, ClearedRenewed, ClearedAnnihilated}
@@ -23,61 +23,16 @@ use mathlib.Core.Option.{Option, none, some}
 use Rattle.marks.specs.Incarnation.{Incarnation, initialIncarnation}
 use Rattle.maps.specs.Table.{updated}
 use Rattle.maps.proofs.Tables.{updated-is}
-use Rattle.octets.proofs.Tests.{or-none}
+use Rattle.octets.proofs.Tests.{or-none, and-true, and-false}
 use lib.Seq.{getD-set-same, getD-set-other}
 
 -- ---- bits
 
-abbrev odd : ℕ → Bool
-odd x = eqb (x % 2) 1
-
--- the last bit of r, which is v
-last-bit : (r A v : ℕ) → r ≡ A * 2 + v → v < 2 → odd r ≡ eqb v 1
-last-bit r A v e h = ap (λ n. eqb n 1) (let q : r % 2 ≡ v = omega arith in q)
-
-module _ (op : ℕ → ℕ → ℕ) (f : ℕ → ℕ → ℕ) (F : Bool → Bool → Bool) (step : (a b : ℕ) → op a b ≡ op (a / 2) (b / 2) * 2 + f (a % 2) (b % 2))
-    (small : (x y : ℕ) → x < 2 → y < 2 → f x y < 2) (table : (x y : ℕ) → x < 2 → y < 2 → eqb (f x y) 1 ≡ F (eqb x 1) (eqb y 1)) where
-  odd-op : (a b : ℕ) → odd (op a b) ≡ F (odd a) (odd b)
-  odd-op a b = last-bit (op a b) (op (a / 2) (b / 2)) (f (a % 2) (b % 2)) (step a b) (small (a % 2) (b % 2) (omega arith) (omega arith)) ∙ table (a % 2) (b % 2) (omega arith) (omega arith)
-
-  module _ (shr : (a b k : ℕ) → op a b / 2 ^ k ≡ op (a / 2 ^ k) (b / 2 ^ k)) where
-    named-op : (a b u : ℕ) → named (op a b) u ≡ F (named a u) (named b u)
-    unfolding named
-    named-op a b u = ap odd (shr a b u) ∙ odd-op (a / 2 ^ u) (b / 2 ^ u)
-
--- a table of two bits
-below-two : (P : ℕ → ℕ → Type 0) → P 0 0 → P 0 1 → P 1 0 → P 1 1 → (x y : ℕ) → x < 2 → y < 2 → P x y
-below-two P a b c d zero zero h k = a
-below-two P a b c d zero (suc zero) h k = b
-below-two P a b c d (suc zero) zero h k = c
-below-two P a b c d (suc zero) (suc zero) h k = d
-below-two P a b c d zero (suc (suc y)) h k = absurd (omega arith)
-below-two P a b c d (suc zero) (suc (suc y)) h k = absurd (omega arith)
-below-two P a b c d (suc (suc x)) zero h k = absurd (omega arith)
-below-two P a b c d (suc (suc x)) (suc zero) h k = absurd (omega arith)
-below-two P a b c d (suc (suc x)) (suc (suc y)) h k = absurd (omega arith)
-
-pub named-and : (a b u : ℕ) → named (bitAnd a b) u ≡ named a u and named b u
-named-and = named-op bitAnd min (λ p q. p and q) and-step
-    (below-two (λ x y. min x y < 2) (omega arith) (omega arith) (omega arith) (omega arith)) (below-two (λ x y. eqb (min x y) 1 ≡ eqb x 1 and eqb y 1) refl refl refl refl) and-shr
-
-pub named-or : (a b u : ℕ) → named (bitOr a b) u ≡ named a u or named b u
-named-or = named-op bitOr max (λ p q. p or q) or-step
-    (below-two (λ x y. max x y < 2) (omega arith) (omega arith) (omega arith) (omega arith)) (below-two (λ x y. eqb (max x y) 1 ≡ eqb x 1 or eqb y 1) refl refl refl refl) or-shr
-
-abbrev apart : Bool → Bool → Bool
-apart true q = not q
-apart false q = q
-
-named-xor : (a b u : ℕ) → named (bitXor a b) u ≡ apart (named a u) (named b u)
-named-xor = named-op bitXor differ apart xor-step
-    (below-two (λ x y. differ x y < 2) (omega arith) (omega arith) (omega arith) (omega arith)) (below-two (λ x y. eqb (differ x y) 1 ≡ apart (eqb x 1) (eqb y 1)) refl refl refl refl) xor-shr
-
 pub named-without : (a b u : ℕ) → named (without a b) u ≡ named a u and not (named b u)
 named-without a b u = named-xor a (bitAnd a b) u ∙ rw (named-and a b u) (go (named a u) (named b u))
   where
-    go : (p q : Bool) → apart p (p and q) ≡ p and not q
-    go true q = refl
+    go : (p q : Bool) → (p and not (p and q)) or (not p and (p and q)) ≡ p and not q
+    go true q = or-none (not q)
     go false q = refl
 
 -- a word meets that of take c exactly if it names c
@@ -94,21 +49,9 @@ meet-one a c h = go (named a c) refl
       where
         none : (u : ℕ) (q : Bool) → eqb c u ≡ q → named a u and q ≡ false
         none u true i = rw (← eqb-true c u i, e)
-        none u false i = neither (named a u)
-          where
-            neither : (b : Bool) → b and false ≡ false
-            neither true = refl
-            neither false = refl
+        none u false i = and-false (named a u)
 
 -- ---- a word changed at one take
-
-pub and-true : (c : Bool) → c and true ≡ c
-and-true true = refl
-and-true false = refl
-
-pub and-false : (c : Bool) → c and false ≡ false
-and-false true = refl
-and-false false = refl
 
 abbrev Names : ℕ → (ℕ → Bool) → Type 0
 Names w G = (u : ℕ) → named w u ≡ G u

@@ -10,7 +10,7 @@ use borrow.Author.Tests.{ne-eqb, lt-leb}
 use Rattle.octets.specs.Bytes.{_and_, _or_, Octets}
 use Rattle.octets.specs.Numbers.{bound}
 use Rattle.octets.proofs.Chunks.{sides}
-use Rattle.octets.proofs.Tests.{never, pick-view}
+use Rattle.octets.proofs.Tests.{never, and-false, pick-view}
 use Rattle.rules.specs.Layout.{Layout, Limits, base, inRange, largest, lastNumber}
 use Rattle.rules.specs.declared.Step.{Step}
 use Rattle.rules.specs.Step.{packReply, notReady, root, letter, receive, new, send, fall, fail, lose, sign}
@@ -21,7 +21,6 @@ use Rattle.chains.specs.declared.words.Told.{Told}
 use Rattle.chains.specs.Internal.Tables.{Tables, seenIn, Played, playReceive, playLocal, playApplied, playRefusal, play}
 use Rattle.chains.specs.Internal.Engine.{toldIn, playStep, engineAfter, engineReplies}
 use Rattle.chains.proofs.Engine.{engine-fresh, replies-fit-bytes}
-use Rattle.chains.proofs.Worded.{and-false}
 use Rattle.engine.specs.Internal.Advance.{most}
 use Rattle.engine.proofs.Ranges.{Ranged, local-small, receive-small}
 use Rattle.engine.proofs.Steps.{told-left, told-last, ranged, replies-long}

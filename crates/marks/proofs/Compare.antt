@@ -8,25 +8,14 @@ use lib.Dec.{eqb, ltb}
 use lib.ListN.{length, take, getD, length-append, length-take}
 use lib.Seq.{length-take-le, take-take, take-suc, getD-take}
 use borrow.Author.Tests.{lt-ltb, le-ltb, eq-eqb, ne-eqb}
-use Rattle.octets.specs.Bytes.{pick, _and_, _or_}
+use Rattle.octets.specs.Bytes.{pick, _and_}
+use Rattle.octets.proofs.Tests.{or-none, and-true, and-false}
 use Rattle.marks.specs.declared.History.{History}
 use Rattle.marks.specs.Incarnation.{sameList, beginsWith, strictPrefix, supersededBy, checkpointedIn, sameIncarnation}
 use Rattle.marks.specs.declared.Relation.the-variants.{Same, LeftCheckpointed, LeftSuperseded, RightSuperseded, Unrelated}
 use Rattle.marks.specs.History.{incarnationOf}
 use Rattle.marks.specs.Relation.{byNumbers, byNextEntry, relationOf}
 use Rattle.marks.proofs.Tests.{same-length}
-
-and-true : (t : Bool) → t and true ≡ t
-and-true true = refl
-and-true false = refl
-
-and-false : (t : Bool) → t and false ≡ false
-and-false true = refl
-and-false false = refl
-
-or-false : (t : Bool) → t or false ≡ t
-or-false true = refl
-or-false false = refl
 
 pick-none : (t : Bool) → pick t Unrelated Unrelated ≡ Unrelated
 pick-none true = refl
@@ -83,7 +72,7 @@ module _ (l : ℕ) (a b : History) (pa : length (a .checkpoints) ≡ l) (pb : le
   superseded-even : a .count ≡ b .count
       → supersededBy (incarnationOf a) (incarnationOf b) ≡ agree a b and ltb (a .incarnation) (b .incarnation)
   unfolding supersededBy strictPrefix
-  superseded-even h = rw (la, lb, le-ltb (a .count) (b .count) (omega arith), h) (or-false _)
+  superseded-even h = rw (la, lb, le-ltb (a .count) (b .count) (omega arith), h) (or-none _)
 
   module _ (h : a .count < b .count) where
     pub superseded-entry-off : getD (b .checkpoints) (a .count) 0 ≤ a .incarnation → false ≡ supersededBy (incarnationOf a) (incarnationOf b)

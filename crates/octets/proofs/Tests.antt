@@ -29,6 +29,14 @@ pub or-off : (a b : Bool) → a or b ≡ false → (a ≡ false) × (b ≡ false
 or-off true b e = never e
 or-off false b e = (refl, e)
 
+pub and-true : (c : Bool) → c and true ≡ c
+and-true true = refl
+and-true false = refl
+
+pub and-false : (c : Bool) → c and false ≡ false
+and-false true = refl
+and-false false = refl
+
 pub and-assoc : (a b c : Bool) → (a and b) and c ≡ a and (b and c)
 and-assoc true b c = refl
 and-assoc false b c = refl

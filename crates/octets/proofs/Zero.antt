@@ -14,6 +14,7 @@ use Rattle.octets.proofs.Chunks.{cases}
 use lib.Seq.{take-at, drop-at, drop-drop}
 use borrow.Author.Tests.{eq-eqb, ne-eqb, eqb-true, eqb-false, not-true, not-false}
 use Rattle.octets.specs.Bytes.{pick, _and_, _or_, part, zeros, allZero, every, any, chunks, tabulate, Octets}
+use Rattle.octets.proofs.Tests.{and-true}
 use Rattle.octets.proofs.Put.{part-def, part-add, part-suc, length-part}
 
 pub both : (t u : Bool) → t and u ≡ true → (t ≡ true) × (u ≡ true)
@@ -84,11 +85,7 @@ allZero-append (x ∷ p) q = go (eqb x 0) (allZero-append p q)
 
 pub allZero-snoc : (l : List ℕ) (x : ℕ) → allZero (l ++ (x ∷ [])) ≡ allZero l and eqb x 0
 unfolding allZero
-allZero-snoc l x = allZero-append l (x ∷ []) ∙ ap (λ (t : Bool). allZero l and t) (last (eqb x 0))
-  where
-    last : (t : Bool) → t and true ≡ t
-    last true = refl
-    last false = refl
+allZero-snoc l x = allZero-append l (x ∷ []) ∙ ap (λ (t : Bool). allZero l and t) (and-true (eqb x 0))
 
 -- n places are zero exactly if the first h and the last h of them are, where these two windows leave none out
 pub allZero-windows : (at at' n h : ℕ) (l : List ℕ) → h ≤ n → n ≤ h + h → at' + h ≡ at + n → allZero (part at n l) ≡ allZero (part at h l) and allZero (part at' h l)

@@ -6,7 +6,7 @@ use mathlib.Core.Logic.{⊎-elim}
 use native.Mathlib.Nat.{zero-add, one-mul, pow-zero, pow-succ', zero-div, div-one, div-eq-of-lt, mod-eq-of-lt, div-div-eq-div-mul, div-le-self}
 use native.Mathlib.Omega.{arith}
 use lib.Dec.{eqb, leb, eqb·suc-suc}
-use lib.Bits.{bitAnd, bitOr, and-shr, or-shr, and-step, or-step, and-le-l}
+use lib.Bits.{bitAnd, bitOr, bitXor, differ, and-shr, or-shr, xor-shr, and-step, or-step, xor-step, and-le-l}
 use lib.Pow.{pow-pos, pow-mono, shr-shr}
 use borrow.Author.Tests.{eq-eqb, ne-eqb, eqb-true, eqb-false, le-leb, lt-leb}
 use Rattle.octets.specs.Bytes.{_and_, _or_, every}
@@ -197,37 +197,42 @@ module _ {f : ℕ → Bool} {t v : ℕ} (names : Names f t v) where
 
 -- ---- two volumes
 
+-- the last bit of r, which is v
+last-bit : (r a v : ℕ) → r ≡ a * 2 + v → v < 2 → eqb (r % 2) 1 ≡ eqb v 1
+last-bit r a v e h = ap (λ n. eqb n 1) (let q : r % 2 ≡ v = omega arith in q)
+
+-- an operation on each bit by itself: op by f of two bits, and F of two tests
+module _ (op : ℕ → ℕ → ℕ) (f : ℕ → ℕ → ℕ) (F : Bool → Bool → Bool) (step : (a b : ℕ) → op a b ≡ op (a / 2) (b / 2) * 2 + f (a % 2) (b % 2))
+    (small : (x y : ℕ) → x < 2 → y < 2 → f x y < 2) (table : (x y : ℕ) → x < 2 → y < 2 → eqb (f x y) 1 ≡ F (eqb x 1) (eqb y 1))
+    (shr : (a b k : ℕ) → op a b / 2 ^ k ≡ op (a / 2 ^ k) (b / 2 ^ k)) where
+  named-op : (v w t : ℕ) → named (op v w) t ≡ F (named v t) (named w t)
+  unfolding named
+  named-op v w t =
+      let a : ℕ = v / 2 ^ t in
+      let b : ℕ = w / 2 ^ t in
+      rw (shr v w t) (last-bit (op a b) (op (a / 2) (b / 2)) (f (a % 2) (b % 2)) (step a b) (small (a % 2) (b % 2) (omega arith) (omega arith)) ∙ table (a % 2) (b % 2) (omega arith) (omega arith))
+
+-- a table of two bits
+below-two : (P : ℕ → ℕ → Type 0) → P 0 0 → P 0 1 → P 1 0 → P 1 1 → (x y : ℕ) → x < 2 → y < 2 → P x y
+below-two P a b c d zero zero h k = a
+below-two P a b c d zero (suc zero) h k = b
+below-two P a b c d (suc zero) zero h k = c
+below-two P a b c d (suc zero) (suc zero) h k = d
+below-two P a b c d zero (suc (suc y)) h k = absurd (omega arith)
+below-two P a b c d (suc zero) (suc (suc y)) h k = absurd (omega arith)
+below-two P a b c d (suc (suc x)) y h k = absurd (omega arith)
+
 pub named-and : (v w t : ℕ) → named (bitAnd v w) t ≡ named v t and named w t
-unfolding named
-named-and v w t =
-    let a : ℕ = v / 2 ^ t in
-    let b : ℕ = w / 2 ^ t in
-    rw (and-shr v w t, and-step a b) (digit (bitAnd (a / 2) (b / 2)) (a % 2) (b % 2) (omega arith) (omega arith))
-  where
-    digit : (q x z : ℕ) → x < 2 → z < 2 → eqb ((q * 2 + min x z) % 2) 1 ≡ eqb x 1 and eqb z 1
-    digit q zero zero h k = ne-eqb ((q * 2 + 0) % 2) 1 (omega arith)
-    digit q zero (suc zero) h k = ne-eqb ((q * 2 + 0) % 2) 1 (omega arith)
-    digit q (suc zero) zero h k = ne-eqb ((q * 2 + 0) % 2) 1 (omega arith)
-    digit q (suc zero) (suc zero) h k = eq-eqb ((q * 2 + 1) % 2) 1 (omega arith)
-    digit q zero (suc (suc z)) h k = absurd (omega arith)
-    digit q (suc zero) (suc (suc z)) h k = absurd (omega arith)
-    digit q (suc (suc x)) z h k = absurd (omega arith)
+named-and = named-op bitAnd min (λ p q. p and q) and-step
+    (below-two (λ x y. min x y < 2) (omega arith) (omega arith) (omega arith) (omega arith)) (below-two (λ x y. eqb (min x y) 1 ≡ eqb x 1 and eqb y 1) refl refl refl refl) and-shr
 
 pub named-or : (v w t : ℕ) → named (bitOr v w) t ≡ named v t or named w t
-unfolding named
-named-or v w t =
-    let a : ℕ = v / 2 ^ t in
-    let b : ℕ = w / 2 ^ t in
-    rw (or-shr v w t, or-step a b) (digit (bitOr (a / 2) (b / 2)) (a % 2) (b % 2) (omega arith) (omega arith))
-  where
-    digit : (q x z : ℕ) → x < 2 → z < 2 → eqb ((q * 2 + max x z) % 2) 1 ≡ eqb x 1 or eqb z 1
-    digit q zero zero h k = ne-eqb ((q * 2 + 0) % 2) 1 (omega arith)
-    digit q zero (suc zero) h k = eq-eqb ((q * 2 + 1) % 2) 1 (omega arith)
-    digit q (suc zero) zero h k = eq-eqb ((q * 2 + 1) % 2) 1 (omega arith)
-    digit q (suc zero) (suc zero) h k = eq-eqb ((q * 2 + 1) % 2) 1 (omega arith)
-    digit q zero (suc (suc z)) h k = absurd (omega arith)
-    digit q (suc zero) (suc (suc z)) h k = absurd (omega arith)
-    digit q (suc (suc x)) z h k = absurd (omega arith)
+named-or = named-op bitOr max (λ p q. p or q) or-step
+    (below-two (λ x y. max x y < 2) (omega arith) (omega arith) (omega arith) (omega arith)) (below-two (λ x y. eqb (max x y) 1 ≡ eqb x 1 or eqb y 1) refl refl refl refl) or-shr
+
+pub named-xor : (v w t : ℕ) → named (bitXor v w) t ≡ (named v t and not (named w t)) or (not (named v t) and named w t)
+named-xor = named-op bitXor differ (λ p q. (p and not q) or (not p and q)) xor-step
+    (below-two (λ x y. differ x y < 2) (omega arith) (omega arith) (omega arith) (omega arith)) (below-two (λ x y. eqb (differ x y) 1 ≡ (eqb x 1 and not (eqb y 1)) or (not (eqb x 1) and eqb y 1)) refl refl refl refl) xor-shr
 
 -- as the code tests that every take of v is one of w
 pub inside-and : (v w : ℕ) → v < 2 ^ groupBits → eqb (bitAnd v w) v ≡ inside v w

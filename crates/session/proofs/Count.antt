@@ -9,9 +9,10 @@ use lib.Dec.{eqb}
 use lib.ListN.{length, getD, take, drop, length-append, length-drop, length-map}
 use lib.Seq.{length-take-le}
 use borrow.Author.Tests.{eqb-true, eqb-false, ne-eqb, leb-false}
-use Rattle.octets.specs.Bytes.{_and_, _or_, part, chunks, Octets}
+use Rattle.octets.specs.Bytes.{_or_, part, chunks, Octets}
 use Rattle.octets.proofs.Put.{getD-part, octets-part}
 use Rattle.octets.proofs.Numbers.{be-one}
+use Rattle.octets.proofs.Tests.{and-false}
 use Rattle.rules.specs.Layout.{Layout, Limits, inRange, base, Fitting}
 use Rattle.rules.specs.State.{Transactor, Message, State, ownHistory, transactorAt, messageAt, placeOf, withTransactor, withOpened, withMessage, withoutMessage}
 use Rattle.rules.specs.declared.Step.{Step}
@@ -106,10 +107,6 @@ module _ (y : Layout) (s : State) (p : Step) (ok : Accepted y (seen y s) p) wher
 
 -- ---- a refused step
 
-and-last : (t : Bool) → t and false ≡ false
-and-last true = refl
-and-last false = refl
-
 -- no test counts a reply above the outcomes
 refused-balanced : (k : ℕ) (s : State) (r : Result) → vanished < r .reply .outcome → r .state ≡ s → Balanced k s r
 unfolding made received lost
@@ -119,7 +116,7 @@ refused-balanced k s r h e =
     let q : eqb o dropped ≡ false = ne-eqb o dropped (omega arith) in
     let f : eqb o fallenBack ≡ false = ne-eqb o fallenBack (omega arith) in
     let v : eqb o vanished ≡ false = ne-eqb o vanished (omega arith) in
-    record { even = rw (p, q, f, v, and-last (sends k), and-last (eqb k receive), and-last (eqb k lose), e) }
+    record { even = rw (p, q, f, v, and-false (sends k), and-false (eqb k receive), and-false (eqb k lose), e) }
 
 pub step-balanced : (y : Layout) (s : State) (p : Step) → Balanced (p .kind) s (stepOf y s p)
 unfolding stepOf refusal

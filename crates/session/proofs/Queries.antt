@@ -11,10 +11,10 @@ use native.Mathlib.Omega.{arith}
 use lib.Dec.{eqb, leb}
 use lib.ListN.{length}
 use borrow.Author.Tests.{eq-eqb, ne-eqb}
-use Rattle.octets.specs.Bytes.{pick, _and_, _or_}
+use Rattle.octets.specs.Bytes.{pick, _and_}
 use Rattle.octets.specs.Numbers.{bound}
 use Rattle.octets.proofs.Chunks.{cases}
-use Rattle.octets.proofs.Tests.{pick-zero, and-off}
+use Rattle.octets.proofs.Tests.{pick-zero, or-none, and-off}
 use Rattle.octets.proofs.Zero.{both}
 use Rattle.marks.specs.Incarnation.{Checkpointed}
 use Rattle.marks.specs.History.{HistoryView}
@@ -117,10 +117,6 @@ module _ {n : ℕ} {f : ℕ → Bool} {g : ℕ} (b : Bits n f g) where
         (λ u h. named-add g n u (past b) ∙ rw (b .is u h, ne-eqb n u (λ z. omega arith)) (or-none (f u)))
         (named-add g n n (past b) ∙ rw (past b, eq-eqb n n refl, e));
   }
-    where
-      or-none : (t : Bool) → t or false ≡ t
-      or-none true = refl
-      or-none false = refl
 
   bits-without : f n ≡ false → Bits (suc n) f g
   bits-without e = record { fits = wider; is = one-more (λ u. named g u ≡ f u) (b .is) (past b ∙ sym e) }

@@ -11,7 +11,7 @@ use lib.ListN.{length, getD, set, length-set}
 use lib.Seq.{getD-set-same, getD-set-other}
 use Rattle.octets.specs.Bytes.{pick, _and_, _or_, part, every}
 use Rattle.octets.proofs.Chunks.{sides}
-use Rattle.octets.proofs.Tests.{never, or-none, implied, implying, same-test}
+use Rattle.octets.proofs.Tests.{never, or-none, and-false, implied, implying, same-test}
 use Rattle.octets.proofs.Zero.{both, every-all, every-at, every-off, Held, held-none, held-more, held-all}
 use Rattle.marks.specs.declared.History.{History}
 use Rattle.marks.specs.Incarnation.{Incarnation, checkpointedIn, sameIncarnation}
@@ -72,11 +72,7 @@ module _ (y : Layout) (img : List ℕ) (at u : ℕ) where
     unfolding vouchedAt checkpointedAt
     vouched-unsigned g e =
         let a : named g u and sameIncarnation (incarnationOf h) (incarnationOf (ownHistory u x)) ≡ true = rw there at e in
-        rw (present-unsigned (incarnationOf h) (incarnationOf (ownHistory u x)) (both (named g u) (sameIncarnation (incarnationOf h) (incarnationOf (ownHistory u x))) a .1)) (off (live x))
-      where
-        off : (l : Bool) → l and false ≡ false
-        off true = refl
-        off false = refl
+        rw (present-unsigned (incarnationOf h) (incarnationOf (ownHistory u x)) (both (named g u) (sameIncarnation (incarnationOf h) (incarnationOf (ownHistory u x))) a .1)) (and-false (live x))
 
     module _ {g : ℕ} {o : History} (kept : Kept (unpack y img) g u o) where
       pub asked-vouched : vouchedAt y img g at u ≡ true → 1 ≡ askedAt y img g at u

@@ -5,6 +5,7 @@ use mathlib.Core.Path.{_≡_, refl, sym}
 use lib.Dec.{eqb}
 use borrow.Author.Tests.{eq-eqb, ne-eqb}
 use Rattle.octets.specs.Bytes.{_and_, _or_}
+use Rattle.octets.proofs.Tests.{and-true, and-false}
 use Rattle.rules.specs.Step.{Step, done, sign}
 use Rattle.rules.specs.Refusals.{named, acts}
 use Rattle.rules.specs.Thin.{notRefused, touches}
@@ -12,11 +13,7 @@ use Rattle.rules.specs.Thin.{notRefused, touches}
 module _ (p : Step) (o : ℕ) where
   pub touch-none : acts (p .kind) ≡ false → eqb (p .kind) sign ≡ false → (u : ℕ) → touches p o u ≡ false
   unfolding touches
-  touch-none e f u = rw (e, f) (go (notRefused o))
-    where
-      go : (c : Bool) → c and false ≡ false
-      go true = refl
-      go false = refl
+  touch-none e f u = rw (e, f) (and-false (notRefused o))
 
   pub touch-own : notRefused o ≡ true → acts (p .kind) ≡ true → touches p o (p .transactor) ≡ true
   unfolding touches
@@ -33,11 +30,7 @@ module _ (p : Step) (o : ℕ) where
 
   pub touch-signed : eqb (p .kind) sign ≡ true → acts (p .kind) ≡ false → (u : ℕ) → named (p .message) u ≡ false → touches p o u ≡ false
   unfolding touches
-  touch-signed e f u n = rw (e, f, n) (go (notRefused o))
-    where
-      go : (c : Bool) → c and false ≡ false
-      go true = refl
-      go false = refl
+  touch-signed e f u n = rw (e, f, n) (and-false (notRefused o))
 
   pub touch-unsigned : acts (p .kind) ≡ false → eqb o done ≡ false → (u : ℕ) → touches p o u ≡ false
   unfolding touches
@@ -55,8 +48,4 @@ module _ (p : Step) (o : ℕ) where
 
   pub touch-named : notRefused o ≡ true → eqb (p .kind) sign ≡ true → acts (p .kind) ≡ false → eqb o done ≡ true → (u : ℕ) → touches p o u ≡ named (p .message) u
   unfolding touches
-  touch-named e f g h u = rw (e, f, g, h) (go (named (p .message) u))
-    where
-      go : (c : Bool) → c and true ≡ c
-      go true = refl
-      go false = refl
+  touch-named e f g h u = rw (e, f, g, h) (and-true (named (p .message) u))

@@ -32,106 +32,38 @@ walk-at t = and 3 walk-kinds.ps (is 3 walk-kinds.ps μ-walk t) walk.Pre
 abbrev walk-below : ℕ → In 3 walk-kinds.ps
 walk-below t = and 3 walk-kinds.ps (falls 3 walk-kinds.ps _<_ μ-walk t) walk.Pre
 
-walk-verdict-requires : (t : ℕ) → walk-lts.Need-verdict-requires (
-  verdict-reads.Asked,
-  verdict-reads.Learnt,
-  earlier-reads.Asked,
-  earlier-reads.Learnt,
-  stretch-reads.Asked,
-  stretch-reads.Learnt,
-  walk-below t,
-  walk.Post,
-) (walk-at t) walk.Post
+-- what the callees ask and give, this function with a lower index among them
+abbrev callees : ℕ → walk-lts.Claims
+callees t = (verdict-reads.Asked, verdict-reads.Learnt, earlier-reads.Asked, earlier-reads.Learnt, stretch-reads.Asked, stretch-reads.Learnt, walk-below t, walk.Post)
+
+walk-verdict-requires : (t : ℕ) → walk-lts.Need-verdict-requires (callees t) (walk-at t) walk.Post
 walk-verdict-requires t c κs = search needs
 
-walk-returns : (t : ℕ) → walk-lts.Need-returns (
-  verdict-reads.Asked,
-  verdict-reads.Learnt,
-  earlier-reads.Asked,
-  earlier-reads.Learnt,
-  stretch-reads.Asked,
-  stretch-reads.Learnt,
-  walk-below t,
-  walk.Post,
-) (walk-at t) walk.Post
+walk-returns : (t : ℕ) → walk-lts.Need-returns (callees t) (walk-at t) walk.Post
 walk-returns t c = let a = c .before .before .before .before .before .args in c .verdict .ensures ∙ ap (λ f. verdictOf (f .walker)) (follow-none _ _ (a .i) _ (c .before .if1 .taken))
 
-walk-earlier-requires : (t : ℕ) → walk-lts.Need-earlier-requires (
-  verdict-reads.Asked,
-  verdict-reads.Learnt,
-  earlier-reads.Asked,
-  earlier-reads.Learnt,
-  stretch-reads.Asked,
-  stretch-reads.Learnt,
-  walk-below t,
-  walk.Post,
-) (walk-at t) walk.Post
+walk-earlier-requires : (t : ℕ) → walk-lts.Need-earlier-requires (callees t) (walk-at t) walk.Post
 walk-earlier-requires t c κs = omega arith
 
-walk-stretch-requires : (t : ℕ) → walk-lts.Need-stretch-requires (
-  verdict-reads.Asked,
-  verdict-reads.Learnt,
-  earlier-reads.Asked,
-  earlier-reads.Learnt,
-  stretch-reads.Asked,
-  stretch-reads.Learnt,
-  walk-below t,
-  walk.Post,
-) (walk-at t) walk.Post
+walk-stretch-requires : (t : ℕ) → walk-lts.Need-stretch-requires (callees t) (walk-at t) walk.Post
 walk-stretch-requires t c κs = (omega arith, omega arith, omega arith)
 
-walk-walk-requires : (t : ℕ) → walk-lts.Need-walk-requires (
-  verdict-reads.Asked,
-  verdict-reads.Learnt,
-  earlier-reads.Asked,
-  earlier-reads.Learnt,
-  stretch-reads.Asked,
-  stretch-reads.Learnt,
-  walk-below t,
-  walk.Post,
-) (walk-at t) walk.Post
+walk-walk-requires : (t : ℕ) → walk-lts.Need-walk-requires (callees t) (walk-at t) walk.Post
 walk-walk-requires t c κs =
     let d = c .before .before .before .before .before in
     let h = d .before .before .before .before .before .pre in
     (fewer _ _ _ (h .0) (d .earlier .ensures), (shorter _ _ _ (h .1 .0) (d .earlier .ensures), shorter _ _ _ (h .1 .1) (d .earlier .ensures)))
 
-walk-same-length : (t : ℕ) → walk-lts.Need-same-length (
-  verdict-reads.Asked,
-  verdict-reads.Learnt,
-  earlier-reads.Asked,
-  earlier-reads.Learnt,
-  stretch-reads.Asked,
-  stretch-reads.Learnt,
-  walk-below t,
-  walk.Post,
-) (walk-at t) walk.Post
+walk-same-length : (t : ℕ) → walk-lts.Need-same-length (callees t) (walk-at t) walk.Post
 walk-same-length t c = search needs
 
-walk-returns-2 : (t : ℕ) → walk-lts.Need-returns-2 (
-  verdict-reads.Asked,
-  verdict-reads.Learnt,
-  earlier-reads.Asked,
-  earlier-reads.Learnt,
-  stretch-reads.Asked,
-  stretch-reads.Learnt,
-  walk-below t,
-  walk.Post,
-) (walk-at t) walk.Post
+walk-returns-2 : (t : ℕ) → walk-lts.Need-returns-2 (callees t) (walk-at t) walk.Post
 walk-returns-2 t c =
     let d = c .before .before in
     d .walk .ensures ∙ ap (λ f. verdictOf (f .walker)) (d .before .before .before .before .stretch .ensures)
 
 pub +walk-spec : {M : Type 1} → statement M
-+walk-spec = close μ-walk λ t. walk-lts.spec (
-  verdict-reads.Asked,
-  verdict-reads.Learnt,
-  earlier-reads.Asked,
-  earlier-reads.Learnt,
-  stretch-reads.Asked,
-  stretch-reads.Learnt,
-  walk-below t,
-  walk.Post,
-)
++walk-spec = close μ-walk λ t. walk-lts.spec (callees t)
     (walk-at t)
     walk.Post
     (walk-verdict-requires t)
