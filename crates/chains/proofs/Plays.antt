@@ -26,7 +26,7 @@ use Rattle.session.specs.Provenance.{Incarnations, Holder, WaitingMessage, Prov
 use Rattle.session.specs.Provenance as provenance
 use Rattle.session.specs.Steps.{isDropped, isRolledBack, acted, received, receives, opensRoot, opensChild, checkpointedAt, applied, signs, provenanceSeen, provenanceRefusal, ProvenanceStep, refuses, applies, signing, not-ready}
 use Rattle.session.specs.Grounds.{Equal}
-use Rattle.session.specs.Trace.{SigningRight, checkpointed, uncheckpointed, StepRight}
+use Rattle.session.proofs.Step.{SigningRight, checkpointed, uncheckpointed, StepRight}
 use Rattle.session.proofs.Model.{view}
 use Rattle.session.proofs.Tables.{pick-both, and-of, or-of, updated-both}
 use Rattle.session.proofs.Relation.{Rel}

@@ -30,7 +30,7 @@ use Rattle.rules.proofs.Keep.Run.{stepOk-at}
 use Rattle.rules.proofs.Keep.Step.{keeps-after, applied-same}
 use Rattle.session.specs.Provenance.{unused, Live, idle, working, Provenance, emptyProvenance}
 use Rattle.session.specs.Steps.{provenanceSeen, provenanceRefusal, applied, signs, ProvenanceStep, refuses, applies, signing, not-ready}
-use Rattle.session.specs.Trace.{SigningRight, checkpointed, uncheckpointed, StepRight}
+use Rattle.session.proofs.Step.{SigningRight, checkpointed, uncheckpointed, StepRight}
 use Rattle.chains.specs.Chain as chain
 use Rattle.chains.specs.Chain.{Places, messageAlone, groundOf, Event, newest, supersededOf, anySupersededBack, allMet}
 use Rattle.chains.specs.Back.{Told, told, eventFrom, undo, eventsBack}

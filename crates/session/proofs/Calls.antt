@@ -26,14 +26,13 @@ use Rattle.rules.proofs.Keep.State.{well-fresh}
 use Rattle.rules.proofs.Keep.Step.{keeps-after}
 use Rattle.session.specs.Provenance.{Provenance, emptyProvenance, statusNumber, isMissing}
 use Rattle.session.specs.Fed.{Call, begin, run, counts, show, provenanceQueryRefusal, callRefusal, ProvenanceCall, provenance-refuses, provenance-begins, provenance-runs, provenance-offers, provenance-names, provenance-hears, provenance-counts, provenance-shows}
-use Rattle.session.specs.Trace.{Answer, begun, ran, refusalIn, Performed, beginning, running, offering, naming, hearing, counting, showing, Matches, CallStepsRight, run-right, begin-right, offer-right, smallest-right, heard-right, counts-right, show-right, CallRight}
+use Rattle.session.specs.Trace.{Answer, begun, ran, refusalIn, Performed, beginning, running, offering, naming, hearing, counting, showing, Matches}
 use Rattle.session.proofs.Model.{view}
 use Rattle.session.proofs.Relation.{Rel, fresh-rel}
-use Rattle.session.proofs.Sign.{rel-sound}
 use Rattle.session.proofs.Messages.{missing-same}
 use Rattle.session.proofs.ViewState.{view-fresh, view-missing}
 use Rattle.session.proofs.Step.{matches-rel}
-use Rattle.session.proofs.Run.{Ran, reply-part, steps-provenance}
+use Rattle.session.proofs.Run.{Ran}
 use Rattle.session.proofs.Run as steps
 
 -- ---- images that hold a well-formed state, related to a book
@@ -88,10 +87,11 @@ module _ {y : Layout} {img : List ℕ} {b : Provenance} (h : Holds y img b) wher
 
 -- ---- every call
 
--- the book after call c: all that is claimed of the call, and an image after it that holds a state related to the book
+-- the book after call c: the call's refusal is the book's, and the image after it holds a state related to the book
 pub record Called (y : Layout) (img : List ℕ) (b : Provenance) (c : Call) (a : Answer) (after : List ℕ) : Type 1 where
   pub provenance : Provenance
-  pub right : CallRight y img b c a after provenance
+  pub fed : ProvenanceCall y b c provenance
+  pub refusal : refusalIn a ≡ callRefusal y b c
   pub holds : Holds y after provenance
 
 -- a call that changes nothing in the book, refused or not
@@ -102,14 +102,9 @@ kept {y} {b} {c} f = go (ℕ-discrete (callRefusal y b c) 0)
     go (yes e) = f e
     go (no n) = provenance-refuses n
 
--- what is claimed of a call apart from refusal and steps
 module _ {y : Layout} {img after : List ℕ} {b d : Provenance} {c : Call} {a : Answer} where
-  called-as : ProvenanceCall y b c d → refusalIn a ≡ callRefusal y b c → CallStepsRight y img b d c a → Holds y after d → Called y img b c a after
-  called-as provenance refusal steps h = record {
-    provenance = d;
-    right = record { provenance = provenance; refusal = refusal; steps = steps; matches = holds-matches h; sound = rel-sound (view (unpack y after)) d (h .rel) };
-    holds = h;
-  }
+  called-as : ProvenanceCall y b c d → refusalIn a ≡ callRefusal y b c → Holds y after d → Called y img b c a after
+  called-as fed refusal h = record { provenance = d; fed = fed; refusal = refusal; holds = h }
 
 module _ {y : Layout} (z : layout.Fitting y) {img : List ℕ} {b : Provenance} (h : Holds y img b) where
   module _ (list : List ℕ) (o : Octets list) (start end : ℕ) (replies : List ℕ) where
@@ -138,10 +133,10 @@ module _ {y : Layout} (z : layout.Fitting y) {img : List ℕ} {b : Provenance} (
             let after : Holds y (pack y (stateAfter y (unpack y img) steps-of (stepsIn steps-of))) (k .after) =
             holds-pack (keeps-after z (h .well) steps-of (octets-part start (end - start) list o) (stepsIn steps-of)) (k .rel) in
             rw (eq-eqb (runAnswer y img list start end replies) 0 (same ∙ e))
-            (called-as (provenance-runs e (steps-provenance (k .right))) same (run-right (λ e. record { right = k .right; given = reply-part y (unpack y img) steps-of (stepsIn steps-of) })) after)
+            (called-as (provenance-runs e (k .fed)) same after)
         go (no n) =
             rw (ne-eqb (runAnswer y img list start end replies) 0 (λ e. n (sym same ∙ e)))
-            (called-as (provenance-refuses n) same (run-right (λ e. absurd (n e))) h)
+            (called-as (provenance-refuses n) same h)
 
   -- a begin: accepted, or refused with 33
   begin-called : (m : Limits) → Called y img b (begin m) (begun (beginAnswer y m img)) (beginImage y m img)
@@ -150,8 +145,8 @@ module _ {y : Layout} (z : layout.Fitting y) {img : List ℕ} {b : Provenance} (
     where
       go : (t : Bool) → inRange y m ≡ t
           → Called y img b (begin m) (begun (pick (wrongLength y img) 16 (pick (not (inRange y m)) 33 0))) (pick (eqb (pick (wrongLength y img) 16 (pick (not (inRange y m)) 33 0)) 0) (freshImage y m) img)
-      go true e = rw (right-length h, e) (called-as (provenance-begins (rw e)) (rw e) begin-right (holds-fresh z m e))
-      go false e = rw (right-length h, e) (called-as (provenance-refuses (λ k. omega (arith, refused k))) (rw e) begin-right h)
+      go true e = rw (right-length h, e) (called-as (provenance-begins (rw e)) (rw e) (holds-fresh z m e))
+      go false e = rw (right-length h, e) (called-as (provenance-refuses (λ k. omega (arith, refused k))) (rw e) h)
         where
           refused : callRefusal y b (begin m) ≡ 0 → _≡_ {A = ℕ} 33 0
           refused k = rw e at k
@@ -159,8 +154,8 @@ module _ {y : Layout} (z : layout.Fitting y) {img : List ℕ} {b : Provenance} (
   pub call-right : {c : Call} {a : Answer} {after : List ℕ} → Performed y img c a after → Called y img b c a after
   call-right (beginning {m}) = begin-called m
   call-right (running {list} {o} {start} {end} {replies}) = run-called list o start end replies
-  call-right (offering {t} f) = called-as (kept provenance-offers) (query-same h t) offer-right h
-  call-right (naming {t} f) = called-as (kept provenance-names) (query-same h t) smallest-right h
-  call-right (hearing {t}) = called-as (kept provenance-hears) (query-same h t) heard-right h
-  call-right (counting {n}) = called-as (kept provenance-counts) (counts-same h n) counts-right h
-  call-right (showing {n}) = called-as (kept provenance-shows) (show-same h n) show-right h
+  call-right (offering {t} f) = called-as (kept provenance-offers) (query-same h t) h
+  call-right (naming {t} f) = called-as (kept provenance-names) (query-same h t) h
+  call-right (hearing {t}) = called-as (kept provenance-hears) (query-same h t) h
+  call-right (counting {n}) = called-as (kept provenance-counts) (counts-same h n) h
+  call-right (showing {n}) = called-as (kept provenance-shows) (show-same h n) h

@@ -24,7 +24,6 @@ use Rattle.session.specs.Provenance.{Status, Live, idle, working, status
 use Rattle.session.specs.Grounds.{from-start, from-noted, from-list, Ground, in-state, in-creation, RestsOn, CheckpointedNow, StablePresent, Equal}
 use Rattle.session.specs.Steps.{isRolledBack, provenanceSeen, provenanceRefusal, ProvenanceStep, refuses, signing, not-ready}
 use Rattle.session.specs.Steps as book
-use Rattle.session.specs.Trace.{uncheckpointed}
 use Rattle.session.proofs.Model.{Ledger}
 use Rattle.session.proofs.Relation.{live-or-not, present, present-live, nothing-checkpointed, Rel, own-history}
 use Rattle.session.proofs.Locals.{live-opened}

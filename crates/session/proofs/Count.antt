@@ -11,7 +11,6 @@ use lib.Seq.{length-take-le}
 use borrow.Author.Tests.{eqb-true, eqb-false, ne-eqb, leb-false}
 use Rattle.octets.specs.Bytes.{_or_, part, chunks, Octets}
 use Rattle.octets.proofs.Put.{getD-part, octets-part}
-use Rattle.octets.proofs.Numbers.{be-one}
 use Rattle.octets.proofs.Tests.{and-false}
 use Rattle.rules.specs.Layout.{Layout, Limits, inRange, base, Fitting}
 use Rattle.rules.specs.State.{Transactor, Message, State, ownHistory, transactorAt, messageAt, placeOf, withTransactor, withOpened, withMessage, withoutMessage}
@@ -32,9 +31,9 @@ use Rattle.session.specs.Trace.{Answer, begun, ran, Performed, beginning
 use Rattle.session.specs.Trace as trace
 use Rattle.session.proofs.Model.{viewMessage, view}
 use Rattle.session.proofs.Relation.{all2-length}
-use Rattle.session.proofs.Run.{reply-part}
+use Rattle.session.proofs.Run.{first-packReply, reply-part}
 use Rattle.session.proofs.Calls.{Holds, holds-fresh, right-length}
-use Rattle.session.proofs.Demand3.{begun-fresh, grown}
+use Rattle.session.proofs.Grown.{begun-fresh, grown}
 use Rattle.session.proofs.Tables.{pick-view}
 use Rattle.rules.proofs.Keep.Accepted.{Accepted, accepted, message-waits, refusal-range}
 
@@ -127,10 +126,6 @@ step-balanced y s p =
     (λ e. refused-balanced (p .kind) s _ (omega (arith, refusal-range y (seen y s) p (eqb-false n 0 e) .low)) refl)
 
 -- ---- the steps of a run
-
-first-packReply : (r : Reply) → r .outcome < 256 → getD (packReply r) 0 0 ≡ r .outcome
-unfolding packReply
-first-packReply r h = rw (be-one (r .outcome) h)
 
 module _ {y : Layout} (z : Fitting y) {s : State} (well : WellFormed y s) (steps : List ℕ) (octets : Octets steps) where
   -- the first byte of reply i among the n packed ones

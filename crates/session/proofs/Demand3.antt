@@ -1,63 +1,136 @@
--- Demand 3 of document 01: one theorem over every list of calls.
-use Prim.Native.Nat.{ℕ}
-use mathlib.Core.Path.{_≡_}
+-- Demand 3 of document 01, over every list of calls: each of its claims by itself, then the whole (specs/Demand3).
+use Prim.Native.Nat.{ℕ, _-_, _*_, _≤_, _<_}
+use mathlib.Core.Path.{_≡_, refl, ap, sym, _∙_}
 use mathlib.Core.List.{List}
-use Rattle.rules.specs.Layout.{Layout, Limits, base, Fitting}
-use Rattle.rules.specs.Pack.{unpack}
-use Rattle.rules.specs.Calls.{beginAnswer, beginImage}
-use Rattle.rules.proofs.Calls.Begin.{begin-accepted}
+use mathlib.Core.Logic.{_↔_}
+use native.Mathlib.Decide.{ℕ-discrete}
+use native.Mathlib.Omega.{arith}
+use lib.ListN.{getD}
+use Rattle.octets.specs.Bytes.{part, Octets}
+use Rattle.octets.proofs.Put.{octets-part}
+use Rattle.rules.specs.Layout.{Layout, Fitting, base}
+use Rattle.rules.specs.State.{State}
+use Rattle.rules.specs.declared.Step.{Step}
+use Rattle.rules.specs.declared.Reply.{Reply}
+use Rattle.rules.specs.Step.{stepBytes, stepAt, packReply, sign, done, notReady}
+use Rattle.rules.specs.Rules.{answer, stepOf, checkpointGroup}
+use Rattle.rules.specs.Calls.{stepsIn}
+use Rattle.rules.proofs.Keep.Accepted.{refusal-range}
 use Rattle.rules.proofs.Keep.Step.{fitting-base}
-use Rattle.session.specs.Provenance.{Provenance, emptyProvenance}
-use Rattle.session.specs.Fed.{ProvenanceOf}
-use Rattle.session.specs.Trace.{Trace, opened, called, callsOf, Right, opened-right, called-right}
+use Rattle.session.specs.Provenance.{Provenance}
+use Rattle.session.specs.Grounds.{Equal, Sound}
+use Rattle.session.specs.Steps.{provenanceSeen, provenanceRefusal}
+use Rattle.session.specs.Fed.{Call, run, callRefusal, ProvenanceOf}
+use Rattle.session.specs.Trace.{Answer, ran, refusalIn, Trace, callsOf, Matches}
+use Rattle.session.specs.Point.{CallIn, last-call, earlier-call, StepIn, last-run, earlier-run, Point, replied, outcomeIn}
+use Rattle.session.specs.Demand3.{Demand3}
 use Rattle.session.proofs.Model.{view}
 use Rattle.session.proofs.Sign.{rel-sound}
-use Rattle.session.proofs.Unique.{right-provenance}
-use Rattle.session.proofs.Calls.{Holds, holds-fresh, holds-matches, call-right}
+use Rattle.session.proofs.Unique.{provenance-unique}
+use Rattle.session.proofs.Step.{SigningRight, checkpointed, uncheckpointed, Stepped, step-right, matches-rel}
+use Rattle.session.proofs.Run.{first-packReply, run-right}
+use Rattle.session.proofs.Calls.{call-right}
+use Rattle.session.proofs.Points.{Beside, Taken, held, point-beside, step-taken}
+use Rattle.session.proofs.Grown.{grown}
 
--- an accepted begin leaves a fresh image
-pub begun-fresh : {y : Layout} → Fitting y → (m : Limits) (img : List ℕ) → beginAnswer y m img ≡ 0 → Holds y (beginImage y m img) (emptyProvenance m)
-begun-fresh {y} z m img e =
-    let a = begin-accepted y img m e in
-    rw (a .1) (holds-fresh z m (a .0))
+-- two such replies with different outcomes differ
+replied-apart : (n m : ℕ) → n < 256 → m < 256 → replied n ≡ replied m → n ≡ m
+replied-apart n m h k e = sym (first-packReply (answer n 0 0 0) h) ∙ ap (λ (l : List ℕ). getD l 0 0) e ∙ first-packReply (answer m 0 0 0) k
 
--- the book of a trace, with the relation that carries the claim from call to call
-pub record Grown (y : Layout) (img : List ℕ) (τ : Trace y img) : Type 1 where
-  pub provenance : Provenance
-  pub right : Right y img τ provenance
-  pub holds : Holds y img provenance
+-- a step that is taken, as step-right has it
+module _ {y : Layout} (z : Fitting y) {s s' : State} {b : Provenance} {p : Step} {reply : List ℕ} (k : Taken y s b p reply s') where
+  stepped : Stepped y s b p
+  stepped = step-right z (k .beside .well) (k .beside .rel) (k .ok)
 
-module _ {y : Layout} (z : Fitting y) where
-  pub grown : {img : List ℕ} (τ : Trace y img) → Grown y img τ
-  grown (opened m img e) =
-      let h : Holds y (beginImage y m img) (emptyProvenance m) = begun-fresh z m img e in
-      record { provenance = emptyProvenance m; right = opened-right (holds-matches h) (rel-sound (view (unpack y (beginImage y m img))) (emptyProvenance m) (h .rel)); holds = h }
-  grown (called τ c a p) =
-      let before = grown τ in
-      let k = call-right z (before .holds) p in
-      record { provenance = k .provenance; right = called-right (before .right) (k .right); holds = k .holds }
+  refused-taken : (provenanceRefusal y b p ≡ 0 → ⊥) → (reply ≡ replied (provenanceRefusal y b p)) × (s' ≡ s)
+  refused-taken n = let e = stepped .right .refused n in (k .given ∙ ap packReply (e .0), k .after ∙ e .1)
 
--- A trace is a session grown from a fresh one: "an accepted begin, then any list of begins, runs, offers and shows on that
--- image, refused ones included. Each gets the image as the last left it", and with them any that ask which takes to put in the
--- volume (document 02, W1), whether all heard is frozen (W4), or how many volumes are ready (W10). Its calls are performed by the definitions that the contracts of
--- begin, run, offer, smallest_group, all_heard_stable, ready_count and show cite. Every begin brings its own limits (W7), so one trace may go
--- through sessions with different ones. For every layout whose counts fit their fields and every trace there is a
--- book, fed the trace's calls alone (ProvenanceOf; no other book is fed them: provenance-unique), such that at every call, and
--- at every step of every run:
--- * "It refuses calls and steps by the table .., judged by what it holds itself; 19 never arises": a call answers the book's
---   refusal, or 0 (CallRight, refusal). A step that the book refuses replies that number and all else 0, and leaves the state
---   (StepRight, refused); any other step replies an outcome, 0 to 5 (accepted). These replies, packed, are the bytes that the
---   run hands back (RunRight, given).
--- * "Sign, if the two sets are equal": a signing that is not refused replies 0 and signs its volume exactly if the unsigned
---   lives that the named takes rest on, own included, are the present lives of the named takes that are frozen; else it replies
---   5, and nothing changes (signing).
--- * Live takes and their own marks are the book's, each own mark held in its take's state map, after every step and every call
---   (matches).
--- * No text signed since the begin rests on a withdrawn life, where present, signed and withdrawn "go by the book's marks" (sound).
-pub demand3 : (y : Layout) → Fitting y → {img : List ℕ} (τ : Trace y img)
-    → (b : Provenance) × ProvenanceOf y (callsOf τ) b × Right y img τ b
-demand3 y z τ = let k = grown z τ in (k .provenance, right-provenance (k .right), k .right)
+  exactly-taken : (outcomeIn reply ≤ notReady) ↔ (provenanceRefusal y b p ≡ 0)
+  unfolding provenanceRefusal
+  exactly-taken = (λ h. to h (ℕ-discrete (provenanceRefusal y b p) 0), of)
+    where
+      to : outcomeIn reply ≤ notReady → Dec (provenanceRefusal y b p ≡ 0) → provenanceRefusal y b p ≡ 0
+      to h (yes e) = e
+      to h (no n) =
+          let i = refusal-range y (provenanceSeen b) p n in
+          let e : outcomeIn reply ≡ provenanceRefusal y b p = ap (λ (l : List ℕ). getD l 0 0) (refused-taken n .0) ∙ first-packReply (answer (provenanceRefusal y b p) 0 0 0) (omega (arith, i .high)) in
+          absurd (omega (arith, i .low, e, h))
+
+      of : provenanceRefusal y b p ≡ 0 → outcomeIn reply ≤ notReady
+      of e =
+          let h : stepOf y s p .reply .outcome ≤ notReady = stepped .right .accepted e in
+          let q : outcomeIn reply ≡ stepOf y s p .reply .outcome = ap (λ (l : List ℕ). getD l 0 0) (k .given) ∙ first-packReply (stepOf y s p .reply) (omega (arith, h)) in
+          omega (arith, h, q)
+
+  signs-taken : provenanceRefusal y b p ≡ 0 → p .kind ≡ sign
+      → (Equal b (p .message) ↔ ((reply ≡ replied done) × (s' ≡ checkpointGroup y s (p .message)))) × ((Equal b (p .message) → ⊥) ↔ ((reply ≡ replied notReady) × (s' ≡ s)))
+  signs-taken e i = go (stepped .right .signing e i)
+    where
+      go : SigningRight y s b p
+          → (Equal b (p .message) ↔ ((reply ≡ replied done) × (s' ≡ checkpointGroup y s (p .message)))) × ((Equal b (p .message) → ⊥) ↔ ((reply ≡ replied notReady) × (s' ≡ s)))
+      go (checkpointed q r t) =
+          let g : reply ≡ replied done = k .given ∙ ap packReply r in
+          let h : reply ≡ replied notReady → ⊥ = λ f. (let n : _≡_ {A = ℕ} 0 5 = replied-apart 0 5 (omega arith) (omega arith) (sym g ∙ f) in omega arith) in
+          ((λ x. (g, k .after ∙ t), λ x. q), (λ n. absurd (n q), λ x. absurd (h (x .0))))
+      go (uncheckpointed q r t) =
+          let g : reply ≡ replied notReady = k .given ∙ ap packReply r in
+          let h : reply ≡ replied done → ⊥ = λ f. (let n : _≡_ {A = ℕ} 5 0 = replied-apart 5 0 (omega arith) (omega arith) (sym g ∙ f) in omega arith) in
+          ((λ x. absurd (q x), λ x. absurd (h (x .0))), (λ n. (g, k .after ∙ t), λ x. q))
+
+-- ---- the claims, one by one: for every layout whose counts fit their fields, every session and every limits that it is begun with
+
+module _ (y : Layout) (z : Fitting y) where
+  -- a call is refused exactly where the book refuses it
+  pub call-refused : {img : List ℕ} {τ : Trace y img} {b : Provenance} {c : Call} {a : Answer} → CallIn y img τ b c a → refusalIn a ≡ callRefusal y b c
+  call-refused (last-call {τ = τ} {p = p} f) = call-right z (held z τ f) p .refusal
+  call-refused (earlier-call k) = call-refused k
+
+  -- a step is refused exactly where the book refuses it
+  pub step-refused : {img : List ℕ} {τ : Trace y img} {s s' : State} {b : Provenance} {p : Step} {reply : List ℕ} → StepIn y img τ s b p reply s'
+      → ((outcomeIn reply ≤ notReady) ↔ (provenanceRefusal y b p ≡ 0))
+      × ((provenanceRefusal y b p ≡ 0 → ⊥) → (reply ≡ replied (provenanceRefusal y b p)) × (s' ≡ s))
+  step-refused k = let t = step-taken z k in (exactly-taken z t, refused-taken z t)
+
+  -- a signing that is not refused signs its volume, reply 0, exactly when the two sets are equal; otherwise its reply is 5
+  pub signs-exactly : {img : List ℕ} {τ : Trace y img} {s s' : State} {b : Provenance} {p : Step} {reply : List ℕ} → StepIn y img τ s b p reply s'
+      → provenanceRefusal y b p ≡ 0 → p .kind ≡ sign
+      → (Equal b (p .message) ↔ ((reply ≡ replied done) × (s' ≡ checkpointGroup y s (p .message))))
+      × ((Equal b (p .message) → ⊥) ↔ ((reply ≡ replied notReady) × (s' ≡ s)))
+  signs-exactly k = signs-taken z (step-taken z k)
+
+  -- live takes and their own marks are the book's
+  pub takes-match : {img : List ℕ} {τ : Trace y img} {s : State} {b : Provenance} → Point y img τ s b → Matches s b
+  takes-match k = let h = point-beside z k in matches-rel (h .well) (h .rel)
+
+  -- no signed text rests on a withdrawn life
+  pub never-withdrawn : {img : List ℕ} {τ : Trace y img} {s : State} {b : Provenance} → Point y img τ s b → Sound b
+  never-withdrawn {s = s} {b = b} k = rel-sound (view s) b (point-beside z k .rel)
+
+  -- every step of every accepted run is among those that are spoken of
+  pub every-step : {img : List ℕ} {τ : Trace y img} {b : Provenance} {list : List ℕ} {o : Octets list} {start end : ℕ} {lent replies : List ℕ}
+      → CallIn y img τ b (run list o start end lent) (ran 0 replies) → (i : ℕ) → i < stepsIn (part start (end - start) list)
+      → (s : State) × (s' : State) × (d : Provenance) × StepIn y img τ s d (stepAt (part start (end - start) list) i) (part (stepBytes * i) stepBytes replies) s'
+  every-step {list = list} {o = o} {start = start} {end = end} (last-call {τ = τ} f) i n =
+      let h = held z τ f in
+      let r = run-right z (h .well) (h .rel) (part start (end - start) list) (octets-part start (end - start) list o) i in
+      (_, _, _, last-run i f refl n (r .fed))
+  every-step (earlier-call k) i n = let t = every-step k i n in (_, _, _, earlier-run (t .3))
+
+  -- ---- the whole
+
+  pub demand3 : {img : List ℕ} (τ : Trace y img) → Demand3 y img τ
+  demand3 τ =
+      let g = grown z τ in
+      record {
+        book = (g .provenance, g .fed, λ c f. provenance-unique f (g .fed));
+        call-refused = call-refused;
+        step-refused = step-refused;
+        signs-exactly = signs-exactly;
+        takes-match = takes-match;
+        never-withdrawn = never-withdrawn;
+        every-step = every-step;
+      }
 
 -- The same at the ledger's own layout: no hypothesis but the trace.
-pub demand3-base : {img : List ℕ} (τ : Trace base img) → (b : Provenance) × ProvenanceOf base (callsOf τ) b × Right base img τ b
-demand3-base τ = demand3 base fitting-base τ
+pub demand3-base : {img : List ℕ} (τ : Trace base img) → Demand3 base img τ
+demand3-base = demand3 base fitting-base

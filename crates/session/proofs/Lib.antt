@@ -3,6 +3,7 @@ pub mod Calls
 pub mod Carried
 pub mod Count
 pub mod Demand3
+pub mod Grown
 pub mod Kept
 pub mod Locals
 pub mod Log
@@ -14,6 +15,7 @@ pub mod News
 pub mod Onward
 pub mod Opening
 pub mod Plays
+pub mod Points
 pub mod Promises
 pub mod Queries
 pub mod Reached

@@ -1,59 +1,35 @@
--- What holds of every book that a session comes to, at a call or in the middle of a run.
+-- What holds of the book at every point of a session.
 use Prim.Native.Nat.{ℕ}
 use mathlib.Core.Bool.{true}
-use mathlib.Core.Path.{_≡_, subst}
+use mathlib.Core.Path.{_≡_}
 use mathlib.Core.List.{List}
 use mathlib.Core.Logic.{_⊎_, inl, inr, ⊎-elim, _↔_}
-use Rattle.octets.specs.Bytes.{Octets}
 use Rattle.marks.specs.Incarnation.{Incarnation, Checkpointed}
 use Rattle.marks.proofs.Order.{checkpointed-up, checkpointed-under, under-checkpointed, before-checkpointed}
 use Rattle.marks.proofs.Tests.{decCheckpointed}
 use Rattle.rules.specs.Layout.{Layout, Fitting}
-use Rattle.rules.specs.Pack.{unpack}
-use Rattle.rules.specs.Calls.{stateAfter}
+use Rattle.rules.specs.State.{State}
 use Rattle.rules.specs.Refusals.{named}
 use Rattle.session.specs.Provenance.{Live, Provenance}
 use Rattle.session.specs.Grounds.{from-start, from-noted, from-list, Ground, in-state, in-creation, RestsOn, ValueRestsOn, CheckpointedNow, UncheckpointedGround, StablePresent, Equal}
-use Rattle.session.specs.Fed.{ProvenanceOf, ProvenanceSteps}
-use Rattle.session.specs.Trace.{Trace, callsOf}
-use Rattle.session.proofs.Model.{Ledger, view}
+use Rattle.session.specs.Trace.{Trace}
+use Rattle.session.specs.Point.{Point}
+use Rattle.session.proofs.Model.{view}
 use Rattle.session.proofs.Relation.{present, Whole, Rel, whole-known}
 use Rattle.session.proofs.Relation as relation
 use Rattle.session.proofs.Sign.{checkpointedNow-of, checkpointedNow-to, own-has, own-uncheckpointed, settled-equal}
-use Rattle.session.proofs.Unique.{provenance-unique, right-provenance, steps-determined}
-use Rattle.session.proofs.Run.{run-right, steps-provenance}
-use Rattle.session.proofs.Demand3.{grown}
+use Rattle.session.proofs.Points.{point-beside}
 
--- The book that is fed the calls of a trace, and after them the first i steps of any part.
-pub record Reached (y : Layout) (b : Provenance) : Type 1 where
-  pub image : List ℕ
-  pub trace : Trace y image
-  pub fed : Provenance
-  pub calls : ProvenanceOf y (callsOf trace) fed
-  pub steps : List ℕ
-  pub octets : Octets steps
-  pub count : ℕ
-  pub run : ProvenanceSteps y fed steps count b
-
-module _ {y : Layout} (z : Fitting y) {b : Provenance} (k : Reached y b) where
-  -- the ledger's state then
-  abbrev ledger : Ledger
-  ledger = view (stateAfter y (unpack y (k .image)) (k .steps) (k .count))
-
-  -- it is related to the book
-  related : Rel ledger b
-  related =
-      let g = grown z (k .trace) in
-      let e : g .provenance ≡ k .fed = provenance-unique (right-provenance (g .right)) (k .calls) in
-      let r : Rel (view (unpack y (k .image))) (k .fed) = subst (λ c. Rel (view (unpack y (k .image))) c) e (g .holds .rel) in
-      let s = run-right z (g .holds .well) r (k .steps) (k .octets) (k .count) in
-      subst (λ c. Rel ledger c) (steps-determined (steps-provenance (s .right)) (k .run)) (s .rel)
+module _ {y : Layout} (z : Fitting y) {img : List ℕ} {τ : Trace y img} {s : State} {b : Provenance} (k : Point y img τ s b) where
+  -- the ledger's state there is related to the book
+  related : Rel (view s) b
+  related = point-beside z k .rel
 
   -- ---- the two sets of a signing
 
   -- The first set, the unsigned lives that the named takes rest on, has their own: the present life of every live named take is in it.
   pub own-included : (g t : ℕ) → named g t ≡ true → Live (b .holders t .status) → UncheckpointedGround b g t (b .holders t .history .incarnation)
-  own-included g t n live = own-uncheckpointed b g t n (own-has ledger b related t live)
+  own-included g t n live = own-uncheckpointed b g t n (own-has (view s) b related t live)
 
   -- In plain words: a volume is signed exactly when all that its takes stand on and that is not signed yet is in the volume, present
   -- and frozen.
@@ -61,7 +37,7 @@ module _ {y : Layout} (z : Fitting y) {b : Provenance} (k : Reached y b) where
       → Equal b g ↔ ((t : ℕ) → named g t ≡ true → (u : ℕ) (a : Incarnation) → RestsOn b t u a → CheckpointedNow b u a ⊎ StablePresent b g u a)
   equal-exactly g = (
     λ same t n u a rests. go same t n u a rests (decCheckpointed a (present (b .holders) u .incarnation)),
-    λ rests. settled-equal b g rests (λ t n w. own-has ledger b related t w),
+    λ rests. settled-equal b g rests (λ t n w. own-has (view s) b related t w),
   )
     where
       go : Equal b g → (t : ℕ) → named g t ≡ true → (u : ℕ) (a : Incarnation) → RestsOn b t u a → Dec (Checkpointed a (present (b .holders) u .incarnation))

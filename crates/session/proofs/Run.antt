@@ -2,10 +2,10 @@
 use Prim.Native.Nat.{ℕ, zero, suc, _*_, _<_}
 use mathlib.Core.Path.{_≡_}
 use mathlib.Core.List.{List}
-use lib.ListN.{length, length-append}
+use lib.ListN.{length, getD, length-append}
 use Rattle.octets.specs.Bytes.{part, chunks, Octets}
 use Rattle.octets.proofs.Chunks.{part-chunks}
-use Rattle.octets.proofs.Numbers.{length-be}
+use Rattle.octets.proofs.Numbers.{length-be, be-one}
 use Rattle.rules.specs.Layout.{Layout, Fitting}
 use Rattle.rules.specs.State.{State}
 use Rattle.rules.specs.declared.Reply.{Reply}
@@ -16,18 +16,15 @@ use Rattle.rules.specs.Internal.Well.{WellFormed}
 use Rattle.rules.proofs.Keep.Run.{stepOk-at}
 use Rattle.rules.proofs.Keep.Step.{keeps-after}
 use Rattle.session.specs.Provenance.{Provenance}
-use Rattle.session.specs.Fed as provenance
-use Rattle.session.specs.Trace as trace
-use Rattle.session.specs.Fed.{ProvenanceSteps}
-use Rattle.session.specs.Trace.{StepsRight}
+use Rattle.session.specs.Fed.{ProvenanceSteps, none, more}
 use Rattle.session.proofs.Model.{view}
 use Rattle.session.proofs.Relation.{Rel}
 use Rattle.session.proofs.Step.{Stepped, step-right}
 
--- the book after the first i steps: all that is claimed of each, and the relation after them
+-- the book after the first i steps, and the relation after them
 pub record Ran (y : Layout) (s : State) (b : Provenance) (steps : List ℕ) (i : ℕ) : Type 1 where
   pub after : Provenance
-  pub right : StepsRight y s b steps i after
+  pub fed : ProvenanceSteps y b steps i after
   pub rel : Rel (view (stateAfter y s steps i)) after
 
 module _ {y : Layout} (z : Fitting y) {s : State} (well : WellFormed y s) {b : Provenance} (r : Rel (view s) b) (steps : List ℕ) (octets : Octets steps) where
@@ -35,11 +32,11 @@ module _ {y : Layout} (z : Fitting y) {s : State} (well : WellFormed y s) {b : P
   unfolding stateAfter
   one-more i before =
       let k : Stepped y (stateAfter y s steps i) (before .after) (stepAt steps i) = step-right z (keeps-after z well steps octets i) (before .rel) (stepOk-at steps octets i) in
-      record { after = k .after; right = trace.more (before .right) (k .right); rel = k .rel }
+      record { after = k .after; fed = more (before .fed) (k .right .provenance); rel = k .rel }
 
   pub run-right : (i : ℕ) → Ran y s b steps i
   unfolding stateAfter
-  run-right zero = record { after = b; right = trace.none; rel = r }
+  run-right zero = record { after = b; fed = none; rel = r }
   run-right (suc i) = one-more i (run-right i)
 
 -- ---- the bytes handed back
@@ -48,13 +45,13 @@ pub length-packReply : (r : Reply) → length (packReply r) ≡ stepBytes
 unfolding packReply
 length-packReply r = simp (length-append, length-be)
 
+-- its first byte is the outcome
+pub first-packReply : (r : Reply) → r .outcome < 256 → getD (packReply r) 0 0 ≡ r .outcome
+unfolding packReply
+first-packReply r h = rw (be-one (r .outcome) h)
+
 -- reply i among n packed ones
 pub reply-part : (y : Layout) (s : State) (steps : List ℕ) (n i : ℕ) → i < n
     → part (stepBytes * i) stepBytes (chunks n (replyAt y s steps)) ≡ packReply (stepOf y (stateAfter y s steps i) (stepAt steps i) .reply)
 unfolding replyAt
 reply-part y s steps n i h = part-chunks stepBytes (replyAt y s steps) (λ j. length-packReply _) n i h
-
--- the book takes these steps
-pub steps-provenance : {y : Layout} {s : State} {b c : Provenance} {steps : List ℕ} {i : ℕ} → StepsRight y s b steps i c → ProvenanceSteps y b steps i c
-steps-provenance trace.none = provenance.none
-steps-provenance (trace.more before right) = provenance.more (steps-provenance before) (right .provenance)

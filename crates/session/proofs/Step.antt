@@ -11,17 +11,16 @@ use Rattle.rules.specs.Layout.{Layout}
 use Rattle.rules.specs.Layout as layout
 use Rattle.rules.specs.State.{State, transactorAt, ownHistory}
 use Rattle.rules.specs.declared.Step.{Step}
-use Rattle.rules.specs.Step.{notReady, sign}
-use Rattle.rules.specs.Rules.{Result, groupReady, seen, refusal, answer, applySign, apply, stepOf}
+use Rattle.rules.specs.Step.{done, notReady, sign}
+use Rattle.rules.specs.Rules.{Result, groupReady, checkpointGroup, seen, refusal, answer, applySign, apply, stepOf}
 use Rattle.rules.specs.Internal.Well.{StepOk, WellFormed}
-use Rattle.rules.proofs.Keep.Step.{refused-same, applied-same, keeps}
+use Rattle.rules.proofs.Keep.Step.{refused-same, applied-same}
 use Rattle.session.specs.Provenance.{Provenance, statusNumber}
 use Rattle.session.specs.Grounds.{Equal}
-use Rattle.session.specs.Steps.{provenanceRefusal}
-use Rattle.session.specs.Trace.{Matches, SigningRight, checkpointed, uncheckpointed, StepRight}
+use Rattle.session.specs.Steps.{provenanceRefusal, ProvenanceStep}
+use Rattle.session.specs.Trace.{Matches}
 use Rattle.session.proofs.Model.{view}
 use Rattle.session.proofs.Relation.{Rel, own-history}
-use Rattle.session.proofs.Sign.{rel-sound}
 use Rattle.rules.proofs.ByKind.Outcomes.{apply-outcome}
 use Rattle.rules.proofs.Keep.Accepted.{accepted}
 use Rattle.session.proofs.News.{informed-law}
@@ -30,6 +29,21 @@ use Rattle.session.proofs.ViewState.{own-view}
 use Rattle.session.proofs.ViewRules.{droppedAt, rolledBackAt}
 use Rattle.session.proofs.ViewSeen.{seen-status}
 use Rattle.session.proofs.ViewStep.{readyAt, ready-same, step-tests, applicable, same-refusal, state-kept}
+
+-- ---- what is shown of a step
+
+-- A signing that is not refused replies 0 and signs its volume exactly if the two sets are equal; else 5, and nothing changes.
+pub data SigningRight (y : Layout) (s : State) (b : Provenance) (p : Step) : Type 0 where
+  checkpointed : Equal b (p .message) → stepOf y s p .reply ≡ answer done 0 0 0 → stepOf y s p .state ≡ checkpointGroup y s (p .message) → SigningRight y s b p
+  uncheckpointed : (Equal b (p .message) → ⊥) → stepOf y s p .reply ≡ answer notReady 0 0 0 → stepOf y s p .state ≡ s → SigningRight y s b p
+
+-- One step, from the state s and the book b to the book c.
+pub record StepRight (y : Layout) (s : State) (b : Provenance) (p : Step) (c : Provenance) : Type 1 where
+  pub provenance : ProvenanceStep y b p c
+  -- refused exactly where the book refuses it, with the same number, and nothing changes
+  pub refused : (provenanceRefusal y b p ≡ 0 → ⊥) → (stepOf y s p .reply ≡ answer (provenanceRefusal y b p) 0 0 0) × (stepOf y s p .state ≡ s)
+  pub accepted : provenanceRefusal y b p ≡ 0 → stepOf y s p .reply .outcome ≤ notReady
+  pub signing : provenanceRefusal y b p ≡ 0 → p .kind ≡ sign → SigningRight y s b p
 
 -- ---- a signing
 
@@ -104,8 +118,6 @@ module _ {y : Layout} (z : layout.Fitting y) {s : State} (well : WellFormed y s)
           refused = is-refused;
           accepted = reply-accepted;
           signing = signing-right;
-          matches = matches-rel (keeps z well ok) (k .rel);
-          sound = rel-sound (view (stepOf y s p .state)) (k .after) (k .rel);
         };
         rel = k .rel;
       }

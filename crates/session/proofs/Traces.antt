@@ -14,11 +14,11 @@ use Rattle.rules.proofs.Calls.Begin.{begin-accepted}
 use Rattle.rules.proofs.Keep.Step.{fitting-base}
 use Rattle.session.specs.Provenance.{Provenance}
 use Rattle.session.specs.Fed.{Call, begin, run, offer, smallest, heard, counts, show, ProvenanceOf}
-use Rattle.session.specs.Trace.{Answer, Performed, beginning, running, offering, naming, hearing, counting, showing, Trace, opened, called, callsOf, Right}
+use Rattle.session.specs.Trace.{Answer, Performed, beginning, running, offering, naming, hearing, counting, showing, Trace, opened, called, callsOf}
 use Rattle.session.proofs.Unique.{provenance-unique}
 use Rattle.session.proofs.Calls.{Holds}
 use Rattle.session.proofs.Queries.{offers-exist, smallest-exist}
-use Rattle.session.proofs.Demand3.{grown, demand3}
+use Rattle.session.proofs.Grown.{grown}
 
 -- ---- every call is performed
 
@@ -76,8 +76,8 @@ trace-started (called τ c a p) = later c (trace-started τ)
 pub provenance-exists : {y : Layout} → Fitting y → {cs : List Call} → Started y cs → (b : Provenance) × ProvenanceOf y cs b
 provenance-exists {y} z s =
     let k = every-list z s in
-    let d = demand3 y z (k .trace) in
-    (d .0, rw (k .calls) at (d .1))
+    let d = grown z (k .trace) in
+    (d .provenance, rw (k .calls) at (d .fed))
 
 -- With provenance-unique it is one book: a function of the calls alone.
 unfoldable pub provenanceFed : {cs : List Call} → Started base cs → Provenance
@@ -88,14 +88,3 @@ unfolding provenanceFed
 provenance-fed {cs} s {b} =
     let k = provenance-exists fitting-base s in
     (λ f. provenance-unique f (k .1), λ e. subst (λ c. ProvenanceOf base cs c) (sym e) (k .1))
-
--- ---- demand 3 of the book of the calls
-
--- Whatever book is fed the calls of a trace is right for the trace.
-pub demand3-fed : (y : Layout) → Fitting y → {img : List ℕ} (τ : Trace y img) {b : Provenance} → ProvenanceOf y (callsOf τ) b → Right y img τ b
-demand3-fed y z {img} τ f = let k = demand3 y z τ in subst (λ c. Right y img τ c) (provenance-unique (k .1) f) (k .2)
-
--- The book of these calls is right for this trace.
-pub demand3-calls : {img : List ℕ} (τ : Trace base img) → Right base img τ (provenanceFed (trace-started τ))
-unfolding provenanceFed
-demand3-calls τ = demand3-fed base fitting-base τ (provenance-exists fitting-base (trace-started τ) .1)

@@ -4,12 +4,10 @@ use mathlib.Core.Path.{_≡_, refl, subst}
 use mathlib.Core.List.{List, []}
 use Rattle.rules.specs.Layout.{Layout}
 use Rattle.rules.specs.Step.{stepAt}
-use Rattle.rules.proofs.Calls.Begin.{begin-accepted}
 use Rattle.session.specs.Provenance.{Provenance}
 use Rattle.session.specs.Steps.{ProvenanceStep}
 use Rattle.session.specs.Fed as provenance
 use Rattle.session.specs.Fed.{Call, ProvenanceSteps, ProvenanceCall, provenance-refuses, provenance-begins, provenance-runs, provenance-offers, provenance-names, provenance-hears, provenance-counts, provenance-shows, ProvenanceOf, new-provenance, fed}
-use Rattle.session.specs.Trace.{Trace, callsOf, Right, opened-right, called-right}
 use Rattle.session.proofs.Kept.{provenance-determined}
 
 pub steps-determined : {y : Layout} {b c d : Provenance} {steps : List ℕ} {i : ℕ} → ProvenanceSteps y b steps i c → ProvenanceSteps y b steps i d → c ≡ d
@@ -51,9 +49,3 @@ provenance-unique (new-provenance r) (new-provenance s) = refl
 provenance-unique (new-provenance r) (fed p q) = absurd (nothing-fed p)
 provenance-unique (fed p q) (new-provenance r) = absurd (nothing-fed p)
 provenance-unique {y} {b = b} (fed {c = k} p q) (fed r s) = call-determined (subst (λ x. ProvenanceCall y x k b) (provenance-unique p r) q) s
-
--- The book that is right of a trace is the one that is fed its calls.
-pub right-provenance : {y : Layout} {img : List ℕ} {τ : Trace y img} {b : Provenance} → Right y img τ b → ProvenanceOf y (callsOf τ) b
-unfolding callsOf
-right-provenance {y} (opened-right {m} {img} {e} h s) = new-provenance (begin-accepted y img m e .0)
-right-provenance (called-right r k) = fed (right-provenance r) (k .provenance)

@@ -28,8 +28,8 @@ use Rattle.session.proofs.Related.{all-related, state-related, sets-rel
 use Rattle.rules.proofs.ByKind.Outcomes.{apply-outcome}
 use Rattle.session.proofs.Run.{run-right}
 use Rattle.session.proofs.Count.{reply-byte}
-use Rattle.session.proofs.Unique.{provenance-unique, right-provenance}
-use Rattle.session.proofs.Demand3.{grown}
+use Rattle.session.proofs.Unique.{provenance-unique}
+use Rattle.session.proofs.Grown.{grown}
 
 -- ---- 31 is that one condition
 
@@ -91,7 +91,7 @@ module _ (y : Layout) (z : Fitting y) {img : List ℕ} (τ : Trace y img) where
   pub never-unrelated-sets : (b : Provenance) → ProvenanceOf y (callsOf τ) b → SetsRelated b
   never-unrelated-sets b told =
       let k = grown z τ in
-      subst SetsRelated (provenance-unique (right-provenance (k .right)) told) (sets-related (view (unpack y img)) (k .provenance) (k .holds .rel))
+      subst SetsRelated (provenance-unique (k .fed) told) (sets-related (view (unpack y img)) (k .provenance) (k .holds .rel))
 
   -- No step of any run on that image replies 31: of the bytes handed back, the first of every eight is another number.
   pub never-31 : (list : List ℕ) → Octets list → (start end : ℕ) (lent : List ℕ) → runAnswer y img list start end lent ≡ 0

@@ -35,7 +35,7 @@ use Rattle.session.specs.Provenance.{Live, Holder, Provenance}
 use Rattle.session.specs.Grounds.{Equal}
 use Rattle.session.specs.Steps.{provenanceRefusal, signing}
 use Rattle.session.specs.Fed.{Call}
-use Rattle.session.specs.Trace.{Answer, Performed, beginning, running, offering, naming, hearing, counting, showing, Trace, called, SigningRight, checkpointed, uncheckpointed, StepRight}
+use Rattle.session.specs.Trace.{Answer, Performed, beginning, running, offering, naming, hearing, counting, showing, Trace, called}
 use Rattle.session.specs.Waiting.{ReadyGroup, Grounded, Falls, falls-back, vanishes, falls-last, Stands, NoSigning, Waits, Waiting, none, one-more}
 use Rattle.session.proofs.Model.{MessageView, own, findMessage, knownMap, view}
 use Rattle.session.proofs.Tables.{pick-view}
@@ -45,9 +45,9 @@ use Rattle.session.proofs.Sign.{EntryReady, Ready, ready-live, equal-re
 use Rattle.session.proofs.ViewState.{own-view, view-find}
 use Rattle.session.proofs.ViewRules.{rolledBackAt, rolledBack-test, entry-test}
 use Rattle.session.proofs.ViewStep.{stable-below, state-kept}
-use Rattle.session.proofs.Step.{step-right}
+use Rattle.session.proofs.Step.{SigningRight, checkpointed, uncheckpointed, StepRight, step-right}
 use Rattle.session.proofs.Run.{Ran, run-right}
-use Rattle.session.proofs.Demand3.{grown}
+use Rattle.session.proofs.Grown.{grown}
 use Rattle.session.proofs.Stands.{stands, With, with-exists, rule-with}
 use Rattle.session.proofs.Carried.{Signs, signs-on, rule-on}
 

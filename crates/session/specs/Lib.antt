@@ -5,6 +5,8 @@ pub mod Steps
 pub mod Fed
 pub mod Stabilized
 pub mod Trace
+pub mod Point
+pub mod Demand3
 pub mod Count
 pub mod Related
 pub mod Waiting
