@@ -2,7 +2,7 @@
 use Prim.Native.Nat.{ℕ}
 use mathlib.Core.Bool.{true, false, not}
 use mathlib.Core.Path.{_≡_, refl, ap, sym, subst}
-use mathlib.Core.List.{List, [], _∷_}
+use mathlib.Core.List.{List, _∷_}
 use mathlib.Core.Logic.{_↔_}
 use lib.ListN.{length}
 use borrow.Author.Tests.{eq-eqb}
@@ -14,7 +14,7 @@ use Rattle.rules.proofs.Calls.Begin.{begin-accepted}
 use Rattle.rules.proofs.Keep.Step.{fitting-base}
 use Rattle.session.specs.Provenance.{Provenance}
 use Rattle.session.specs.Fed.{Call, begin, run, offer, smallest, heard, counts, show, ProvenanceOf}
-use Rattle.session.specs.Trace.{Answer, Performed, beginning, running, offering, naming, hearing, counting, showing, Trace, opened, called, callsOf}
+use Rattle.session.specs.Trace.{Answer, Performed, beginning, running, offering, naming, hearing, counting, showing, Trace, opened, called, callsOf, Started, first, later, Traced}
 use Rattle.session.proofs.Unique.{provenance-unique}
 use Rattle.session.proofs.Calls.{Holds}
 use Rattle.session.proofs.Queries.{offers-exist, smallest-exist}
@@ -33,17 +33,6 @@ performs h (counts n) = (_, _, counting)
 performs h (show n) = (_, _, showing)
 
 -- ---- every list of calls, the last one first
-
--- the first of these calls is an accepted begin
-pub data Started (y : Layout) : List Call → Type 0 where
-  first : {m : Limits} → inRange y m ≡ true → Started y (begin m ∷ [])
-  later : {cs : List Call} (c : Call) → Started y cs → Started y (c ∷ cs)
-
--- a trace of these calls
-pub record Traced (y : Layout) (cs : List Call) : Type 0 where
-  pub image : List ℕ
-  pub trace : Trace y image
-  pub calls : callsOf trace ≡ cs
 
 -- an image of the right length is begun
 fresh-begins : (y : Layout) (m : Limits) → inRange y m ≡ true → beginAnswer y m (zeros (imageBytes y)) ≡ 0

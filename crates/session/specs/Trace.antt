@@ -7,7 +7,7 @@ use mathlib.Core.Option.{Option}
 use Rattle.octets.specs.Bytes.{Octets}
 use Rattle.marks.specs.History.{incarnationOf}
 use Rattle.maps.specs.Map.{heldAt}
-use Rattle.rules.specs.Layout.{Layout, Limits}
+use Rattle.rules.specs.Layout.{Layout, Limits, inRange}
 use Rattle.rules.specs.State.{State, Transactor, transactorAt, ownHistory}
 use Rattle.rules.specs.Calls.{beginAnswer, beginImage, runAnswer, runImage, runReplies, queryRefusal, Offers, showRefusal, shown}
 use Rattle.rules.specs.Groups.{Smallest}
@@ -60,6 +60,19 @@ pub data Trace (y : Layout) : List ℕ → Type 0 where
 unfoldable pub callsOf : {y : Layout} {img : List ℕ} → Trace y img → List Call
 callsOf (opened m img e) = begin m ∷ []
 callsOf (called τ c a p) = c ∷ callsOf τ
+
+-- ---- lists of calls, the last one first
+
+-- the first of these calls is an accepted begin
+pub data Started (y : Layout) : List Call → Type 0 where
+  first : {m : Limits} → inRange y m ≡ true → Started y (begin m ∷ [])
+  later : {cs : List Call} (c : Call) → Started y cs → Started y (c ∷ cs)
+
+-- a trace of these calls
+pub record Traced (y : Layout) (cs : List Call) : Type 0 where
+  pub image : List ℕ
+  pub trace : Trace y image
+  pub calls : callsOf trace ≡ cs
 
 -- ---- the image beside the book
 
