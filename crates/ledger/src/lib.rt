@@ -30,18 +30,16 @@ ghost use Rattle.octets.specs.Bytes.{zeros};
 ghost use Rattle.rules.specs.Layout.{base, limitsOf, imageBytes};
 ghost use Rattle.rules.specs.Step.{stepBytes};
 ghost use Rattle.rules.specs.Internal.Good.{Good};
-ghost use Rattle.rules.specs.Calls.{beginAnswer, beginImage, runAnswer, runImage, runReplies, ranImage, ranReplies, queryRefusal, offeredNumber, Offers, showRefusal, shown};
-ghost use Rattle.rules.specs.Groups.{groupNumber, Smallest};
-ghost use Rattle.rules.specs.ReadyGroups.{readyRefusal, readyAnswer};
-ghost use Rattle.rules.specs.Heard.{heardAnswer};
+ghost use Rattle.rules.specs.Calls.{ranImage, ranReplies, queryRefusal, offeredNumber};
+ghost use Rattle.rules.specs.Groups.{groupNumber};
+ghost use Rattle.rules.specs.Promises.{BeginPromise, RunPromise, OfferPromise, SmallestPromise, HeardPromise, CountPromise, ShowPromise};
 
 // ---- begin
 
 // Begins a fresh session that opens so many transactors, keeps so many messages waiting and checkpoints a transactor so often: 0, or
 // 16, 33 with no byte changed.
 pub fn begin(image: &mut [u8], transactors: usize, messages: usize, checkpoints: usize) -> u8
-    ensures { λ r. ⌜ (r ≡ beginAnswer base (limitsOf transactors messages checkpoints) (now (image .entry)))
-        × (now (image .exit) ≡ beginImage base (limitsOf transactors messages checkpoints) (now (image .entry))) ⌝ }
+    ensures { λ r. ⌜ BeginPromise base (limitsOf transactors messages checkpoints) (now (image .entry)) r (now (image .exit)) ⌝ }
 {
     if image.len() != IMAGE {
         return numbers::WRONG_LENGTH;
@@ -89,9 +87,7 @@ fn run_steps(image: &mut [u8], list: &[u8], replies: &mut [u8])
 
 // Runs the steps of the list from start up to end, and writes a reply for each: 0, or 16, 17, 18, 19 with no byte changed.
 pub fn run(image: &mut [u8], list: &[u8], start: usize, end: usize, replies: &mut [u8]) -> u8
-    ensures { λ r. ⌜ (r ≡ runAnswer base (now (image .entry)) (now (list .entry)) start end (now (replies .entry)))
-        × (now (image .exit) ≡ runImage base (now (image .entry)) (now (list .entry)) start end (now (replies .entry)))
-        × (now (replies .exit) ≡ runReplies base (now (image .entry)) (now (list .entry)) start end (now (replies .entry))) ⌝ }
+    ensures { λ r. ⌜ RunPromise base (now (image .entry)) (now (list .entry)) start end (now (replies .entry)) r (now (image .exit)) (now (replies .exit)) ⌝ }
 {
     if image.len() != IMAGE {
         return numbers::WRONG_LENGTH;
@@ -136,7 +132,7 @@ fn query_refusal(image: &[u8], transactor: usize) -> u8
 // The waiting message addressed to the transactor with the lowest number: the first, since numbers rise from place to place. Or
 // nothing, exactly if there is none. The lent number takes the refusal, 16, 19, 21 or 22, or 0; refused, nothing.
 pub fn offer(image: &[u8], transactor: usize, refusal: &mut u8) -> Offered
-    ensures { λ r. ⌜ (now (refusal .exit) ≡ queryRefusal base (now (image .entry)) transactor) × Offers base (now (image .entry)) transactor (offeredNumber r) ⌝ }
+    ensures { λ r. ⌜ OfferPromise base (now (image .entry)) transactor (now (refusal .exit)) (offeredNumber r) ⌝ }
 {
     let number = query_refusal(image, transactor);
     *refusal = number;
@@ -154,7 +150,7 @@ pub fn offer(image: &[u8], transactor: usize, refusal: &mut u8) -> Offered
 // The smallest group with the transactor that could be checkpointed now, or none exactly if there is none. The lent number takes
 // the refusal, 16, 19, 21 or 22, or 0; refused, none.
 pub fn smallest_group(image: &[u8], transactor: usize, refusal: &mut u8) -> Grouped
-    ensures { λ r. ⌜ (now (refusal .exit) ≡ queryRefusal base (now (image .entry)) transactor) × Smallest base (now (image .entry)) transactor (groupNumber r) ⌝ }
+    ensures { λ r. ⌜ SmallestPromise base (now (image .entry)) transactor (now (refusal .exit)) (groupNumber r) ⌝ }
 {
     let number = query_refusal(image, transactor);
     *refusal = number;
@@ -171,7 +167,7 @@ pub fn smallest_group(image: &[u8], transactor: usize, refusal: &mut u8) -> Grou
 
 // How many groups of that many transactors could be checkpointed now. The lent number takes the refusal, 16, 19 or 34, or 0; refused, 0.
 pub fn ready_count(image: &[u8], size: usize, refusal: &mut u8) -> usize
-    ensures { λ r. ⌜ (now (refusal .exit) ≡ readyRefusal base (now (image .entry)) size) × (r ≡ readyAnswer base (now (image .entry)) size) ⌝ }
+    ensures { λ r. ⌜ CountPromise base (now (image .entry)) size (now (refusal .exit)) r ⌝ }
 {
     if image.len() != IMAGE {
         *refusal = numbers::WRONG_LENGTH;
@@ -196,7 +192,7 @@ pub fn ready_count(image: &[u8], size: usize, refusal: &mut u8) -> usize
 // Document 02, W4, "all heard frozen": whether every entry of the transactor's state and creation maps but its own is stable. The
 // lent number takes the refusal, 16, 19, 21 or 22, or 0; refused, no.
 pub fn all_heard_stable(image: &[u8], transactor: usize, refusal: &mut u8) -> bool
-    ensures { λ r. ⌜ (now (refusal .exit) ≡ queryRefusal base (now (image .entry)) transactor) × (r ≡ heardAnswer base (now (image .entry)) transactor) ⌝ }
+    ensures { λ r. ⌜ HeardPromise base (now (image .entry)) transactor (now (refusal .exit)) r ⌝ }
 {
     let number = query_refusal(image, transactor);
     *refusal = number;
@@ -215,7 +211,7 @@ pub fn all_heard_stable(image: &[u8], transactor: usize, refusal: &mut u8) -> bo
 // The bytes of the image that hold a waiting message's map. The lent number takes the refusal, 16, 19 or 24, or 0; refused, an
 // empty part.
 pub fn show<'a>(image: &'a [u8], number: u16, refusal: &mut u8) -> &'a [u8]
-    ensures { λ r. ⌜ (now r ≡ shown base (now (image .entry)) number) × (now (refusal .exit) ≡ showRefusal base (now (image .entry)) number) ⌝ }
+    ensures { λ r. ⌜ ShowPromise base (now (image .entry)) number (now (refusal .exit)) (now r) ⌝ }
 {
     if image.len() != IMAGE {
         *refusal = numbers::WRONG_LENGTH;

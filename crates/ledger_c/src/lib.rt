@@ -9,9 +9,8 @@ use rules::Offered;
 use window::Worst;
 ghost use mathlib.Core.Path.{_≡_};
 ghost use Rattle.rules.specs.Layout.{base, limitsOf};
-ghost use Rattle.rules.specs.Calls.{beginAnswer, beginImage, runAnswer, runImage, runReplies, queryRefusal, Offers, showRefusal};
-ghost use Rattle.rules.specs.Groups.{Smallest};
-ghost use Rattle.rules.specs.ReadyGroups.{readyRefusal, readyAnswer};
+ghost use Rattle.rules.specs.Calls.{queryRefusal, showRefusal};
+ghost use Rattle.rules.specs.Promises.{BeginPromise, RunPromise, OfferPromise, SmallestPromise, CountPromise};
 ghost use Rattle.rules.specs.Heard.{heardAnswer};
 ghost use Rattle.rules.specs.Thin.{thinRefusal, thinOut, thinCount};
 ghost use Rattle.rules.specs.Convert.{forwardAnswer, forwardImage, backAnswer, backImage};
@@ -37,8 +36,7 @@ pub extern "C" fn ledger_begin(
     messages: usize,
     checkpoints: usize,
 ) -> u8
-    ensures { λ r. ⌜ (r ≡ beginAnswer base (limitsOf transactors messages checkpoints) (now (image .entry)))
-        × (now (image .exit) ≡ beginImage base (limitsOf transactors messages checkpoints) (now (image .entry))) ⌝ }
+    ensures { λ r. ⌜ BeginPromise base (limitsOf transactors messages checkpoints) (now (image .entry)) r (now (image .exit)) ⌝ }
 {
     ledger::begin(image, transactors, messages, checkpoints)
 }
@@ -52,9 +50,7 @@ pub extern "C" fn ledger_run(
     end: usize,
     replies: &mut [u8],
 ) -> u8
-    ensures { λ r. ⌜ (r ≡ runAnswer base (now (image .entry)) (now (list .entry)) start end (now (replies .entry)))
-        × (now (image .exit) ≡ runImage base (now (image .entry)) (now (list .entry)) start end (now (replies .entry)))
-        × (now (replies .exit) ≡ runReplies base (now (image .entry)) (now (list .entry)) start end (now (replies .entry))) ⌝ }
+    ensures { λ r. ⌜ RunPromise base (now (image .entry)) (now (list .entry)) start end (now (replies .entry)) r (now (image .exit)) (now (replies .exit)) ⌝ }
 {
     ledger::run(image, list, start, end, replies)
 }
@@ -63,7 +59,7 @@ pub extern "C" fn ledger_run(
 // the refusal, 16, 19, 21 or 22, or 0; refused, NONE.
 #[no_mangle]
 pub extern "C" fn ledger_offer(image: &[u8], transactor: usize, refusal: &mut u8) -> u16
-    ensures { λ r. ⌜ (now (refusal .exit) ≡ queryRefusal base (now (image .entry)) transactor) × Offers base (now (image .entry)) transactor (offeredBy r) ⌝ }
+    ensures { λ r. ⌜ OfferPromise base (now (image .entry)) transactor (now (refusal .exit)) (offeredBy r) ⌝ }
 {
     let Offered::Message(n) = ledger::offer(image, transactor, refusal) else {
         return NONE;
@@ -75,7 +71,7 @@ pub extern "C" fn ledger_offer(image: &[u8], transactor: usize, refusal: &mut u8
 // the refusal, 16, 19, 21 or 22, or 0; refused, 0.
 #[no_mangle]
 pub extern "C" fn ledger_smallest_group(image: &[u8], transactor: usize, refusal: &mut u8) -> u16
-    ensures { λ r. ⌜ (now (refusal .exit) ≡ queryRefusal base (now (image .entry)) transactor) × Smallest base (now (image .entry)) transactor (groupOf r) ⌝ }
+    ensures { λ r. ⌜ SmallestPromise base (now (image .entry)) transactor (now (refusal .exit)) (groupOf r) ⌝ }
 {
     let Grouped::Group(group) = ledger::smallest_group(image, transactor, refusal) else {
         return 0;
@@ -86,7 +82,7 @@ pub extern "C" fn ledger_smallest_group(image: &[u8], transactor: usize, refusal
 // How many groups of that many transactors could be checkpointed now. The lent number takes the refusal, 16, 19 or 34, or 0; refused, 0.
 #[no_mangle]
 pub extern "C" fn ledger_ready_count(image: &[u8], size: usize, refusal: &mut u8) -> usize
-    ensures { λ r. ⌜ (now (refusal .exit) ≡ readyRefusal base (now (image .entry)) size) × (r ≡ readyAnswer base (now (image .entry)) size) ⌝ }
+    ensures { λ r. ⌜ CountPromise base (now (image .entry)) size (now (refusal .exit)) r ⌝ }
 {
     ledger::ready_count(image, size, refusal)
 }

@@ -8,6 +8,7 @@ pub mod InOrder
 pub mod Internal
 pub mod Layout
 pub mod Pack
+pub mod Promises
 pub mod ReadyGroups
 pub mod Refusals
 pub mod Rules

@@ -1,0 +1,38 @@
+-- What each call promises, named once: the contracts of crate ledger (and, over what stands for an answer there, of ledger_c) cite these
+-- definitions, and so do the sessions of demand 3. img, after: the image at entry and exit; r: the answer, or what the lent number takes.
+use Prim.Native.Nat.{ℕ}
+use mathlib.Core.Bool.{Bool}
+use mathlib.Core.Path.{_≡_}
+use mathlib.Core.List.{List}
+use mathlib.Core.Option.{Option}
+use Rattle.rules.specs.Layout.{Layout, Limits}
+use Rattle.rules.specs.Calls.{beginAnswer, beginImage, runAnswer, runImage, runReplies, queryRefusal, Offers, showRefusal, shown}
+use Rattle.rules.specs.Groups.{Smallest}
+use Rattle.rules.specs.Heard.{heardAnswer}
+use Rattle.rules.specs.ReadyGroups.{readyRefusal, readyAnswer}
+
+abbrev pub BeginPromise : Layout → Limits → (img : List ℕ) (r : ℕ) (after : List ℕ) → Type 0
+BeginPromise y m img r after = (r ≡ beginAnswer y m img) × (after ≡ beginImage y m img)
+
+-- lent, given: the bytes for the replies at entry and exit
+abbrev pub RunPromise : Layout → (img list : List ℕ) (start end : ℕ) (lent : List ℕ) (r : ℕ) (after given : List ℕ) → Type 0
+RunPromise y img list start end lent r after given =
+    (r ≡ runAnswer y img list start end lent)
+    × (after ≡ runImage y img list start end lent)
+    × (given ≡ runReplies y img list start end lent)
+
+-- the image is lent for reading from here on
+abbrev pub OfferPromise : Layout → (img : List ℕ) (t r : ℕ) → Option ℕ → Type 0
+OfferPromise y img t r message = (r ≡ queryRefusal y img t) × Offers y img t message
+
+abbrev pub SmallestPromise : Layout → (img : List ℕ) (t r : ℕ) → Option ℕ → Type 0
+SmallestPromise y img t r group = (r ≡ queryRefusal y img t) × Smallest y img t group
+
+abbrev pub HeardPromise : Layout → (img : List ℕ) (t r : ℕ) → Bool → Type 0
+HeardPromise y img t r stable = (r ≡ queryRefusal y img t) × (stable ≡ heardAnswer y img t)
+
+abbrev pub CountPromise : Layout → (img : List ℕ) (size r n : ℕ) → Type 0
+CountPromise y img size r n = (r ≡ readyRefusal y img size) × (n ≡ readyAnswer y img size)
+
+abbrev pub ShowPromise : Layout → (img : List ℕ) (n r : ℕ) (bytes : List ℕ) → Type 0
+ShowPromise y img n r bytes = (bytes ≡ shown y img n) × (r ≡ showRefusal y img n)
