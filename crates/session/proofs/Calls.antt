@@ -152,10 +152,10 @@ module _ {y : Layout} (z : layout.Fitting y) {img : List ℕ} {b : Provenance} (
           refused k = rw e at k
 
   pub call-right : {c : Call} {a : Answer} {after : List ℕ} → Performed y img c a after → Called y img b c a after
-  call-right (beginning {m}) = begin-called m
-  call-right (running {list} {o} {start} {end} {replies}) = run-called list o start end replies
-  call-right (offering {t} f) = called-as (kept provenance-offers) (query-same h t) h
-  call-right (naming {t} f) = called-as (kept provenance-names) (query-same h t) h
-  call-right (hearing {t}) = called-as (kept provenance-hears) (query-same h t) h
-  call-right (counting {n}) = called-as (kept provenance-counts) (counts-same h n) h
-  call-right (showing {n}) = called-as (kept provenance-shows) (show-same h n) h
+  call-right (beginning {m} e) = rw (e .0, e .1) (begin-called m)
+  call-right (running {list} {o} {start} {end} {lent} e) = rw (e .0, e .1, e .2) (run-called list o start end lent)
+  call-right (offering {t} e) = called-as (kept provenance-offers) (e .0 ∙ query-same h t) h
+  call-right (naming {t} e) = called-as (kept provenance-names) (e .0 ∙ query-same h t) h
+  call-right (hearing {t} e) = called-as (kept provenance-hears) (e .0 ∙ query-same h t) h
+  call-right (counting {size} e) = called-as (kept provenance-counts) (e .0 ∙ counts-same h size) h
+  call-right (showing {n} e) = called-as (kept provenance-shows) (e .1 ∙ show-same h n) h

@@ -187,13 +187,13 @@ module _ {y : Layout} (z : Fitting y) {img : List ℕ} {b : Provenance} (h : Hol
 
   call-counted : {c : Call} {a : Answer} {after : List ℕ} → Performed y img c a after → Even c a after
   unfolding countCall
-  call-counted (beginning {m}) = begin-counted m
-  call-counted (running {list} {o} {start} {end} {replies}) = run-counted list o start end replies
+  call-counted (beginning {m} e) = rw (e .0, e .1) (begin-counted m)
+  call-counted (running {list} {o} {start} {end} {lent} e) = rw (e .0, e .1, e .2) (run-counted list o start end lent)
   call-counted (offering f) = before
   call-counted (naming f) = before
-  call-counted hearing = before
-  call-counted counting = before
-  call-counted showing = before
+  call-counted (hearing f) = before
+  call-counted (counting f) = before
+  call-counted (showing f) = before
 
 -- In a session grown from a fresh one, counting only from its last accepted begin, parcels made, counted from the steps, are
 -- those received with outcomes 0, 2, 3, 4, plus those lost, plus those waiting.

@@ -16,10 +16,10 @@ pub mod Onward
 pub mod Opening
 pub mod Plays
 pub mod Points
-pub mod Promises
 pub mod Queries
 pub mod Reached
 pub mod Related
+pub mod Remainder
 pub mod Relation
 pub mod Run
 pub mod Seen

@@ -204,13 +204,13 @@ begun-grown {y} z m img e =
 
 module _ {y : Layout} (z : Fitting y) where
   performed-grown : {img after : List ℕ} {cs : List Call} {c : Call} {a : Answer} → GrownLog y img cs → Performed y img c a after → GrownLog y after (c ∷ cs)
-  performed-grown g (beginning {m}) = begin-grown g z m
-  performed-grown g (running {list} {o} {start} {end} {replies}) = run-grown g z list o start end replies
+  performed-grown g (beginning {m} e) = rw (e .1) (begin-grown g z m)
+  performed-grown g (running {list} {o} {start} {end} {lent} e) = rw (e .1) (run-grown g z list o start end lent)
   performed-grown g (offering {t} f) = reading g (book.offer t) refl provenance-offers
   performed-grown g (naming {t} f) = reading g (book.smallest t) refl provenance-names
-  performed-grown g (hearing {t}) = reading g (book.heard t) refl provenance-hears
-  performed-grown g (counting {n}) = reading g (book.counts n) refl provenance-counts
-  performed-grown g (showing {n}) = reading g (book.show n) refl provenance-shows
+  performed-grown g (hearing {t} f) = reading g (book.heard t) refl provenance-hears
+  performed-grown g (counting {size} f) = reading g (book.counts size) refl provenance-counts
+  performed-grown g (showing {n} f) = reading g (book.show n) refl provenance-shows
 
   pub grown-log : {img : List ℕ} (τ : Trace y img) → GrownLog y img (callsOf τ)
   unfolding callsOf
@@ -242,7 +242,7 @@ pub yes-means-base : {img : List ℕ} (τ : Trace base img) {t r : ℕ} {after :
 yes-means-base τ {t} c = yes-means fitting-base τ t (sym (answered c))
   where
     answered : {img after : List ℕ} {t r : ℕ} {stable : Bool} → Performed base img (heard t) (told r stable) after → stable ≡ heardAnswer base img t
-    answered hearing = refl
+    answered (hearing e) = e .1
 
 -- ---- and nothing less: what such a step does, and where there is none
 

@@ -70,13 +70,13 @@ module _ {y : Layout} (z : Fitting y) where
 
   pub step-taken : {img : List ℕ} {τ : Trace y img} {s s' : State} {b : Provenance} {p : Step} {reply : List ℕ} → StepIn y img τ s b p reply s' → Taken y s b p reply s'
   unfolding stateAfter ranReplies
-  step-taken (last-run {img = img} {list = list} {o = o} {start = start} {end = end} {lent = lent} {τ = τ} {p = running} i f e n g) =
+  step-taken (last-run {img = img} {list = list} {o = o} {start = start} {end = end} {lent = lent} {τ = τ} {p = running k} i f e n g) =
       let steps : List ℕ = part start (end - start) list in
       let octets : Octets steps = octets-part start (end - start) list o in
       record {
         beside = beside-steps (held τ f) steps octets i g;
         ok = stepOk-at steps octets i;
-        given = ap (part (stepBytes * i) stepBytes) (replies-accepted img list lent start end e) ∙ reply-part y (unpack y img) steps (stepsIn steps) i n;
+        given = ap (part (stepBytes * i) stepBytes) (k .2 ∙ replies-accepted img list lent start end (sym (k .0) ∙ e)) ∙ reply-part y (unpack y img) steps (stepsIn steps) i n;
         after = refl;
       }
   step-taken (earlier-run k) = step-taken k

@@ -24,13 +24,13 @@ use Rattle.session.proofs.Grown.{grown}
 
 performs : {y : Layout} {img : List ℕ} {b : Provenance} → Holds y img b → (c : Call)
     → (a : Answer) × (after : List ℕ) × Performed y img c a after
-performs h (begin m) = (_, _, beginning)
-performs h (run list o start end lent) = (_, _, running)
-performs {y} {img} h (offer t) = (_, _, offering (offers-exist y img t .1))
-performs h (smallest t) = (_, _, naming (smallest-exist (h .well) t .1))
-performs h (heard t) = (_, _, hearing)
-performs h (counts n) = (_, _, counting)
-performs h (show n) = (_, _, showing)
+performs h (begin m) = (_, _, beginning (refl, refl))
+performs h (run list o start end lent) = (_, _, running (refl, refl, refl))
+performs {y} {img} h (offer t) = (_, _, offering (refl, offers-exist y img t .1))
+performs h (smallest t) = (_, _, naming (refl, smallest-exist (h .well) t .1))
+performs h (heard t) = (_, _, hearing (refl, refl))
+performs h (counts n) = (_, _, counting (refl, refl))
+performs h (show n) = (_, _, showing (refl, refl))
 
 -- ---- every list of calls, the last one first
 

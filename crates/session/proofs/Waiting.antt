@@ -289,13 +289,13 @@ module _ (y : Layout) (z : Fitting y) where
         octets = octets-part start (end - start) list o
 
     call-keeps : {img after : List ℕ} {c : Call} {a : Answer} → Trace y img → Waits c → Performed y img c a after → P (unpack y img) → P (unpack y after)
-    call-keeps τ f (running {list} {o} {start} {end} {replies}) before = run-keeps τ list o start end replies f before
-    call-keeps τ w beginning before = absurd w
+    call-keeps τ f (running {list} {o} {start} {end} {lent} e) before = rw (e .1) (run-keeps τ list o start end lent f before)
+    call-keeps τ w (beginning q) before = absurd w
     call-keeps τ w (offering q) before = before
     call-keeps τ w (naming q) before = before
-    call-keeps τ w hearing before = before
-    call-keeps τ w counting before = before
-    call-keeps τ w showing before = before
+    call-keeps τ w (hearing q) before = before
+    call-keeps τ w (counting q) before = before
+    call-keeps τ w (showing q) before = before
 
     calls-keep : {img after : List ℕ} → Trace y img → Waiting y img after → P (unpack y img) → P (unpack y after)
     calls-keep τ none before = before

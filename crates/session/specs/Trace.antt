@@ -9,10 +9,8 @@ use Rattle.marks.specs.History.{incarnationOf}
 use Rattle.maps.specs.Map.{heldAt}
 use Rattle.rules.specs.Layout.{Layout, Limits, inRange}
 use Rattle.rules.specs.State.{State, Transactor, transactorAt, ownHistory}
-use Rattle.rules.specs.Calls.{beginAnswer, beginImage, runAnswer, runImage, runReplies, queryRefusal, Offers, showRefusal, shown}
-use Rattle.rules.specs.Groups.{Smallest}
-use Rattle.rules.specs.Heard.{heardAnswer}
-use Rattle.rules.specs.ReadyGroups.{readyRefusal, readyAnswer}
+use Rattle.rules.specs.Calls.{beginAnswer, beginImage}
+use Rattle.rules.specs.Promises.{BeginPromise, RunPromise, OfferPromise, SmallestPromise, HeardPromise, CountPromise, ShowPromise}
 use Rattle.session.specs.Provenance.{statusNumber, Live, Holder, Provenance}
 use Rattle.session.specs.Fed.{Call, begin, run, offer, smallest, heard, counts, show}
 
@@ -37,19 +35,17 @@ refusalIn (told r stable) = r
 refusalIn (counted r n) = r
 refusalIn (showed r bytes) = r
 
--- A call performed on an image: what it gives back and leaves, by the definitions that the contracts of begin, run, offer,
--- smallest_group, all_heard_stable, ready_count and show cite.
+-- A call performed on an image: what it gives back and leaves is what the contract of begin, run, offer, smallest_group, all_heard_stable,
+-- ready_count and show promises, by the same definitions (rules/specs/Promises). The queries borrow the image to read it, so it stays.
 pub data Performed (y : Layout) (img : List ℕ) : Call → Answer → List ℕ → Type 0 where
-  beginning : {m : Limits} → Performed y img (begin m) (begun (beginAnswer y m img)) (beginImage y m img)
-  running : {list : List ℕ} {o : Octets list} {start end : ℕ} {replies : List ℕ}
-      → Performed y img (run list o start end replies)
-      (ran (runAnswer y img list start end replies) (runReplies y img list start end replies))
-      (runImage y img list start end replies)
-  offering : {t : ℕ} {message : Option ℕ} → Offers y img t message → Performed y img (offer t) (offered (queryRefusal y img t) message) img
-  naming : {t : ℕ} {group : Option ℕ} → Smallest y img t group → Performed y img (smallest t) (grouped (queryRefusal y img t) group) img
-  hearing : {t : ℕ} → Performed y img (heard t) (told (queryRefusal y img t) (heardAnswer y img t)) img
-  counting : {n : ℕ} → Performed y img (counts n) (counted (readyRefusal y img n) (readyAnswer y img n)) img
-  showing : {n : ℕ} → Performed y img (show n) (showed (showRefusal y img n) (shown y img n)) img
+  beginning : {m : Limits} {r : ℕ} {after : List ℕ} → BeginPromise y m img r after → Performed y img (begin m) (begun r) after
+  running : {list : List ℕ} {o : Octets list} {start end : ℕ} {lent : List ℕ} {r : ℕ} {after given : List ℕ}
+      → RunPromise y img list start end lent r after given → Performed y img (run list o start end lent) (ran r given) after
+  offering : {t r : ℕ} {message : Option ℕ} → OfferPromise y img t r message → Performed y img (offer t) (offered r message) img
+  naming : {t r : ℕ} {group : Option ℕ} → SmallestPromise y img t r group → Performed y img (smallest t) (grouped r group) img
+  hearing : {t r : ℕ} {stable : Bool} → HeardPromise y img t r stable → Performed y img (heard t) (told r stable) img
+  counting : {size r n : ℕ} → CountPromise y img size r n → Performed y img (counts size) (counted r n) img
+  showing : {n r : ℕ} {bytes : List ℕ} → ShowPromise y img n r bytes → Performed y img (show n) (showed r bytes) img
 
 -- A session grown from a fresh one: an accepted begin, then any list of calls, each on the image that the last one left.
 pub data Trace (y : Layout) : List ℕ → Type 0 where

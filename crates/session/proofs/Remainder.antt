@@ -1,0 +1,85 @@
+-- Document 02, W14, over signings: where a volume meets the signing rule and another one is signed, what the second leaves of the first
+-- meets it still. Grounds of the rest that were in both are signed now; the others are where they were.
+use Prim.Native.Nat.{ℕ}
+use mathlib.Core.Bool.{Bool, true, false, not, true≢false}
+use mathlib.Core.Path.{_≡_, refl, ap, sym, _∙_, subst}
+use mathlib.Core.Logic.{_⊎_, inl, inr, ⊎-elim}
+use mathlib.Core.Option.{some, Option·getD}
+use lib.Bits.{bitAnd, bitXor}
+use Rattle.octets.specs.Bytes.{_and_, _or_}
+use Rattle.marks.specs.Incarnation.{Incarnation, Checkpointed}
+use Rattle.marks.specs.History.{HistoryView, initialView, checkpointedView}
+use Rattle.marks.proofs.Order.{checkpointed-up, checkpointed-checkpoint}
+use Rattle.marks.proofs.Histories.{⊑-checkpointed}
+use Rattle.maps.specs.Internal.View.{emptyView, singletonView}
+use Rattle.maps.proofs.Tables.{updated-same}
+use Rattle.rules.specs.Refusals.{named}
+use Rattle.rules.proofs.Bits.{named-and, named-xor}
+use Rattle.session.specs.Provenance.{Live, idle}
+use Rattle.session.proofs.Model.{Node, Ledger, own, anewNode, checkpointedNodes, signLedger}
+use Rattle.session.proofs.Tables.{pick-view}
+use Rattle.session.proofs.Sign.{EntryReady, Ready}
+
+-- ---- volumes
+
+-- volume v without the takes of w
+abbrev pub without : ℕ → ℕ → ℕ
+without v w = bitXor v (bitAnd v w)
+
+pub named-without : (v w t : ℕ) → named (without v w) t ≡ named v t and not (named w t)
+named-without v w t = named-xor v (bitAnd v w) t ∙ rw (named-and v w t) (go (named v t) (named w t))
+  where
+    go : (a b : Bool) → (a and not (a and b)) or (not a and (a and b)) ≡ a and not b
+    go true true = refl
+    go true false = refl
+    go false b = refl
+
+-- ---- the rule
+
+module _ (l : Ledger) (v w : ℕ → Bool) where
+  abbrev rest : ℕ → Bool
+  rest t = v t and not (w t)
+
+  rest-parts : (t : ℕ) → rest t ≡ true → (v t ≡ true) × (w t ≡ false)
+  rest-parts t = go (v t) (w t)
+    where
+      go : (a b : Bool) → a and not b ≡ true → (a ≡ true) × (b ≡ false)
+      go true true e = absurd (true≢false (sym e))
+      go true false e = (refl, refl)
+      go false b e = absurd (true≢false (sym e))
+
+  -- a take that is not signed is as it was
+  unsigned-node : (t : ℕ) → w t ≡ false → checkpointedNodes w (l .nodes) t ≡ l .nodes t
+  unfolding checkpointedNodes
+  unsigned-node t e = rw e
+
+  own-anew : (t : ℕ) (m : HistoryView) → own t (anewNode t m) ≡ m
+  unfolding singletonView
+  own-anew t m = ap (λ o. Option·getD o initialView) (updated-same emptyView t (some m))
+
+  -- what passed the test passes it for the rest
+  entry-rest : (u : ℕ) (m : HistoryView) → EntryReady l v u m → EntryReady (signLedger l w) rest u m
+  unfolding checkpointedNodes
+  entry-rest u m e = go (w u) refl
+    where
+      after : Node → Type 0
+      after x = Live (x .status) × (Checkpointed (m .incarnation) (own u x .incarnation) ⊎ ((rest u ≡ true) × (m .incarnation ≡ own u x .incarnation)))
+
+      ready-of : after (checkpointedNodes w (l .nodes) u) → EntryReady (signLedger l w) rest u m
+      ready-of k = record { live = k .0; is = k .1 }
+
+      now-signed : Checkpointed (m .incarnation) (own u (l .nodes u) .incarnation) ⊎ ((v u ≡ true) × (m .incarnation ≡ own u (l .nodes u) .incarnation))
+          → Checkpointed (m .incarnation) (checkpointedView (own u (l .nodes u)) .incarnation)
+      now-signed (inl s) = checkpointed-up s (⊑-checkpointed (own u (l .nodes u)) .incarnation)
+      now-signed (inr p) = rw (p .1) (checkpointed-checkpoint (own u (l .nodes u) .incarnation))
+
+      go : (t : Bool) → w u ≡ t → EntryReady (signLedger l w) rest u m
+      go true q = ready-of (rw q (idle, inl (rw (own-anew u (checkpointedView (own u (l .nodes u)))) (now-signed (e .is)))))
+      go false q = ready-of (rw q (e .live, ⊎-elim inl (λ p. inr (rw (p .0) refl, p .1)) (e .is)))
+
+  pub rule-rest : Ready l v → Ready (signLedger l w) rest
+  rule-rest ok = record {
+    stable = λ t n. let p = rest-parts t n in rw (unsigned-node t (p .1)) (ok .stable t (p .0));
+    state = λ t n u m e. let p = rest-parts t n in entry-rest u m (ok .state t (p .0) u m (rw (unsigned-node t (p .1)) at e));
+    creation = λ t n u m e. let p = rest-parts t n in entry-rest u m (ok .creation t (p .0) u m (rw (unsigned-node t (p .1)) at e));
+  }
