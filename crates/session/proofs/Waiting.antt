@@ -8,6 +8,7 @@ use mathlib.Core.Option.{none, some}
 use native.Mathlib.Decide.{ℕ-discrete}
 use native.Mathlib.Omega.{arith}
 use lib.Dec.{eqb}
+use borrow.Author.Tests.{eqb-true}
 use Rattle.octets.specs.Bytes.{pick, _and_, part, Octets}
 use Rattle.octets.specs.Numbers.{bound}
 use Rattle.octets.proofs.Put.{octets-part}
@@ -25,7 +26,7 @@ use Rattle.rules.specs.Refusals.{Seen, groupBits, named, malformed, notWaiting,
 use Rattle.rules.specs.Rules.{Effect, Result, entryReady, messageSuperseded, receiptRollsBack, receiveBy, seen, refusal, applyReceive, apply, stepOf}
 use Rattle.rules.specs.Groups as groups
 use Rattle.rules.specs.Pack.{unpack}
-use Rattle.rules.specs.Calls.{stateAfter, stepsIn, runAnswer, ranImage, runImage}
+use Rattle.rules.specs.Calls.{beginAnswer, beginImage, stateAfter, stepsIn, runAnswer, ranImage, runImage}
 use Rattle.rules.specs.Internal.Well.{StepOk, WellFormed}
 use Rattle.rules.proofs.ByKind.Applied.{applies}
 use Rattle.rules.proofs.Pack.RoundTrip.{unpack-pack}
@@ -36,7 +37,7 @@ use Rattle.session.specs.Grounds.{Equal}
 use Rattle.session.specs.Steps.{provenanceRefusal, signing}
 use Rattle.session.specs.Fed.{Call}
 use Rattle.session.specs.Trace.{Answer, Performed, beginning, running, offering, naming, hearing, counting, showing, Trace, called}
-use Rattle.session.specs.Waiting.{ReadyGroup, Grounded, Falls, falls-back, vanishes, falls-last, Stands, NoSigning, Waits, Waiting, none, one-more}
+use Rattle.session.specs.Waiting.{ReadyGroup, Grounded, Falls, falls-back, vanishes, falls-last, Stands, NoSigning, Waits, Waiting, none, one-more, SignsTake, Unsigned, Leaves, Leaving}
 use Rattle.session.proofs.Model.{MessageView, own, findMessage, knownMap, view}
 use Rattle.session.proofs.Tables.{pick-view}
 use Rattle.session.proofs.Relation.{live-or-not, Rel, own-history}
@@ -49,7 +50,8 @@ use Rattle.session.proofs.Step.{SigningRight, checkpointed, uncheckpoin
 use Rattle.session.proofs.Run.{Ran, run-right}
 use Rattle.session.proofs.Grown.{grown}
 use Rattle.session.proofs.Stands.{stands, With, with-exists, rule-with}
-use Rattle.session.proofs.Carried.{Signs, signs-on, rule-on}
+use Rattle.session.proofs.Carried.{Signs, signs-on}
+use Rattle.session.proofs.Remainder.{Beside, beside-on}
 
 -- ---- what a receipt replies that makes nobody fall
 
@@ -147,12 +149,6 @@ module _ {y : Layout} (z : Fitting y) {s : State} (well : WellFormed y s) {b : P
       let after = signs-on (view s) b r y v (before .bits) now (view (stepOf y s p .state)) (k .rel) p other (k .step) in
       record { bits = before .bits; signs = signs-exactly z (keeps z well fits) (k .rel) v (before .bits) .1 after }
 
-  -- meeting the signing rule stays too, whatever the refusals
-  rule-stays : (v : ℕ) {p : Step} → StepOk p → (p .kind ≡ sign → ⊥) → Ready (view s) (named v) → Ready (view (stepOf y s p .state)) (named v)
-  rule-stays v {p} fits other now =
-      let k = state-kept well r p (fits .message) in
-      rule-on (view s) b r y v now (view (stepOf y s p .state)) (k .rel) p other (k .step)
-
   ready-rule : {v : ℕ} → ReadyGroup y s v → Ready (view s) (named v)
   ready-rule {v} before =
       let k = signs-exactly z well r v (before .bits) .0 (before .signs) in
@@ -207,6 +203,30 @@ module _ {y : Layout} (z : Fitting y) {s : State} (well : WellFormed y s) {b : P
               (passes (transactorAt s t .state) (g .state)) (passes (transactorAt s t .creation) (g .creation)),
         )
 
+-- ---- a take beside a ready volume, in a state
+
+module _ {y : Layout} (z : Fitting y) {s : State} (well : WellFormed y s) {b : Provenance} (r : Rel (view s) b) where
+  -- the volume with it meets the rule
+  grounded-beside : {v t : ℕ} → ReadyGroup y s v → Grounded s v t → Beside (view s) t
+  grounded-beside before g =
+      let w = grounded-with z well r g (before .bits) (ready-rule z well r before) in
+      record { group = w .0; own = w .1 .own; rule = w .2 }
+
+  beside-stands : (t : ℕ) → Beside (view s) t → Stands y s t
+  beside-stands t k = rule-stands z well r (k .group) (k .rule) t (k .own)
+
+  beside-stays : (t : ℕ) {p : Step} → StepOk p → (SignsTake y s p t → ⊥) → Beside (view s) t → Beside (view (stepOf y s p .state)) t
+  beside-stays t {p} fits unsigned now =
+      let k = state-kept well r p (fits .message) in
+      beside-on (view s) b r y t now (view (stepOf y s p .state)) (k .rel) p (fits .message) (λ q i e n. signs-not e n i (right .signing q i)) (k .step)
+    where
+      right : StepRight y s b p (step-right z well r fits .after)
+      right = step-right z well r fits .right
+
+      signs-not : Equal b (p .message) → named (p .message) t ≡ true → p .kind ≡ sign → SigningRight y s b p → ⊥
+      signs-not e n i (checkpointed x f g) = unsigned (record { kind = i; names = n; signs = ap (λ (x : Reply). x .outcome) f })
+      signs-not e n i (uncheckpointed x f g) = x e
+
 -- ---- every session
 
 module _ (y : Layout) (z : Fitting y) {img : List ℕ} (τ : Trace y img) where
@@ -220,11 +240,11 @@ module _ (y : Layout) (z : Fitting y) {img : List ℕ} (τ : Trace y img) where
     ran : (i : ℕ) → Ran y (unpack y img) (grown z τ .provenance) steps i
     ran = run-right z (grown z τ .holds .well) (grown z τ .holds .rel) steps octets
 
-    -- what each step that is no signing keeps holds after all of them
-    keep-on : (P : State → Type 0) → ((i : ℕ) → (stepAt steps i .kind ≡ sign → ⊥) → P (after i) → P (after (suc i))) → (i j : ℕ) → i ≤ j → NoSigning steps i j → P (after i) → P (after j)
-    keep-on P next i j h others now = go j h others
+    -- what each step with C keeps holds after all of them, if they have it
+    keep-on : (C : ℕ → Type 0) (P : State → Type 0) → ((i : ℕ) → C i → P (after i) → P (after (suc i))) → (i j : ℕ) → i ≤ j → ((k : ℕ) → i ≤ k → k < j → C k) → P (after i) → P (after j)
+    keep-on C P next i j h others now = go j h others
       where
-        go : (k : ℕ) → i ≤ k → NoSigning steps i k → P (after k)
+        go : (k : ℕ) → i ≤ k → ((n : ℕ) → i ≤ n → n < k → C n) → P (after k)
         go zero e f = let q : i ≡ 0 = omega arith in subst (λ (n : ℕ). P (after n)) q now
         go (suc k) e f = at (ℕ-discrete i (suc k)) (λ (h : i ≤ k). go k h (λ n a c. f n a (omega arith)))
           where
@@ -232,9 +252,9 @@ module _ (y : Layout) (z : Fitting y) {img : List ℕ} (τ : Trace y img) where
             at (yes q) g = subst (λ (n : ℕ). P (after n)) q now
             at (no n) g = next k (f k (omega arith) (omega arith)) (g (omega arith))
 
-    rule-after : (i j v : ℕ) → i ≤ j → NoSigning steps i j → Ready (view (stateAfter y (unpack y img) steps i)) (named v) → Ready (view (stateAfter y (unpack y img) steps j)) (named v)
+    beside-after : (i j t : ℕ) → i ≤ j → Unsigned y (unpack y img) steps t i j → Beside (view (stateAfter y (unpack y img) steps i)) t → Beside (view (stateAfter y (unpack y img) steps j)) t
     unfolding stateAfter
-    rule-after i j v h others = keep-on (λ s. Ready (view s) (named v)) (λ k other. rule-stays z (well-after k) (ran k .rel) v (stepOk-at steps octets k) other) i j h others
+    beside-after i j t h others = keep-on (λ k. SignsTake y (after k) (stepAt steps k) t → ⊥) (λ s. Beside (view s) t) (λ k unsigned. beside-stays z (well-after k) (ran k .rel) t (stepOk-at steps octets k) unsigned) i j h others
 
     -- "A frozen take whose marks in state and creation, its own apart, are all of signed lives or of present lives of takes in the ready
     -- volume can't be made to fall by any parcel of that session, and that is the fact to show first." For every layout whose counts fit
@@ -245,13 +265,12 @@ module _ (y : Layout) (z : Fitting y) {img : List ℕ} (τ : Trace y img) where
         let r = ran i in
         grounded-stands z (well-after i) (r .rel) g p k e
 
-    -- And it stays so as long as nothing is signed: with the volume ready, no parcel makes it fall that is sent later either.
-    pub never-falls : (i j v t : ℕ) → i ≤ j → NoSigning steps i j → ReadyGroup y (stateAfter y (unpack y img) steps i) v → Grounded (stateAfter y (unpack y img) steps i) v t
+    -- And it stays so until the take is signed itself, whatever else is signed meanwhile: with the volume ready, no parcel makes it fall that
+    -- is sent later either.
+    pub never-falls : (i j v t : ℕ) → i ≤ j → Unsigned y (unpack y img) steps t i j → ReadyGroup y (stateAfter y (unpack y img) steps i) v → Grounded (stateAfter y (unpack y img) steps i) v t
         → Stands y (stateAfter y (unpack y img) steps j) t
     never-falls i j v t h others before g =
-        let r = ran i in
-        let w = grounded-with z (well-after i) (r .rel) g (before .bits) (ready-rule z (well-after i) (r .rel) before) in
-        rule-stands z (well-after j) (ran j .rel) (w .0) (rule-after i j (w .0) h others (w .2)) t (w .1 .own)
+        beside-stands z (well-after j) (ran j .rel) t (beside-after i j t h others (grounded-beside z (well-after i) (ran i .rel) before g))
 
     -- For a volume that is ready, and where "the next step is no signing, it must still be ready afterwards", refused or not.
     pub still-ready : (i v : ℕ) → ReadyGroup y (stateAfter y (unpack y img) steps i) v → (stepAt steps i .kind ≡ sign → ⊥) → ReadyGroup y (stateAfter y (unpack y img) steps (suc i)) v
@@ -262,21 +281,17 @@ module _ (y : Layout) (z : Fitting y) {img : List ℕ} (τ : Trace y img) where
 
     -- The same over any steps of a part, from i up to j, without a signing.
     pub still-ready-steps : (i j v : ℕ) → i ≤ j → NoSigning steps i j → ReadyGroup y (stateAfter y (unpack y img) steps i) v → ReadyGroup y (stateAfter y (unpack y img) steps j) v
-    still-ready-steps i j v h others before = keep-on (λ s. ReadyGroup y s v) (λ k other now. still-ready k v now other) i j h others before
+    still-ready-steps i j v h others before = keep-on (λ k. stepAt steps k .kind ≡ sign → ⊥) (λ s. ReadyGroup y s v) (λ k other now. still-ready k v now other) i j h others before
 
 module _ (y : Layout) (z : Fitting y) where
-  on-trace : {img after : List ℕ} → Trace y img → Waiting y img after → Trace y after
-  on-trace τ none = τ
-  on-trace τ (one-more {c = c} {a = a} k w p) = called (on-trace τ k) c a p
-
-  -- what every part without a signing keeps, in every session, is kept by calls that sign nothing, refused ones included
-  module _ (P : State → Type 0)
-      (part-keeps : (img : List ℕ) → Trace y img → (b : List ℕ) → Octets b → NoSigning b 0 (stepsIn b) → P (stateAfter y (unpack y img) b 0) → P (stateAfter y (unpack y img) b (stepsIn b))) where
-    run-keeps : {img : List ℕ} → Trace y img → (list : List ℕ) → Octets list → (start end : ℕ) (lent : List ℕ) → NoSigning (part start (end - start) list) 0 (stepsIn (part start (end - start) list))
+  -- what every part with F keeps, in every session, is kept by a run of such a part, refused or not
+  module _ (F : (img b : List ℕ) → Type 0) (P : State → Type 0)
+      (part-keeps : (img : List ℕ) → Trace y img → (b : List ℕ) → Octets b → F img b → P (stateAfter y (unpack y img) b 0) → P (stateAfter y (unpack y img) b (stepsIn b))) where
+    run-keeps : {img : List ℕ} → Trace y img → (list : List ℕ) → Octets list → (start end : ℕ) (lent : List ℕ) → (runAnswer y img list start end lent ≡ 0 → F img (part start (end - start) list))
         → P (unpack y img) → P (unpack y (runImage y img list start end lent))
     unfolding runImage ranImage stateAfter
     run-keeps {img} τ list o start end lent f before = pick-view (λ (i : List ℕ). P (unpack y i)) (eqb (runAnswer y img list start end lent) 0) _ img
-        (λ e. rw (unpack-pack y (stateAfter y (unpack y img) b n) (keeps-after z (grown z τ .holds .well) b octets n .packable)) (part-keeps img τ b octets f before))
+        (λ e. rw (unpack-pack y (stateAfter y (unpack y img) b n) (keeps-after z (grown z τ .holds .well) b octets n .packable)) (part-keeps img τ b octets (f (eqb-true (runAnswer y img list start end lent) 0 e)) before))
         (λ e. before)
       where
         b : List ℕ
@@ -288,38 +303,67 @@ module _ (y : Layout) (z : Fitting y) where
         octets : Octets b
         octets = octets-part start (end - start) list o
 
-    call-keeps : {img after : List ℕ} {c : Call} {a : Answer} → Trace y img → Waits c → Performed y img c a after → P (unpack y img) → P (unpack y after)
-    call-keeps τ f (running {list} {o} {start} {end} {lent} e) before = rw (e .1) (run-keeps τ list o start end lent f before)
-    call-keeps τ w (beginning q) before = absurd w
-    call-keeps τ w (offering q) before = before
-    call-keeps τ w (naming q) before = before
-    call-keeps τ w (hearing q) before = before
-    call-keeps τ w (counting q) before = before
-    call-keeps τ w (showing q) before = before
+  -- ---- calls that sign nothing
 
-    calls-keep : {img after : List ℕ} → Trace y img → Waiting y img after → P (unpack y img) → P (unpack y after)
-    calls-keep τ none before = before
-    calls-keep τ (one-more k w p) before = call-keeps (on-trace τ k) w p (calls-keep τ k before)
+  waited : {img after : List ℕ} → Trace y img → Waiting y img after → Trace y after
+  waited τ none = τ
+  waited τ (one-more {c = c} {a = a} k w p) = called (waited τ k) c a p
 
-  -- The same over any list of calls that sign nothing: runs without a signing, offers, shows and queries, refused ones included.
-  pub still-ready-calls : {img after : List ℕ} → Trace y img → Waiting y img after → (v : ℕ) → ReadyGroup y (unpack y img) v → ReadyGroup y (unpack y after) v
-  still-ready-calls τ k v = calls-keep (λ s. ReadyGroup y s v) (λ i σ b o f. still-ready-steps y z σ b o 0 (stepsIn b) v (omega arith) f) τ k
+  module _ (v : ℕ) where
+    part-ready : (img : List ℕ) → Trace y img → (b : List ℕ) → Octets b → NoSigning b 0 (stepsIn b) → ReadyGroup y (stateAfter y (unpack y img) b 0) v → ReadyGroup y (stateAfter y (unpack y img) b (stepsIn b)) v
+    part-ready i σ b o f = still-ready-steps y z σ b o 0 (stepsIn b) v (omega arith) f
 
-  -- And of the fact: no parcel that such calls send makes the take fall.
-  pub never-falls-calls : {img after : List ℕ} → Trace y img → Waiting y img after → (v t : ℕ) → ReadyGroup y (unpack y img) v → Grounded (unpack y img) v t → Stands y (unpack y after) t
-  never-falls-calls τ k v t before g p =
-      let r = grown z τ in
-      let q = grown z (on-trace τ k) in
-      let w = grounded-with z (r .holds .well) (r .holds .rel) g (before .bits) (ready-rule z (r .holds .well) (r .holds .rel) before) in
-      rule-stands z (q .holds .well) (q .holds .rel) (w .0)
-      (calls-keep (λ s. Ready (view s) (named (w .0))) (λ i σ b o f. rule-after y z σ b o 0 (stepsIn b) (w .0) (omega arith) f) τ k (w .2)) t (w .1 .own) p
+    call-ready : {img after : List ℕ} {c : Call} {a : Answer} → Trace y img → Waits c → Performed y img c a after → ReadyGroup y (unpack y img) v → ReadyGroup y (unpack y after) v
+    call-ready τ f (running {list} {o} {start} {end} {lent} e) before = rw (e .1) (run-keeps (λ i b. NoSigning b 0 (stepsIn b)) (λ s. ReadyGroup y s v) part-ready τ list o start end lent (λ q. f) before)
+    call-ready τ w (beginning q) before = absurd w
+    call-ready τ w (offering q) before = before
+    call-ready τ w (naming q) before = before
+    call-ready τ w (hearing q) before = before
+    call-ready τ w (counting q) before = before
+    call-ready τ w (showing q) before = before
+
+    -- The same over any list of calls that sign nothing: runs without a signing, offers, shows and queries, refused ones included.
+    pub still-ready-calls : {img after : List ℕ} → Trace y img → Waiting y img after → ReadyGroup y (unpack y img) v → ReadyGroup y (unpack y after) v
+    still-ready-calls τ none before = before
+    still-ready-calls τ (one-more k w p) before = call-ready (waited τ k) w p (still-ready-calls τ k before)
+
+  -- ---- calls that leave take t unsigned
+
+  left : {t : ℕ} {img after : List ℕ} → Trace y img → Leaving y img t after → Trace y after
+  left τ none = τ
+  left τ (one-more {c = c} {a = a} k w p) = called (left τ k) c a p
+
+  module _ (t : ℕ) where
+    part-beside : (img : List ℕ) → Trace y img → (b : List ℕ) → Octets b → Unsigned y (unpack y img) b t 0 (stepsIn b) → Beside (view (stateAfter y (unpack y img) b 0)) t → Beside (view (stateAfter y (unpack y img) b (stepsIn b))) t
+    part-beside i σ b o f = beside-after y z σ b o 0 (stepsIn b) t (omega arith) f
+
+    call-beside : {img after : List ℕ} {c : Call} {a : Answer} → Trace y img → Leaves y img t c → Performed y img c a after → Beside (view (unpack y img)) t → Beside (view (unpack y after)) t
+    unfolding beginImage
+    call-beside τ f (running {list} {o} {start} {end} {lent} e) before = rw (e .1) (run-keeps (λ i b. Unsigned y (unpack y i) b t 0 (stepsIn b)) (λ s. Beside (view s) t) part-beside τ list o start end lent f before)
+    call-beside {img} τ w (beginning {m} q) before = rw (q .1) (pick-view (λ (i : List ℕ). Beside (view (unpack y i)) t) (eqb (beginAnswer y m img) 0) _ img (λ e. absurd (w (eqb-true (beginAnswer y m img) 0 e))) (λ e. before))
+    call-beside τ w (offering q) before = before
+    call-beside τ w (naming q) before = before
+    call-beside τ w (hearing q) before = before
+    call-beside τ w (counting q) before = before
+    call-beside τ w (showing q) before = before
+
+    calls-beside : {img after : List ℕ} → Trace y img → Leaving y img t after → Beside (view (unpack y img)) t → Beside (view (unpack y after)) t
+    calls-beside τ none before = before
+    calls-beside τ (one-more k w p) before = call-beside (left τ k) w p (calls-beside τ k before)
+
+    -- And of the fact: no parcel of that session makes the take fall, until it is signed itself or the session is begun anew.
+    pub never-falls-calls : {img after : List ℕ} → Trace y img → Leaving y img t after → (v : ℕ) → ReadyGroup y (unpack y img) v → Grounded (unpack y img) v t → Stands y (unpack y after) t
+    never-falls-calls τ k v before g =
+        let r = grown z τ .holds in
+        let q = grown z (left τ k) .holds in
+        beside-stands z (q .well) (q .rel) t (calls-beside τ k (grounded-beside z (r .well) (r .rel) before g))
 
 -- At the ledger's own layout: no hypothesis but the trace.
 module _ {img : List ℕ} (τ : Trace base img) where
   pub cannot-fall-base : (steps : List ℕ) → Octets steps → (i v t : ℕ) → Grounded (stateAfter base (unpack base img) steps i) v t → Stands base (stateAfter base (unpack base img) steps i) t
   cannot-fall-base = cannot-fall base fitting-base τ
 
-  pub never-falls-base : (steps : List ℕ) → Octets steps → (i j v t : ℕ) → i ≤ j → NoSigning steps i j → ReadyGroup base (stateAfter base (unpack base img) steps i) v
+  pub never-falls-base : (steps : List ℕ) → Octets steps → (i j v t : ℕ) → i ≤ j → Unsigned base (unpack base img) steps t i j → ReadyGroup base (stateAfter base (unpack base img) steps i) v
       → Grounded (stateAfter base (unpack base img) steps i) v t → Stands base (stateAfter base (unpack base img) steps j) t
   never-falls-base = never-falls base fitting-base τ
 
@@ -331,9 +375,9 @@ module _ {img : List ℕ} (τ : Trace base img) where
       → ReadyGroup base (stateAfter base (unpack base img) steps j) v
   still-ready-steps-base = still-ready-steps base fitting-base τ
 
-  pub never-falls-calls-base : {after : List ℕ} → Waiting base img after → (v t : ℕ) → ReadyGroup base (unpack base img) v → Grounded (unpack base img) v t
+  pub never-falls-calls-base : (t : ℕ) {after : List ℕ} → Leaving base img t after → (v : ℕ) → ReadyGroup base (unpack base img) v → Grounded (unpack base img) v t
       → Stands base (unpack base after) t
-  never-falls-calls-base = never-falls-calls base fitting-base τ
+  never-falls-calls-base t = never-falls-calls base fitting-base t τ
 
   pub still-ready-calls-base : {after : List ℕ} → Waiting base img after → (v : ℕ) → ReadyGroup base (unpack base img) v → ReadyGroup base (unpack base after) v
-  still-ready-calls-base = still-ready-calls base fitting-base τ
+  still-ready-calls-base k v = still-ready-calls base fitting-base v τ k

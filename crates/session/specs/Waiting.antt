@@ -13,7 +13,9 @@ use Rattle.rules.specs.declared.Step.{Step}
 use Rattle.rules.specs.Step.{stepAt, receive, sign, done, fallenBack, vanished}
 use Rattle.rules.specs.Rules.{entryReady, stepOf}
 use Rattle.rules.specs.Groups.{signing}
-use Rattle.rules.specs.Calls.{stepsIn}
+use Rattle.rules.specs.Refusals.{named}
+use Rattle.rules.specs.Pack.{unpack}
+use Rattle.rules.specs.Calls.{beginAnswer, stateAfter, stepsIn, runAnswer}
 use Rattle.session.specs.Fed.{Call, begin, run, offer, smallest, heard, counts, show}
 use Rattle.session.specs.Trace.{Answer, Performed}
 
@@ -61,3 +63,30 @@ Waits (show n) = Unit
 pub data Waiting (y : Layout) (img : List ℕ) : List ℕ → Type 0 where
   none : Waiting y img img
   one-more : {now after : List ℕ} {c : Call} {a : Answer} → Waiting y img now → Waits c → Performed y now c a after → Waiting y img after
+
+-- ---- lists of steps and of calls that leave one take unsigned
+
+-- step p signs take t: a signing that names it and replies 0
+pub record SignsTake (y : Layout) (s : State) (p : Step) (t : ℕ) : Type 0 where
+  pub kind : p .kind ≡ sign
+  pub names : named (p .message) t ≡ true
+  pub signs : stepOf y s p .reply .outcome ≡ done
+
+-- none of the steps i up to j of a part, run from the state s, signs take t
+abbrev pub Unsigned : Layout → State → List ℕ → (t i j : ℕ) → Type 0
+Unsigned y s steps t i j = (k : ℕ) → i ≤ k → k < j → SignsTake y (stateAfter y s steps k) (stepAt steps k) t → ⊥
+
+-- a call on the image that does not sign take t: a begin that is refused, a run none of whose steps signs it, if it is accepted, or a call that only reads
+abbrev pub Leaves : Layout → List ℕ → ℕ → Call → Type 0
+Leaves y img t (begin m) = beginAnswer y m img ≡ 0 → ⊥
+Leaves y img t (run list o start end lent) = runAnswer y img list start end lent ≡ 0 → Unsigned y (unpack y img) (part start (end - start) list) t 0 (stepsIn (part start (end - start) list))
+Leaves y img t (offer k) = Unit
+Leaves y img t (smallest k) = Unit
+Leaves y img t (heard k) = Unit
+Leaves y img t (counts n) = Unit
+Leaves y img t (show n) = Unit
+
+-- such calls, one after the other: "that session", until take t is signed in it
+pub data Leaving (y : Layout) (img : List ℕ) (t : ℕ) : List ℕ → Type 0 where
+  none : Leaving y img t img
+  one-more : {now after : List ℕ} {c : Call} {a : Answer} → Leaving y img t now → Leaves y now t c → Performed y now c a after → Leaving y img t after
