@@ -5,4 +5,4 @@ mod Maps
 pub mod Run
 pub mod State
 pub mod Step
-mod Transactor
+pub mod Transactor

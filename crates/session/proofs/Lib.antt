@@ -27,6 +27,7 @@ pub mod Sets
 pub mod Sign
 pub mod Signing
 pub mod Stands
+pub mod Silent
 pub mod Step
 pub mod Tables
 pub mod Traces

@@ -34,8 +34,10 @@ use Rattle.rules.specs.Rules as rules
 use Rattle.rules.specs.Internal.Well.{TransactorOk, WellFormed}
 use Rattle.session.specs.Provenance.{Live, idle, working}
 use Rattle.session.specs.Steps.{isNil}
+use Rattle.session.specs.Silent.{receiveSilently, applySilently}
 use Rattle.session.proofs.Model.{Node, Ledger, own, withNode, openNode, withMessageView, withoutMessageView, findMessage, anewNode, readNode, freezeNode, finishNode, rollbackNode, knownMap, sentMap, childNode, openerNode, signLedger, statusOf, viewNode, view}
 use Rattle.session.proofs.Tables.{pick-both, and-of, or-to, or-of}
+use Rattle.session.proofs.News.{silent}
 use Rattle.session.proofs.Locals.{writtenNode, fallNode, failNode, actedNode}
 use Rattle.session.proofs.Messages.{receivedNode, receiveMessage}
 use Rattle.session.proofs.Sign.{EntryReady, Ready}
@@ -129,6 +131,14 @@ module _ {y : Layout} {x : Transactor} (ok : TransactorOk y x) where
           pick-both Leaves (messageSuperseded y x m) (messageSuperseded y x m) refl _ _ _ _ (λ e. refl) λ e.
           pick-both Leaves (receiverSuperseded y x m) (receiverSuperseded y x m) refl _ _ _ _ (λ e. view-rollback)
           (λ e. node-same refl (table-informed (y .transactors) t (x .state) (m .dependences) (within-ok (ok .state))) (table-informed (y .transactors) t (x .creation) (m .dependences) (within-ok (ok .creation))) (λ u. refl))
+
+      -- and without the news
+      pub view-received-silently : (m : Message)
+          → viewNode (receiveSilently y t x m .transactor) ≡ receivedNode silent (messageSuperseded y x m) (receiverSuperseded y x m) t (viewNode x) (mapView (m .dependences))
+      unfolding receiveSilently statusOf
+      view-received-silently m =
+          pick-both Leaves (messageSuperseded y x m) (messageSuperseded y x m) refl _ _ _ _ (λ e. refl) λ e.
+          pick-both Leaves (receiverSuperseded y x m) (receiverSuperseded y x m) refl _ _ _ _ (λ e. view-rollback) (λ e. refl)
 
 -- ---- the tests of a receipt
 
@@ -272,6 +282,16 @@ module _ {y : Layout} {s : State} (well : WellFormed y s) (p : Step) where
         rw (view-find s (p .message))
         (changed-removed t (receiveBy y t x m .transactor) addressee-below (p .message)
         ∙ ap (withNode (withoutMessageView (view s) (p .message)) t) (view-received (ok-at t addressee-below) t addressee-below m))
+
+    pub view-receive-silently : view (applySilently y s p .state) ≡ receiveMessage silent (droppedAt y s (p .message)) (rolledBackAt y s (p .message)) (view s) (p .message)
+    unfolding applySilently view droppedAt rolledBackAt
+    view-receive-silently =
+        let m : Message = messageAt s (placeOf s (p .message)) in
+        let t : ℕ = m .addressee in
+        let x : Transactor = transactorAt s t in
+        rw (view-find s (p .message))
+        (changed-removed t (receiveSilently y t x m .transactor) addressee-below (p .message)
+        ∙ ap (withNode (withoutMessageView (view s) (p .message)) t) (view-received-silently (ok-at t addressee-below) t addressee-below m))
 
 -- ---- sign
 
