@@ -108,7 +108,7 @@ rolledBack-none h q e = ap (λ (X : Incarnations). anyEntry (λ x. anyEntry (sup
 
 -- ---- every list of steps from a fresh session
 
-fresh-tells : (y : Layout) (m : Limits) → Tells (emptyProvenance m) (fresh y m) (freshTables m)
+pub fresh-tells : (y : Layout) (m : Limits) → Tells (emptyProvenance m) (fresh y m) (freshTables m)
 unfolding fresh transactorAt contentIn seek isMissing find
 fresh-tells y m = record {
   limits = refl;

@@ -14,3 +14,4 @@ pub mod Following
 pub mod Engine
 pub mod Walked
 pub mod WayBack
+pub mod Unheard

@@ -112,17 +112,17 @@ news-apart w v n d e ok l p = go (eqb (p .kind) receive) (eqb n 0) refl refl
     go false false i j f = rw j
 
 module _ {y : Layout} (z : Fitting y) {s : State} (well : WellFormed y s) {p : Step} (ok : StepOk p) where
-  abbrev case : Bool
+  abbrev pub case : Bool
   case = eqb (p .kind) receive and eqb (refusal y s p) 0
 
   module _ (e : case ≡ true) where
-    is-receive : eqb (p .kind) receive ≡ true
+    pub is-receive : eqb (p .kind) receive ≡ true
     is-receive = both (eqb (p .kind) receive) (eqb (refusal y s p) 0) e .0
 
     not-refused : refusal y s p ≡ 0
     not-refused = eqb-true (refusal y s p) 0 (both (eqb (p .kind) receive) (eqb (refusal y s p) 0) e .1)
 
-    is-accepted : Accepted y (seen y s) p
+    pub is-accepted : Accepted y (seen y s) p
     unfolding refusal
     is-accepted = accepted y (seen y s) p not-refused
 
