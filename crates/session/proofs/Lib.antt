@@ -32,7 +32,6 @@ pub mod Step
 pub mod Tables
 pub mod Traces
 pub mod Tries
-pub mod Unchanged
 pub mod Unique
 pub mod Unrelated
 pub mod ViewRules
