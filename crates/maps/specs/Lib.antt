@@ -4,3 +4,4 @@ pub mod Map
 pub mod News
 pub mod Packed
 pub mod Table
+pub mod View

@@ -15,20 +15,11 @@ use Rattle.maps.proofs.News.{held-informed, same-incarnation, own-informed}
 use Rattle.rules.specs.Layout.{Layout}
 use Rattle.rules.specs.State.{Transactor, Message, ownHistory}
 use Rattle.rules.specs.Step.{done, dropped}
+use Rattle.rules.specs.News.{SameIncarnations, SameMaps}
 use Rattle.rules.specs.Rules.{Effect, unchanged, rollback, taken, messageSuperseded, receiverSuperseded, receiveBy}
-
--- the n entries of b are there exactly where those of a are, and of the same lives
-pub record SameIncarnations (n : ℕ) (a b : DependenceMap) : Type 0 where
-  pub held : (u : ℕ) → heldAt b u ≡ heldAt a u
-  pub incarnation : (u : ℕ) → u < n → incarnationOf (historyAt b u) ≡ incarnationOf (historyAt a u)
 
 pub same-informed : (n t : ℕ) (a b : DependenceMap) → SameIncarnations n a (informedOf n t a b)
 same-informed n t a b = record { held = held-informed n t a b; incarnation = same-incarnation n t a b }
-
--- state and creation maps of the two takes have marks of the same lives
-pub record SameMaps (y : Layout) (x x' : Transactor) : Type 0 where
-  pub state : SameIncarnations (y .transactors) (x .state) (x' .state)
-  pub creation : SameIncarnations (y .transactors) (x .creation) (x' .creation)
 
 module _ (y : Layout) (t : ℕ) (x : Transactor) where
   pub same-taken : (m : DependenceMap) → SameMaps y x (taken y t x m)

@@ -2,7 +2,7 @@
 use Prim.Native.Nat.{ℕ, zero, suc, _+_, _-_, _/_, _%_, _≤_, _<_}
 use mathlib.Core.Bool.{Bool, not}
 use mathlib.Core.Path.{_≡_}
-use mathlib.Core.List.{List, []}
+use mathlib.Core.List.{List, [], _++_}
 use mathlib.Core.Option.{Option, none, some}
 use lib.ListN.{length}
 use lib.Dec.{eqb, ltb, leb}
@@ -80,6 +80,19 @@ runImage y img list start end replies =
 unfoldable pub runReplies : Layout → List ℕ → List ℕ → ℕ → ℕ → List ℕ → List ℕ
 runReplies y img list start end replies =
     pick (eqb (runAnswer y img list start end replies) 0) (ranReplies y img (part start (end - start) list)) replies
+
+-- ---- for theorems: a list run in two parts
+
+-- The list from start to end, run at once, with room all for the replies; or up to mid, with room first, and from there on, on
+-- the image that the first run leaves, with room second.
+pub record InParts (y : Layout) (img list : List ℕ) (start mid end : ℕ) (all first second : List ℕ) : Type 0 where
+  -- both runs are accepted
+  pub begun : runAnswer y img list start mid first ≡ 0
+  pub resumed : runAnswer y (runImage y img list start mid first) list mid end second ≡ 0
+  -- they leave the same image
+  pub image : runImage y (runImage y img list start mid first) list mid end second ≡ runImage y img list start end all
+  -- and give the same replies, one after the other
+  pub replies : runReplies y img list start mid first ++ runReplies y (runImage y img list start mid first) list mid end second ≡ runReplies y img list start end all
 
 -- ---- queries about a take: offer, and those of document 02
 

@@ -1,19 +1,22 @@
 -- Document 02, W6, "Old images to new ones and back", and what W7 adds: the old form is that of layout narrow, 22,132 bytes, which stores
 -- no limits; those of an old image are 16, 32 and 15 (`widest narrow`).
-use Prim.Native.Nat.{ℕ}
-use mathlib.Core.Bool.{Bool, not}
+use Prim.Native.Nat.{ℕ, zero, suc, _-_, _*_, _<_}
+use mathlib.Core.Bool.{Bool, true, not}
+use mathlib.Core.Path.{_≡_}
 use mathlib.Core.List.{List}
 use lib.ListN.{length, getD}
 use lib.Dec.{eqb, leb}
-use Rattle.octets.specs.Bytes.{pick, _and_, _or_, every}
+use Rattle.octets.specs.Bytes.{pick, _and_, _or_, every, part, Octets}
 use Rattle.marks.specs.declared.History.{History}
 use Rattle.maps.specs.declared.DependenceMap.{DependenceMap}
 use Rattle.maps.specs.Map.{heldAt, historyAt}
 use Rattle.rules.specs.Layout.{Layout, Limits, widest, narrow, base}
 use Rattle.rules.specs.State.{Transactor, Message, State, transactorAt, messageAt}
+use Rattle.rules.specs.Step.{stepBytes, stepAt}
+use Rattle.rules.specs.Rules.{stepOf}
 use Rattle.rules.specs.Pack.{pack, unpack}
 use Rattle.rules.specs.Form.{wellFormed}
-use Rattle.rules.specs.Calls.{wrongLength}
+use Rattle.rules.specs.Calls.{wrongLength, stateAfter, stepsIn, runAnswer, runImage, runReplies}
 
 -- ---- the conversions. "Each field of the old form keeps its value both ways."
 
@@ -82,3 +85,55 @@ backAnswer new old =
 -- what the destination old then holds
 unfoldable pub backImage : List ℕ → List ℕ → List ℕ
 backImage new old = pick (eqb (backAnswer new old) 0) (back new) old
+
+-- ---- for theorems: states whose life numbers and list entries are all below b
+
+pub record Low (b : ℕ) (h : History) : Type 0 where
+  pub incarnation : h .incarnation < b
+  pub checkpoints : (i : ℕ) → getD (h .checkpoints) i 0 < b
+
+unfoldable pub LowMap : ℕ → ℕ → DependenceMap → Type 0
+LowMap b n m = (i : ℕ) → i < n → heldAt m i ≡ true → Low b (historyAt m i)
+
+pub record LowTransactor (b n : ℕ) (x : Transactor) : Type 0 where
+  pub state : LowMap b n (x .state)
+  pub creation : LowMap b n (x .creation)
+  pub behaviour : LowMap b n (x .behaviour)
+
+pub record LowState (b n : ℕ) (s : State) : Type 0 where
+  pub transactors : (t : ℕ) → t < n → LowTransactor b n (transactorAt s t)
+  pub messages : (k : ℕ) → k < length (s .messages) → LowMap b n (messageAt s k .dependences)
+
+-- ---- for theorems: sessions "as long as the old one gives no 28"
+
+-- none of the first n replies is 28
+pub record No28 (y : Layout) (s : State) (b : List ℕ) (n : ℕ) : Type 0 where
+  pub none : (i : ℕ) → i < n → stepOf y (stateAfter y s b i) (stepAt b i) .reply .outcome ≡ 28 → ⊥
+
+-- reply i in r is not 28
+unfoldable pub NoneIs28 : List ℕ → ℕ → Type 0
+NoneIs28 r n = (i : ℕ) → i < n → getD r (stepBytes * i) 0 ≡ 28 → ⊥
+
+-- runs, each on the image as the last left it
+pub record Asked : Type 0 where
+  pub list : List ℕ
+  pub start : ℕ
+  pub end : ℕ
+  pub replies : List ℕ
+
+-- the image after the first i runs
+unfoldable pub imageAfter : Layout → List ℕ → (ℕ → Asked) → ℕ → List ℕ
+imageAfter y img r zero = img
+imageAfter y img r (suc i) = runImage y (imageAfter y img r i) (r i .list) (r i .start) (r i .end) (r i .replies)
+
+-- what run i answers, and the replies that it leaves
+abbrev pub answerOf : Layout → List ℕ → (ℕ → Asked) → ℕ → ℕ
+answerOf y img r i = runAnswer y (imageAfter y img r i) (r i .list) (r i .start) (r i .end) (r i .replies)
+
+abbrev pub repliesOf : Layout → List ℕ → (ℕ → Asked) → ℕ → List ℕ
+repliesOf y img r i = runReplies y (imageAfter y img r i) (r i .list) (r i .start) (r i .end) (r i .replies)
+
+-- lists of bytes, and no 28 among the replies of those of the old image's first n runs that are not refused
+pub record Without28 (img : List ℕ) (r : ℕ → Asked) (n : ℕ) : Type 0 where
+  pub bytes : (i : ℕ) → i < n → Octets (r i .list)
+  pub none28 : (i : ℕ) → i < n → answerOf narrow img r i ≡ 0 → NoneIs28 (repliesOf narrow img r i) (stepsIn (part (r i .start) (r i .end - r i .start) (r i .list)))

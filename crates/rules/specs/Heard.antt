@@ -8,7 +8,7 @@ use lib.Dec.{eqb}
 use Rattle.octets.specs.Bytes.{_and_}
 use Rattle.marks.specs.History.{HistoryView}
 use Rattle.maps.specs.Heard.{othersStable}
-use Rattle.maps.specs.Internal.View.{mapView}
+use Rattle.maps.specs.View.{mapView}
 use Rattle.rules.specs.Layout.{Layout}
 use Rattle.rules.specs.State.{State, Transactor, transactorAt}
 use Rattle.rules.specs.Pack.{unpack}

@@ -7,6 +7,7 @@ pub mod Heard
 pub mod InOrder
 pub mod Internal
 pub mod Layout
+pub mod News
 pub mod Pack
 pub mod Promises
 pub mod ReadyGroups

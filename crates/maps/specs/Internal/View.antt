@@ -1,4 +1,4 @@
--- A map as a table: "A map holds at most one mark for each take."
+-- Maps as tables, for proofs: the empty one, one mark alone, joining, a stale mark.
 use Prim.Native.Nat.{ℕ}
 use mathlib.Core.Path.{_≡_}
 use mathlib.Core.Option.{Option, none, some}
@@ -8,13 +8,8 @@ use Rattle.marks.specs.History.{HistoryView, viewOf, newerView}
 use Rattle.maps.specs.declared.DependenceMap.{DependenceMap}
 use Rattle.maps.specs.Map.{heldAt, historyAt}
 use Rattle.maps.specs.Table.{updated}
-
--- of each take the mark that the map holds, or none
-abbrev pub MapView : Type 0
-MapView = ℕ → Option HistoryView
-
-unfoldable pub mapView : DependenceMap → MapView
-mapView m u = pick (heldAt m u) (some (viewOf (historyAt m u))) none
+pub use Rattle.maps.specs.View.{MapView}
+unfoldable pub use Rattle.maps.specs.View.{mapView}
 
 abbrev pub emptyView : MapView
 emptyView u = none

@@ -14,7 +14,7 @@ use Rattle.rules.specs.Step.{stepBytes}
 use Rattle.rules.specs.Pack.{pack, unpack}
 use Rattle.rules.specs.Form.{wellFormed}
 use Rattle.rules.specs.Internal.Well.{WellFormed}
-use Rattle.rules.specs.Calls.{longest, stepsIn, stateAfter, replyAt, wrongPart, runAnswer, ranImage, ranReplies, runImage, runReplies}
+use Rattle.rules.specs.Calls.{InParts, longest, stepsIn, stateAfter, replyAt, wrongPart, runAnswer, ranImage, ranReplies, runImage, runReplies}
 use Rattle.octets.proofs.Tests.{pick-zero, or-off}
 use Rattle.rules.proofs.Pack.Sizes.{length-pack}
 use Rattle.rules.proofs.Pack.RoundTrip.{unpack-pack}
@@ -23,17 +23,6 @@ use Rattle.rules.proofs.Form.Packed.{formed-pack}
 use Rattle.rules.proofs.Keep.Run.{after-append, replies-append}
 use Rattle.rules.proofs.Keep.Step.{keeps-after}
 use Rattle.rules.proofs.Calls.Run.{Ran, part-fine, ran-0}
-
--- The list from start to end, run at once, with room all for the replies; or up to mid, with room first, and from there on, on
--- the image that the first run leaves, with room second.
-pub record InParts (y : Layout) (img list : List ℕ) (start mid end : ℕ) (all first second : List ℕ) : Type 0 where
-  -- both runs are accepted
-  pub begun : runAnswer y img list start mid first ≡ 0
-  pub resumed : runAnswer y (runImage y img list start mid first) list mid end second ≡ 0
-  -- they leave the same image
-  pub image : runImage y (runImage y img list start mid first) list mid end second ≡ runImage y img list start end all
-  -- and give the same replies, one after the other
-  pub replies : runReplies y img list start mid first ++ runReplies y (runImage y img list start mid first) list mid end second ≡ runReplies y img list start end all
 
 ran-image : (y : Layout) (img b : List ℕ) → ranImage y img b ≡ pack y (stateAfter y (unpack y img) b (stepsIn b))
 unfolding ranImage

@@ -21,10 +21,10 @@ use Rattle.rules.proofs.Pack.RoundTrip.{unpack-pack}
 use Rattle.rules.proofs.Pack.RoundTrip.{pack-unpack-formed}
 use Rattle.rules.proofs.Form.State.{formed-state}
 use Rattle.rules.proofs.Form.Packed.{formed-pack}
-use Rattle.rules.specs.Convert.{largestNarrow, limitsAre, stateWithin, tooWide, forward, back, forwardAnswer, forwardImage, backAnswer, backImage}
+use Rattle.rules.specs.Convert.{largestNarrow, limitsAre, stateWithin, tooWide, forward, back, forwardAnswer, forwardImage, backAnswer, backImage, LowState}
 use Rattle.rules.specs.Internal.Widths.{rewritten}
 use Rattle.rules.proofs.Keep.Step.{fitting-base, fitting-narrow}
-use Rattle.rules.proofs.Convert.Resized.{counted-limits, LowState, low-state, state-resized, state-low, low-stateWithin}
+use Rattle.rules.proofs.Convert.Resized.{counted-limits, low-state, state-resized, state-low, low-stateWithin}
 
 bound-one : bound 1 ≡ largestNarrow + 1
 unfolding bound

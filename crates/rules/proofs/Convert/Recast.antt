@@ -34,10 +34,10 @@ use Rattle.rules.proofs.Pack.RoundTrip.{pack-unpack-formed}
 use Rattle.rules.proofs.Keep.Step.{fitting-narrow}
 use Rattle.rules.proofs.Form.State.{formed-state}
 use Rattle.rules.proofs.Form.Packed.{formed-pack}
-use Rattle.rules.specs.Convert.{limitsAre, stateWithin, tooWide, forward, back}
+use Rattle.rules.specs.Convert.{limitsAre, stateWithin, tooWide, forward, back, Low, LowMap, LowTransactor, LowState}
 use Rattle.rules.specs.Internal.Widths.{resized, rewritten}
 use Rattle.rules.specs.Internal.Recast.{recastHistory, recastEntryAt, recastMap, recastPart, recastTransactor, recastMessage, recastTransactorAt, recastMessageAt, recastFront, recast, widened}
-use Rattle.rules.proofs.Convert.Resized.{counted-limits, Low, LowMap, LowTransactor, LowState, state-resized, state-low, low-stateWithin}
+use Rattle.rules.proofs.Convert.Resized.{counted-limits, state-resized, state-low, low-stateWithin}
 use Rattle.rules.proofs.Convert.Images.{bounds, are-on, are-same, allowed-narrow, forward-formed, length-back, octets-back, back-formed, forward-back}
 use Rattle.octets.proofs.Runs.{joined, run-back, behind, further, lengths, part-of}
 use Rattle.rules.proofs.Convert.RecastParts.{first-same, length-recastTransactor, unpack-recastTransactor, recastTransactor-back, recastTransactor-pack, length-recastMessage, first-recastMessage, unpack-recastMessage, recastMessage-back, recastMessage-pack, recastMessage-zeros}

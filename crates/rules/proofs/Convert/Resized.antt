@@ -20,7 +20,7 @@ use Rattle.maps.specs.Internal.Fitting.{EntryOk, present, absent, MapOk}
 use Rattle.rules.specs.Layout.{Layout, Limits, widest, Fitting}
 use Rattle.rules.specs.State.{Transactor, Message, State, transactorAt, messageAt}
 use Rattle.rules.specs.Internal.Well.{TransactorOk, MessageOk, LimitsOk, stored, counted, Allowed, TransactorFormed, not-opened, gone, alive, WellFormed}
-use Rattle.rules.specs.Convert.{historyWithin, mapWithin, transactorWithin, messageWithin, stateWithin}
+use Rattle.rules.specs.Convert.{Low, LowMap, LowTransactor, LowState, historyWithin, mapWithin, transactorWithin, messageWithin, stateWithin}
 use Rattle.rules.specs.Internal.Widths.{resized}
 use Rattle.rules.proofs.Ranges.{allowed-ok}
 
@@ -28,24 +28,6 @@ use Rattle.rules.proofs.Ranges.{allowed-ok}
 pub counted-limits : (y : Layout) {m : Limits} → y .limited ≡ false → LimitsOk y m → m ≡ widest y
 counted-limits y e (stored f a b c) = never (sym f ∙ e)
 counted-limits y e (counted f q) = q
-
--- ---- numbers of a mark below a bound
-
-pub record Low (b : ℕ) (h : History) : Type 0 where
-  pub incarnation : h .incarnation < b
-  pub checkpoints : (i : ℕ) → getD (h .checkpoints) i 0 < b
-
-unfoldable pub LowMap : ℕ → ℕ → DependenceMap → Type 0
-LowMap b n m = (i : ℕ) → i < n → heldAt m i ≡ true → Low b (historyAt m i)
-
-pub record LowTransactor (b n : ℕ) (x : Transactor) : Type 0 where
-  pub state : LowMap b n (x .state)
-  pub creation : LowMap b n (x .creation)
-  pub behaviour : LowMap b n (x .behaviour)
-
-pub record LowState (b n : ℕ) (s : State) : Type 0 where
-  pub transactors : (t : ℕ) → t < n → LowTransactor b n (transactorAt s t)
-  pub messages : (k : ℕ) → k < length (s .messages) → LowMap b n (messageAt s k .dependences)
 
 -- ---- what fits is low, also below a higher bound
 

@@ -28,14 +28,10 @@ use Rattle.rules.proofs.Pack.Sizes.{length-pack, octets-pack}
 use Rattle.rules.proofs.Form.Packed.{formed-pack}
 use Rattle.rules.proofs.Form.State.{formed-state}
 use Rattle.rules.proofs.Keep.Step.{keeps-after, replies-fit, fitting-narrow}
-use Rattle.rules.specs.Convert.{forward}
+use Rattle.rules.specs.Convert.{forward, No28, NoneIs28, Asked, imageAfter, answerOf, repliesOf, Without28}
 use Rattle.rules.specs.Internal.Widths.{resized}
 use Rattle.rules.proofs.Convert.Steps.{same-step}
 use Rattle.rules.proofs.Convert.Images.{forward-state, forward-formed, length-forward}
-
--- none of the first n replies is 28
-pub record No28 (y : Layout) (s : State) (b : List ℕ) (n : ℕ) : Type 0 where
-  pub none : (i : ℕ) → i < n → stepOf y (stateAfter y s b i) (stepAt b i) .reply .outcome ≡ 28 → ⊥
 
 -- ---- lists of steps, from any state at all
 
@@ -80,10 +76,6 @@ module _ (img b : List ℕ) (n : length img ≡ imageBytes narrow) (o : Octets i
       ∙ ap (pack base) (sym (unpack-pack narrow (stateAfter narrow s b (stepsIn b)) (f .packable)))
 
 -- ---- the premise on the bytes of the replies
-
--- reply i in r is not 28
-unfoldable pub NoneIs28 : List ℕ → ℕ → Type 0
-NoneIs28 r n = (i : ℕ) → i < n → getD r (stepBytes * i) 0 ≡ 28 → ⊥
 
 length-packReply : (r : Reply) → length (packReply r) ≡ stepBytes
 unfolding packReply
@@ -142,29 +134,6 @@ module _ (img list : List ℕ) (start end : ℕ) (replies : List ℕ) (n : lengt
     run-image = rw run-answer (left (eqb (runAnswer narrow img list start end replies) 0) (λ z. q (eqb-true (runAnswer narrow img list start end replies) 0 z)))
 
 -- ---- lists of runs: each gets the image as the last left it
-
-pub record Asked : Type 0 where
-  pub list : List ℕ
-  pub start : ℕ
-  pub end : ℕ
-  pub replies : List ℕ
-
--- the image after the first i runs
-unfoldable pub imageAfter : Layout → List ℕ → (ℕ → Asked) → ℕ → List ℕ
-imageAfter y img r zero = img
-imageAfter y img r (suc i) = runImage y (imageAfter y img r i) (r i .list) (r i .start) (r i .end) (r i .replies)
-
--- what run i answers, and the replies that it leaves
-abbrev pub answerOf : Layout → List ℕ → (ℕ → Asked) → ℕ → ℕ
-answerOf y img r i = runAnswer y (imageAfter y img r i) (r i .list) (r i .start) (r i .end) (r i .replies)
-
-abbrev pub repliesOf : Layout → List ℕ → (ℕ → Asked) → ℕ → List ℕ
-repliesOf y img r i = runReplies y (imageAfter y img r i) (r i .list) (r i .start) (r i .end) (r i .replies)
-
--- lists of bytes, and no 28 among the replies of those of the old image's first n runs that are not refused
-pub record Without28 (img : List ℕ) (r : ℕ → Asked) (n : ℕ) : Type 0 where
-  pub bytes : (i : ℕ) → i < n → Octets (r i .list)
-  pub none28 : (i : ℕ) → i < n → answerOf narrow img r i ≡ 0 → NoneIs28 (repliesOf narrow img r i) (stepsIn (part (r i .start) (r i .end - r i .start) (r i .list)))
 
 -- a well-formed old image
 record Old (img : List ℕ) : Type 0 where
