@@ -21,7 +21,8 @@ use Rattle.session.specs.Grounds.{from-start, from-noted, from-list, Gro
 use Rattle.session.specs.Unrelated.{unrelatedEntry, anyUnrelated, isUnrelatedTo}
 use Rattle.session.specs.Steps.{rolledBackHolder, reads, writes, freezes, finishes, rollsBackOrFinishes, rollsBackOrStays, acted, isDropped, isRolledBack, received, signs, checkpointedAt, NotedBy, before, now-checkpointed, opensRoot, opensChild, receives, applied, provenanceSeen, provenanceRefusal, signing, not-ready}
 use Rattle.session.proofs.Accepted.{named-within}
-use Rattle.session.proofs.Plays.{wideProvenance, aRoot, aLetter, aReceive, aNew, aSend, aWrite, aStep, aSign, Play, end, then, After, play-on, quiet, played, play-quiet, played-notes, entry-cases, one-case, ground-state, differs, brings-itself, alone-equal, pair-equal, only-3, only-6}
+use Rattle.session.specs.Play.{wideProvenance, aRoot, aLetter, aReceive, aNew, aSend, aWrite, aStep, aSign, Play, end, then, After}
+use Rattle.session.proofs.Plays.{play-on, quiet, played, play-quiet, played-notes, entry-cases, one-case, ground-state, differs, brings-itself, alone-equal, pair-equal, only-3, only-6}
 
 -- ---- document 01's session
 

@@ -11,3 +11,4 @@ pub mod Demand3
 pub mod Count
 pub mod Related
 pub mod Waiting
+pub mod Play
