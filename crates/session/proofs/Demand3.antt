@@ -21,8 +21,8 @@ use Rattle.session.specs.Provenance.{Provenance}
 use Rattle.session.specs.Grounds.{Equal, Sound}
 use Rattle.session.specs.Steps.{provenanceSeen, provenanceRefusal}
 use Rattle.session.specs.Fed.{Call, run, callRefusal, ProvenanceOf}
-use Rattle.session.specs.Trace.{Answer, ran, refusalIn, Trace, callsOf, Matches}
-use Rattle.session.specs.Point.{CallIn, last-call, earlier-call, StepIn, last-run, earlier-run, Point, replied, outcomeIn}
+use Rattle.session.specs.Trace.{Answer, ran, refusalIn, Trace, callsOf, Matches, Started, Traced}
+use Rattle.session.specs.Point.{CallIn, last-call, earlier-call, StepIn, last-run, earlier-run, Point, in-run, earlier, replied, outcomeIn}
 use Rattle.session.specs.Demand3.{Demand3}
 use Rattle.session.proofs.Model.{view}
 use Rattle.session.proofs.Sign.{rel-sound}
@@ -32,6 +32,7 @@ use Rattle.session.proofs.Run.{first-packReply, run-right}
 use Rattle.session.proofs.Calls.{call-right}
 use Rattle.session.proofs.Points.{Beside, Taken, held, point-beside, step-taken}
 use Rattle.session.proofs.Grown.{grown}
+use Rattle.session.proofs.Traces.{every-list-base}
 
 -- two such replies with different outcomes differ
 replied-apart : (n m : ℕ) → n < 256 → m < 256 → replied n ≡ replied m → n ≡ m
@@ -62,20 +63,26 @@ module _ {y : Layout} (z : Fitting y) {s s' : State} {b : Provenance} {p : Step}
           let q : outcomeIn reply ≡ stepOf y s p .reply .outcome = ap (λ (l : List ℕ). getD l 0 0) (k .given) ∙ first-packReply (stepOf y s p .reply) (omega (arith, h)) in
           omega (arith, h, q)
 
-  signs-taken : provenanceRefusal y b p ≡ 0 → p .kind ≡ sign
-      → (Equal b (p .message) ↔ ((reply ≡ replied done) × (s' ≡ checkpointGroup y s (p .message)))) × ((Equal b (p .message) → ⊥) ↔ ((reply ≡ replied notReady) × (s' ≡ s)))
+  -- the four facts of a signing
+  abbrev Signing : Type 0
+  Signing =
+      ((reply ≡ replied done) ↔ Equal b (p .message))
+      × ((reply ≡ replied notReady) ↔ (Equal b (p .message) → ⊥))
+      × (Equal b (p .message) → s' ≡ checkpointGroup y s (p .message))
+      × ((Equal b (p .message) → ⊥) → s' ≡ s)
+
+  signs-taken : provenanceRefusal y b p ≡ 0 → p .kind ≡ sign → Signing
   signs-taken e i = go (stepped .right .signing e i)
     where
-      go : SigningRight y s b p
-          → (Equal b (p .message) ↔ ((reply ≡ replied done) × (s' ≡ checkpointGroup y s (p .message)))) × ((Equal b (p .message) → ⊥) ↔ ((reply ≡ replied notReady) × (s' ≡ s)))
+      go : SigningRight y s b p → Signing
       go (checkpointed q r t) =
           let g : reply ≡ replied done = k .given ∙ ap packReply r in
           let h : reply ≡ replied notReady → ⊥ = λ f. (let n : _≡_ {A = ℕ} 0 5 = replied-apart 0 5 (omega arith) (omega arith) (sym g ∙ f) in omega arith) in
-          ((λ x. (g, k .after ∙ t), λ x. q), (λ n. absurd (n q), λ x. absurd (h (x .0))))
+          ((λ x. q, λ x. g), (λ x. absurd (h x), λ n. absurd (n q)), λ x. k .after ∙ t, λ n. absurd (n q))
       go (uncheckpointed q r t) =
           let g : reply ≡ replied notReady = k .given ∙ ap packReply r in
           let h : reply ≡ replied done → ⊥ = λ f. (let n : _≡_ {A = ℕ} 5 0 = replied-apart 5 0 (omega arith) (omega arith) (sym g ∙ f) in omega arith) in
-          ((λ x. absurd (q x), λ x. absurd (h (x .0))), (λ n. (g, k .after ∙ t), λ x. q))
+          ((λ x. absurd (h x), λ x. absurd (q x)), (λ x. q, λ n. g), λ x. absurd (q x), λ n. k .after ∙ t)
 
 -- ---- the claims, one by one: for every layout whose counts fit their fields, every session and every limits that it is begun with
 
@@ -94,8 +101,10 @@ module _ (y : Layout) (z : Fitting y) where
   -- a signing that is not refused signs its volume, reply 0, exactly when the two sets are equal; otherwise its reply is 5
   pub signs-exactly : {img : List ℕ} {τ : Trace y img} {s s' : State} {b : Provenance} {p : Step} {reply : List ℕ} → StepIn y img τ s b p reply s'
       → provenanceRefusal y b p ≡ 0 → p .kind ≡ sign
-      → (Equal b (p .message) ↔ ((reply ≡ replied done) × (s' ≡ checkpointGroup y s (p .message))))
-      × ((Equal b (p .message) → ⊥) ↔ ((reply ≡ replied notReady) × (s' ≡ s)))
+      → ((reply ≡ replied done) ↔ Equal b (p .message))
+      × ((reply ≡ replied notReady) ↔ (Equal b (p .message) → ⊥))
+      × (Equal b (p .message) → s' ≡ checkpointGroup y s (p .message))
+      × ((Equal b (p .message) → ⊥) → s' ≡ s)
   signs-exactly k = signs-taken z (step-taken z k)
 
   -- live takes and their own marks are the book's
@@ -116,6 +125,11 @@ module _ (y : Layout) (z : Fitting y) where
       (_, _, _, last-run i f refl n (r .fed))
   every-step (earlier-call k) i n = let t = every-step k i n in (_, _, _, earlier-run (t .3))
 
+  -- and stands at a point, so that what is said of points is said in the middle of runs
+  pub step-point : {img : List ℕ} {τ : Trace y img} {s s' : State} {b : Provenance} {p : Step} {reply : List ℕ} → StepIn y img τ s b p reply s' → Point y img τ s b
+  step-point (last-run {list = list} {start = start} {end = end} i f e n g) = let h : i ≤ stepsIn (part start (end - start) list) = omega (arith, n) in in-run i f e h g
+  step-point (earlier-run k) = earlier (step-point k)
+
   -- ---- the whole
 
   pub demand3 : {img : List ℕ} (τ : Trace y img) → Demand3 y img τ
@@ -134,3 +148,7 @@ module _ (y : Layout) (z : Fitting y) where
 -- The same at the ledger's own layout: no hypothesis but the trace.
 pub demand3-base : {img : List ℕ} (τ : Trace base img) → Demand3 base img τ
 demand3-base = demand3 base fitting-base
+
+-- "For every list of calls .. from an accepted begin on": it has a session, and demand 3 holds of it, as of every other that it has.
+pub demand3-list : {cs : List Call} → Started base cs → (k : Traced base cs) × Demand3 base (k .image) (k .trace)
+demand3-list started = let k = every-list-base started in (k, demand3-base (k .trace))

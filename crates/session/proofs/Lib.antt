@@ -16,6 +16,7 @@ pub mod Onward
 pub mod Opening
 pub mod Plays
 pub mod Points
+pub mod Promises
 pub mod Queries
 pub mod Reached
 pub mod Related

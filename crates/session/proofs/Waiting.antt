@@ -35,7 +35,7 @@ use Rattle.rules.proofs.Keep.Step.{refused-same, applied-same, keeps, keeps-aft
 use Rattle.session.specs.Provenance.{Live, Holder, Provenance}
 use Rattle.session.specs.Grounds.{Equal}
 use Rattle.session.specs.Steps.{provenanceRefusal, signing}
-use Rattle.session.specs.Fed.{Call}
+use Rattle.session.specs.Fed.{Call, begin, run, offer, smallest, heard, counts, show}
 use Rattle.session.specs.Trace.{Answer, Performed, beginning, running, offering, naming, hearing, counting, showing, Trace, called}
 use Rattle.session.specs.Waiting.{ReadyGroup, Grounded, Falls, falls-back, vanishes, falls-last, Stands, NoSigning, Waits, Waiting, none, one-more, SignsTake, Unsigned, Leaves, Leaving}
 use Rattle.session.proofs.Model.{MessageView, own, findMessage, knownMap, view}
@@ -357,6 +357,20 @@ module _ (y : Layout) (z : Fitting y) where
         let r = grown z τ .holds in
         let q = grown z (left τ k) .holds in
         beside-stands z (q .well) (q .rel) t (calls-beside τ k (grounded-beside z (r .well) (r .rel) before g))
+
+-- calls that sign nothing leave every take unsigned
+pub waiting-leaves : {y : Layout} {img after : List ℕ} (t : ℕ) → Waiting y img after → Leaving y img t after
+waiting-leaves t none = none
+waiting-leaves {y} t (one-more {now} {c = c} k w p) = one-more (waiting-leaves t k) (leaves c w) p
+  where
+    leaves : (c : Call) → Waits c → Leaves y now t c
+    leaves (begin m) f = absurd f
+    leaves (run list o start end lent) f = λ e k a b s. f k a b (s .kind)
+    leaves (offer u) f = f
+    leaves (smallest u) f = f
+    leaves (heard u) f = f
+    leaves (counts n) f = f
+    leaves (show n) f = f
 
 -- At the ledger's own layout: no hypothesis but the trace.
 module _ {img : List ℕ} (τ : Trace base img) where

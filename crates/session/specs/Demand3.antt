@@ -22,29 +22,25 @@ use Rattle.session.specs.Point.{CallIn, StepIn, Point, replied, outcomeI
 pub record Demand3 (y : Layout) (img : List ℕ) (τ : Trace y img) : Type 1 where
   -- One book is fed the calls of the list, and no other.
   pub book : (b : Provenance) × ProvenanceOf y (callsOf τ) b × ((c : Provenance) → ProvenanceOf y (callsOf τ) c → c ≡ b)
-
   -- "a call .. is refused exactly where the book of document 01 refuses it": what it answers, a refusal or 0, is what the book answers.
   pub call-refused : {b : Provenance} {c : Call} {a : Answer} → CallIn y img τ b c a → refusalIn a ≡ callRefusal y b c
-
   -- "a .. step is refused exactly where the book of document 01 refuses it": it has an outcome, 0 to 5, exactly where the book does not
   -- refuse it; where the book does, its reply is the book's number and zero else, and nothing changes.
   pub step-refused : {s s' : State} {b : Provenance} {p : Step} {reply : List ℕ} → StepIn y img τ s b p reply s'
       → ((outcomeIn reply ≤ notReady) ↔ (provenanceRefusal y b p ≡ 0))
       × ((provenanceRefusal y b p ≡ 0 → ⊥) → (reply ≡ replied (provenanceRefusal y b p)) × (s' ≡ s))
-
   -- "a signing step that isn't refused signs its volume, reply 0, exactly when two sets of lives, taken just before it from that book, are
   -- equal; otherwise its reply is 5", and nothing changes.
   pub signs-exactly : {s s' : State} {b : Provenance} {p : Step} {reply : List ℕ} → StepIn y img τ s b p reply s'
       → provenanceRefusal y b p ≡ 0 → p .kind ≡ sign
-      → (Equal b (p .message) ↔ ((reply ≡ replied done) × (s' ≡ checkpointGroup y s (p .message))))
-      × ((Equal b (p .message) → ⊥) ↔ ((reply ≡ replied notReady) × (s' ≡ s)))
-
+      → ((reply ≡ replied done) ↔ Equal b (p .message))
+      × ((reply ≡ replied notReady) ↔ (Equal b (p .message) → ⊥))
+      × (Equal b (p .message) → s' ≡ checkpointGroup y s (p .message))
+      × ((Equal b (p .message) → ⊥) → s' ≡ s)
   -- "After the list the live takes and their own marks in the image are the book's": and so they are at every point of it.
   pub takes-match : {s : State} {b : Provenance} → Point y img τ s b → Matches s b
-
   -- "Hence at no point of the list does a text signed since the last accepted begin rest, through any chain, on a withdrawn life."
   pub never-withdrawn : {s : State} {b : Provenance} → Point y img τ s b → Sound b
-
   -- Every step of every accepted run is among those above.
   pub every-step : {b : Provenance} {list : List ℕ} {o : Octets list} {start end : ℕ} {lent replies : List ℕ} → CallIn y img τ b (run list o start end lent) (ran 0 replies)
       → (i : ℕ) → i < stepsIn (part start (end - start) list)
