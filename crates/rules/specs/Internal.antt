@@ -2,6 +2,7 @@
 pub mod Closure
 pub mod Good
 pub mod Guards
+pub mod Held
 pub mod HighBytes
 pub mod Recast
 pub mod Well

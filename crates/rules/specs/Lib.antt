@@ -1,5 +1,6 @@
 pub mod Calls
 pub mod Convert
+pub mod Dependents
 pub mod Exchange
 pub mod Form
 pub mod Groups
@@ -8,6 +9,7 @@ pub mod InOrder
 pub mod Internal
 pub mod Layout
 pub mod News
+pub mod Obstacle
 pub mod Pack
 pub mod Promises
 pub mod ReadyGroups

@@ -5,11 +5,15 @@ use mathlib.Core.Bool.{Bool}
 use mathlib.Core.Path.{_≡_}
 use mathlib.Core.List.{List}
 use mathlib.Core.Option.{Option}
+use Rattle.rules.specs.declared.Dependents.{Dependents}
+use Rattle.rules.specs.declared.Obstacle.{Obstacle}
 use Rattle.rules.specs.Layout.{Layout, Limits}
 use Rattle.rules.specs.Calls.{beginAnswer, beginImage, runAnswer, runImage, runReplies, queryRefusal, Offers, showRefusal, shown}
 use Rattle.rules.specs.Groups.{Smallest}
 use Rattle.rules.specs.Heard.{heardAnswer}
 use Rattle.rules.specs.ReadyGroups.{readyRefusal, readyAnswer}
+use Rattle.rules.specs.Dependents.{dependentsAnswer}
+use Rattle.rules.specs.Obstacle.{obstacleRefusal, obstacleAnswer}
 
 abbrev pub BeginPromise : Layout → Limits → (img : List ℕ) (r : ℕ) (after : List ℕ) → Type 0
 BeginPromise y m img r after = (r ≡ beginAnswer y m img) × (after ≡ beginImage y m img)
@@ -33,6 +37,12 @@ HeardPromise y img t r stable = (r ≡ queryRefusal y img t) × (stable ≡ hear
 
 abbrev pub CountPromise : Layout → (img : List ℕ) (size r n : ℕ) → Type 0
 CountPromise y img size r n = (r ≡ readyRefusal y img size) × (n ≡ readyAnswer y img size)
+
+abbrev pub DependentsPromise : Layout → (img : List ℕ) (t r : ℕ) → Dependents → Type 0
+DependentsPromise y img t r d = (r ≡ queryRefusal y img t) × (d ≡ dependentsAnswer y img t)
+
+abbrev pub ObstaclePromise : Layout → (img : List ℕ) (v r : ℕ) → Obstacle → Type 0
+ObstaclePromise y img v r o = (r ≡ obstacleRefusal y img v) × (o ≡ obstacleAnswer y img v)
 
 abbrev pub ShowPromise : Layout → (img : List ℕ) (n r : ℕ) (bytes : List ℕ) → Type 0
 ShowPromise y img n r bytes = (bytes ≡ shown y img n) × (r ≡ showRefusal y img n)

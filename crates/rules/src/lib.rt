@@ -39,3 +39,28 @@ pub enum Grouped {
     Group(u16),
     NoGroup,
 }
+
+// What rests on the present incarnation of a transactor.
+#[repr(C)]
+pub struct Dependents {
+    // The live transactors whose state or creation map has it, a bit each; itself among them.
+    pub resting: u16,
+    // Those, whoever rests on the present incarnation of one of those, and so on; itself among them.
+    pub through: u16,
+    // The busy transactors (document 01: takes at work) whose behaviour map has it.
+    pub unfinished: u16,
+    // How many waiting messages have it in their maps.
+    pub carried: u16,
+}
+
+// Why a group can't be checkpointed now: by the transactor whose maps are looked at first, and the one whose history is found there.
+pub enum Obstacle {
+    // It can.
+    Nothing,
+    // A named transactor is not stable (document 01: frozen).
+    Unstable(u8),
+    // A named transactor rests on the present incarnation of one that is not named.
+    Outside(u8, u8),
+    // A named transactor rests on an incarnation that is superseded or annihilated (document 01: withdrawn).
+    Superseded(u8, u8),
+}

@@ -24,7 +24,7 @@ use Rattle.rules.proofs.ByKind.Applied.{applies}
 
 module _ (y : Layout) (s : State) (v : ℕ) where
   -- none of the table's refusals of a signing, and ready
-  signing-done : eqb (stepOf y s (signing v) .reply .outcome) done ≡ eqb (groupRefusal s v) 0 and groupReady y s v
+  pub signing-done : eqb (stepOf y s (signing v) .reply .outcome) done ≡ eqb (groupRefusal s v) 0 and groupReady y s v
   unfolding stepOf applySign malformed
   signing-done =
       rw (refuses y s (signing v) refl .sign refl, applies y s (signing v) .sign refl)
