@@ -18,6 +18,8 @@ use Rattle.rules.specs.Form.{wellFormed}
 use Rattle.rules.specs.Internal.Well.{WellFormed}
 use Rattle.rules.specs.Calls.{wrongLength, beginAnswer, freshImage, beginImage, stateAfter, stepsIn, runAnswer, replyAt, ranImage, ranReplies, runImage, runReplies, queryRefusal, showRefusal}
 use Rattle.rules.specs.ReadyGroups.{readyRefusal}
+use Rattle.rules.specs.Groups.{signing}
+use Rattle.rules.specs.Obstacle.{obstacleRefusal}
 use Rattle.rules.proofs.Pack.Sizes.{length-pack}
 use Rattle.rules.proofs.Pack.RoundTrip.{unpack-pack}
 use Rattle.rules.proofs.Form.Packed.{formed-pack}
@@ -25,12 +27,13 @@ use Rattle.rules.proofs.Pack.Fresh.{pack-fresh}
 use Rattle.rules.proofs.Keep.State.{well-fresh}
 use Rattle.rules.proofs.Keep.Step.{keeps-after}
 use Rattle.session.specs.Provenance.{Provenance, emptyProvenance, statusNumber, isMissing}
-use Rattle.session.specs.Fed.{Call, begin, run, counts, show, provenanceQueryRefusal, callRefusal, ProvenanceCall, provenance-refuses, provenance-begins, provenance-runs, provenance-offers, provenance-names, provenance-hears, provenance-counts, provenance-shows}
-use Rattle.session.specs.Trace.{Answer, begun, ran, refusalIn, Performed, beginning, running, offering, naming, hearing, counting, showing, Matches}
+use Rattle.session.specs.Fed.{Call, begin, run, counts, hinders, show, provenanceQueryRefusal, callRefusal, ProvenanceCall, provenance-refuses, provenance-begins, provenance-runs, provenance-offers, provenance-names, provenance-hears, provenance-counts, provenance-depends, provenance-hinders, provenance-shows}
+use Rattle.session.specs.Trace.{Answer, begun, ran, refusalIn, Performed, beginning, running, offering, naming, hearing, counting, depending, hindering, showing, Matches}
 use Rattle.session.proofs.Model.{view}
 use Rattle.session.proofs.Relation.{Rel, fresh-rel}
 use Rattle.session.proofs.Messages.{missing-same}
 use Rattle.session.proofs.ViewState.{view-fresh, view-missing}
+use Rattle.session.proofs.ViewStep.{same-refusal}
 use Rattle.session.proofs.Step.{matches-rel}
 use Rattle.session.proofs.Run.{Ran}
 use Rattle.session.proofs.Run as steps
@@ -78,6 +81,10 @@ module _ {y : Layout} {img : List ℕ} {b : Provenance} (h : Holds y img b) wher
   counts-same : (n : ℕ) → readyRefusal y img n ≡ callRefusal y b (counts n)
   unfolding readyRefusal
   counts-same n = rw (right-length, right-form)
+
+  hinders-same : (v : ℕ) → obstacleRefusal y img v ≡ callRefusal y b (hinders v)
+  unfolding obstacleRefusal
+  hinders-same v = rw (right-length, right-form) (same-refusal (h .well) (h .rel) (signing v))
 
   show-same : (n : ℕ) → showRefusal y img n ≡ callRefusal y b (show n)
   unfolding showRefusal
@@ -158,4 +165,6 @@ module _ {y : Layout} (z : layout.Fitting y) {img : List ℕ} {b : Provenance} (
   call-right (naming {t} e) = called-as (kept provenance-names) (e .0 ∙ query-same h t) h
   call-right (hearing {t} e) = called-as (kept provenance-hears) (e .0 ∙ query-same h t) h
   call-right (counting {size} e) = called-as (kept provenance-counts) (e .0 ∙ counts-same h size) h
+  call-right (depending {t} e) = called-as (kept provenance-depends) (e .0 ∙ query-same h t) h
+  call-right (hindering {v} e) = called-as (kept provenance-hinders) (e .0 ∙ hinders-same h v) h
   call-right (showing {n} e) = called-as (kept provenance-shows) (e .1 ∙ show-same h n) h

@@ -7,7 +7,7 @@ use Rattle.rules.specs.Layout.{Layout}
 use Rattle.rules.proofs.Calls.Offer.{offers-unique}
 use Rattle.rules.proofs.Groups.Smallest.{smallest-unique}
 use Rattle.session.specs.Fed.{Call}
-use Rattle.session.specs.Trace.{Answer, begun, ran, offered, grouped, told, counted, showed, Performed, beginning, running, offering, naming, hearing, counting, showing}
+use Rattle.session.specs.Trace.{Answer, begun, ran, offered, grouped, told, counted, depended, hindered, showed, Performed, beginning, running, offering, naming, hearing, counting, depending, hindering, showing}
 
 pub performed-once : {y : Layout} {img : List ℕ} {c : Call} {a x : Answer} {after left : List ℕ} → Performed y img c a after → Performed y img c x left → (a ≡ x) × (after ≡ left)
 performed-once (beginning e) (beginning f) = (ap begun (e .0 ∙ sym (f .0)), e .1 ∙ sym (f .1))
@@ -16,4 +16,6 @@ performed-once (offering e) (offering f) = (ap₂ offered (e .0 ∙ sym (f .0)) 
 performed-once (naming e) (naming f) = (ap₂ grouped (e .0 ∙ sym (f .0)) (smallest-unique (e .1) (f .1)), refl)
 performed-once (hearing e) (hearing f) = (ap₂ told (e .0 ∙ sym (f .0)) (e .1 ∙ sym (f .1)), refl)
 performed-once (counting e) (counting f) = (ap₂ counted (e .0 ∙ sym (f .0)) (e .1 ∙ sym (f .1)), refl)
+performed-once (depending e) (depending f) = (ap₂ depended (e .0 ∙ sym (f .0)) (e .1 ∙ sym (f .1)), refl)
+performed-once (hindering e) (hindering f) = (ap₂ hindered (e .0 ∙ sym (f .0)) (e .1 ∙ sym (f .1)), refl)
 performed-once (showing e) (showing f) = (ap₂ showed (e .1 ∙ sym (f .1)) (e .0 ∙ sym (f .0)), refl)

@@ -3,27 +3,29 @@ use Prim.Native.Nat.{ℕ}
 use mathlib.Core.Bool.{true}
 use mathlib.Core.Path.{_≡_}
 use mathlib.Core.List.{List}
-use mathlib.Core.Logic.{_⊎_, inl, inr, ⊎-elim, _↔_}
-use Rattle.marks.specs.Incarnation.{Incarnation, Checkpointed}
-use Rattle.marks.proofs.Order.{checkpointed-up, checkpointed-under, under-checkpointed, before-checkpointed}
-use Rattle.marks.proofs.Tests.{decCheckpointed}
+use mathlib.Core.Logic.{_⊎_, _↔_}
+use Rattle.marks.specs.Incarnation.{Incarnation}
 use Rattle.rules.specs.Layout.{Layout, Fitting}
 use Rattle.rules.specs.State.{State}
 use Rattle.rules.specs.Refusals.{named}
+use Rattle.rules.specs.Internal.Well.{WellFormed}
 use Rattle.session.specs.Provenance.{Live, Provenance}
-use Rattle.session.specs.Grounds.{from-start, from-noted, from-list, Ground, in-state, in-creation, RestsOn, ValueRestsOn, CheckpointedNow, UncheckpointedGround, StablePresent, Equal}
+use Rattle.session.specs.Grounds.{from-start, from-noted, from-list, Ground, RestsOn, ValueRestsOn, CheckpointedNow, UncheckpointedGround, StablePresent, Equal}
 use Rattle.session.specs.Trace.{Trace}
 use Rattle.session.specs.Point.{Point}
 use Rattle.session.proofs.Model.{view}
-use Rattle.session.proofs.Relation.{present, Whole, Rel, whole-known}
-use Rattle.session.proofs.Relation as relation
-use Rattle.session.proofs.Sign.{checkpointedNow-of, checkpointedNow-to, own-has, own-uncheckpointed, settled-equal}
+use Rattle.session.proofs.Relation.{present, Rel}
+use Rattle.session.proofs.Sign.{checkpointedNow-of, checkpointedNow-to, own-has, own-uncheckpointed, settled-equal, equal-settled}
 use Rattle.session.proofs.Points.{point-beside}
+use Rattle.session.proofs.Resting.{rests-ground}
 
 module _ {y : Layout} (z : Fitting y) {img : List ℕ} {τ : Trace y img} {s : State} {b : Provenance} (k : Point y img τ s b) where
   -- the ledger's state there is related to the book
-  related : Rel (view s) b
+  pub related : Rel (view s) b
   related = point-beside z k .rel
+
+  pub well : WellFormed y s
+  well = point-beside z k .well
 
   -- ---- the two sets of a signing
 
@@ -35,31 +37,11 @@ module _ {y : Layout} (z : Fitting y) {img : List ℕ} {τ : Trace y img} {s : S
   -- and frozen.
   pub equal-exactly : (g : ℕ)
       → Equal b g ↔ ((t : ℕ) → named g t ≡ true → (u : ℕ) (a : Incarnation) → RestsOn b t u a → CheckpointedNow b u a ⊎ StablePresent b g u a)
-  equal-exactly g = (
-    λ same t n u a rests. go same t n u a rests (decCheckpointed a (present (b .holders) u .incarnation)),
-    λ rests. settled-equal b g rests (λ t n w. own-has (view s) b related t w),
-  )
-    where
-      go : Equal b g → (t : ℕ) → named g t ≡ true → (u : ℕ) (a : Incarnation) → RestsOn b t u a → Dec (Checkpointed a (present (b .holders) u .incarnation))
-          → CheckpointedNow b u a ⊎ StablePresent b g u a
-      go same t n u a rests (yes s) = inl (checkpointedNow-of b s)
-      go same t n u a rests (no f) = inr (same u a .0 (record { by = t; named = n; rests = rests; uncheckpointed = λ s. f (checkpointedNow-to b s) }))
+  equal-exactly g = (equal-settled b g, λ rests. settled-equal b g rests (λ t n w. own-has (view s) b related t w))
 
   -- What a take rests on beyond its own two sets is signed: notes and lists bring in nothing that a signing waits for.
   pub rests-beyond : {t u : ℕ} {a : Incarnation} → RestsOn b t u a → Ground (b .holders t) u a ⊎ CheckpointedNow b u a
-  rests-beyond (from-start g) = inl g
-  rests-beyond (from-noted {t} {u} {a} {c} x y) = inr (checkpointedNow-of b (related .noted .grounds t a u c y))
-  rests-beyond {t} (from-list {u} {a} {c} x e) = inr (⊎-elim (λ g. under g) (λ s. signed s) (rests-beyond x))
-    where
-      whole : Ground (b .holders t) u a → Whole (b .holders t) u a
-      whole (in-state i) = relation.in-state i
-      whole (in-creation i) = relation.in-creation i
-
-      under : Ground (b .holders t) u a → CheckpointedNow b u c
-      under g = checkpointedNow-of b (checkpointed-up (before-checkpointed a c e) (whole-known (related .holders t) u a (whole g)))
-
-      signed : CheckpointedNow b u a → CheckpointedNow b u c
-      signed s = checkpointedNow-of b (under-checkpointed (checkpointed-under (before-checkpointed a c e)) (checkpointedNow-to b s))
+  rests-beyond = rests-ground (view s) b related
 
   -- ---- what signed texts rest on
 

@@ -55,7 +55,7 @@ live-there {s} k e = none (rw e at k)
     none : Live annihilated → ⊥
     none h = elim h [ ]
 
-checkpointed-stands : (b : Provenance) {u : ℕ} {a : Incarnation} → CheckpointedNow b u a → SupersededOrAnnihilated b u a → ⊥
+pub checkpointed-stands : (b : Provenance) {u : ℕ} {a : Incarnation} → CheckpointedNow b u a → SupersededOrAnnihilated b u a → ⊥
 checkpointed-stands b s (gone e) = live-there (s .live) e
 checkpointed-stands b s (neither p n) = n s
 
@@ -127,6 +127,14 @@ module _ (b : Provenance) (g : ℕ) where
     λ z. ⊎-elim (λ s. absurd (z .uncheckpointed s)) (λ f. f) (rests (z .by) (z .named) u a (z .rests)),
     λ z. rw (z .present .is) (own-uncheckpointed u (z .named) (own u (z .named) (z .present .live))),
   )
+
+  -- and there alone
+  pub equal-settled : Equal b g → (t : ℕ) → named g t ≡ true → (u : ℕ) (a : Incarnation) → RestsOn b t u a → Settled b g u a
+  equal-settled same t n u a rests = go (decCheckpointed a (present (b .holders) u .incarnation))
+    where
+      go : Dec (Checkpointed a (present (b .holders) u .incarnation)) → Settled b g u a
+      go (yes s) = inl (checkpointedNow-of b s)
+      go (no f) = inr (same u a .0 (record { by = t; named = n; rests = rests; uncheckpointed = λ s. f (checkpointedNow-to b s) }))
 
 -- ---- ready and equal
 

@@ -13,8 +13,8 @@ use Rattle.rules.specs.Calls.{wrongLength, beginAnswer}
 use Rattle.rules.proofs.Calls.Begin.{begin-accepted}
 use Rattle.rules.proofs.Keep.Step.{fitting-base}
 use Rattle.session.specs.Provenance.{Provenance}
-use Rattle.session.specs.Fed.{Call, begin, run, offer, smallest, heard, counts, show, ProvenanceOf}
-use Rattle.session.specs.Trace.{Answer, Performed, beginning, running, offering, naming, hearing, counting, showing, Trace, opened, called, callsOf, Started, first, later, Traced}
+use Rattle.session.specs.Fed.{Call, begin, run, offer, smallest, heard, counts, depends, hinders, show, ProvenanceOf}
+use Rattle.session.specs.Trace.{Answer, Performed, beginning, running, offering, naming, hearing, counting, depending, hindering, showing, Trace, opened, called, callsOf, Started, first, later, Traced}
 use Rattle.session.proofs.Unique.{provenance-unique}
 use Rattle.session.proofs.Calls.{Holds}
 use Rattle.session.proofs.Queries.{offers-exist, smallest-exist}
@@ -30,6 +30,8 @@ performs {y} {img} h (offer t) = (_, _, offering (refl, offers-exist y img t .1)
 performs h (smallest t) = (_, _, naming (refl, smallest-exist (h .well) t .1))
 performs h (heard t) = (_, _, hearing (refl, refl))
 performs h (counts n) = (_, _, counting (refl, refl))
+performs h (depends t) = (_, _, depending (refl, refl))
+performs h (hinders v) = (_, _, hindering (refl, refl))
 performs h (show n) = (_, _, showing (refl, refl))
 
 -- ---- every list of calls, the last one first

@@ -295,7 +295,7 @@ module _ {y : Layout} {s : State} (well : WellFormed y s) (p : Step) where
 
 -- ---- sign
 
-live-test : (n : ℕ) → (eqb n state.ready or eqb n state.busy ≡ true) ↔ Live (statusOf n)
+pub live-test : (n : ℕ) → (eqb n state.ready or eqb n state.busy ≡ true) ↔ Live (statusOf n)
 unfolding statusOf
 live-test n = (λ e. ⊎-elim (λ k. rw (eqb-true n state.ready k) idle) (λ k. rw (eqb-true n state.busy k) working) (or-to (eqb n state.ready) (eqb n state.busy) e), of n)
   where

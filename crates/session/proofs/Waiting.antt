@@ -35,8 +35,8 @@ use Rattle.rules.proofs.Keep.Step.{refused-same, applied-same, keeps, keeps-aft
 use Rattle.session.specs.Provenance.{Live, Holder, Provenance}
 use Rattle.session.specs.Grounds.{Equal}
 use Rattle.session.specs.Steps.{provenanceRefusal, signing}
-use Rattle.session.specs.Fed.{Call, begin, run, offer, smallest, heard, counts, show}
-use Rattle.session.specs.Trace.{Answer, Performed, beginning, running, offering, naming, hearing, counting, showing, Trace, called}
+use Rattle.session.specs.Fed.{Call, begin, run, offer, smallest, heard, counts, depends, hinders, show}
+use Rattle.session.specs.Trace.{Answer, Performed, beginning, running, offering, naming, hearing, counting, depending, hindering, showing, Trace, called}
 use Rattle.session.specs.Waiting.{ReadyGroup, Grounded, Falls, falls-back, vanishes, falls-last, Stands, NoSigning, Waits, Waiting, none, one-more, SignsTake, Unsigned, Leaves, Leaving}
 use Rattle.session.proofs.Model.{MessageView, own, findMessage, knownMap, view}
 use Rattle.session.proofs.Tables.{pick-view}
@@ -149,7 +149,7 @@ module _ {y : Layout} (z : Fitting y) {s : State} (well : WellFormed y s) {b : P
       let after = signs-on (view s) b r y v (before .bits) now (view (stepOf y s p .state)) (k .rel) p other (k .step) in
       record { bits = before .bits; signs = signs-exactly z (keeps z well fits) (k .rel) v (before .bits) .1 after }
 
-  ready-rule : {v : ℕ} → ReadyGroup y s v → Ready (view s) (named v)
+  pub ready-rule : {v : ℕ} → ReadyGroup y s v → Ready (view s) (named v)
   ready-rule {v} before =
       let k = signs-exactly z well r v (before .bits) .0 (before .signs) in
       equal-ready (view s) b r v (named-live (view s) b r y (groups.signing v) (k .zero) refl (before .bits)) (k .same)
@@ -320,6 +320,8 @@ module _ (y : Layout) (z : Fitting y) where
     call-ready τ w (naming q) before = before
     call-ready τ w (hearing q) before = before
     call-ready τ w (counting q) before = before
+    call-ready τ w (depending q) before = before
+    call-ready τ w (hindering q) before = before
     call-ready τ w (showing q) before = before
 
     -- The same over any list of calls that sign nothing: runs without a signing, offers, shows and queries, refused ones included.
@@ -345,6 +347,8 @@ module _ (y : Layout) (z : Fitting y) where
     call-beside τ w (naming q) before = before
     call-beside τ w (hearing q) before = before
     call-beside τ w (counting q) before = before
+    call-beside τ w (depending q) before = before
+    call-beside τ w (hindering q) before = before
     call-beside τ w (showing q) before = before
 
     calls-beside : {img after : List ℕ} → Trace y img → Leaving y img t after → Beside (view (unpack y img)) t → Beside (view (unpack y after)) t
@@ -370,6 +374,8 @@ waiting-leaves {y} t (one-more {now} {c = c} k w p) = one-more (waiting-leaves t
     leaves (smallest u) f = f
     leaves (heard u) f = f
     leaves (counts n) f = f
+    leaves (depends u) f = f
+    leaves (hinders v) f = f
     leaves (show n) f = f
 
 -- At the ledger's own layout: no hypothesis but the trace.

@@ -11,8 +11,8 @@ use Rattle.rules.specs.Step.{stepBytes, stepAt, receive, lose, done, dropped, f
 use Rattle.rules.specs.Refusals.{sends}
 use Rattle.rules.specs.Pack.{unpack}
 use Rattle.rules.specs.Calls.{stepsIn}
-use Rattle.session.specs.Fed.{Call, begin, run, offer, smallest, heard, counts, show}
-use Rattle.session.specs.Trace.{Answer, begun, ran, offered, grouped, told, counted, showed, refusalIn, Trace, opened, called}
+use Rattle.session.specs.Fed.{Call, begin, run, offer, smallest, heard, counts, depends, hinders, show}
+use Rattle.session.specs.Trace.{Answer, begun, ran, offered, grouped, told, counted, depended, hindered, showed, refusalIn, Trace, opened, called}
 
 -- ---- what is counted, by a step's kind and the first byte of its reply
 
@@ -46,6 +46,8 @@ repliesIn (offered r message) = []
 repliesIn (grouped r group) = []
 repliesIn (told r stable) = []
 repliesIn (counted r n) = []
+repliesIn (depended r d) = []
+repliesIn (hindered r o) = []
 repliesIn (showed r bytes) = []
 
 -- a call, n counted before it: an accepted begin counts from 0, an accepted run adds its steps
@@ -57,6 +59,8 @@ countCall f (offer t) a n = n
 countCall f (smallest t) a n = n
 countCall f (heard t) a n = n
 countCall f (counts k) a n = n
+countCall f (depends t) a n = n
+countCall f (hinders v) a n = n
 countCall f (show k) a n = n
 
 -- the whole session

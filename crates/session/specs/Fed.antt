@@ -9,10 +9,11 @@ use Rattle.octets.specs.Bytes.{pick, _and_, part, Octets}
 use Rattle.rules.specs.Layout.{Layout, Limits, inRange}
 use Rattle.rules.specs.Step.{stepAt}
 use Rattle.rules.specs.Refusals.{groupBits}
+use Rattle.rules.specs.Groups.{signing}
 -- both are about the caller's list alone
 use Rattle.rules.specs.Calls.{wrongPart, stepsIn}
 use Rattle.session.specs.Provenance.{annihilated, statusNumber, Provenance, emptyProvenance, isMissing}
-use Rattle.session.specs.Steps.{ProvenanceStep}
+use Rattle.session.specs.Steps.{provenanceRefusal, ProvenanceStep}
 
 -- a call, with all that a caller can choose; lent: the bytes lent for the replies, as they stand before the call
 pub data Call : Type 0 where
@@ -26,6 +27,10 @@ pub data Call : Type 0 where
   heard : (transactor : ℕ) → Call
   -- "How many volumes are ready": given a size, how many volumes of just that many takes could be signed now
   counts : (size : ℕ) → Call
+  -- who rests on a take's present life
+  depends : (transactor : ℕ) → Call
+  -- why a volume can't be signed
+  hinders : (group : ℕ) → Call
   show : (message : ℕ) → Call
 
 -- ---- what the book does at a call
@@ -42,6 +47,8 @@ callRefusal y b (offer t) = provenanceQueryRefusal b t
 callRefusal y b (smallest t) = provenanceQueryRefusal b t
 callRefusal y b (heard t) = provenanceQueryRefusal b t
 callRefusal y b (counts n) = pick (not (leb 1 n and leb n groupBits)) 34 0
+callRefusal y b (depends t) = provenanceQueryRefusal b t
+callRefusal y b (hinders v) = provenanceRefusal y b (signing v)
 callRefusal y b (show n) = pick (isMissing n (b .messages)) 24 0
 
 -- the first i steps of a part
@@ -62,6 +69,8 @@ pub data ProvenanceCall (y : Layout) (b : Provenance) : Call → Provenance → 
   provenance-names : {t : ℕ} → callRefusal y b (smallest t) ≡ 0 → ProvenanceCall y b (smallest t) b
   provenance-hears : {t : ℕ} → callRefusal y b (heard t) ≡ 0 → ProvenanceCall y b (heard t) b
   provenance-counts : {n : ℕ} → callRefusal y b (counts n) ≡ 0 → ProvenanceCall y b (counts n) b
+  provenance-depends : {t : ℕ} → callRefusal y b (depends t) ≡ 0 → ProvenanceCall y b (depends t) b
+  provenance-hinders : {v : ℕ} → callRefusal y b (hinders v) ≡ 0 → ProvenanceCall y b (hinders v) b
   provenance-shows : {n : ℕ} → callRefusal y b (show n) ≡ 0 → ProvenanceCall y b (show n) b
 
 -- the book that is fed these calls, the last one first, and nothing else; the first one is an accepted begin

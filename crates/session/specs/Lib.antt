@@ -12,3 +12,4 @@ pub mod Count
 pub mod Related
 pub mod Waiting
 pub mod Play
+pub mod Withdrawal

@@ -10,13 +10,15 @@ use Rattle.maps.specs.Map.{heldAt}
 use Rattle.rules.specs.Layout.{Layout, Limits, inRange}
 use Rattle.rules.specs.State.{State, Transactor, transactorAt, ownHistory}
 use Rattle.rules.specs.Calls.{beginAnswer, beginImage}
-use Rattle.rules.specs.Promises.{BeginPromise, RunPromise, OfferPromise, SmallestPromise, HeardPromise, CountPromise, ShowPromise}
+use Rattle.rules.specs.declared.Dependents.{Dependents}
+use Rattle.rules.specs.declared.Obstacle.{Obstacle}
+use Rattle.rules.specs.Promises.{BeginPromise, RunPromise, OfferPromise, SmallestPromise, HeardPromise, CountPromise, DependentsPromise, ObstaclePromise, ShowPromise}
 use Rattle.session.specs.Provenance.{statusNumber, Live, Holder, Provenance}
-use Rattle.session.specs.Fed.{Call, begin, run, offer, smallest, heard, counts, show}
+use Rattle.session.specs.Fed.{Call, begin, run, offer, smallest, heard, counts, depends, hinders, show}
 
 -- ---- calls performed
 
--- what a call gives back: its answer or refusal, and the replies, the parcel's number, the volume, yes or no, how many, or the part of the image
+-- what a call gives back: its answer or refusal, and the replies, the parcel's number, the volume, yes or no, how many, who rests on the take, why not, or the part of the image
 pub data Answer : Type 0 where
   begun : ℕ → Answer
   ran : ℕ → List ℕ → Answer
@@ -24,6 +26,8 @@ pub data Answer : Type 0 where
   grouped : ℕ → Option ℕ → Answer
   told : ℕ → Bool → Answer
   counted : ℕ → ℕ → Answer
+  depended : ℕ → Dependents → Answer
+  hindered : ℕ → Obstacle → Answer
   showed : ℕ → List ℕ → Answer
 
 abbrev pub refusalIn : Answer → ℕ
@@ -33,10 +37,12 @@ refusalIn (offered r message) = r
 refusalIn (grouped r group) = r
 refusalIn (told r stable) = r
 refusalIn (counted r n) = r
+refusalIn (depended r d) = r
+refusalIn (hindered r o) = r
 refusalIn (showed r bytes) = r
 
 -- A call performed on an image: what it gives back and leaves is what the contract of begin, run, offer, smallest_group, all_heard_stable,
--- ready_count and show promises, by the same definitions (rules/specs/Promises). The queries borrow the image to read it, so it stays.
+-- ready_count, dependents, obstacle and show promises, by the same definitions (rules/specs/Promises). The queries borrow the image to read it, so it stays.
 pub data Performed (y : Layout) (img : List ℕ) : Call → Answer → List ℕ → Type 0 where
   beginning : {m : Limits} {r : ℕ} {after : List ℕ} → BeginPromise y m img r after → Performed y img (begin m) (begun r) after
   running : {list : List ℕ} {o : Octets list} {start end : ℕ} {lent : List ℕ} {r : ℕ} {after given : List ℕ}
@@ -45,6 +51,8 @@ pub data Performed (y : Layout) (img : List ℕ) : Call → Answer → List ℕ 
   naming : {t r : ℕ} {group : Option ℕ} → SmallestPromise y img t r group → Performed y img (smallest t) (grouped r group) img
   hearing : {t r : ℕ} {stable : Bool} → HeardPromise y img t r stable → Performed y img (heard t) (told r stable) img
   counting : {size r n : ℕ} → CountPromise y img size r n → Performed y img (counts size) (counted r n) img
+  depending : {t r : ℕ} {d : Dependents} → DependentsPromise y img t r d → Performed y img (depends t) (depended r d) img
+  hindering : {v r : ℕ} {o : Obstacle} → ObstaclePromise y img v r o → Performed y img (hinders v) (hindered r o) img
   showing : {n r : ℕ} {bytes : List ℕ} → ShowPromise y img n r bytes → Performed y img (show n) (showed r bytes) img
 
 -- A session grown from a fresh one: an accepted begin, then any list of calls, each on the image that the last one left.

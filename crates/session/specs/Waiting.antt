@@ -16,7 +16,7 @@ use Rattle.rules.specs.Groups.{signing}
 use Rattle.rules.specs.Refusals.{named}
 use Rattle.rules.specs.Pack.{unpack}
 use Rattle.rules.specs.Calls.{beginAnswer, stateAfter, stepsIn, runAnswer}
-use Rattle.session.specs.Fed.{Call, begin, run, offer, smallest, heard, counts, show}
+use Rattle.session.specs.Fed.{Call, begin, run, offer, smallest, heard, counts, depends, hinders, show}
 use Rattle.session.specs.Trace.{Answer, Performed}
 
 -- volume v is ready: the step that signs it would reply 0
@@ -57,6 +57,8 @@ Waits (offer t) = Unit
 Waits (smallest t) = Unit
 Waits (heard t) = Unit
 Waits (counts n) = Unit
+Waits (depends t) = Unit
+Waits (hinders v) = Unit
 Waits (show n) = Unit
 
 -- such calls, one after the other, from the image img to the one after them
@@ -84,6 +86,8 @@ Leaves y img t (offer k) = Unit
 Leaves y img t (smallest k) = Unit
 Leaves y img t (heard k) = Unit
 Leaves y img t (counts n) = Unit
+Leaves y img t (depends u) = Unit
+Leaves y img t (hinders v) = Unit
 Leaves y img t (show n) = Unit
 
 -- such calls, one after the other: "that session", until take t is signed in it

@@ -1,0 +1,118 @@
+-- Why a volume can't be signed, in a session: what each answer means in the book.
+use Prim.Native.Nat.{ℕ}
+use mathlib.Core.Bool.{true, false}
+use mathlib.Core.List.{List}
+use mathlib.Core.Path.{_≡_, refl, ap, sym, _∙_, subst}
+use Rattle.marks.specs.declared.History.{History}
+use Rattle.marks.specs.Incarnation.{Incarnation, Checkpointed}
+use Rattle.marks.specs.History.{HistoryView, incarnationOf}
+use Rattle.marks.proofs.Order.{checkpointed-irrefl}
+use Rattle.maps.proofs.View.{view-held}
+use Rattle.rules.specs.declared.Obstacle.{Obstacle}
+use Rattle.rules.specs.declared.Obstacle.the-variants.{Unstable, Outside, Superseded}
+use Rattle.rules.specs.Layout.{Layout, Fitting}
+use Rattle.rules.specs.State.{State, transactorAt, ownHistory, live}
+use Rattle.rules.specs.Refusals.{named}
+use Rattle.rules.specs.Obstacle.{obstacleOf, StandsIn, WithdrawnMark, Obstructs, is-unstable, is-outside, is-superseded}
+use Rattle.rules.specs.Obstacle as obstacle
+use Rattle.rules.specs.Internal.Well.{WellFormed}
+use Rattle.rules.proofs.Groups.Obstacles.{obstructs}
+use Rattle.session.specs.Provenance.{Live, In, Provenance}
+use Rattle.session.specs.Grounds.{from-start, in-state, in-creation, RestsOn, Present, CheckpointedNow, SupersededOrAnnihilated, neither}
+use Rattle.session.specs.Waiting.{ReadyGroup}
+use Rattle.session.specs.Trace.{Trace}
+use Rattle.session.specs.Point.{Point}
+use Rattle.session.specs.Withdrawal.{Further, SameLife}
+use Rattle.session.proofs.Model.{view}
+use Rattle.session.proofs.Sets.{cell-has}
+use Rattle.session.proofs.Relation.{Rel, own-history}
+use Rattle.session.proofs.ViewState.{own-view}
+use Rattle.session.proofs.ViewRules.{live-test}
+use Rattle.session.proofs.Reached.{related, well}
+use Rattle.session.proofs.Withdrawal.{never-ready}
+
+module _ {y : Layout} {s : State} (w : WellFormed y s) {b : Provenance} (r : Rel (view s) b) where
+  pub life-is : (u : ℕ) → incarnationOf (ownHistory u (transactorAt s u)) ≡ b .holders u .history .incarnation
+  unfolding view
+  life-is u = ap (λ (m : HistoryView). m .incarnation) (sym (own-view w u) ∙ own-history (r .holders u))
+
+  live-to : (u : ℕ) → live (transactorAt s u) ≡ true → Live (b .holders u .status)
+  unfolding view
+  live-to u e = rw (r .holders u .status) at (live-test (transactorAt s u .status) .0 e)
+
+  live-of : (u : ℕ) → Live (b .holders u .status) → live (transactorAt s u) ≡ true
+  unfolding view
+  live-of u k = live-test (transactorAt s u .status) .1 (rw (r .holders u .status) k)
+
+  -- a mark of a map: its take rests on that life
+  pub stands-rests : {t u : ℕ} {h : History} → StandsIn s t u h → RestsOn b t u (incarnationOf h)
+  unfolding view
+  stands-rests {t} {u} {h} (obstacle.in-state k e) = from-start (in-state (subst (λ (x : History). In u (incarnationOf x) (b .holders t .state)) (sym e) (cell-has (view-held (transactorAt s t .state) u k) (r .holders t .state u) .has)))
+  stands-rests {t} {u} {h} (obstacle.in-creation k e) = from-start (in-creation (subst (λ (x : History). In u (incarnationOf x) (b .holders t .creation)) (sym e) (cell-has (view-held (transactorAt s t .creation) u k) (r .holders t .creation u) .has)))
+
+  withdrawn-mark : {u : ℕ} {h : History} → WithdrawnMark s u h → SupersededOrAnnihilated b u (incarnationOf h)
+  withdrawn-mark {u} {h} m = neither
+      (λ p. m .not-present (live-of u (p .live)) (p .is ∙ sym (life-is u)))
+      (λ c. m .not-checkpointed (live-of u (c .live)) (subst (Checkpointed (incarnationOf h)) (sym (life-is u)) (c .is)))
+
+-- ---- what each answer means in the book
+
+-- Unstable t: take t is named, and not frozen.
+pub record UnstableMeans (b : Provenance) (v t : ℕ) : Type 0 where
+  pub names : named v t ≡ true
+  pub unstable : b .holders t .history .stable ≡ false
+
+-- Outside t u: the named take t rests on the present life of take u, which is not signed, and which the volume does not name.
+pub record OutsideMeans (b : Provenance) (v t u : ℕ) : Type 0 where
+  pub names : named v t ≡ true
+  pub unnamed : named v u ≡ false
+  pub present : Present b u (b .holders u .history .incarnation)
+  pub rests : RestsOn b t u (b .holders u .history .incarnation)
+  pub uncheckpointed : CheckpointedNow b u (b .holders u .history .incarnation) → ⊥
+
+-- Superseded t u: the named take t rests on a withdrawn life of take u.
+pub record WithdrawnMeans (b : Provenance) (v t u : ℕ) : Type 0 where
+  pub names : named v t ≡ true
+  pub incarnation : Incarnation
+  pub rests : RestsOn b t u incarnation
+  pub withdrawn : SupersededOrAnnihilated b u incarnation
+
+module _ {y : Layout} (z : Fitting y) {img : List ℕ} {τ : Trace y img} {s : State} {b : Provenance} (k : Point y img τ s b) where
+  answered : (v : ℕ) (o : Obstacle) → obstacleOf y s v ≡ o → Obstructs y s v o
+  answered v o e = subst (Obstructs y s v) e (obstructs y s v)
+
+  pub unstable-means : (v t : ℕ) → obstacleOf y s v ≡ Unstable t → UnstableMeans b v t
+  unfolding view
+  unstable-means v t e = go (answered v (Unstable t) e)
+    where
+      go : Obstructs y s v (Unstable t) → UnstableMeans b v t
+      go (is-unstable low n q) = record { names = n; unstable = sym (ap (λ (m : HistoryView). m .stable) (own-history (related z k .holders t))) ∙ ap (λ (m : HistoryView). m .stable) (own-view (well z k) t) ∙ q }
+
+  pub outside-means : (v t u : ℕ) → obstacleOf y s v ≡ Outside t u → OutsideMeans b v t u
+  outside-means v t u e = go (answered v (Outside t u) e)
+    where
+      go : Obstructs y s v (Outside t u) → OutsideMeans b v t u
+      go (is-outside {h = h} low low-u n stands l q m) = record {
+        names = n;
+        unnamed = m;
+        present = record { live = live-to (well z k) (related z k) u l; is = refl };
+        rests = subst (RestsOn b t u) (q ∙ life-is (well z k) (related z k) u) (stands-rests (well z k) (related z k) stands);
+        uncheckpointed = λ c. checkpointed-irrefl (c .is);
+      }
+
+  pub withdrawn-means : (v t u : ℕ) → obstacleOf y s v ≡ Superseded t u → WithdrawnMeans b v t u
+  withdrawn-means v t u e = go (answered v (Superseded t u) e)
+    where
+      go : Obstructs y s v (Superseded t u) → WithdrawnMeans b v t u
+      go (is-superseded {h = h} low low-u n stands m) = record {
+        names = n;
+        incarnation = incarnationOf h;
+        rests = stands-rests (well z k) (related z k) stands;
+        withdrawn = withdrawn-mark (well z k) (related z k) m;
+      }
+
+  -- And then no volume with take t can be signed, after whatever steps, signings included, as long as take t keeps its present life.
+  pub withdrawn-for-good : (v t u : ℕ) → obstacleOf y s v ≡ Superseded t u → {after : State} → Further y s after → SameLife s after t → (g : ℕ) → named g t ≡ true → ReadyGroup y after g → ⊥
+  withdrawn-for-good v t u e o same =
+      let m = withdrawn-means v t u e in
+      never-ready z (well z k) (related z k) (m .rests) (m .withdrawn) o same
