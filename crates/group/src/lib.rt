@@ -32,7 +32,7 @@ pub fn is_named(group: u16, t: usize) -> bool
 }
 
 // The own history of transactor t.
-fn own(image: &[u8], t: usize) -> History
+pub fn own(image: &[u8], t: usize) -> History
     requires { ⌜ Good (now image) × (t < base .transactors) ⌝ }
     ensures { λ r. ⌜ r ≡ ownHistory t (transactorAt (unpack base (now (image .entry))) t) ⌝ }
 {
@@ -100,7 +100,7 @@ pub fn refusal(image: &[u8], group: u16) -> u8
 }
 
 // Whether transactor u is ready or busy.
-fn is_live(image: &[u8], u: usize) -> bool
+pub fn is_live(image: &[u8], u: usize) -> bool
     requires { ⌜ Good (now image) × (u < base .transactors) ⌝ }
     ensures { λ r. ⌜ r ≡ live (transactorAt (unpack base (now (image .entry))) u) ⌝ }
 {

@@ -1,6 +1,9 @@
 // The take ledger: a session lives in a lent image of IMAGE bytes, which each call takes as the last one left it.
 mod closure;
 
+use grounds::all_resting;
+use grounds::dependents_of;
+use grounds::obstacle::obstacle_of;
 use group::needs;
 use image::form;
 use image::head;
@@ -19,7 +22,9 @@ use image::layout::TRANSACTORS;
 use image::limits;
 use image::messages;
 use maps::stability;
+use rules::Dependents;
 use rules::Grouped;
+use rules::Obstacle;
 use rules::Offered;
 use rules::numbers;
 use steps::packed;
@@ -32,7 +37,7 @@ ghost use Rattle.rules.specs.Step.{stepBytes};
 ghost use Rattle.rules.specs.Internal.Good.{Good};
 ghost use Rattle.rules.specs.Calls.{ranImage, ranReplies, queryRefusal, offeredNumber};
 ghost use Rattle.rules.specs.Groups.{groupNumber};
-ghost use Rattle.rules.specs.Promises.{BeginPromise, RunPromise, OfferPromise, SmallestPromise, HeardPromise, CountPromise, ShowPromise};
+ghost use Rattle.rules.specs.Promises.{BeginPromise, RunPromise, OfferPromise, SmallestPromise, HeardPromise, CountPromise, DependentsPromise, ObstaclePromise, ShowPromise};
 
 // ---- begin
 
@@ -204,6 +209,46 @@ pub fn all_heard_stable(image: &[u8], transactor: usize, refusal: &mut u8) -> bo
         return false;
     }
     stability::others_stable(image, at + CREATION, transactor)
+}
+
+// Who rests on the transactor's present incarnation, directly and through others, who is busy with it, and how many waiting messages carry
+// it. The lent number takes the refusal, 16, 19, 21 or 22, or 0; refused, nothing.
+pub fn dependents(image: &[u8], transactor: usize, refusal: &mut u8) -> Dependents
+    ensures { λ r. ⌜ DependentsPromise base (now (image .entry)) transactor (now (refusal .exit)) r ⌝ }
+{
+    let number = query_refusal(image, transactor);
+    *refusal = number;
+    if number != 0 {
+        return Dependents {
+            resting: 0,
+            through: 0,
+            unfinished: 0,
+            carried: 0,
+        };
+    }
+    let through = closure::closure(all_resting(image), transactor);
+    dependents_of(image, transactor, through)
+}
+
+// Why the group can't be checkpointed now; nothing exactly if it can. The lent number takes the refusal, 16, 19, or what the signing would get,
+// 29, 21, 22 or 30, or 0; refused, nothing.
+pub fn obstacle(image: &[u8], members: u16, refusal: &mut u8) -> Obstacle
+    ensures { λ r. ⌜ ObstaclePromise base (now (image .entry)) members (now (refusal .exit)) r ⌝ }
+{
+    if image.len() != IMAGE {
+        *refusal = numbers::WRONG_LENGTH;
+        return Obstacle::Nothing;
+    }
+    if !form::formed(image) {
+        *refusal = numbers::ILL_FORMED;
+        return Obstacle::Nothing;
+    }
+    let number = group::refusal(image, members);
+    *refusal = number;
+    if number != 0 {
+        return Obstacle::Nothing;
+    }
+    obstacle_of(image, members)
 }
 
 // ---- show

@@ -1,0 +1,76 @@
+-- One test after the other.
+use mathlib.Core.Bool.{not}
+use mathlib.Core.Path.{sym, ap, _∙_}
+use borrow.Author.Needs.{needs}
+use Rattle.octets.proofs.Tests.{passed, failed}
+use Rattle.rules.specs.Layout.{base}
+use Rattle.rules.proofs.Groups.Ready.{own-count}
+use Rattle.grounds.proofs.Blocking.{mark-absent, mark-dead, mark-member, mark-outside, mark-signed, mark-withdrawn}
+use Rattle.grounds.proofs.obstacle.mark.Statement.{statement}
+use Rattle.grounds.proofs.obstacle.mark.Tie as tie
+
+same-as-requires : tie.Need-same-as-requires
+same-as-requires c κs = (search needs, own-count _ (search needs) _ (search needs) _ (c .own .ensures))
+
+checkpointed-by-requires : tie.Need-checkpointed-by-requires
+checkpointed-by-requires c κs = (search needs, own-count _ (search needs) _ (search needs) _ (c .before .before .own .ensures))
+
+returns-2 : tie.Need-returns-2
+returns-2 c =
+    let p = c .before .before in
+    mark-dead base _ _ _ _ _ (ap not (sym (p .before .present .ensures)) ∙ p .if1 .left) (failed (c .before .is-live .ensures) (c .if2 .taken))
+
+returns-3 : tie.Need-returns-3
+returns-3 c =
+    let o = c .before .before .before .before in
+    let l = o .before in
+    let p = l .before .before in
+    mark-member base _ _ _ _ _ (ap not (sym (p .before .present .ensures)) ∙ p .if1 .left) (passed (l .before .is-live .ensures) (l .if2 .left)) _ (o .own .ensures)
+    (sym (c .before .before .before .same-as .ensures) ∙ c .before .before .if3 .taken) (sym (c .before .is-named .ensures) ∙ c .if4 .taken)
+
+returns-4 : tie.Need-returns-4
+returns-4 c =
+    let o = c .before .before .before .before in
+    let l = o .before in
+    let p = l .before .before in
+    mark-outside base _ _ _ _ _ (ap not (sym (p .before .present .ensures)) ∙ p .if1 .left) (passed (l .before .is-live .ensures) (l .if2 .left)) _ (o .own .ensures)
+    (sym (c .before .before .before .same-as .ensures) ∙ c .before .before .if3 .taken) (sym (c .before .is-named .ensures) ∙ c .if4 .left)
+
+returns-5 : tie.Need-returns-5
+returns-5 c =
+    let o = c .before .before .before .before in
+    let l = o .before in
+    let p = l .before .before in
+    mark-signed base _ _ _ _ _ (ap not (sym (p .before .present .ensures)) ∙ p .if1 .left) (passed (l .before .is-live .ensures) (l .if2 .left)) _ (o .own .ensures)
+    (sym (c .before .before .before .same-as .ensures) ∙ c .before .before .if3 .left) (sym (c .before .checkpointed-by .ensures) ∙ c .if5 .taken)
+
+returns-6 : tie.Need-returns-6
+returns-6 c =
+    let o = c .before .before .before .before in
+    let l = o .before in
+    let p = l .before .before in
+    mark-withdrawn base _ _ _ _ _ (ap not (sym (p .before .present .ensures)) ∙ p .if1 .left) (passed (l .before .is-live .ensures) (l .if2 .left)) _ (o .own .ensures)
+    (sym (c .before .before .before .same-as .ensures) ∙ c .before .before .if3 .left) (sym (c .before .checkpointed-by .ensures) ∙ c .if5 .left)
+
+pub mark-spec : {M : Type 1} → statement M
+mark-spec =
+    tie.close
+    (tie.spec
+    (λ c κs. search needs)
+    (λ c. mark-absent base _ _ _ _ _ (ap not (sym (c .before .present .ensures)) ∙ c .if1 .taken))
+    (λ c κs. search needs)
+    (λ c. search needs)
+    (λ c. search needs)
+    returns-2
+    (λ c κs. search needs)
+    same-as-requires
+    (λ c κs. search needs)
+    returns-3
+    (λ c. search needs)
+    (λ c. search needs)
+    returns-4
+    checkpointed-by-requires
+    returns-5
+    (λ c. search needs)
+    (λ c. search needs)
+    returns-6)
