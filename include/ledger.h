@@ -62,7 +62,7 @@ enum ledger_outcome {
     LEDGER_WRONG_PART = 17,   /* part not inside the list, not a multiple of 8, over 8,192 bytes; also worst window */
     LEDGER_WRONG_ROOM = 18,   /* replies, or out, not as long as the part */
     LEDGER_ILL_FORMED = 19,   /* image ill-formed */
-    /* steps; 21, 22 also offer, smallest group and all heard stable, 24 also show */
+    /* steps; 21, 22 also offer, smallest group, all heard stable and dependents, 24 also show, 29, 21, 22, 30 also obstacle */
     LEDGER_MALFORMED = 20,    /* kind 13 to 15, or an unused field or the zero bits not zero */
     LEDGER_UNOPENED = 21,     /* acting transactor, addressee or named one not opened */
     LEDGER_GONE = 22,         /* acting, receiving or named transactor annihilated */
@@ -97,6 +97,28 @@ struct ledger_window {
     size_t place;
 };
 
+/* What rests on the present incarnation of a transactor; groups as their bits. */
+struct ledger_dependents {
+    uint16_t resting;    /* the live transactors whose state or creation map has it, itself among them */
+    uint16_t through;    /* those, whoever rests on the present incarnation of one of those, and so on; itself among them */
+    uint16_t unfinished; /* the busy transactors whose behaviour map has it */
+    uint16_t carried;    /* how many waiting messages have it in their maps */
+};
+
+/* Why a group can't be checkpointed. */
+enum ledger_obstacle_kind {
+    LEDGER_NOTHING = 0,
+    LEDGER_UNSTABLE = 1,  /* the transactor is named and not stable */
+    LEDGER_OUTSIDE = 2,   /* it is named and rests on the present incarnation of ground, which is not named */
+    LEDGER_SUPERSEDED = 3 /* it is named and rests on an incarnation of ground that is superseded or annihilated (document 01: withdrawn) */
+};
+
+struct ledger_obstacle {
+    uint8_t kind;
+    uint8_t transactor;
+    uint8_t ground;
+};
+
 /* Begins a fresh session, which opens at most so many transactors (1 to 16), has at most so many messages waiting (1 to 32) and
  * checkpoints a transactor at most so often (1 to 15): the image is all zero bytes but for these limits, whatever it held, and the answer
  * is 0. 16, 33: no byte is changed. */
@@ -124,6 +146,16 @@ size_t ledger_ready_count(const uint8_t *image, size_t image_length, size_t size
 /* 1 exactly if every history in the transactor's state and creation maps but its own is stable, also where there is no other, else 0;
  * *refusal is 0. Refused with 16, 19, 21 or 22, which is put in *refusal: 0. */
 uint8_t ledger_all_heard_stable(const uint8_t *image, size_t image_length, size_t transactor, uint8_t *refusal);
+
+/* What rests on the present incarnation of the transactor: if it falls now, those of resting and through can't be checkpointed any more, but
+ * for itself, as long as they keep their own; *refusal is 0. Refused with 16, 19, 21 or 22, which is put in *refusal: all are 0. */
+struct ledger_dependents ledger_dependents(const uint8_t *image, size_t image_length, size_t transactor, uint8_t *refusal);
+
+/* Why the group (its bits) can't be checkpointed now: the first reason, LEDGER_NOTHING exactly if it can; *refusal is 0. An unstable transactor
+ * comes first; then the maps are looked at, transactor by transactor and entry by entry. With LEDGER_SUPERSEDED no group with that transactor
+ * can be checkpointed as long as it keeps its present incarnation. Refused with 16, 19, or what the signing would get, 29, 21, 22 or 30, which is
+ * put in *refusal: all are 0. */
+struct ledger_obstacle ledger_obstacle(const uint8_t *image, size_t image_length, uint16_t members, uint8_t *refusal);
 
 /* The short list of the steps of list from byte start up to byte end: without those that a run from the image refuses, and without
  * the reads whose map is emptied unused. Run from the same image it leaves the same image, and each of its steps has its earlier

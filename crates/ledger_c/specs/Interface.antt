@@ -1,4 +1,4 @@
--- How the answers of offer, smallest group, all heard frozen and show are put in numbers.
+-- How the answers of offer, smallest group, all heard frozen, obstacle and show are put in numbers.
 use Prim.Native.Nat.{ℕ, _+_}
 use mathlib.Core.Bool.{Bool, true, false}
 use mathlib.Core.List.{List}
@@ -9,7 +9,10 @@ use Rattle.rules.specs.Layout.{Layout, messageAddress, dependencesAt, mapBytes}
 use Rattle.rules.specs.State.{placeOf}
 use Rattle.rules.specs.Pack.{unpack}
 use Rattle.rules.specs.Calls.{showRefusal}
+use Rattle.rules.specs.declared.Obstacle.{Obstacle}
+use Rattle.rules.specs.Obstacle.{obstacleNumbers}
 use Rattle.ledger_c.specs.declared.Part.{Part}
+use Rattle.ledger_c.specs.declared.Reason.{Reason}
 
 -- no parcel has this number: they run 0 to 65,534
 abbrev pub noMessage : ℕ
@@ -37,6 +40,10 @@ groupOf v = pick (eqb v 0) none (some v)
 abbrev pub numberFor : Bool → ℕ
 numberFor true = 1
 numberFor false = 0
+
+-- The numbers that stand for an answer of obstacle.
+abbrev pub reasonFor : Obstacle → Reason
+reasonFor o = record { kind = obstacleNumbers o .kind; transactor = obstacleNumbers o .transactor; ground = obstacleNumbers o .ground }
 
 -- The bytes of the image that hold a waiting parcel's map: where they start, and how many. Refused: an empty part.
 unfoldable pub shownPart : Layout → List ℕ → ℕ → Part

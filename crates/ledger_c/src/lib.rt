@@ -4,18 +4,21 @@ use image::layout::DEPENDENCES;
 use image::layout::FIRST_MESSAGE;
 use image::layout::MESSAGE;
 use image::messages;
+use rules::Dependents;
 use rules::Grouped;
+use rules::Obstacle;
 use rules::Offered;
 use window::Worst;
 ghost use mathlib.Core.Path.{_≡_};
 ghost use Rattle.rules.specs.Layout.{base, limitsOf};
 ghost use Rattle.rules.specs.Calls.{queryRefusal, showRefusal};
-ghost use Rattle.rules.specs.Promises.{BeginPromise, RunPromise, OfferPromise, SmallestPromise, CountPromise};
+ghost use Rattle.rules.specs.Promises.{BeginPromise, RunPromise, OfferPromise, SmallestPromise, CountPromise, DependentsPromise};
 ghost use Rattle.rules.specs.Heard.{heardAnswer};
+ghost use Rattle.rules.specs.Obstacle.{obstacleRefusal, obstacleAnswer};
 ghost use Rattle.rules.specs.Thin.{thinRefusal, thinOut, thinCount};
 ghost use Rattle.rules.specs.Convert.{forwardAnswer, forwardImage, backAnswer, backImage};
 ghost use Rattle.window.specs.Window.{windowRefusal, worstWindow};
-ghost use Rattle.ledger_c.specs.Interface.{offeredBy, groupOf, numberFor, shownPart};
+ghost use Rattle.ledger_c.specs.Interface.{offeredBy, groupOf, numberFor, reasonFor, shownPart};
 
 // The number that stands for no message.
 pub const NONE: u16 = 65535;
@@ -25,6 +28,15 @@ pub const NONE: u16 = 65535;
 pub struct Part {
     pub offset: usize,
     pub length: usize,
+}
+
+// Why a group can't be checkpointed, in numbers: the kind, 0 nothing, 1 unstable, 2 outside, 3 superseded; the named transactor; and the one
+// that it rests on.
+#[repr(C)]
+pub struct Reason {
+    pub kind: u8,
+    pub transactor: u8,
+    pub ground: u8,
 }
 
 // Begins a fresh session that opens so many transactors, keeps so many messages waiting and checkpoints a transactor so often: 0, or
@@ -97,6 +109,45 @@ pub extern "C" fn ledger_all_heard_stable(image: &[u8], transactor: usize, refus
         return 1;
     }
     0
+}
+
+// Who rests on the transactor's present incarnation, directly and through others, who is busy with it, and how many waiting messages carry
+// it. The lent number takes the refusal, 16, 19, 21 or 22, or 0; refused, all are 0.
+#[no_mangle]
+pub extern "C" fn ledger_dependents(image: &[u8], transactor: usize, refusal: &mut u8) -> Dependents
+    ensures { λ r. ⌜ DependentsPromise base (now (image .entry)) transactor (now (refusal .exit)) r ⌝ }
+{
+    ledger::dependents(image, transactor, refusal)
+}
+
+// Why the group can't be checkpointed now; all are 0 exactly if it can. The lent number takes the refusal, 16, 19, or what the signing would
+// get, 29, 21, 22 or 30, or 0; refused, all are 0.
+#[no_mangle]
+pub extern "C" fn ledger_obstacle(image: &[u8], members: u16, refusal: &mut u8) -> Reason
+    ensures { λ r. ⌜ (now (refusal .exit) ≡ obstacleRefusal base (now (image .entry)) members) × (r ≡ reasonFor (obstacleAnswer base (now (image .entry)) members)) ⌝ }
+{
+    match ledger::obstacle(image, members, refusal) {
+        Obstacle::Nothing => Reason {
+            kind: 0,
+            transactor: 0,
+            ground: 0,
+        },
+        Obstacle::Unstable(t) => Reason {
+            kind: 1,
+            transactor: t,
+            ground: 0,
+        },
+        Obstacle::Outside(t, u) => Reason {
+            kind: 2,
+            transactor: t,
+            ground: u,
+        },
+        Obstacle::Superseded(t, u) => Reason {
+            kind: 3,
+            transactor: t,
+            ground: u,
+        },
+    }
 }
 
 // Writes the short list of the steps from start up to end, with zeros after it: how many steps are kept. The lent number takes the
