@@ -42,7 +42,7 @@ fn compare(image: &[u8], at: usize, a: usize, b: usize) -> u8
     if n < a + maps::SIZE || n < b + maps::SIZE || n < at + maps::SIZE {
         return BAD;
     }
-    let known = DependenceMap::load(image, a).join_from(image, b);
+    let known = DependenceMap::joined(image, a, b);
     let found = known.compare(image, at).packed;
     match found {
         Comparison::Superseded(t) => print::number(t),

@@ -17,7 +17,7 @@ use Rattle.maps.specs.Packed.{mapSize, packEntry, packEntryAt, packMap, 
 use Rattle.maps.specs.Internal.Fitting.{ExactEntry, Exact, joinedBytes}
 use Rattle.maps.proofs.Map.{Entry, Sized, same-map, sized-withEntry, held-withEntry, history-withEntry, held-withEntry-other, history-withEntry-other, held-singleton, history-singleton, held-singleton-other, joined-pick, joined-pick-held, choosesRightAt, sized-join, held-join, history-join, held-chosen, history-chosen, held-join-off, history-join-off}
 use Rattle.maps.proofs.Packed.{length-packMap, entry-packMap}
-use Rattle.maps.proofs.Placed.{put-map-more, entry-here, held-in, history-in}
+use Rattle.maps.proofs.Placed.{put-map-more, put-map-all, entry-here, held-in, history-in}
 
 -- ---- a map joined with one history
 
@@ -136,3 +136,9 @@ module _ (w l n : ℕ) (s : List ℕ) (at : ℕ) where
         (e ∙ ap (λ (x : List ℕ). put (at + historySize w l * i) x s')
         (ap (joinedBytes w l (heldAt m i) (historyAt m i)) still ∙ bytes-at m i below))
         (omega arith)
+
+  pub into-all : {m m' : DependenceMap} (i : ℕ) (s' : List ℕ) → s' ≡ put at (packMap w l i (joinOf n m (mapIn w l n s at))) s → i ≡ n → m ≡ m'
+      → s' ≡ put at (packMap w l n (joinOf n m' (mapIn w l n s at))) s
+  into-all {m} i s' e h f =
+      put-map-all w l at (joinOf n m (mapIn w l n s at)) i n s s' e h
+      ∙ ap (λ (x : DependenceMap). put at (packMap w l n (joinOf n x (mapIn w l n s at))) s) f

@@ -2,6 +2,7 @@ mod Compared
 pub mod Heard
 pub mod Informing
 mod Joins
+mod Loads
 mod Loops
 pub mod Map
 pub mod News

@@ -102,26 +102,36 @@ impl DependenceMap {
         self
     }
 
-    // Joined with the map packed from at on, whose entries are read one by one.
-    pub fn join_from(mut self, s: &[u8], at: usize) -> DependenceMap
-        requires { ⌜ at + mapSize width places entries ≤ length (now s) ⌝ }
-        ensures { λ r. ⌜ r ≡ joinOf entries self (mapIn width places entries (now (s .entry)) at) ⌝ }
+    // The map packed at left, by value, joined with the one packed at right, whose entries are read one by one. Two loops in one
+    // function, as measured: a map that is passed on is copied.
+    pub fn joined(s: &[u8], left: usize, right: usize) -> DependenceMap
+        requires { ⌜ (left + mapSize width places entries ≤ length (now s)) × (right + mapSize width places entries ≤ length (now s)) ⌝ }
+        ensures { λ r. ⌜ r ≡ joinOf entries (mapIn width places entries (now (s .entry)) left) (mapIn width places entries (now (s .entry)) right) ⌝ }
     {
-        let end = looked_at(s, at);
+        let mut r = DependenceMap::EMPTY;
+        let end = looked_at(s, left);
         let mut i: usize = 0;
         while i < end {
-            let right = at + marks::SIZE * i;
-            let p = self.held[i];
-            let x = self.histories[i];
-            let q = History::present(s, right);
-            let y = History::load(s, right);
-            if chooses_right(p, x, q, y) {
-                self.held[i] = q;
-                self.histories[i] = y;
-            }
+            let at = left + marks::SIZE * i;
+            r.held[i] = History::present(s, at);
+            r.histories[i] = History::load(s, at);
             i += 1;
         }
-        self
+        let more = looked_at(s, right);
+        let mut k: usize = 0;
+        while k < more {
+            let at = right + marks::SIZE * k;
+            let p = r.held[k];
+            let x = r.histories[k];
+            let q = History::present(s, at);
+            let y = History::load(s, at);
+            if chooses_right(p, x, q, y) {
+                r.held[k] = q;
+                r.histories[k] = y;
+            }
+            k += 1;
+        }
+        r
     }
 
     // Joined with the map of h for transactor i alone.
@@ -138,18 +148,28 @@ impl DependenceMap {
         self
     }
 
-    // Joined, as the left one, into the map packed from at on, in which only entries that change are stored.
-    pub fn join_into(self, image: &mut [u8], at: usize)
-        requires { ⌜ (at + mapSize width places entries ≤ length (now image)) × Bounded places self × Exact width places entries (now image) at ⌝ }
-        ensures { λ _. ⌜ now (image .exit) ≡ put at (packMap width places entries
-            (joinOf entries self (mapIn width places entries (now (image .entry)) at))) (now (image .entry)) ⌝ }
+    // The map packed at left, by value, joined as the left one into the map packed at right, in which only entries that change are
+    // stored. Two loops, as in joined.
+    pub fn join_into(image: &mut [u8], left: usize, right: usize)
+        requires { ⌜ (left + mapSize width places entries ≤ length (now image)) × (right + mapSize width places entries ≤ length (now image)) × Exact width places entries (now image) right ⌝ }
+        ensures { λ _. ⌜ now (image .exit) ≡ put right (packMap width places entries
+            (joinOf entries (mapIn width places entries (now (image .entry)) left) (mapIn width places entries (now (image .entry)) right))) (now (image .entry)) ⌝ }
     {
+        let mut r = DependenceMap::EMPTY;
+        let end = looked_at(image, left);
         let mut i: usize = 0;
-        while i < ENTRIES {
-            let p = self.held[i];
-            let h = self.histories[i];
-            join_at(image, at + marks::SIZE * i, p, h);
+        while i < end {
+            let at = left + marks::SIZE * i;
+            r.held[i] = History::present(image, at);
+            r.histories[i] = History::load(image, at);
             i += 1;
+        }
+        let mut k: usize = 0;
+        while k < ENTRIES {
+            let p = r.held[k];
+            let h = r.histories[k];
+            join_at(image, right + marks::SIZE * k, p, h);
+            k += 1;
         }
     }
 

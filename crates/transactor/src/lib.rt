@@ -95,8 +95,7 @@ pub fn carry(part: &[u8], t: usize) -> DependenceMap
     ensures { λ r. ⌜ r ≡ carried base t (unpackTransactor base (now (part .entry))) ⌝ }
 {
     let h = own(part, t);
-    let creation = DependenceMap::load(part, CREATION);
-    creation.join_from(part, BEHAVIOUR).join_entry(t, h)
+    DependenceMap::joined(part, CREATION, BEHAVIOUR).join_entry(t, h)
 }
 
 // Falls: annihilated if never checkpointed, else the next incarnation; 28 at the last one.
@@ -130,8 +129,7 @@ fn read(part: &mut [u8]) -> Acted
     requires { ⌜ GoodPart (now part) ⌝ }
     ensures { λ r. ⌜ Acts (readBy base (unpackTransactor base (now (part .entry)))) (r .outcome) (r .value) (now (part .exit)) ⌝ }
 {
-    let state = DependenceMap::load(part, STATE);
-    state.join_into(part, BEHAVIOUR);
+    DependenceMap::join_into(part, STATE, BEHAVIOUR);
     let value = octets::load32(part, VALUE);
     Acted {
         outcome: numbers::DONE,
@@ -148,8 +146,7 @@ fn write(part: &mut [u8], t: usize, value: u32) -> Acted
         return outcome_of(numbers::HELD);
     }
     octets::store32(part, VALUE, value);
-    let behaviour = DependenceMap::load(part, BEHAVIOUR);
-    behaviour.join_into(part, STATE);
+    DependenceMap::join_into(part, BEHAVIOUR, STATE);
     outcome_of(numbers::DONE)
 }
 

@@ -45,7 +45,7 @@ pub fn accept(image: &mut [u8], t: usize, k: usize) -> Acted
     let state = at + STATE;
     let creation = at + CREATION;
     let m = FIRST_MESSAGE + MESSAGE * k + DEPENDENCES;
-    let known = DependenceMap::load(image, state).join_from(image, creation);
+    let known = DependenceMap::joined(image, state, creation);
     let answers = known.compare(image, m);
     if answers.unrelated {
         return crate::outcome_of(numbers::UNRELATED);

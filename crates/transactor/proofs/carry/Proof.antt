@@ -8,8 +8,7 @@ use Rattle.transactor.proofs.carry.Tie as tie
 
 returns : tie.Need-returns
 unfolding carried unpackTransactor
-returns c =
-    let d = c .before in c .join-entry .ensures ∙ rw (d .join-from .ensures, d .before .load .ensures, d .before .before .own .ensures)
+returns c = let d = c .before in c .join-entry .ensures ∙ rw (d .joined .ensures, d .before .own .ensures)
 
 pub carry-spec : {M : Type 1} → statement M
-carry-spec = tie.close (tie.spec (λ c κs. search needs) (λ c κs. search needs) (λ c κs. search needs) (λ c κs. search needs) returns)
+carry-spec = tie.close (tie.spec (λ c κs. search needs) (λ c κs. search needs) (λ c κs. search needs) returns)

@@ -2,7 +2,6 @@
 use mathlib.Core.Path.{refl, sym, _∙_}
 use native.Mathlib.Omega.{arith}
 use borrow.Author.Needs.{needs}
-use Rattle.maps.proofs.Packed.{bounded-unpack}
 use Rattle.rules.specs.Layout.{base, behaviourAt}
 use Rattle.rules.specs.Rules.{readBy}
 use Rattle.rules.specs.Pack.{unpackTransactor}
@@ -14,9 +13,9 @@ use Rattle.transactor.proofs.read.Tie as tie
 join-into-requires : tie.Need-join-into-requires
 unfolding unpackTransactor
 join-into-requires c κs =
-    let p = c .before .before .before .before .pre in (
+    let p = c .before .before .pre in (
       search needs,
-      rw (c .before .load .ensures) (bounded-unpack _ _ _ _ (omega arith)),
+      search needs,
       map-exact base _ (behaviourAt base) _ (omega arith) (put-behaviour base _ _) (sym (p .back)) refl,
     )
 
@@ -24,12 +23,11 @@ returns : tie.Need-returns
 unfolding readBy unpackTransactor
 returns c =
     let d = c .before .before .before .before in
-    let e = d .before .before in
     record {
       outcome = refl;
       value = value-behind base _ _ (search needs) (d .join-into .ensures) (c .load32 .ensures);
-      bytes = stored base _ _ _ _ (put-behaviour base _ _) (sym (e .before .before .before .pre .back)) (d .join-into .ensures ∙ rw (e .load .ensures));
+      bytes = stored base _ _ _ _ (put-behaviour base _ _) (sym (d .before .before .before .pre .back)) (d .join-into .ensures);
     }
 
 pub read-spec : {M : Type 1} → statement M
-read-spec = tie.close (tie.spec (λ c κs. search needs) join-into-requires (λ c κs. search needs) (λ c. search needs) returns)
+read-spec = tie.close (tie.spec join-into-requires (λ c κs. search needs) (λ c. search needs) returns)

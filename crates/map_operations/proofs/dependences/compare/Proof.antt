@@ -7,7 +7,7 @@ use Rattle.map_operations.proofs.dependences.compare.Tie as tie
 
 compare-requires : tie.Need-compare-requires
 compare-requires c κs =
-    (search needs, rw (c .join-from .ensures, c .before .load .ensures) (bounded-join _ _ _ _ (bounded-unpack _ _ _ _ (omega arith)) (bounded-unpack _ _ _ _ (omega arith))))
+    (search needs, rw (c .joined .ensures) (bounded-join _ _ _ _ (bounded-unpack _ _ _ _ (omega arith)) (bounded-unpack _ _ _ _ (omega arith))))
 
 pub compare-spec : {M : Type 1} → statement M
 compare-spec =
@@ -17,7 +17,6 @@ compare-spec =
     (λ c. search needs)
     (λ c. search needs)
     (λ c. search needs)
-    (λ c κs. search needs)
     (λ c κs. search needs)
     compare-requires
     (λ c. search needs)
