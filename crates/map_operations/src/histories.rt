@@ -1,13 +1,14 @@
 // Histories, packed in the image: what the crate marks decides.
 use image::limits::LAST;
 use marks::History;
+use marks::Relation;
 use script::bytes;
 use script::numbers;
 use script::print;
 use script::print::BAD;
 use script::print::PRINTED;
 use script::print::SILENT;
-ghost use Prim.Native.Nat.{_<_};
+ghost use Prim.Native.Nat.{_<_, _≤_};
 
 // A history of a flag, an incarnation number and a list: the numbers from the second on, of which there are 2 to 17.
 fn history(n: &[u8]) -> History {
@@ -79,6 +80,17 @@ fn newer(image: &mut [u8], a: usize, b: usize, at: usize) -> u8
     store(image, at, x)
 }
 
+// Whether x is stale by y.
+fn superseded(x: History, y: History) -> bool
+    requires { ⌜ (x .count ≤ 15) × (y .count ≤ 15) ⌝ }
+{
+    let r = x.compare(y);
+    match r {
+        Relation::LeftSuperseded => true,
+        _ => false,
+    }
+}
+
 // S, C, I: stale by, signed, of one life.
 fn related(op: u8, x: History, y: History) -> bool {
     let n = x.count as usize;
@@ -87,7 +99,7 @@ fn related(op: u8, x: History, y: History) -> bool {
         return false;
     }
     match op {
-        b'S' => x.superseded_by(y),
+        b'S' => superseded(x, y),
         b'C' => x.checkpointed_in(y),
         _ => x.same_incarnation(y),
     }

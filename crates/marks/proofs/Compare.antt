@@ -9,9 +9,9 @@ use lib.ListN.{length, take, getD, length-append, length-take}
 use lib.Seq.{length-take-le, take-take, take-suc, getD-take}
 use borrow.Author.Tests.{lt-ltb, le-ltb, eq-eqb, ne-eqb}
 use Rattle.octets.specs.Bytes.{pick, _and_}
-use Rattle.octets.proofs.Tests.{or-none, and-true, and-false}
+use Rattle.octets.proofs.Tests.{and-true, and-false}
 use Rattle.marks.specs.declared.History.{History}
-use Rattle.marks.specs.Incarnation.{sameList, beginsWith, strictPrefix, supersededBy, checkpointedIn, sameIncarnation}
+use Rattle.marks.specs.Incarnation.{sameList, beginsWith, strictPrefix, checkpointedIn, sameIncarnation}
 use Rattle.marks.specs.declared.Relation.the-variants.{Same, LeftCheckpointed, LeftSuperseded, RightSuperseded, Unrelated}
 use Rattle.marks.specs.History.{incarnationOf}
 use Rattle.marks.specs.Relation.{byNumbers, byNextEntry, relationOf}
@@ -50,43 +50,6 @@ module _ (l : ℕ) (a b : History) (pa : length (a .checkpoints) ≡ l) (pb : le
   begins-test : a .count ≤ b .count → beginsWith (incarnationOf b .checkpoints) (incarnationOf a .checkpoints) ≡ agree a b
   unfolding beginsWith
   begins-test h = rw (la, take-take (a .count) (b .count) (b .checkpoints) h)
-
-  -- ---- superseded (stale by)
-
-  pub superseded-short : b .count < a .count → false ≡ supersededBy (incarnationOf a) (incarnationOf b)
-  unfolding supersededBy strictPrefix
-  superseded-short h = rw (apart (λ e. omega arith), la, lb, le-ltb (a .count) (b .count) (omega arith))
-
-  superseded-longer : a .count < b .count
-      → supersededBy (incarnationOf a) (incarnationOf b) ≡ agree a b and ltb (a .incarnation) (getD (b .checkpoints) (a .count) 0)
-  unfolding supersededBy strictPrefix
-  superseded-longer h = rw (
-    apart (λ e. omega arith),
-    begins-test (omega arith),
-    la,
-    lb,
-    lt-ltb (a .count) (b .count) h,
-    getD-take (b .count) (b .checkpoints) (a .count) 0 h,
-  )
-
-  superseded-even : a .count ≡ b .count
-      → supersededBy (incarnationOf a) (incarnationOf b) ≡ agree a b and ltb (a .incarnation) (b .incarnation)
-  unfolding supersededBy strictPrefix
-  superseded-even h = rw (la, lb, le-ltb (a .count) (b .count) (omega arith), h) (or-none _)
-
-  module _ (h : a .count < b .count) where
-    pub superseded-entry-off : getD (b .checkpoints) (a .count) 0 ≤ a .incarnation → false ≡ supersededBy (incarnationOf a) (incarnationOf b)
-    superseded-entry-off k = sym (superseded-longer h ∙ rw (le-ltb (a .incarnation) (getD (b .checkpoints) (a .count) 0) k) (and-false (agree a b)))
-
-    pub superseded-entry : a .incarnation < getD (b .checkpoints) (a .count) 0 → agree a b ≡ supersededBy (incarnationOf a) (incarnationOf b)
-    superseded-entry k = sym (superseded-longer h ∙ rw (lt-ltb (a .incarnation) (getD (b .checkpoints) (a .count) 0) k) (and-true (agree a b)))
-
-  module _ (h : a .count ≡ b .count) where
-    pub superseded-number-off : b .incarnation ≤ a .incarnation → false ≡ supersededBy (incarnationOf a) (incarnationOf b)
-    superseded-number-off k = sym (superseded-even h ∙ rw (le-ltb (a .incarnation) (b .incarnation) k) (and-false (agree a b)))
-
-    pub superseded-number : a .incarnation < b .incarnation → agree a b ≡ supersededBy (incarnationOf a) (incarnationOf b)
-    superseded-number k = sym (superseded-even h ∙ rw (lt-ltb (a .incarnation) (b .incarnation) k) (and-true (agree a b)))
 
   -- ---- checkpointed (signed)
 

@@ -6,7 +6,7 @@ ghost use Prim.Native.Nat.{_+_, _-_, _*_, _≤_, _<_};
 ghost use lib.ListN.{length, take};
 ghost use Rattle.octets.specs.Bytes.{put, part, chunks, tabulate, allZero};
 ghost use Rattle.octets.specs.Numbers.{ofBe, be};
-ghost use Rattle.marks.specs.Incarnation.{sameList, supersededBy, checkpointedIn, sameIncarnation};
+ghost use Rattle.marks.specs.Incarnation.{sameList, checkpointedIn, sameIncarnation};
 ghost use Rattle.marks.specs.Relation.{turned, relationOf, relationNumber};
 ghost use Rattle.marks.specs.History.{incarnationOf, viewOf, stabilized, rolledBack, checkpointed, isOlder};
 ghost use Rattle.marks.specs.News.{showsStable, mayShow};
@@ -148,29 +148,6 @@ impl History {
             i += 1;
         }
         true
-    }
-
-    // Document 01: stale by.
-    pub fn superseded_by(self, other: History) -> bool
-        requires { ⌜ (self .count ≤ places) × (other .count ≤ places) ⌝ }
-        ensures { λ r. ⌜ r ≡ supersededBy (incarnationOf self) (incarnationOf other) ⌝ }
-    {
-        let n = self.count as usize;
-        let m = other.count as usize;
-        if m < n {
-            return false;
-        }
-        // the lists last: that is the longer test
-        if n < m {
-            if other.checkpoints[n] <= self.incarnation {
-                return false;
-            }
-            return self.agrees(other, n);
-        }
-        if other.incarnation <= self.incarnation {
-            return false;
-        }
-        self.agrees(other, n)
     }
 
     // Document 01: signed, where other is the present mark of the same take.
