@@ -136,7 +136,7 @@ fn told(op: u8, image: &[u8], at: usize) -> bool
         return false;
     }
     match op {
-        b'W' => History::formed(image, at, 15),
+        b'W' => History::formed(image, at, 15, &marks::ramp()),
         b'P' => History::present(image, at),
         _ => History::load(image, at).stable,
     }

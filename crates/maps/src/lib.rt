@@ -7,7 +7,7 @@ ghost use mathlib.Core.Path.{_≡_};
 ghost use Prim.Native.Nat.{_+_, _≤_, _<_};
 ghost use lib.ListN.{length};
 ghost use Rattle.octets.specs.Bytes.{put, part};
-ghost use Rattle.marks.specs.Packed.{width, places, historySize, historyIn, presentIn};
+ghost use Rattle.marks.specs.Packed.{width, places, historySize, restSize, rampOf, historyIn, presentIn};
 ghost use Rattle.maps.specs.Map.{emptyMap, withEntry, singleton, isEmpty, choosesRight, joinOf, firstSuperseded, answerOf, anyUnrelated, relationEntry};
 ghost use Rattle.maps.specs.Packed.{entries, mapSize, packEntry, packMap, unpackMap, mapIn, formedEntry, formedMap};
 ghost use Rattle.maps.specs.Internal.Fitting.{Bounded, ExactEntry, Exact, looked, joinedBytes};
@@ -259,9 +259,10 @@ impl DependenceMap {
         ensures { λ r. ⌜ r ≡ formedMap width places entries limit opened (part at (mapSize width places entries) (now (s .entry))) ⌝ }
     {
         let end = looked_at(s, at);
+        let ramp = marks::ramp();
         let mut i: usize = 0;
         while i < end {
-            if !formed_entry(s, at + marks::SIZE * i, i < opened, limit) {
+            if !formed_entry(s, at + marks::SIZE * i, i < opened, limit, &ramp) {
                 return false;
             }
             i += 1;
@@ -342,12 +343,12 @@ fn store_entry(image: &mut [u8], at: usize, p: bool, h: History)
     octets::clear(image, at, marks::SIZE);
 }
 
-fn formed_entry(s: &[u8], at: usize, known: bool, limit: u8) -> bool
-    requires { ⌜ (at + historySize width places ≤ length (now s)) × (limit ≤ places) ⌝ }
+fn formed_entry(s: &[u8], at: usize, known: bool, limit: u8, ramp: &[u8]) -> bool
+    requires { ⌜ (at + historySize width places ≤ length (now s)) × (limit ≤ places) × (now ramp ≡ rampOf (restSize width places)) ⌝ }
     ensures { λ r. ⌜ r ≡ formedEntry width limit known (part at (historySize width places) (now (s .entry))) ⌝ }
 {
     if known {
-        return History::formed(s, at, limit);
+        return History::formed(s, at, limit, ramp);
     }
     octets::all_zero(s, at, marks::SIZE)
 }

@@ -5,6 +5,7 @@ pub mod Related
 mod Compare
 pub mod Histories
 pub mod Packed
+mod Masked
 mod Placed
 mod Unpacked
 pub mod Starred

@@ -3,24 +3,25 @@
 use Prim.Native.Nat.{ℕ, _+_, _-_, _*_, _/_, _%_, _≤_, _<_}
 use mathlib.Core.Bool.{Bool, true, false, not}
 use mathlib.Core.Path.{_≡_, ap, sym, _∙_, subst}
-use mathlib.Core.List.{List, _++_}
+use mathlib.Core.List.{List, [], _∷_, _++_}
 use mathlib.Core.Logic.{⊎-elim}
-use native.Mathlib.Nat.{add-zero, mul-add, mul-le-mul-left}
+use native.Mathlib.Nat.{add-zero, mul-add}
 use native.Mathlib.Omega.{arith}
-use lib.Dec.{leb, ltb}
+use lib.Dec.{eqb, leb, ltb}
 use lib.ListN.{length, take, drop, getD, set, length-drop}
 use lib.Seq.{take-all}
 use borrow.Author.Tests.{le-leb, lt-leb, eq-eqb, ne-eqb}
 use Rattle.octets.specs.Bytes.{_and_, _or_, put, part, chunks, tabulate, allZero}
 use Rattle.octets.specs.Numbers.{be, ofBe}
-use Rattle.octets.proofs.Put.{put-append, part-part, getD-part, part-def, length-part}
+use Rattle.octets.proofs.Put.{put-append, part-part, getD-part, part-def, part-add, part-one, length-part}
 use Rattle.octets.proofs.Numbers.{length-be, put-be-one}
 use Rattle.octets.proofs.Chunks.{step, sides, tabulate-same, getD-tabulate, fill-more, fill-all, put-more}
-use Rattle.octets.proofs.Zero.{allZero-windows}
+use Rattle.octets.proofs.Tests.{and-true}
+use Rattle.octets.proofs.Zero.{allZero-append}
 use Rattle.marks.specs.declared.History.{History}
 use Rattle.marks.specs.News.{mayShow}
 use Rattle.marks.proofs.Packed.{headOf, head-fits, front, numbers, length-packNumberAt, length-front, length-numbers}
-use Rattle.marks.specs.Packed.{countBound, historySize, bit, packNumberAt, packHistory, unpackHistory, loadNumberAt, historyIn, presentIn, formedHistory}
+use Rattle.marks.specs.Packed.{countBound, historySize, restSize, bit, packNumberAt, packHistory, unpackHistory, loadNumberAt, historyIn, presentIn, formedHistory}
 
 -- ---- the places of a list
 
@@ -39,15 +40,6 @@ number-filled w at i n s l e f h = fill-more (loadNumberAt w s at) l i n e h f
 
 pub numbers-filled : (w at i n : ℕ) (s l : List ℕ) → take i l ≡ tabulate i (loadNumberAt w s at) → i ≡ n → length l ≡ n → l ≡ tabulate n (loadNumberAt w s at)
 numbers-filled w at i n s l e h k = fill-all (loadNumberAt w s at) l n (subst (λ (j : ℕ). take j l ≡ tabulate j (loadNumberAt w s at)) h e) k
-
--- the places from c on, by the first k and the last k of them, where k is at least half of all
-pub unused-halves : (w l k at c : ℕ) (s : List ℕ) → l ≤ k + k → c + k ≤ l
-    → allZero (part (at + w * c) (w * (l - c)) s) ≡ allZero (part (at + w * c) (w * k) s) and allZero (part (at + w * (l - k)) (w * k) s)
-unused-halves w l k at c s p q =
-    let few : w * k ≤ w * (l - c) = mul-le-mul-left w (omega arith) in
-    let enough : w * (l - c) ≤ w * k + w * k = rw (← mul-add w k k) (mul-le-mul-left w (omega arith)) in
-    let end : w * (l - k) + w * k ≡ w * c + w * (l - c) = rw (← mul-add w (l - k) k, ← mul-add w c (l - c)) (ap (λ (x : ℕ). w * x) (omega arith)) in
-    allZero-windows (at + w * c) (at + w * (l - k)) (w * (l - c)) (w * k) s few enough (omega (arith, end))
 
 -- ---- a history
 
@@ -104,6 +96,23 @@ module _ (w l at : ℕ) (s : List ℕ) (h : at + historySize w l ≤ length s) w
   unfolding presentIn formedHistory
   formed-absent c p = rw (first, lt-leb 128 (getD s at 0) p)
 
+  -- the first byte, then the others
+  headed : allZero (part at (historySize w l) s) ≡ eqb (getD s at 0) 0 and allZero (part (at + 1) (restSize w l) s)
+  unfolding allZero
+  headed =
+      let n : historySize w l ≡ 1 + restSize w l = omega arith in
+      rw (n, part-add at 1 (restSize w l) s, part-one at s (omega arith)) (allZero-append (getD s at 0 ∷ []) (part (at + 1) (restSize w l) s))
+      ∙ ap (λ (t : Bool). t and allZero (part (at + 1) (restSize w l) s)) (and-true (eqb (getD s at 0) 0))
+
+  pub formed-first : (c : ℕ) → getD s at 0 < 128 → (getD s at 0 ≡ 0 → ⊥) → false ≡ formedHistory w c (part at (historySize w l) s)
+  formed-first c p n = sym (headed ∙ rw (ne-eqb (getD s at 0) 0 n)) ∙ formed-absent c p
+
+  pub formed-zero : (c u : ℕ) → u ≡ 0 → getD s at 0 ≡ 0 → allZero (part (at + 1 + u) (restSize w l - u) s) ≡ formedHistory w c (part at (historySize w l) s)
+  formed-zero c u z e =
+      let a : at + 1 + u ≡ at + 1 = omega arith in
+      let n : restSize w l - u ≡ restSize w l = omega arith in
+      rw (a, n) (sym (headed ∙ rw (eq-eqb (getD s at 0) 0 e))) ∙ formed-absent c (omega arith)
+
   formed-bits : (c : ℕ) → 128 ≤ getD s at 0 → (getD s at 0 / 16 % 4 ≡ 0 → ⊥) → false ≡ formedHistory w c (part at (historySize w l) s)
   unfolding presentIn formedHistory
   formed-bits c p q = rw (first, le-leb 128 (getD s at 0) p, ne-eqb (getD s at 0 / 16 % 4) 0 q)
@@ -130,10 +139,14 @@ module _ (w l at : ℕ) (s : List ℕ) (h : at + historySize w l ≤ length s) w
       ∙ part-def (1 + w + w * c) (w * (l - c)) all
       ∙ take-all (w * (l - c)) (drop (1 + w + w * c) all) few
 
-  pub formed-list : (c : ℕ) → 128 ≤ getD s at 0 → getD s at 0 / 16 % 4 ≡ 0 → getD s at 0 % 16 ≤ l → getD s at 0 % 16 ≤ c
-      → allZero (part (at + 1 + w + w * (getD s at 0 % 16)) (w * (l - getD s at 0 % 16)) s) ≡ formedHistory w c (part at (historySize w l) s)
+  pub formed-list : (c u : ℕ) → u ≡ w + w * (getD s at 0 % 16) → 128 ≤ getD s at 0 → getD s at 0 / 16 % 4 ≡ 0 → getD s at 0 % 16 ≤ l → getD s at 0 % 16 ≤ c
+      → allZero (part (at + 1 + u) (restSize w l - u) s) ≡ formedHistory w c (part at (historySize w l) s)
   unfolding presentIn formedHistory
-  formed-list c p q r k = rw (first, le-leb 128 (getD s at 0) p, eq-eqb (getD s at 0 / 16 % 4) 0 q, le-leb (getD s at 0 % 16) c k, unused (getD s at 0 % 16) r)
+  formed-list c u z p q r k =
+      let a : at + 1 + u ≡ at + 1 + w + w * (getD s at 0 % 16) = omega (arith, z) in
+      let m : w * (getD s at 0 % 16) + w * (l - getD s at 0 % 16) ≡ w * l = sym (mul-add w (getD s at 0 % 16) (l - getD s at 0 % 16)) ∙ ap (λ (x : ℕ). w * x) (omega arith) in
+      let n : restSize w l - u ≡ w * (l - getD s at 0 % 16) = omega (arith, z, m) in
+      rw (a, n, first, le-leb 128 (getD s at 0) p, eq-eqb (getD s at 0 / 16 % 4) 0 q, le-leb (getD s at 0 % 16) c k, unused (getD s at 0 % 16) r)
 
 -- ---- the first bytes of two packed histories
 

@@ -2,9 +2,9 @@
 use Prim.Native.Nat.{ℕ, _+_, _*_, _/_, _%_, _<_}
 use mathlib.Core.Bool.{Bool, true, false}
 use mathlib.Core.List.{List, _++_}
-use lib.ListN.{getD, drop}
+use lib.ListN.{getD, drop, replicate}
 use lib.Dec.{eqb, leb}
-use Rattle.octets.specs.Bytes.{pick, _and_, part, chunks, tabulate, allZero}
+use Rattle.octets.specs.Bytes.{pick, _and_, part, chunks, tabulate, zeros, allZero}
 use Rattle.octets.specs.Numbers.{be, ofBe, bound}
 use Rattle.marks.specs.declared.History.{History}
 
@@ -27,6 +27,14 @@ countBound = 16
 -- present 1, frozen 1, zero 2, count of L 4, n, L
 abbrev pub historySize : ℕ → ℕ → ℕ
 historySize w l = 1 + w + w * l
+
+-- all but the first byte
+abbrev pub restSize : ℕ → ℕ → ℕ
+restSize w l = w + w * l
+
+-- n zeros, then n bytes of ones: what masks the used bytes of a packed mark
+unfoldable pub rampOf : ℕ → List ℕ
+rampOf n = zeros n ++ replicate n 255
 
 abbrev pub bit : Bool → ℕ
 bit true = 1

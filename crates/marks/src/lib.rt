@@ -10,15 +10,12 @@ ghost use Rattle.marks.specs.Incarnation.{sameList, checkpointedIn, same
 ghost use Rattle.marks.specs.Relation.{turned, relationOf, relationNumber};
 ghost use Rattle.marks.specs.History.{incarnationOf, viewOf, stabilized, rolledBack, checkpointed, isOlder};
 ghost use Rattle.marks.specs.News.{showsStable, mayShow};
-ghost use Rattle.marks.specs.Packed.{width, places, largest, historySize, bit, packNumberAt, packHistory, unpackHistory, loadNumberAt, presentIn, formedHistory};
+ghost use Rattle.marks.specs.Packed.{width, places, largest, historySize, restSize, rampOf, bit, packNumberAt, packHistory, unpackHistory, loadNumberAt, presentIn, formedHistory};
 
 // Bytes of a life number, places of the list, bytes of a packed history.
 pub const WIDTH: usize = 2;
 
 pub const PLACES: usize = 15;
-
-// Half of the places, rounded up.
-const HALF: usize = (PLACES + 1) / 2;
 
 pub const SIZE: usize = 1 + WIDTH + WIDTH * PLACES;
 
@@ -292,36 +289,51 @@ impl History {
         128 <= s[at]
     }
 
-    // Whether the bytes of a packed form from at on are well-formed, where a list may have limit entries.
-    pub fn formed(s: &[u8], at: usize, limit: u8) -> bool
-        requires { ⌜ (at + historySize width places ≤ length (now s)) × (limit ≤ places) ⌝ }
+    // Whether the bytes of a packed form from at on are well-formed, where a list may have limit entries; ramp is what ramp() gives.
+    pub fn formed(s: &[u8], at: usize, limit: u8, ramp: &[u8]) -> bool
+        requires { ⌜ (at + historySize width places ≤ length (now s)) × (limit ≤ places) × (now ramp ≡ rampOf (restSize width places)) ⌝ }
         ensures { λ r. ⌜ r ≡ formedHistory width limit (part at (historySize width places) (now (s .entry))) ⌝ }
     {
         let head = s[at];
-        if head < 128 {
-            return octets::all_zero(s, at, SIZE);
-        }
-        // The zero bits stand above the count, and the limit is below them.
-        if limit < head % 64 {
+        let mut used: usize = 0;
+        if 128 <= head {
+            // The zero bits stand above the count, and the limit is below them.
+            if limit < head % 64 {
+                return false;
+            }
+            used = WIDTH + WIDTH * ((head % 16) as usize);
+        } else if head != 0 {
             return false;
         }
-        unused_zero(s, at + 1 + WIDTH, (head % 16) as usize)
+        rest_zero(s, at + 1, used, ramp)
     }
 }
 
-// Whether the places of the list from at on that count leaves unused are zero.
-fn unused_zero(s: &[u8], at: usize, count: usize) -> bool
-    requires { ⌜ (at + width * places ≤ length (now s)) × (count ≤ places) ⌝ }
-    ensures { λ r. ⌜ r ≡ allZero (part (at + width * count) (width * (places - count)) (now (s .entry))) ⌝ }
+// The bytes of a packed form but the first.
+const REST: usize = SIZE - 1;
+
+// REST zeros, then as many bytes of ones: from REST - used on a mask that hides used bytes.
+pub fn ramp() -> [u8; 64]
+    ensures { λ r. ⌜ r ≡ rampOf (restSize width places) ⌝ }
 {
-    if PLACES - count < HALF {
-        return octets::all_zero(s, at + WIDTH * count, WIDTH * (PLACES - count));
+    let mut r = [255u8; 64];
+    octets::clear(&mut r, 0, REST);
+    r
+}
+
+// Whether the REST bytes from at on but the first used are zero: one test of a fixed length, whatever is used.
+fn rest_zero(s: &[u8], at: usize, used: usize, ramp: &[u8]) -> bool
+    requires { ⌜ (at + restSize width places ≤ length (now s)) × (used ≤ restSize width places) × (now ramp ≡ rampOf (restSize width places)) ⌝ }
+    ensures { λ r. ⌜ r ≡ allZero (part (at + used) (restSize width places - used) (now (s .entry))) ⌝ }
+{
+    let from = REST - used;
+    let mut any: u8 = 0;
+    let mut i: usize = 0;
+    while i < REST {
+        any = any | (s[at + i] & ramp[from + i]);
+        i += 1;
     }
-    // The first and the last half of them, which may overlap: tests of a fixed length have no loop.
-    if !octets::all_zero(s, at + WIDTH * count, WIDTH * HALF) {
-        return false;
-    }
-    octets::all_zero(s, at + WIDTH * (PLACES - HALF), WIDTH * HALF)
+    any == 0
 }
 
 fn flag(b: bool) -> u8
