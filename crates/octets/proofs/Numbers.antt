@@ -100,3 +100,18 @@ be-ofBe (suc w) b e h =
     let low : (ofBe w b * 256 + getD b w 0) % 256 ≡ getD b w 0 = omega arith in
     let back : be w (ofBe w (take w b)) ≡ take w b = be-ofBe w (take w b) (length-take-le w b (omega arith)) (octets-take w b h) in
     rw (high, low, front, back, ← take-suc b w 0 (omega arith)) (take-all (suc w) b (omega arith))
+
+-- a number turned round, with the lower byte first
+low-byte : (q r : ℕ) → q < 256 → (r * 256 + q) % 256 ≡ q
+low-byte q r h = omega arith
+
+high-byte : (q r : ℕ) → q < 256 → r < 256 → (r * 256 + q) / 256 % 256 ≡ r
+high-byte q r h k = omega arith
+
+pub be-turned : (n : ℕ) → n < 65536 → (n % 256 * 256 + n / 256) % 256 ∷ (n % 256 * 256 + n / 256) / 256 % 256 ∷ [] ≡ be 2 n
+unfolding be
+be-turned n h =
+    let q : n / 256 < 256 = omega arith in
+    let r : n % 256 < 256 = omega arith in
+    let e : n / 256 % 256 ≡ n / 256 = omega arith in
+    rw (low-byte (n / 256) (n % 256) q, high-byte (n / 256) (n % 256) q r, e)

@@ -15,7 +15,7 @@ use lib.Seq.{take-at, drop-at, drop-drop}
 use borrow.Author.Tests.{eq-eqb, ne-eqb, eqb-true, eqb-false, not-true, not-false}
 use Rattle.octets.specs.Bytes.{pick, _and_, _or_, part, zeros, allZero, every, any, chunks, tabulate, Octets}
 use Rattle.octets.proofs.Tests.{and-true}
-use Rattle.octets.proofs.Put.{part-def, part-add, part-suc, length-part}
+use Rattle.octets.proofs.Put.{part-def, part-suc, length-part}
 
 pub both : (t u : Bool) → t and u ≡ true → (t ≡ true) × (u ≡ true)
 both true u e = (refl, e)
@@ -86,23 +86,6 @@ allZero-append (x ∷ p) q = go (eqb x 0) (allZero-append p q)
 pub allZero-snoc : (l : List ℕ) (x : ℕ) → allZero (l ++ (x ∷ [])) ≡ allZero l and eqb x 0
 unfolding allZero
 allZero-snoc l x = allZero-append l (x ∷ []) ∙ ap (λ (t : Bool). allZero l and t) (and-true (eqb x 0))
-
--- n places are zero exactly if the first h and the last h of them are, where these two windows leave none out
-pub allZero-windows : (at at' n h : ℕ) (l : List ℕ) → h ≤ n → n ≤ h + h → at' + h ≡ at + n → allZero (part at n l) ≡ allZero (part at h l) and allZero (part at' h l)
-allZero-windows at at' n h l p q e =
-    let m : ℕ = h + h - n in
-    let whole = split at (at + h) n h (n - h) (omega arith) refl in
-    let front = split at at' h (n - h) m (omega arith) (omega arith) in
-    let back = split at' (at + h) h m (n - h) (omega arith) (omega arith) in
-    rw (whole, front, back) (overlap (allZero (part at (n - h) l)) (allZero (part at' m l)) (allZero (part (at + h) (n - h) l)))
-  where
-    split : (i j k a b : ℕ) → k ≡ a + b → j ≡ i + a → allZero (part i k l) ≡ allZero (part i a l) and allZero (part j b l)
-    split i j k a b f g = rw (f, g, part-add i a b l) (allZero-append (part i a l) (part (i + a) b l))
-
-    overlap : (t u v : Bool) → (t and u) and v ≡ (t and u) and (u and v)
-    overlap true true v = refl
-    overlap true false v = refl
-    overlap false u v = refl
 
 -- an or is zero exactly if both are
 pub or-zero : (a b : ℕ) → eqb (bitOr a b) 0 ≡ eqb a 0 and eqb b 0

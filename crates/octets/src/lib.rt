@@ -97,14 +97,13 @@ pub fn load32(s: &[u8], at: usize) -> u32
     ((wide(s[at]) * 256 + wide(s[at + 1])) * 256 + wide(s[at + 2])) * 256 + wide(s[at + 3])
 }
 
-// Writes n in 2 bytes from at on.
+// Writes n in 2 bytes from at on. Turned round first, as load16 does, so that a run of numbers is turned and written as one.
 pub fn store16(image: &mut [u8], at: usize, n: u16)
     requires { ⌜ at + 2 ≤ length (now image) ⌝ }
     ensures { λ _. ⌜ now (image .exit) ≡ put at (be 2 n) (now (image .entry)) ⌝ }
 {
-    let high = (n / 256 % 256) as u8;
-    let low = (n % 256) as u8;
-    let b = [high, low];
+    let x = n % 256 * 256 + n / 256;
+    let b = [(x % 256) as u8, (x / 256 % 256) as u8];
     write(image, at, &b);
 }
 
