@@ -9,10 +9,13 @@ use crate::layout::NEXT;
 use crate::layout::NUMBER;
 use maps::DependenceMap;
 ghost use mathlib.Core.Path.{_≡_};
-ghost use Prim.Native.Nat.{_≤_, _<_};
-ghost use lib.ListN.{length};
+ghost use Prim.Native.Nat.{_+_, _≤_, _<_};
+ghost use lib.ListN.{length, set};
+ghost use Rattle.octets.specs.Bytes.{put};
+ghost use Rattle.octets.specs.Numbers.{be};
 ghost use Rattle.maps.specs.Internal.Fitting.{Bounded};
-ghost use Rattle.rules.specs.Layout.{lastNumber, base, imageBytes};
+ghost use Rattle.rules.specs.Layout.{lastNumber, base, imageBytes, dependencesAt};
+ghost use Rattle.rules.specs.Rules.{noDependences};
 ghost use Rattle.rules.specs.State.{placeFrom, placeOf, messageAt, withMessage, withoutMessage};
 ghost use Rattle.rules.specs.Pack.{waitingIn, pack, unpack};
 ghost use Rattle.rules.specs.Internal.Good.{Good};
@@ -95,11 +98,31 @@ pub fn append(image: &mut [u8], n: usize, to: u8, value: u32, m: DependenceMap)
 {
     let number = head::next(image);
     let at = FIRST_MESSAGE + MESSAGE * n;
+    store_fields(image, at, to, number, value);
+    m.store(image, at + DEPENDENCES);
+    octets::store16(image, NEXT, number + 1);
+}
+
+// The same of a message whose map is empty: no map by value, and no test whether it is empty.
+pub fn append_empty(image: &mut [u8], n: usize, to: u8, value: u32)
+    requires { ⌜ Good (now image) × (n ≡ waitingIn base (now image)) × (n < base .messages) × (to < 16) × (unpack base (now image) .next < lastNumber) ⌝ }
+    ensures { λ _. ⌜ now (image .exit) ≡ pack base (withMessage (unpack base (now (image .entry))) to value (noDependences base)) ⌝ }
+{
+    let number = head::next(image);
+    let at = FIRST_MESSAGE + MESSAGE * n;
+    store_fields(image, at, to, number, value);
+    DependenceMap::store_empty(image, at + DEPENDENCES);
+    octets::store16(image, NEXT, number + 1);
+}
+
+// The fields of a message from at on, but its map.
+fn store_fields(image: &mut [u8], at: usize, to: u8, number: u16, value: u32)
+    requires { ⌜ (at + dependencesAt ≤ length (now image)) × (to < 16) ⌝ }
+    ensures { λ _. ⌜ now (image .exit) ≡ put (at + 3) (be 4 value) (put (at + 1) (be 2 number) (set (now (image .entry)) at (128 + to))) ⌝ }
+{
     image[at] = 128 + to;
     octets::store16(image, at + NUMBER, number);
     octets::store32(image, at + CONTENT, value);
-    m.store(image, at + DEPENDENCES);
-    octets::store16(image, NEXT, number + 1);
 }
 
 // The message in place k of n is gone; the later ones move down.

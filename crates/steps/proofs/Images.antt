@@ -30,13 +30,17 @@ use Rattle.rules.proofs.ByKind.Refused.{refusal-malformed, Refuses, refuses}
 use Rattle.rules.proofs.ByKind.Applied.{applies}
 use Rattle.steps.proofs.Stepped.{stepped-refused, stepped-applied}
 
--- not crowded: a place and a number are free for one more message
-pub free-place : (img : List ℕ) (n to : ℕ) (m : DependenceMap) → Good img → n ≡ waitingIn base img → crowdedRefusal (unpack base img) ≡ 0 → to < 16 → Bounded (base .places) m
-    → Good img × (n ≡ waitingIn base img) × (n < base .messages) × (to < 16) × (unpack base img .next < lastNumber) × Bounded (base .places) m
-unfolding bound
-free-place img n to m good w z small b =
-    let f = free (unpack base img) z in
-    (good, w, omega (arith, unpack-waiting base img, f .room, good .well .limits .messages-high), small, omega (arith, good .well .packable .next, f .number), b)
+-- not crowded: a place and a number are free for one more message, without a map or with one
+module _ (img : List ℕ) (n to : ℕ) (good : Good img) (w : n ≡ waitingIn base img) (z : crowdedRefusal (unpack base img) ≡ 0) (small : to < 16) where
+  pub free-place : Good img × (n ≡ waitingIn base img) × (n < base .messages) × (to < 16) × (unpack base img .next < lastNumber)
+  unfolding bound
+  free-place =
+      let f = free (unpack base img) z in
+      (good, w, omega (arith, unpack-waiting base img, f .room, good .well .limits .messages-high), small, omega (arith, good .well .packable .next, f .number))
+
+  pub free-place-for : (m : DependenceMap) → Bounded (base .places) m
+      → Good img × (n ≡ waitingIn base img) × (n < base .messages) × (to < 16) × (unpack base img .next < lastNumber) × Bounded (base .places) m
+  free-place-for m b = (good, w, free-place .2, small, free-place .4, b)
 
 module _ (img : List ℕ) (p : Step) where
   -- what the image says

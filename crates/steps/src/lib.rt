@@ -192,7 +192,7 @@ fn letter(image: &mut [u8], p: Step) -> Reply
         return answered(r);
     }
     let number = head::next(image);
-    messages::append(image, n, to, p.value, DependenceMap::empty());
+    messages::append_empty(image, n, to, p.value);
     Reply {
         outcome: numbers::DONE,
         transactor: to,

@@ -1,6 +1,5 @@
 -- Not opened, crowded, or one more message, which carries nothing.
 use borrow.Author.Needs.{needs}
-use Rattle.maps.proofs.Packed.{bounded-empty}
 use Rattle.steps.proofs.Images.{free-place, letter-unopened, letter-crowded, letter-done}
 use Rattle.steps.proofs.letter.Statement.{statement}
 use Rattle.steps.proofs.letter.Tie as tie
@@ -19,7 +18,6 @@ letter-spec =
     (λ c. search needs)
     (λ c. letter-crowded _ _ (search needs) (search needs) _ (search needs) (cc (c .answered2 .ensures, c .before .before .crowded .ensures)))
     (λ c κs. search needs)
-    (λ c κs. search needs)
-    (λ c κs. free-place _ _ _ _ (search needs) (search needs) (search needs) (search needs) (rw (c .empty .ensures) (bounded-empty _ _ _)))
+    (λ c κs. free-place _ _ _ (search needs) (search needs) (search needs) (search needs))
     (λ c. search needs)
-    (λ c. letter-done _ _ (search needs) (search needs) (search needs) _ _ (search needs) (cc (c .before .before .append .ensures, c .before .before .before .empty .ensures))))
+    (λ c. letter-done _ _ (search needs) (search needs) (search needs) _ _ (search needs) (c .before .before .append-empty .ensures)))

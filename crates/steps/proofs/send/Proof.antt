@@ -1,7 +1,7 @@
 -- Not opened, refused as a busy transactor is, crowded, or one more message with what the sender carries.
 use borrow.Author.Needs.{needs}
 use Rattle.transactor.proofs.Lent.{good-lent, bounded-carried}
-use Rattle.steps.proofs.Images.{free-place, send-unopened, send-idle, send-crowded, send-done}
+use Rattle.steps.proofs.Images.{free-place-for, send-unopened, send-idle, send-crowded, send-done}
 use Rattle.steps.proofs.send.Statement.{statement}
 use Rattle.steps.proofs.send.Tie as tie
 
@@ -15,7 +15,7 @@ abbrev carry : tie.After-append → tie.After-carry
 carry c = c .before .before .before .before
 
 append-requires : tie.Need-append-requires
-append-requires c κs = free-place _ _ _ _ (search needs) (search needs) (search needs) (search needs) (rw (c .before .before .before .carry .ensures) (bounded-carried _ _))
+append-requires c κs = free-place-for _ _ _ (search needs) (search needs) (search needs) (search needs) _ (rw (c .before .before .before .carry .ensures) (bounded-carried _ _))
 
 returns-4 : tie.Need-returns-4
 returns-4 c = send-done _ _ (search needs) (search needs) (search needs) (search needs) _ _ _ (search needs) (carry (c .before .before) .carry .ensures) (c .before .before .append .ensures)
