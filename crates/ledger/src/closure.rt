@@ -11,9 +11,6 @@ ghost use lib.ListN.{getD};
 ghost use Rattle.rules.specs.Layout.{base};
 ghost use Rattle.rules.specs.Internal.Closure.{metCount, Closure};
 
-// The first number that is no group.
-const GROUPS: u32 = 65536;
-
 // The group, and whom transactor u needs.
 fn joined(needs: Needs, group: u16, u: usize) -> u16
     requires { ⌜ u < base .transactors ⌝ }
@@ -40,17 +37,20 @@ pub fn closure(needs: Needs, t: usize) -> u16
     group
 }
 
-// How many groups of that many transactors have all that they need.
+// How many groups of that many transactors have all that they need. The groups of able ones alone, from that of all down: (group - 1) & able
+// is the next.
 pub fn count(needs: Needs, size: usize) -> usize
+    requires { ⌜ 0 < size ⌝ }
     ensures { λ r. ⌜ r ≡ metCount (needs .need) (needs .able) size ⌝ }
 {
+    let able = needs.able;
     let mut n: usize = 0;
-    let mut group: u32 = 0;
-    while group < GROUPS {
-        if u32::count_ones(group) as usize == size && meets(needs, group as u16) {
+    let mut group = able;
+    while 0 < group {
+        if u32::count_ones(group as u32) as usize == size && meets(needs, group) {
             n += 1;
         }
-        group += 1;
+        group = (group - 1) & able;
     }
     n
 }
