@@ -10,25 +10,25 @@ use lib.Dec.{eqb, leb, ltb}
 use lib.ListN.{length, getD, set, replicate, length-set, length-replicate}
 use lib.Seq.{getD-set-same, getD-set-other}
 use borrow.Author.Tests.{eq-eqb, ne-eqb, eqb-true, eqb-false, lt-leb, le-leb}
-use Rattle.octets.specs.Bytes.{pick, _and_, _or_, any, every, part}
+use Rattle.octets.specs.Bytes.{pick, _and_, _or_, any, every}
 use Rattle.octets.proofs.Tests.{never, and-true, and-false, and-assoc}
 use Rattle.octets.proofs.Zero.{both, any-off, every-at}
 use Rattle.marks.specs.Incarnation.{Incarnation}
 use Rattle.rules.specs.declared.Step.{Step}
-use Rattle.rules.specs.Step.{stepBytes, unpackStep, stepAt, done, held, dropped, fallenBack, vanished, notReady, root, letter, receive, new, send, read, write, freeze, finish, fall, lose, sign}
+use Rattle.rules.specs.Step.{unpackStep, stepAt, done, held, dropped, fallenBack, vanished, notReady, root, letter, receive, new, send, read, write, freeze, finish, fall, lose, sign}
 use Rattle.rules.specs.Refusals.{groupBits, named, anyNamed}
 use Rattle.rules.proofs.Bits.{named-zero, named-one, named-and, named-or, named-from, shifted}
 use Rattle.chains.specs.Chain as chain
 use Rattle.chains.specs.Chain.{Places, groundOf, messageAlone, back}
 use Rattle.chains.specs.Back.{Told, rollbackFrom, receiptFrom, localFrom, eventFrom}
 use Rattle.chains.specs.Internal.Walk.{Walk, meets, wasRolledBack, wasCheckpointed, over, noIncarnations, overStep, walkBack, startFrom, receiptStart, signStart}
-use Rattle.chains.specs.Internal.Engine.{unpackTold, toldIn, signWalk, Walkable}
+use Rattle.chains.specs.Internal.Engine.{toldIn, signWalk, Walkable}
 use Rattle.chains.specs.declared.words.Event.{Event}
 use Rattle.chains.specs.declared.words.Event.the-variants.{Nothing, Cleared, Sent, Taken, Opens, Reads, Writes, Finishes, Renewed, Annihilated, ClearedRenewed, ClearedAnnihilated}
 use Rattle.chains.specs.declared.words.Side.{Side}
 use Rattle.chains.specs.declared.words.Trail.{Trail}
 use Rattle.chains.specs.declared.words.Walker.{Walker}
-use Rattle.chains.specs.Internal.Words.{bitOf, without, meet, rollbackWords, receiptWords, localWords, eventWords, changesNothing, rolledBackWord, checkpointedWord, sideOver, metOver, onLeft, onRight, followedOn, passedOver, messagesOver, trailOver, Follower, following, walkerWith, followerOver, followerStep, followBack, trailFrom, walkerFrom, verdict, verdictOf, placesIn}
+use Rattle.chains.specs.Internal.Words.{bitOf, without, rollbackWords, receiptWords, localWords, eventWords, changesNothing, rolledBackWord, checkpointedWord, sideOver, metOver, onLeft, onRight, followedOn, passedOver, messagesOver, trailOver, Follower, following, walkerWith, followerOver, followerStep, followBack, trailFrom, walkerFrom, wordsOf, walkerIn, placesIn}
 use Rattle.chains.proofs.Worded.{Says, says-nothing, says-cleared, says-sent, says-taken, says-opens, says-reads, says-writes, says-finishes, says-renewed, says-annihilated, says-cleared-renewed, says-cleared-annihilated, same-places, left-back, right-back, side-met, named-without}
 
 -- ---- one more step
@@ -40,15 +40,17 @@ pub follow-none : (steps : List ℕ) (replies : ℕ → Told) (i : ℕ) (x : Fol
 unfolding followBack
 follow-none steps replies i x e = rw e
 
-pub follow-one : (steps replies : List ℕ) (i : ℕ) (p : Step) (w : Told) (x y : Follower) → (i ≡ 0 → ⊥) → p ≡ unpackStep (part (stepBytes * (i - 1)) stepBytes steps) → w ≡ unpackTold (part (stepBytes * (i - 1)) stepBytes replies) → y ≡ followerStep p w x
-    → followBack steps (toldIn replies) (i - 1) y ≡ followBack steps (toldIn replies) i x
-unfolding followBack stepAt toldIn
-follow-one steps replies zero p w x y n a b c = absurd (n refl)
-follow-one steps replies (suc i) p w x y n a b c = rw (c, a, b, less i)
+-- a walker is that of its words
+pub walker-words : (x : Walker) → walkerIn (wordsOf x) ≡ x
+unfolding walkerIn wordsOf
+walker-words x = refl
 
--- all steps down to k are behind
-pub follow-to : (steps : List ℕ) (replies : ℕ → Told) (j k : ℕ) (x y : Follower) → j ≡ k → followBack steps replies j x ≡ y → followBack steps replies k x ≡ y
-follow-to steps replies j k x y e f = sym (ap (λ (i : ℕ). followBack steps replies i x) e) ∙ f
+-- Over the last of i steps from the walker x in the words w: y, in the words v, is to go over those before it.
+pub follow-one : (steps : List ℕ) (replies : ℕ → Told) (i : ℕ) (w v l m : List ℕ) (x y : Walker) → (i ≡ 0 → ⊥) → x ≡ walkerIn w → following y m ≡ followerStep (stepAt steps (i - 1)) (replies (i - 1)) (following x l) → v ≡ wordsOf y
+    → followBack steps replies (i - 1) (following (walkerIn v) m) ≡ followBack steps replies i (following (walkerIn w) l)
+unfolding followBack
+follow-one steps replies zero w v l m x y n a b c = absurd (n refl)
+follow-one steps replies (suc i) w v l m x y n a b c = rw (c, walker-words y, b, a, less i)
 
 -- ---- the event in words is that of the walk
 
@@ -122,6 +124,13 @@ any-either f g (suc n) = rw (any-either f g n) (go (any n f) (any n g) (f n) (g 
 word-any : (w : ℕ) → w < 2 ^ groupBits → not (eqb w 0) ≡ any groupBits (named w)
 unfolding anyNamed
 word-any w h = ap (λ (n : ℕ). not (eqb n 0)) (sym (div-one w)) ∙ named-from w 0 h ∙ any-same (λ t. named w t and leb 0 t) (named w) groupBits (λ u k. rw (le-leb 0 u (omega arith)) (and-true (named w u)))
+
+word-none : (w : ℕ) → w < 2 ^ groupBits → eqb w 0 ≡ not (any groupBits (named w))
+word-none w h = not-not (eqb w 0) ∙ ap not (word-any w h)
+  where
+    not-not : (c : Bool) → c ≡ not (not c)
+    not-not true = refl
+    not-not false = refl
 
 -- more in a word: those of d, and those that G names
 any-more : (d w : ℕ) (b : Bool) (G : ℕ → Bool) → any groupBits (named d) ≡ b → ((u : ℕ) → u < groupBits → named w u ≡ G u) → any groupBits (named (bitOr d w)) ≡ b or any groupBits G
@@ -335,61 +344,38 @@ message-places m n found h = same-places (placesIn (trailFrom 0 found .places) m
 abbrev unfollowed : List ℕ
 unfollowed = replicate 1024 0
 
-by-three : (P : Bool → Bool → Bool → Type 0) → P true true true → P true true false → P true false true → P true false false → P false true true → P false true false → P false false true → P false false false → (p q r : Bool) → P p q r
-by-three P a b c d e f g h true true true = a
-by-three P a b c d e f g h true true false = b
-by-three P a b c d e f g h true false true = c
-by-three P a b c d e f g h true false false = d
-by-three P a b c d e f g h false true true = e
-by-three P a b c d e f g h false true false = f
-by-three P a b c d e f g h false false true = g
-by-three P a b c d e f g h false false false = h
-
-verdict-left : (p q r : Bool) → meet (verdict p q r) 1 ≡ p
-verdict-left = by-three (λ p q r. meet (verdict p q r) 1 ≡ p) refl refl refl refl refl refl refl refl
-
-verdict-right : (p q r : Bool) → meet (verdict p q r) 2 ≡ q
-verdict-right = by-three (λ p q r. meet (verdict p q r) 2 ≡ q) refl refl refl refl refl refl refl refl
-
-verdict-neither : (p q r : Bool) → eqb (bitAnd (verdict p q r) 6) 0 ≡ not q and not r
-verdict-neither = by-three (λ p q r. eqb (bitAnd (verdict p q r) 6) 0 ≡ not q and not r) refl refl refl refl refl refl refl refl
-
--- of the words, as the code tests them
-pub verdict-is : (x : Walker) → x .dropped < 65536 → x .falls < 65536 → x .unallowed < 65536 → verdict (not (eqb (x .dropped) 0)) (not (eqb (x .falls) 0)) (not (eqb (x .unallowed) 0)) ≡ verdictOf x
-unfolding verdictOf
-verdict-is x a b c = rw (word-any (x .dropped) a, word-any (x .falls) b, word-any (x .unallowed) c)
-
-verdict-says : (x : Follower) (y : Walk) → Follows x y → verdictOf (x .walker) ≡ verdict (y .leftSuperseded) (y .rightSuperseded) (y .unallowed)
-unfolding verdictOf
-verdict-says x y h = rw (h .leftSuperseded, h .rightSuperseded, h .unallowed)
-
-pub receipt-answers : (steps replies : List ℕ) (i n t v : ℕ) (y : Walker) → Walkable steps replies i → n < 1024 → t < 16 → y ≡ walkerFrom (1 * 2 ^ t % 2 ^ 16) 0 65535
-    → v ≡ verdictOf (followBack steps (toldIn replies) i (following y (set unfollowed n 1)) .walker)
-    → (meet v 1 ≡ walkBack steps (toldIn replies) i (receiptStart n t) .leftSuperseded) × (meet v 2 ≡ walkBack steps (toldIn replies) i (receiptStart n t) .rightSuperseded)
-receipt-answers steps replies i n t v y o h k e f =
+-- the walk that the receipt of parcel n by take t begins with
+receipt-follows : (n t : ℕ) → n < 1024 → t < 16 → Follows (following (walkerFrom (1 * 2 ^ t % 2 ^ 16) 0 65535) (set unfollowed n 1)) (receiptStart n t)
+receipt-follows n t h k =
     let l : List ℕ = set unfollowed n 1 in
-    let z : Walker = walkerFrom (2 ^ t) 0 65535 in
-    let s : Follows (following z l) (receiptStart n t) =
-    follows-start (2 ^ t) 0 65535 l (messageAlone n) (groundOf (λ k. eqb k t)) (λ u. false) (λ u. true)
+    rw (shifted t 16 k)
+    (follows-start (2 ^ t) 0 65535 l (messageAlone n) (groundOf (λ k. eqb k t)) (λ u. false) (λ u. true)
     (message-places (followedOn onLeft l) n 0 (λ k. one-message onLeft refl 1024 n 1 k h ∙ and-true (eqb k n))) (ground-places (followedOn onRight l) (2 ^ t) 0 (λ k. eqb k t) (λ u. named-one t u ∙ same-eqb t u) (λ k. one-message onRight refl 1024 n 1 k h ∙ and-false (eqb k n)))
-    (λ u b. named-zero u) named-all (length-set unfollowed n 1 ∙ length-replicate {A = ℕ} 1024 0) in
-    let w : Walk = walkBack steps (toldIn replies) i (receiptStart n t) in
-    let q : v ≡ verdict (w .leftSuperseded) (w .rightSuperseded) (w .unallowed) =
-    f ∙ ap (λ (y : Walker). verdictOf (followBack steps (toldIn replies) i (following y l) .walker)) (e ∙ ap (λ (g : ℕ). walkerFrom g 0 65535) (shifted t 16 k))
-    ∙ verdict-says (followBack steps (toldIn replies) i (following z l)) w (follows-all steps (toldIn replies) i (following z l) (receiptStart n t) (o .within) s) in
-    (ap (λ (v : ℕ). meet v 1) q ∙ verdict-left (w .leftSuperseded) (w .rightSuperseded) (w .unallowed), ap (λ (v : ℕ). meet v 2) q ∙ verdict-right (w .leftSuperseded) (w .rightSuperseded) (w .unallowed))
+    (λ u b. named-zero u) named-all (length-set unfollowed n 1 ∙ length-replicate {A = ℕ} 1024 0))
 
-pub sign-answers : (steps replies : List ℕ) (i g v : ℕ) (y : Walker) → Walkable steps replies i → y ≡ walkerFrom g 65535 g → v ≡ verdictOf (followBack steps (toldIn replies) i (following y unfollowed) .walker)
-    → eqb (bitAnd v 6) 0 ≡ not (signWalk steps replies i g .rightSuperseded) and not (signWalk steps replies i g .unallowed)
-unfolding signWalk
-sign-answers steps replies i g v y o e f =
-    let z : Walker = walkerFrom g 65535 g in
-    let s : Follows (following z unfollowed) (signStart g) =
+-- and a signing of the volume g
+sign-follows : (g : ℕ) → Follows (following (walkerFrom g 65535 g) unfollowed) (signStart g)
+sign-follows g =
     follows-start g 65535 g unfollowed (groundOf (λ k. false)) (groundOf (named g)) (λ u. true) (named g)
     (ground-places (followedOn onLeft unfollowed) 0 65535 (λ k. false) named-zero (λ k. ap onLeft (no-number 1024 k))) (ground-places (followedOn onRight unfollowed) g 0 (named g) (λ u. refl) (λ k. ap onRight (no-number 1024 k)))
-    named-all (λ u b. refl) (length-replicate {A = ℕ} 1024 0) in
-    let w : Walk = walkBack steps (toldIn replies) i (signStart g) in
-    let q : v ≡ verdict (w .leftSuperseded) (w .rightSuperseded) (w .unallowed) =
-    f ∙ ap (λ (y : Walker). verdictOf (followBack steps (toldIn replies) i (following y unfollowed) .walker)) e
-    ∙ verdict-says (followBack steps (toldIn replies) i (following z unfollowed)) w (follows-all steps (toldIn replies) i (following z unfollowed) (signStart g) (o .within) s) in
-    ap (λ (v : ℕ). eqb (bitAnd v 6) 0) q ∙ verdict-neither (w .leftSuperseded) (w .rightSuperseded) (w .unallowed)
+    named-all (λ u b. refl) (length-replicate {A = ℕ} 1024 0)
+
+-- a word that the walk leaves is 0 exactly if nothing was met: x what is left, from y
+module _ (steps replies : List ℕ) (i : ℕ) (o : Walkable steps replies i) (x : Follower) where
+  pub receipt-answers : (n t : ℕ) (y : Walker) → n < 1024 → t < 16 → y ≡ walkerFrom (1 * 2 ^ t % 2 ^ 16) 0 65535
+      → x ≡ followBack steps (toldIn replies) i (following y (set unfollowed n 1)) → x .walker .dropped < 65536 → x .walker .falls < 65536
+      → (not (eqb (x .walker .dropped) 0) ≡ walkBack steps (toldIn replies) i (receiptStart n t) .leftSuperseded) × (not (eqb (x .walker .falls) 0) ≡ walkBack steps (toldIn replies) i (receiptStart n t) .rightSuperseded)
+  receipt-answers n t y h k e f a b =
+      let z : Follower = following (walkerFrom (1 * 2 ^ t % 2 ^ 16) 0 65535) (set unfollowed n 1) in
+      let s : Follows x (walkBack steps (toldIn replies) i (receiptStart n t)) =
+      rw (f, e) (follows-all steps (toldIn replies) i z (receiptStart n t) (o .within) (receipt-follows n t h k)) in
+      (word-any (x .walker .dropped) a ∙ s .leftSuperseded, word-any (x .walker .falls) b ∙ s .rightSuperseded)
+
+  pub sign-answers : (g : ℕ) (y : Walker) → y ≡ walkerFrom g 65535 g
+      → x ≡ followBack steps (toldIn replies) i (following y unfollowed) → x .walker .falls < 65536 → x .walker .unallowed < 65536
+      → eqb (x .walker .falls) 0 and eqb (x .walker .unallowed) 0 ≡ not (signWalk steps replies i g .rightSuperseded) and not (signWalk steps replies i g .unallowed)
+  unfolding signWalk
+  sign-answers g y e f a b =
+      let s : Follows x (walkBack steps (toldIn replies) i (signStart g)) =
+      rw (f, e) (follows-all steps (toldIn replies) i (following (walkerFrom g 65535 g) unfollowed) (signStart g) (o .within) (sign-follows g)) in
+      rw (word-none (x .walker .falls) a, word-none (x .walker .unallowed) b, s .rightSuperseded, s .unallowed)

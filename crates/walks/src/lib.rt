@@ -1,5 +1,6 @@
 // Document 02, W11: the walk back over the steps, for a receipt and for a signing.
 mod events;
+mod kept;
 mod sides;
 
 use chains::words::Event;
@@ -7,36 +8,22 @@ use chains::words::Told;
 use chains::words::Walker;
 use image::layout::LONGEST;
 use image::layout::STEP;
-use rules::Step;
-use rules::numbers;
+use kept::WORDS;
 use steps::packed;
 ghost use mathlib.Core.Path.{_≡_};
 ghost use Prim.Native.Nat.{_*_, _+_, _<_, _≤_};
 ghost use mathlib.Core.Bool.{not};
 ghost use lib.ListN.{length};
 ghost use Rattle.octets.specs.Bytes.{_and_, part};
-ghost use Rattle.rules.specs.Step.{stepBytes};
+ghost use Rattle.rules.specs.Step.{stepBytes, stepAt};
 ghost use Rattle.chains.specs.Internal.Engine.{unpackTold, toldIn, receiptBack, signWalk, Walkable};
-ghost use Rattle.chains.specs.Internal.Words.{following, followerOver, followerStep, followBack, verdictOf, walkerFrom};
+ghost use Rattle.chains.specs.Internal.Words.{following, followerOver, followerStep, followBack, walkerFrom, walkerIn};
 
 // Message numbers that a list can give: one for each step at most.
 pub const NUMBERS: usize = LONGEST / STEP;
 
 // Every transactor.
 const ALL: u16 = 65535;
-
-// What a walk has met.
-const DROPPED: u16 = 1;
-
-const FALLS: u16 = 2;
-
-const UNALLOWED: u16 = 4;
-
-// One of the last two.
-const UNGROUNDED: u16 = 6;
-
-// Steps that a call goes back over: with one step to a call the calls would cost more than the steps.
-const STRETCH: usize = 16;
 
 // What a receipt finds: a history of the message is superseded (stale); one that the receiver holds is.
 pub struct Compared {
@@ -69,10 +56,14 @@ fn over(e: Event, fell: u16, signed: u16, x: Walker, messages: &mut [u16]) -> Wa
     sides::joined(x, q, fell, signed)
 }
 
-// Back over a step.
-fn over_step(p: Step, w: Told, x: Walker, messages: &mut [u16]) -> Walker
-    ensures { λ r. ⌜ following r (now (messages .exit)) ≡ followerStep p w (following x (now (messages .entry))) ⌝ }
+// Back over step k of the list.
+fn over_step(list: &[u8], replies: &[u8], k: usize, x: Walker, messages: &mut [u16]) -> Walker
+    requires { ⌜ (stepBytes * (k + 1) ≤ length (now list)) × (stepBytes * (k + 1) ≤ length (now replies)) ⌝ }
+    ensures { λ r. ⌜ following r (now (messages .exit)) ≡ followerStep (stepAt (now (list .entry)) k) (toldIn (now (replies .entry)) k) (following x (now (messages .entry))) ⌝ }
 {
+    let at = STEP * k;
+    let p = packed::decode(list, at);
+    let w = told(replies, at);
     if events::unchanged(p, w) {
         return x;
     }
@@ -82,64 +73,37 @@ fn over_step(p: Step, w: Told, x: Walker, messages: &mut [u16]) -> Walker
     over(e, fell, signed, x, messages)
 }
 
-// What x has met, added up.
-fn verdict(x: Walker) -> u16
-    ensures { λ r. ⌜ r ≡ verdictOf x ⌝ }
-{
-    let dropped = sides::word_if(x.dropped != 0, DROPPED);
-    let falls = sides::word_if(x.falls != 0, FALLS);
-    let unallowed = sides::word_if(x.unallowed != 0, UNALLOWED);
-    dropped | (falls | unallowed)
-}
-
-// Back over the steps before i and from k on, the last one first.
-fn stretch(
-    list: &[u8],
-    replies: &[u8],
+// Back over the first i steps, the last one first: a call goes back over one step and then calls itself, once, for those before it.
+// A number and addresses cross the call, those of the two slices and of the arrays that hold walker and messages: so the compiler makes it
+// a jump, where a slice or a struct would be copied onto the stack at each call.
+fn walk(
+    list: &&[u8],
+    replies: &&[u8],
     i: usize,
-    k: usize,
-    x: Walker,
-    messages: &mut [u16],
-) -> Walker
-    requires { ⌜ (k ≤ i) × (stepBytes * i ≤ length (now list)) × (stepBytes * i ≤ length (now replies)) ⌝ }
-    ensures { λ r. ⌜ followBack (now (list .entry)) (toldIn (now (replies .entry))) k (following r (now (messages .exit)))
-        ≡ followBack (now (list .entry)) (toldIn (now (replies .entry))) i (following x (now (messages .entry))) ⌝ }
-{
-    let mut y = x;
-    let mut j = i;
-    while k < j {
-        j -= 1;
-        let at = STEP * j;
-        let p = packed::decode(list, at);
-        let w = told(replies, at);
-        y = over_step(p, w, y, messages);
-    }
-    y
-}
-
-// The earlier step that a call goes back to.
-fn earlier(i: usize) -> usize
-    requires { ⌜ 0 < i ⌝ }
-    ensures { λ r. ⌜ r < i ⌝ }
-{
-    if i <= STRETCH {
-        return 0;
-    }
-    i - STRETCH
-}
-
-// Back over the first i steps, the last one first: a call goes over a stretch of them and calls itself for those before it, once and never
-// twice. A number comes back, since a struct would be copied at each return.
-fn walk(list: &[u8], replies: &[u8], i: usize, x: Walker, messages: &mut [u16]) -> u16
-    requires { ⌜ (stepBytes * i ≤ length (now list)) × (stepBytes * i ≤ length (now replies)) ⌝ }
-    ensures { λ r. ⌜ r ≡ verdictOf (followBack (now (list .entry)) (toldIn (now (replies .entry))) i (following x (now (messages .entry))) .walker) ⌝ }
+    walker: &mut [u16; WORDS],
+    messages: &mut [u16; NUMBERS],
+)
+    requires { ⌜ (stepBytes * i ≤ length (now (now list))) × (stepBytes * i ≤ length (now (now replies))) ⌝ }
+    ensures { λ _. ⌜ following (walkerIn (now (walker .exit))) (now (messages .exit))
+        ≡ followBack (now (now (list .entry))) (toldIn (now (now (replies .entry)))) i (following (walkerIn (now (walker .entry))) (now (messages .entry))) ⌝ }
 {
     if i == 0 {
-        return verdict(x);
+        return;
     }
-    let k = earlier(i);
-    let y = stretch(list, replies, i, k, x, messages);
-    walk(list, replies, k, y, messages)
+    let k = i - 1;
+    let x = over_step(*list, *replies, k, kept::walker(*walker), messages);
+    *walker = kept::words(x);
+    walk(list, replies, k, walker, messages);
+}
+
+// The walk from x. The compiler puts walk in here, its one caller but itself, and the walker's words are in registers.
+fn walked(list: &[u8], replies: &[u8], i: usize, x: Walker, messages: &mut [u16; NUMBERS]) -> Walker
+    requires { ⌜ (stepBytes * i ≤ length (now list)) × (stepBytes * i ≤ length (now replies)) ⌝ }
+    ensures { λ r. ⌜ following r (now (messages .exit)) ≡ followBack (now (list .entry)) (toldIn (now (replies .entry))) i (following x (now (messages .entry))) ⌝ }
+{
+    let mut words = kept::words(x);
+    walk(&list, &replies, i, &mut words, messages);
+    kept::walker(words)
 }
 
 // Nothing met yet: state and creation of the transactors ground are followed on the right.
@@ -167,10 +131,10 @@ pub fn receipt(list: &[u8], replies: &[u8], i: usize, n: usize, t: usize) -> Com
 {
     let mut messages = [0u16; NUMBERS];
     messages[n] = sides::LEFT;
-    let met = walk(list, replies, i, start(1 << t, 0, ALL), &mut messages);
+    let x = walked(list, replies, i, start(1 << t, 0, ALL), &mut messages);
     Compared {
-        dropped: met & DROPPED != 0,
-        falls: met & FALLS != 0,
+        dropped: x.dropped != 0,
+        falls: x.falls != 0,
     }
 }
 
@@ -180,6 +144,6 @@ pub fn grounded(list: &[u8], replies: &[u8], i: usize, group: u16) -> bool
     ensures { λ r. ⌜ r ≡ not (signWalk (now (list .entry)) (now (replies .entry)) i group .rightSuperseded) and not (signWalk (now (list .entry)) (now (replies .entry)) i group .unallowed) ⌝ }
 {
     let mut messages = [0u16; NUMBERS];
-    let met = walk(list, replies, i, start(group, ALL, group), &mut messages);
-    met & UNGROUNDED == 0
+    let x = walked(list, replies, i, start(group, ALL, group), &mut messages);
+    x.falls == 0 && x.unallowed == 0
 }

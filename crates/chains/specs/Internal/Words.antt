@@ -1,14 +1,14 @@
 -- The walk back in words of 16 bits, as the code has it: take t counts 2^t.
 use Prim.Native.Nat.{ℕ, zero, suc, _^_}
 use mathlib.Core.Bool.{Bool, not}
-use mathlib.Core.List.{List}
+use mathlib.Core.List.{List, [], _∷_}
 use lib.Bits.{bitAnd, bitOr, bitXor}
 use lib.Dec.{eqb, leb, ltb}
 use lib.ListN.{getD, set}
-use Rattle.octets.specs.Bytes.{pick, _and_, _or_, any}
+use Rattle.octets.specs.Bytes.{pick, _and_, _or_}
 use Rattle.rules.specs.declared.Step.{Step}
 use Rattle.rules.specs.Step.{stepAt, done, held, dropped, fallenBack, vanished, notReady, root, letter, receive, new, send, read, write, freeze, finish, fall, lose, sign}
-use Rattle.rules.specs.Refusals.{groupBits, named}
+use Rattle.rules.specs.Refusals.{named}
 use Rattle.chains.specs.Chain.{Places}
 use Rattle.chains.specs.declared.words.Told.{Told}
 use Rattle.chains.specs.declared.words.Event.{Event}
@@ -230,16 +230,23 @@ walkerFrom ground found allowed = record {
   unallowed = 0;
 }
 
--- what a walk met: 1 a superseded life on the left, 2 one on the right, 4 one that is not allowed
-abbrev pub verdict : Bool → Bool → Bool → ℕ
-verdict dropped falls unallowed = bitOr (wordIf dropped 1) (bitOr (wordIf falls 2) (wordIf unallowed 4))
+-- the words of a walker, in the order in which the code lends them; and the walker that a list of words is
+unfoldable pub wordsOf : Walker → List ℕ
+wordsOf x =
+    x .left .places .state ∷ x .left .places .creation ∷ x .left .places .behaviour ∷ x .left .found ∷ x .left .past
+    ∷ x .right .places .state ∷ x .right .places .creation ∷ x .right .places .behaviour ∷ x .right .found ∷ x .right .past
+    ∷ x .ended ∷ x .allowed ∷ x .dropped ∷ x .falls ∷ x .unallowed ∷ []
 
--- a take is in the word
-abbrev pub anyIn : ℕ → Bool
-anyIn w = any groupBits (named w)
-
-unfoldable pub verdictOf : Walker → ℕ
-verdictOf x = verdict (anyIn (x .dropped)) (anyIn (x .falls)) (anyIn (x .unallowed))
+unfoldable pub walkerIn : List ℕ → Walker
+walkerIn w = record {
+  left = record { places = record { state = getD w 0 0; creation = getD w 1 0; behaviour = getD w 2 0 }; found = getD w 3 0; past = getD w 4 0 };
+  right = record { places = record { state = getD w 5 0; creation = getD w 6 0; behaviour = getD w 7 0 }; found = getD w 8 0; past = getD w 9 0 };
+  ended = getD w 10 0;
+  allowed = getD w 11 0;
+  dropped = getD w 12 0;
+  falls = getD w 13 0;
+  unallowed = getD w 14 0;
+}
 
 -- ---- what they say
 

@@ -4,14 +4,16 @@ use Rattle.chains.proofs.Following.{receipt-answers}
 use Rattle.walks.proofs.receipt.Statement.{statement}
 use Rattle.walks.proofs.receipt.Tie as tie
 
-walk-requires : tie.Need-walk-requires
-walk-requires c κs = let h = c .before .before .before .before .pre .0 in (h .listed, h .replied)
+walked-requires : tie.Need-walked-requires
+walked-requires c κs = let h = c .before .before .before .before .pre .0 in (h .listed, h .replied)
 
 returns : tie.Need-returns
 returns c =
-    let s = c .before .before .before in
+    let w = c .before .before in
+    let s = w .before .before in
     let h = s .before .before .before .pre in
-    receipt-answers _ _ _ _ _ _ _ (h .0) (h .1) (h .2) (s .start .ensures) (c .before .walk .ensures)
+    let k = c .struct-known2 .given .1 .1 .1 .1 in
+    receipt-answers _ _ _ (h .0) _ _ _ _ (h .1) (h .2) (s .start .ensures) (w .walked .ensures) (k .0 .fits) (k .1 .0 .fits)
 
 pub receipt-spec : {M : Type 1} → statement M
 receipt-spec =
@@ -22,6 +24,5 @@ receipt-spec =
     (λ c. search needs)
     (λ c. search needs)
     (λ c κs. search needs)
-    (λ c. search needs)
-    walk-requires
+    walked-requires
     returns)
