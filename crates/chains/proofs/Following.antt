@@ -151,8 +151,8 @@ record Follows (x : Follower) (y : Walk) : Type 0 where
   rightPast : Names (x .walker .right .past) (y .rightPast)
   ended : Names (x .walker .ended) (y .ended)
   allowed : Names (x .walker .allowed) (y .allowed)
-  leftSuperseded : any groupBits (named (x .walker .dropped)) ≡ y .leftSuperseded
-  rightSuperseded : any groupBits (named (x .walker .falls)) ≡ y .rightSuperseded
+  leftSuperseded : any groupBits (named (x .walker .«left_superseded»)) ≡ y .leftSuperseded
+  rightSuperseded : any groupBits (named (x .walker .«right_superseded»)) ≡ y .rightSuperseded
   unallowed : any groupBits (named (x .walker .unallowed)) ≡ y .unallowed
   size : length (x .messages) ≡ 1024
 
@@ -209,9 +209,9 @@ module _ (e : Event) (f : chain.Event) (F S : ℕ) (A B : ℕ → Bool) (a-of : 
         rightPast = past-now (w .right) b mr (bitOr F S) (meets f (y .right)) (λ u. A u or B u) (y .rightMet) (y .rightPast) dr either (h .rightMet) (h .rightPast);
         ended = λ u k. named-or F (without (w .ended) S) u ∙ rw (named-without (w .ended) S u, a-of u k, b-of u k, h .ended u k) (ended-as (A u) (B u) (y .ended u));
         allowed = h .allowed;
-        leftSuperseded = any-more (w .dropped) (bitAnd ml (bitAnd (w .right .past) (w .ended))) (y .leftSuperseded) (λ u. meets f (y .left) u and y .rightPast u and y .ended u) (h .leftSuperseded)
+        leftSuperseded = any-more (w .«left_superseded») (bitAnd ml (bitAnd (w .right .past) (w .ended))) (y .leftSuperseded) (λ u. meets f (y .left) u and y .rightPast u and y .ended u) (h .leftSuperseded)
             (λ u k. named-and ml (bitAnd (w .right .past) (w .ended)) u ∙ rw (named-and (w .right .past) (w .ended) u, dl u k, h .rightPast u k, h .ended u k));
-        rightSuperseded = any-more (w .falls) (bitAnd mr (bitAnd (w .left .past) (w .ended))) (y .rightSuperseded) (λ u. meets f (y .right) u and y .leftPast u and y .ended u) (h .rightSuperseded)
+        rightSuperseded = any-more (w .«right_superseded») (bitAnd mr (bitAnd (w .left .past) (w .ended))) (y .rightSuperseded) (λ u. meets f (y .right) u and y .leftPast u and y .ended u) (h .rightSuperseded)
             (λ u k. named-and mr (bitAnd (w .left .past) (w .ended)) u ∙ rw (named-and (w .left .past) (w .ended) u, dr u k, h .leftPast u k, h .ended u k));
         unallowed = any-more (w .unallowed) (without (without mr (w .left .past)) (w .allowed)) (y .unallowed) (λ u. meets f (y .right) u and not (y .leftPast u) and not (y .allowed u)) (h .unallowed)
             (λ u k. named-without (without mr (w .left .past)) (w .allowed) u ∙ rw (named-without mr (w .left .past) u, dr u k, h .leftPast u k, h .allowed u k) (and-assoc (meets f (y .right) u) (not (y .leftPast u)) (not (y .allowed u))));
@@ -363,19 +363,19 @@ sign-follows g =
 -- a word that the walk leaves is 0 exactly if nothing was met: x what is left, from y
 module _ (steps replies : List ℕ) (i : ℕ) (o : Walkable steps replies i) (x : Follower) where
   pub receipt-answers : (n t : ℕ) (y : Walker) → n < 1024 → t < 16 → y ≡ walkerFrom (1 * 2 ^ t % 2 ^ 16) 0 65535
-      → x ≡ followBack steps (toldIn replies) i (following y (set unfollowed n 1)) → x .walker .dropped < 65536 → x .walker .falls < 65536
-      → (not (eqb (x .walker .dropped) 0) ≡ walkBack steps (toldIn replies) i (receiptStart n t) .leftSuperseded) × (not (eqb (x .walker .falls) 0) ≡ walkBack steps (toldIn replies) i (receiptStart n t) .rightSuperseded)
+      → x ≡ followBack steps (toldIn replies) i (following y (set unfollowed n 1)) → x .walker .«left_superseded» < 65536 → x .walker .«right_superseded» < 65536
+      → (not (eqb (x .walker .«left_superseded») 0) ≡ walkBack steps (toldIn replies) i (receiptStart n t) .leftSuperseded) × (not (eqb (x .walker .«right_superseded») 0) ≡ walkBack steps (toldIn replies) i (receiptStart n t) .rightSuperseded)
   receipt-answers n t y h k e f a b =
       let z : Follower = following (walkerFrom (1 * 2 ^ t % 2 ^ 16) 0 65535) (set unfollowed n 1) in
       let s : Follows x (walkBack steps (toldIn replies) i (receiptStart n t)) =
       rw (f, e) (follows-all steps (toldIn replies) i z (receiptStart n t) (o .within) (receipt-follows n t h k)) in
-      (word-any (x .walker .dropped) a ∙ s .leftSuperseded, word-any (x .walker .falls) b ∙ s .rightSuperseded)
+      (word-any (x .walker .«left_superseded») a ∙ s .leftSuperseded, word-any (x .walker .«right_superseded») b ∙ s .rightSuperseded)
 
   pub sign-answers : (g : ℕ) (y : Walker) → y ≡ walkerFrom g 65535 g
-      → x ≡ followBack steps (toldIn replies) i (following y unfollowed) → x .walker .falls < 65536 → x .walker .unallowed < 65536
-      → eqb (x .walker .falls) 0 and eqb (x .walker .unallowed) 0 ≡ not (signWalk steps replies i g .rightSuperseded) and not (signWalk steps replies i g .unallowed)
+      → x ≡ followBack steps (toldIn replies) i (following y unfollowed) → x .walker .«right_superseded» < 65536 → x .walker .unallowed < 65536
+      → eqb (x .walker .«right_superseded») 0 and eqb (x .walker .unallowed) 0 ≡ not (signWalk steps replies i g .rightSuperseded) and not (signWalk steps replies i g .unallowed)
   unfolding signWalk
   sign-answers g y e f a b =
       let s : Follows x (walkBack steps (toldIn replies) i (signStart g)) =
       rw (f, e) (follows-all steps (toldIn replies) i (following (walkerFrom g 65535 g) unfollowed) (signStart g) (o .within) (sign-follows g)) in
-      rw (word-none (x .walker .falls) a, word-none (x .walker .unallowed) b, s .rightSuperseded, s .unallowed)
+      rw (word-none (x .walker .«right_superseded») a, word-none (x .walker .unallowed) b, s .rightSuperseded, s .unallowed)

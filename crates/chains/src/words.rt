@@ -37,8 +37,8 @@ pub struct Side {
 pub struct Passed {
     pub left: Side,
     pub right: Side,
-    pub here: u16,
-    pub there: u16,
+    pub met_left: u16,
+    pub met_right: u16,
 }
 
 // One side of a walk.
@@ -59,9 +59,9 @@ pub struct Walker {
     // Those whose present incarnation may be met on the right.
     pub allowed: u16,
     // An incarnation met on the left is superseded by one met on the right.
-    pub dropped: u16,
+    pub left_superseded: u16,
     // One met on the right is superseded by one met on the left.
-    pub falls: u16,
+    pub right_superseded: u16,
     // The present one was met on the right, and is not allowed.
     pub unallowed: u16,
 }

@@ -27,8 +27,8 @@ pub fn words(x: Walker) -> [u16; WORDS]
         r.past,
         x.ended,
         x.allowed,
-        x.dropped,
-        x.falls,
+        x.left_superseded,
+        x.right_superseded,
         x.unallowed,
     ]
 }
@@ -57,8 +57,8 @@ pub fn walker(w: [u16; WORDS]) -> Walker
         },
         ended: w[10],
         allowed: w[11],
-        dropped: w[12],
-        falls: w[13],
+        left_superseded: w[12],
+        right_superseded: w[13],
         unallowed: w[14],
     }
 }

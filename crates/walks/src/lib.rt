@@ -117,8 +117,8 @@ fn start(ground: u16, found: u16, allowed: u16) -> Walker
         right,
         ended: 0,
         allowed,
-        dropped: 0,
-        falls: 0,
+        left_superseded: 0,
+        right_superseded: 0,
         unallowed: 0,
     }
 }
@@ -133,8 +133,8 @@ pub fn receipt(list: &[u8], replies: &[u8], i: usize, n: usize, t: usize) -> Com
     messages[n] = sides::LEFT;
     let x = walked(list, replies, i, start(1 << t, 0, ALL), &mut messages);
     Compared {
-        dropped: x.dropped != 0,
-        falls: x.falls != 0,
+        dropped: x.left_superseded != 0,
+        falls: x.right_superseded != 0,
     }
 }
 
@@ -145,5 +145,5 @@ pub fn grounded(list: &[u8], replies: &[u8], i: usize, group: u16) -> bool
 {
     let mut messages = [0u16; NUMBERS];
     let x = walked(list, replies, i, start(group, ALL, group), &mut messages);
-    x.falls == 0 && x.unallowed == 0
+    x.right_superseded == 0 && x.unallowed == 0
 }

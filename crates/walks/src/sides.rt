@@ -119,8 +119,8 @@ fn unmet(left: Side, right: Side) -> Passed
     Passed {
         left,
         right,
-        here: 0,
-        there: 0,
+        met_left: 0,
+        met_right: 0,
     }
 }
 
@@ -128,13 +128,13 @@ fn unmet(left: Side, right: Side) -> Passed
 fn sent(a: Side, b: Side, v: u16, t: u16) -> Passed
     ensures { λ r. ⌜ r ≡ passed (sideCarries a (wordIf (onLeft v) t)) (sideCarries b (wordIf (onRight v) t)) (wordIf (onLeft v) t) (wordIf (onRight v) t) ⌝ }
 {
-    let here = word_if(v & LEFT != 0, t);
-    let there = word_if(v & RIGHT != 0, t);
+    let met_left = word_if(v & LEFT != 0, t);
+    let met_right = word_if(v & RIGHT != 0, t);
     Passed {
-        left: carry(a, here),
-        right: carry(b, there),
-        here,
-        there,
+        left: carry(a, met_left),
+        right: carry(b, met_right),
+        met_left,
+        met_right,
     }
 }
 
@@ -144,8 +144,8 @@ fn opened(a: Side, b: Side, t: u16, c: u16) -> Passed
     Passed {
         left: opening(a, t, c),
         right: opening(b, t, c),
-        here: opening_meets(a, t, c),
-        there: opening_meets(b, t, c),
+        met_left: opening_meets(a, t, c),
+        met_right: opening_meets(b, t, c),
     }
 }
 
@@ -161,8 +161,8 @@ fn renewed(a: Side, b: Side, v: u16) -> Passed
     Passed {
         left: without(a, v),
         right: without(b, v),
-        here: a.state & v,
-        there: b.state & v,
+        met_left: a.state & v,
+        met_right: b.state & v,
     }
 }
 
@@ -243,23 +243,25 @@ pub fn trail(ground: u16, found: u16) -> Trail
 }
 
 // x after a step that was passed so; fell: the transactors rolled back there, signed: those checkpointed.
+// Of two incarnations of a transactor the earlier is superseded (stale) exactly if it ended in a rollback. Going back, the earlier one is
+// the one met now; the later one was met before, on the other side (past), and how the earlier one ended is known (ended).
 pub fn joined(x: Walker, q: Passed, fell: u16, signed: u16) -> Walker
     ensures { λ r. ⌜ r ≡ walkerWith x q fell signed ⌝ }
 {
     let l = x.left;
     let r = x.right;
-    let other = q.there ^ (q.there & l.past);
+    let present = q.met_right ^ (q.met_right & l.past);
     let ended = fell | (x.ended ^ (x.ended & signed));
-    let dropped = x.dropped | (q.here & (r.past & x.ended));
-    let falls = x.falls | (q.there & (l.past & x.ended));
-    let unallowed = x.unallowed | (other ^ (other & x.allowed));
+    let left_superseded = x.left_superseded | (q.met_left & (r.past & x.ended));
+    let right_superseded = x.right_superseded | (q.met_right & (l.past & x.ended));
+    let unallowed = x.unallowed | (present ^ (present & x.allowed));
     Walker {
-        left: trail_over(l, q.left, q.here, fell | signed),
-        right: trail_over(r, q.right, q.there, fell | signed),
+        left: trail_over(l, q.left, q.met_left, fell | signed),
+        right: trail_over(r, q.right, q.met_right, fell | signed),
         ended,
         allowed: x.allowed,
-        dropped,
-        falls,
+        left_superseded,
+        right_superseded,
         unallowed,
     }
 }

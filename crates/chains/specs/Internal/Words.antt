@@ -153,9 +153,9 @@ sidesIf left right = bitOr (wordIf left 1) (wordIf right 2)
 abbrev pub followedOn : (ℕ → Bool) → List ℕ → ℕ → Bool
 followedOn side l n = side (getD l n 0)
 
--- here, there: the takes met on the left and on the right
+-- l, r: the takes met on the left and on the right
 abbrev pub passed : Side → Side → ℕ → ℕ → Passed
-passed a b here there = record { left = a; right = b; here = here; there = there }
+passed a b l r = record { left = a; right = b; «met_left» = l; «met_right» = r }
 
 unfoldable pub passedOver : Event → Side → Side → List ℕ → Passed
 passedOver e a b l = passed (sideOver e a (followedOn onLeft l)) (sideOver e b (followedOn onRight l)) (metOver e a (followedOn onLeft l)) (metOver e b (followedOn onRight l))
@@ -191,13 +191,13 @@ following x l = record { walker = x; messages = l }
 -- x: before the step; q: both sides after it; F, S: the takes that fell, and that were signed
 unfoldable pub walkerWith : Walker → Passed → ℕ → ℕ → Walker
 walkerWith x q F S = record {
-  left = trailOver (x .left) (q .left) (q .here) (bitOr F S);
-  right = trailOver (x .right) (q .right) (q .there) (bitOr F S);
+  left = trailOver (x .left) (q .left) (q .«met_left») (bitOr F S);
+  right = trailOver (x .right) (q .right) (q .«met_right») (bitOr F S);
   ended = bitOr F (without (x .ended) S);
   allowed = x .allowed;
-  dropped = bitOr (x .dropped) (bitAnd (q .here) (bitAnd (x .right .past) (x .ended)));
-  falls = bitOr (x .falls) (bitAnd (q .there) (bitAnd (x .left .past) (x .ended)));
-  unallowed = bitOr (x .unallowed) (without (without (q .there) (x .left .past)) (x .allowed));
+  «left_superseded» = bitOr (x .«left_superseded») (bitAnd (q .«met_left») (bitAnd (x .right .past) (x .ended)));
+  «right_superseded» = bitOr (x .«right_superseded») (bitAnd (q .«met_right») (bitAnd (x .left .past) (x .ended)));
+  unallowed = bitOr (x .unallowed) (without (without (q .«met_right») (x .left .past)) (x .allowed));
 }
 
 -- over the event e
@@ -225,8 +225,8 @@ walkerFrom ground found allowed = record {
   right = trailFrom ground 0;
   ended = 0;
   allowed = allowed;
-  dropped = 0;
-  falls = 0;
+  «left_superseded» = 0;
+  «right_superseded» = 0;
   unallowed = 0;
 }
 
@@ -235,7 +235,7 @@ unfoldable pub wordsOf : Walker → List ℕ
 wordsOf x =
     x .left .places .state ∷ x .left .places .creation ∷ x .left .places .behaviour ∷ x .left .found ∷ x .left .past
     ∷ x .right .places .state ∷ x .right .places .creation ∷ x .right .places .behaviour ∷ x .right .found ∷ x .right .past
-    ∷ x .ended ∷ x .allowed ∷ x .dropped ∷ x .falls ∷ x .unallowed ∷ []
+    ∷ x .ended ∷ x .allowed ∷ x .«left_superseded» ∷ x .«right_superseded» ∷ x .unallowed ∷ []
 
 unfoldable pub walkerIn : List ℕ → Walker
 walkerIn w = record {
@@ -243,8 +243,8 @@ walkerIn w = record {
   right = record { places = record { state = getD w 5 0; creation = getD w 6 0; behaviour = getD w 7 0 }; found = getD w 8 0; past = getD w 9 0 };
   ended = getD w 10 0;
   allowed = getD w 11 0;
-  dropped = getD w 12 0;
-  falls = getD w 13 0;
+  «left_superseded» = getD w 12 0;
+  «right_superseded» = getD w 13 0;
   unallowed = getD w 14 0;
 }
 
