@@ -1,6 +1,7 @@
 // Operations that call the ledger: begin, the questions, show, and the form of an image. To add one, give it a function here and its
 // letter to play, and a row to the table of vectors.
 use rules::Grouped;
+use rules::Obstacle;
 use rules::Offered;
 use script::bytes;
 use script::numbers;
@@ -92,10 +93,46 @@ fn heard(image: &[u8], t: usize) -> u8 {
     PRINTED
 }
 
+// h: the refusal, and the four numbers.
+fn dependents(image: &[u8], t: usize) -> u8 {
+    let mut refusal: u8 = 99;
+    let d = ledger::dependents(image, t, &mut refusal);
+    print::number(refusal as usize);
+    print::number(d.resting as usize);
+    print::number(d.through as usize);
+    print::number(d.unfinished as usize);
+    print::number(d.carried as usize);
+    PRINTED
+}
+
+// y: the refusal, and what keeps the group from being signed, in the documents' words.
+fn obstacle(image: &[u8], group: usize) -> u8 {
+    let mut refusal: u8 = 99;
+    let o = ledger::obstacle(image, (group % 65536) as u16, &mut refusal);
+    print::number(refusal as usize);
+    match o {
+        Obstacle::Nothing => print::text(b" none"),
+        Obstacle::Unstable(t) => named(b" not frozen", t),
+        Obstacle::Outside(t, u) => pair(b" outside", t, u),
+        Obstacle::Superseded(t, u) => pair(b" withdrawn", t, u),
+    }
+    PRINTED
+}
+
+fn named(what: &[u8], t: u8) {
+    print::text(what);
+    print::number(t as usize);
+}
+
+fn pair(what: &[u8], t: u8, u: u8) {
+    named(what, t);
+    print::number(u as usize);
+}
+
 // w: the refusal, how many bytes are shown, and one of them.
 fn show(image: &[u8], number: usize, at: usize) -> u8 {
     let mut refusal: u8 = 99;
-    let m = ledger::show(image, (number % 65536) as u16, &mut refusal);
+    let m = ledger::show(image, number, &mut refusal);
     print::number(refusal as usize);
     print::number(m.len());
     print::number(bytes::get(m, at) as usize);
@@ -109,6 +146,8 @@ fn ask(op: u8, image: &[u8], a: usize, b: usize) -> u8 {
         b'g' => smallest(image, a),
         b'q' => ready(image, a),
         b'a' => heard(image, a),
+        b'h' => dependents(image, a),
+        b'y' => obstacle(image, a),
         _ => show(image, a, b),
     }
 }

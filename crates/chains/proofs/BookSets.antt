@@ -1,5 +1,5 @@
 -- The book's sets after a step are what its event makes of those before it.
-use Prim.Native.Nat.{ℕ, _+_}
+use Prim.Native.Nat.{ℕ}
 use mathlib.Core.Bool.{Bool, true, false}
 use mathlib.Core.Path.{_≡_, refl, ap, sym, _∙_}
 use mathlib.Core.List.{List, [], _∷_, _++_}
@@ -10,8 +10,8 @@ use borrow.Author.Tests.{eqb-true}
 use Rattle.octets.specs.Bytes.{pick}
 use Rattle.marks.specs.Incarnation.{Incarnation, initialIncarnation, nextIncarnation, checkpointIncarnation}
 use Rattle.marks.specs.History.{initialView}
-use Rattle.maps.specs.Table.{updated}
-use Rattle.maps.proofs.Tables.{updated-view}
+use Rattle.octets.specs.Table.{updated}
+use Rattle.octets.proofs.Tables.{updated-view}
 use Rattle.rules.specs.Layout.{Layout, Limits}
 use Rattle.rules.specs.declared.Step.{Step}
 use Rattle.rules.specs.Step.{root, letter, receive, new, send, read, write, freeze, finish, fall, lose}
@@ -24,7 +24,7 @@ use Rattle.chains.specs.Chain as chain
 use Rattle.chains.specs.Chain.{Places, Event}
 use Rattle.chains.specs.Internal.Sets.{Sets, noSets, setsOf, Reached, change, Traced, setsAfter}
 use Rattle.chains.specs.Internal.Book.{rollbackEvent, actedEvent, receiptEvent, appliedEvent, signEvent, stepEvent, eventsOf}
-use Rattle.session.proofs.Tables.{pick-view, pick-both}
+use Rattle.octets.proofs.Tests.{pick-view, pick-both}
 use Rattle.chains.proofs.Seek.{Rising, no-more, rising-append, rising-without, without, seek, seek-without, seek-append}
 use Rattle.chains.proofs.Exact.{traced-exact}
 

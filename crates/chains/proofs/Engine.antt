@@ -5,52 +5,45 @@ use mathlib.Core.Path.{_≡_, refl, ap, sym, _∙_, subst}
 use mathlib.Core.List.{List, [], _∷_, _++_}
 use mathlib.Core.Logic.{⊎-elim, _↔_}
 use native.Mathlib.Omega.{arith}
-use lib.ListN.{length, getD, length-append}
+use lib.ListN.{length, getD, length-append, take, drop, take-append-drop, replicate, length-replicate, getD-replicate, List·getD-eq-default}
 use borrow.Author.Tests.{not-true, eq-eqb}
 use Rattle.octets.specs.Bytes.{_and_, _or_, every, part, chunks, Octets}
 use Rattle.octets.specs.Numbers.{be, ofBe, bound}
-use Rattle.octets.proofs.Chunks.{chunks-suc}
-use Rattle.rules.specs.Calls.{beginAnswer, beginImage}
+use Rattle.octets.proofs.Chunks.{chunks-suc, sides, step, length-chunks}
+use Rattle.rules.specs.Calls.{beginAnswer, beginImage, stateAfter, replyAt, ranReplies, freshImage, stepsIn}
 use Rattle.octets.proofs.Numbers.{length-be, be-one, ofBe-be}
 use Rattle.octets.proofs.Put.{part-left, part-right, part-whole}
 use Rattle.octets.proofs.Zero.{both, every-all, every-at}
 use Rattle.marks.specs.History.{HistoryView}
-use Rattle.rules.specs.Layout.{Layout, Limits, Fitting}
-use Rattle.rules.specs.State.{State}
+use Rattle.rules.specs.Layout.{Layout, Limits, Fitting, inRange}
+use Rattle.rules.specs.State.{State, bare, noTransactor, transactorAt, fresh}
 use Rattle.rules.specs.declared.Step.{Step}
 use Rattle.rules.specs.declared.Reply.{Reply}
 use Rattle.rules.specs.Step.{stepBytes, stepAt, packReply, sign}
 use Rattle.rules.specs.Refusals.{groupBits, named}
 use Rattle.rules.specs.Rules.{groupReady, seen, refusal, stepOf}
-use Rattle.rules.specs.Calls.{stateAfter, replyAt, ranReplies}
 use Rattle.rules.specs.Internal.Well.{WellFormed}
 use Rattle.rules.proofs.Keep.Kinds.{ReplyOk}
-use Rattle.rules.specs.State.{bare, noTransactor, transactorAt, fresh}
 use Rattle.rules.specs.State as state
 use Rattle.rules.proofs.Keep.Run.{stepOk-at}
 use Rattle.rules.proofs.Keep.Step.{keeps-after, replies-fit}
-use Rattle.octets.proofs.Chunks.{sides, step, length-chunks}
 use lib.Seq.{take-all}
 use Rattle.rules.specs.Pack.{unpack}
-use Rattle.rules.specs.Calls.{freshImage, stepsIn}
 use Rattle.rules.proofs.Calls.Begin.{begin-accepted}
-use Rattle.rules.specs.Layout.{inRange}
 use Rattle.rules.proofs.Pack.Fresh.{pack-fresh}
 use Rattle.rules.proofs.Pack.RoundTrip.{unpack-pack}
 use Rattle.rules.proofs.Keep.State.{well-fresh}
-use Rattle.session.proofs.Relation.{fresh-rel}
+use Rattle.session.proofs.Relation.{fresh-rel, Rel, own-history}
 use Rattle.session.proofs.ViewState.{view-fresh}
-use lib.ListN.{take, drop, take-append-drop, replicate, length-replicate, getD-replicate, List·getD-eq-default}
 use Rattle.session.specs.Provenance.{unused, blank, Incarnations, Holder, WaitingMessage, Provenance, emptyProvenance, find, isMissing, anyEntry, supersededEntry, anySuperseded}
 use Rattle.session.specs.Grounds.{Equal}
 use Rattle.session.specs.Steps.{isDropped, isRolledBack, provenanceRefusal}
 use Rattle.session.proofs.Model.{own, view}
-use Rattle.session.proofs.Relation.{Rel, own-history}
 use Rattle.session.proofs.Accepted.{named-below}
 use Rattle.session.proofs.Step.{Stepped, step-right, ready-exact}
 use Rattle.session.proofs.Run.{length-packReply, reply-part}
 use Rattle.session.proofs.ViewStep.{readyAt, ready-same, applicable, same-refusal}
-use Rattle.session.proofs.Tables.{and-of}
+use Rattle.octets.proofs.Tests.{and-of}
 use Rattle.rules.proofs.Keep.Accepted.{accepted}
 use Rattle.chains.specs.Back.{told}
 use Rattle.chains.specs.Internal.Tables.{Tables, freshTables, emptyRow}

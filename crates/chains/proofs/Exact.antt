@@ -6,12 +6,12 @@ use mathlib.Core.List.{List, [], _∷_, _++_, List·Memᴰ·head, List·Memᴰ·
 use mathlib.Core.Logic.{⊎-elim, _⊎_, inl, inr, _↔_, _≢_}
 use Rattle.octets.specs.Bytes.{pick, _or_}
 use Rattle.marks.specs.Incarnation.{Incarnation, initialIncarnation}
-use Rattle.maps.specs.Table.{updated}
-use Rattle.maps.proofs.Tables.{updated-view, updated-same, updated-other}
+use Rattle.octets.specs.Table.{updated}
+use Rattle.octets.proofs.Tables.{updated-view, updated-same, updated-other}
 use Rattle.session.specs.Provenance.{Incarnations, In, one}
 use Rattle.chains.specs.Chain.{Places, Event, nothing, cleared, sent, taken, opens, reads, writes, finishes, renewed, annihilated, successive, back}
 use Rattle.chains.specs.Internal.Sets.{Sets, noSets, Reached, by-state, by-creation, by-behaviour, by-message, change, Met, sender, opener, child, child-known, anew, in-later, in-earlier, Traced, here, further, setsAfter}
-use Rattle.session.proofs.Tables.{pick-view, or-to, or-of}
+use Rattle.octets.proofs.Tests.{pick-view, or-to, or-of}
 use Rattle.session.proofs.Sets.{in-one}
 
 -- ---- places as tables of tests

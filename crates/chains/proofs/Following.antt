@@ -17,7 +17,7 @@ use Rattle.marks.specs.Incarnation.{Incarnation}
 use Rattle.rules.specs.declared.Step.{Step}
 use Rattle.rules.specs.Step.{unpackStep, stepAt, done, held, dropped, fallenBack, vanished, notReady, root, letter, receive, new, send, read, write, freeze, finish, fall, lose, sign}
 use Rattle.rules.specs.Refusals.{groupBits, named, anyNamed}
-use Rattle.rules.proofs.Bits.{named-zero, named-one, named-and, named-or, named-from, shifted}
+use Rattle.rules.proofs.Bits.{named-zero, named-one, named-and, named-or, named-from, shifted, named-without}
 use Rattle.chains.specs.Chain as chain
 use Rattle.chains.specs.Chain.{Places, groundOf, messageAlone, back}
 use Rattle.chains.specs.Back.{Told, rollbackFrom, receiptFrom, localFrom, eventFrom}
@@ -29,7 +29,7 @@ use Rattle.chains.specs.declared.words.Side.{Side}
 use Rattle.chains.specs.declared.words.Trail.{Trail}
 use Rattle.chains.specs.declared.words.Walker.{Walker}
 use Rattle.chains.specs.Internal.Words.{bitOf, without, rollbackWords, receiptWords, localWords, eventWords, changesNothing, rolledBackWord, checkpointedWord, sideOver, metOver, onLeft, onRight, followedOn, passedOver, messagesOver, trailOver, Follower, following, walkerWith, followerOver, followerStep, followBack, trailFrom, walkerFrom, wordsOf, walkerIn, placesIn}
-use Rattle.chains.proofs.Worded.{Says, says-nothing, says-cleared, says-sent, says-taken, says-opens, says-reads, says-writes, says-finishes, says-renewed, says-annihilated, says-cleared-renewed, says-cleared-annihilated, same-places, left-back, right-back, side-met, named-without}
+use Rattle.chains.proofs.Worded.{Says, says-nothing, says-cleared, says-sent, says-taken, says-opens, says-reads, says-writes, says-finishes, says-renewed, says-annihilated, says-cleared-renewed, says-cleared-annihilated, same-places, left-back, right-back, side-met}
 
 -- ---- one more step
 

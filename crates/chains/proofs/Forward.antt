@@ -1,8 +1,8 @@
 -- Going back over a step of the book meets present lives alone, and present lives only move on.
 use Prim.Native.Nat.{ℕ, _≤_, _<_}
-use mathlib.Core.Bool.{Bool, true, false, false≢true}
+use mathlib.Core.Bool.{Bool, true, false}
 use mathlib.Core.Path.{_≡_, refl, ap, sym}
-use mathlib.Core.List.{List, [], _∷_, _++_}
+use mathlib.Core.List.{[], _∷_, _++_}
 use mathlib.Core.Logic.{_≢_}
 use native.Mathlib.Omega.{arith}
 use lib.Dec.{eqb, leb}
@@ -13,8 +13,8 @@ use Rattle.marks.specs.Incarnation.{Incarnation, initialIncarnation, nextIncarn
 use Rattle.marks.specs.History.{HistoryView, initialView}
 use Rattle.marks.proofs.Order.{precedes-refl, precedes-next, precedes-eq, precedes-checkpoint, superseded-ne, superseded-next, checkpointed-ne, checkpointed-checkpoint}
 use Rattle.marks.proofs.Histories.{_⊑_, ⊑-refl}
-use Rattle.maps.specs.Table.{updated}
-use Rattle.maps.proofs.Tables.{updated-view, updated-same, updated-other}
+use Rattle.octets.specs.Table.{updated}
+use Rattle.octets.proofs.Tables.{updated-view, updated-same, updated-other}
 use Rattle.rules.specs.Layout.{Layout}
 use Rattle.rules.specs.declared.Step.{Step}
 use Rattle.rules.specs.Step.{root, letter, receive, new, send, read, write, freeze, finish, fall, fail, lose, sign}
@@ -28,10 +28,11 @@ use Rattle.chains.specs.Chain.{Places, Event}
 use Rattle.chains.specs.Internal.Sets.{Met, sender, opener, child, child-known, in-later, in-earlier}
 use Rattle.chains.specs.Internal.Book.{rollbackEvent, actedEvent, receiptEvent, appliedEvent, signEvent, stepEvent}
 use Rattle.session.proofs.Model.{Ledger}
-use Rattle.session.proofs.Tables.{pick-view, pick-both, and-of}
+use Rattle.octets.proofs.Tests.{pick-view, pick-both, and-of}
 use Rattle.session.proofs.Relation.{live-used, presentOf, present, present-live, present-gone, Rel}
 use Rattle.session.proofs.Opening.{opening-is}
 use Rattle.session.proofs.Accepted.{provenance-accepted, acting-live, receiving-live, named-live}
+use Rattle.session.proofs.Locals.{isNil-true}
 
 -- from the takes H to the takes K, by event e
 pub record Forward (H K : ℕ → Holder) (e : Event) : Type 0 where
@@ -79,10 +80,6 @@ moves-same t h {s} {m} {k} e none p q live i = record {
 }
 
 module _ (t : ℕ) (h : Holder) (live : Live (h .status)) (first : h .history .incarnation .checkpoints ≡ [] → h .history .incarnation .number ≡ 0) where
-  nil : (s : List ℕ) → isNil s ≡ true → s ≡ []
-  nil [] e = refl
-  nil (x ∷ s) e = absurd (false≢true e)
-
   abbrev next : HistoryView
   next = record { stable = false; incarnation = nextIncarnation (h .history .incarnation) }
 
@@ -93,7 +90,7 @@ module _ (t : ℕ) (h : Holder) (live : Live (h .status)) (first : h .history .i
   unfolding rolledBackHolder rollbackEvent
   rollback-moves = pick-both (Moves t h) (isNil (h .history .incarnation .checkpoints)) (isNil (h .history .incarnation .checkpoints)) refl
       (blank annihilated) (anew t next) (chain.annihilated t) (chain.renewed (λ u. eqb t u) (λ u. nextIncarnation (h .history .incarnation)))
-      (λ e. let p = nil (h .history .incarnation .checkpoints) e in
+      (λ e. let p = isNil-true (h .history .incarnation .checkpoints) e in
       record {
         grow = rw (present-gone initialView) (record { incarnation = precedes-eq (λ i. record { checkpoints = p i; number = first p i }); stable = λ e f. refl });
         meets = λ Q u a x. absurd (annihilated-met t Q u a x);

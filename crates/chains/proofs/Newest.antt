@@ -4,7 +4,7 @@ use Prim.Native.Nat.{ℕ, _<_}
 use mathlib.Core.Bool.{Bool, true, false, false≢true}
 use mathlib.Core.Path.{_≡_, refl, sym, _∙_, subst}
 use mathlib.Core.List.{List, [], _∷_}
-use mathlib.Core.Logic.{_⊎_, inl, inr, ⊎-elim, _≢_, _↔_}
+use mathlib.Core.Logic.{_⊎_, inl, inr, ⊎-elim, _↔_}
 use mathlib.Core.Option.{Option, none, some}
 use native.Mathlib.Omega.{arith}
 use lib.Dec.{eqb}
@@ -13,15 +13,16 @@ use Rattle.octets.specs.Bytes.{pick, _and_, _or_, every}
 use Rattle.octets.proofs.Zero.{both, every-at, every-all}
 use Rattle.marks.specs.Incarnation.{Incarnation, initialIncarnation}
 use Rattle.marks.specs.History.{HistoryView}
-use Rattle.marks.proofs.Trail.{Precedes}
+use Rattle.marks.specs.Order.{Precedes}
 use Rattle.marks.proofs.Order.{precedes-eq, precedes-trans}
 use Rattle.marks.proofs.Histories.{_⊑_}
-use Rattle.maps.specs.Table.{updated}
+use Rattle.octets.specs.Table.{updated}
 use Rattle.chains.specs.Chain as chain
 use Rattle.chains.specs.Internal.Sets as sets
 use Rattle.chains.specs.Chain.{Places, Event, back, orElse, metOf, newest, holdsOf, allMet}
 use Rattle.chains.specs.Internal.Sets.{Met, sender, opener, child, child-known, in-later, in-earlier, Traced, here, further}
-use Rattle.session.proofs.Tables.{or-to, or-of, and-of}
+use Rattle.chains.specs.Internal.Walk.{isMet}
+use Rattle.octets.proofs.Tests.{or-to, or-of, and-of}
 
 -- ---- the computed life is met, and where none is computed none is met
 
@@ -182,3 +183,9 @@ all-met l n f Q = (to l Q, of l Q)
     of : {es : List Event} {now : ℕ → HistoryView} → Grown es now → (Q : Places) → ((u : ℕ) (a : Incarnation) → u < n → Traced es Q u a → f u a ≡ true) → allMet n f es Q ≡ true
     of start Q h = all-nil n f Q
     of (step {e} {es} l g k) Q h = all-cons e es Q n f (λ u a i x. h u a i (here x)) (of l (back e Q) (λ u a i x. h u a i (further x)))
+
+-- one or the other is met
+pub met-either : (x y : Option Incarnation) → isMet (orElse x y) ≡ isMet x or isMet y
+unfolding orElse
+met-either none y = refl
+met-either (some a) y = refl

@@ -11,8 +11,8 @@ use borrow.Author.Tests.{eqb-true, eqb-false, eq-eqb, ne-eqb, le-leb}
 use Rattle.octets.specs.Bytes.{pick, _and_, _or_}
 use Rattle.octets.specs.Numbers.{bound}
 use Rattle.maps.specs.declared.DependenceMap.{DependenceMap}
-use Rattle.octets.proofs.Tests.{never}
-use Rattle.maps.specs.Table.{updated}
+use Rattle.octets.proofs.Tests.{never, pick-both, and-of, or-of}
+use Rattle.octets.specs.Table.{updated}
 use Rattle.rules.specs.Layout.{Layout}
 use Rattle.rules.specs.State.{Transactor, Message, State, transactorAt, messageAt, withTransactor, withOpened, withMessage, withoutMessage, placeOf}
 use Rattle.rules.specs.declared.Step.{Step}
@@ -28,7 +28,7 @@ use Rattle.session.specs.Steps.{isDropped, isRolledBack, acted, received, recei
 use Rattle.session.specs.Grounds.{Equal}
 use Rattle.session.proofs.Step.{SigningRight, checkpointed, uncheckpointed, StepRight}
 use Rattle.session.proofs.Model.{view}
-use Rattle.session.proofs.Tables.{pick-both, and-of, or-of, updated-both}
+use Rattle.octets.proofs.Tables.{updated-both}
 use Rattle.session.proofs.Relation.{Rel}
 use Rattle.session.proofs.Related.{receipt-related}
 use Rattle.session.proofs.Seen.{same-seen}

@@ -20,7 +20,7 @@ use Rattle.session.specs.Provenance.{Holder, WaitingMessage, Provenance, find}
 use Rattle.session.specs.Steps.{isNil, isDropped, isRolledBack}
 use Rattle.chains.specs.Back.{Told, told}
 use Rattle.session.proofs.Model.{MessageView, own, findMessage, knownMap, view}
-use Rattle.session.proofs.Tables.{pick-view, pick-both}
+use Rattle.octets.proofs.Tests.{pick-view, pick-both}
 use Rattle.session.proofs.Relation.{present, Rel, own-history, MessageRel}
 use Rattle.session.proofs.Messages.{find-rel, dropped-same, rolledBack-same}
 use Rattle.session.proofs.Seen.{seenOf}

@@ -3,18 +3,17 @@ use Prim.Native.Nat.{ℕ, _+_, _-_, _≤_}
 use mathlib.Core.Bool.{Bool, true, false, true≢false, false≢true}
 use mathlib.Core.Path.{_≡_, refl, ap, sym, _∙_, subst}
 use mathlib.Core.List.{List, [], _∷_, _++_}
-use mathlib.Core.Logic.{_≢_}
 use mathlib.Core.Option.{Option, none, some}
 use native.Mathlib.Omega.{arith}
 use lib.Dec.{eqb}
-use lib.ListN.{length, take, getD, length-append}
 use borrow.Author.Tests.{eq-eqb, eqb-true, ne-eqb}
 use Rattle.octets.specs.Bytes.{pick, _and_}
 use Rattle.octets.proofs.Zero.{both}
-use Rattle.marks.specs.Incarnation.{Incarnation, initialIncarnation, nextIncarnation, checkpointIncarnation}
+use Rattle.marks.specs.Incarnation.{Incarnation, initialIncarnation, nextIncarnation, checkpointIncarnation, beforeRollback, beforeCheckpoint}
 use Rattle.marks.specs.History.{initialView}
-use Rattle.maps.specs.Table.{updated}
-use Rattle.maps.proofs.Tables.{updated-view, updated-same, updated-other}
+use Rattle.marks.proofs.Before.{before-checkpoint}
+use Rattle.octets.specs.Table.{updated}
+use Rattle.octets.proofs.Tables.{updated-view, updated-same, updated-other}
 use Rattle.rules.specs.declared.Step.{Step}
 use Rattle.rules.specs.Step.{done, held, dropped, fallenBack, vanished, notReady, root, letter, receive, new, send, read, write, freeze, finish, fall, lose, sign}
 use Rattle.rules.specs.Refusals.{named}
@@ -23,12 +22,13 @@ use Rattle.session.specs.Steps.{anew, carried, isNil, rolledBackHolder, reads, 
 use Rattle.chains.specs.Chain as chain
 use Rattle.chains.specs.Internal.Sets as sets
 use Rattle.chains.specs.Chain.{Places, Event, back, metOf, newest}
-use Rattle.chains.specs.Back.{Told, rollbackFrom, receiptFrom, localFrom, eventFrom, beforeRollback, beforeCheckpoint, undo}
+use Rattle.chains.specs.Back.{Told, rollbackFrom, receiptFrom, localFrom, eventFrom, undo}
 use Rattle.chains.specs.Internal.Sets.{Met, in-later, in-earlier, Traced, here, further}
 use Rattle.chains.specs.Internal.Walk.{wasRolledBack, wasCheckpointed}
 use Rattle.chains.specs.Internal.Book.{rollbackEvent, actedEvent, receiptEvent, appliedEvent, signEvent, incarnationsIn}
 use Rattle.chains.proofs.Walked.{Turned, stays, rolled-back, checkpointed-now}
-use Rattle.session.proofs.Tables.{pick-view, pick-both}
+use Rattle.octets.proofs.Tests.{pick-view, pick-both}
+use Rattle.session.proofs.Locals.{isNil-true}
 
 -- ---- events that do the same
 
@@ -129,10 +129,6 @@ plain-told : {t : ℕ} {h : Holder} (F : ℕ → (ℕ → Incarnation) → Event
 plain-told F o k e f n l i = record { event = λ L q. f L; rolled-back = λ q. absurd (true≢false (sym q ∙ n)); kept = λ q. i; small = l }
 
 module _ (t : ℕ) (h : Holder) (first : h .history .incarnation .checkpoints ≡ [] → h .history .incarnation .number ≡ 0) where
-  nil : (s : List ℕ) → isNil s ≡ true → s ≡ []
-  nil [] e = refl
-  nil (x ∷ s) e = absurd (false≢true e)
-
   rollback-told : (F : ℕ → (ℕ → Incarnation) → Event) (W : Event → Event) → ((e f : Event) → Alike e f → Alike (W e) (W f))
       → ((L : ℕ → Incarnation) → F fallenBack L ≡ W (rollbackFrom fallenBack t L)) → ((L : ℕ → Incarnation) → F vanished L ≡ W (rollbackFrom vanished t L))
       → OneTold t h F (rollbackOutcome h) (rolledBackHolder t h) (W (rollbackEvent t h))
@@ -141,7 +137,7 @@ module _ (t : ℕ) (h : Holder) (first : h .history .incarnation .checkpoints �
       let a : Incarnation = nextIncarnation (h .history .incarnation) in
       pick-three (λ o k e. OneTold t h F o k (W e)) (isNil (h .history .incarnation .checkpoints)) vanished fallenBack (blank annihilated) (anew t (record { stable = false; incarnation = a }))
       (chain.annihilated t) (chain.renewed (λ u. eqb t u) (λ u. a))
-      (λ e. let p = nil (h .history .incarnation .checkpoints) e in
+      (λ e. let p = isNil-true (h .history .incarnation .checkpoints) e in
       record { event = λ L q. rw (at4 L) (wrap _ _ alike-same); rolled-back = λ q. absurd (false≢true q); kept = λ q. λ i. record { checkpoints = sym p i; number = sym (first p) i }; small = omega arith })
       (λ e. record {
         event = λ L q. rw (at3 L) (wrap _ _ (alike-renewed (λ u i. ap L (sym (eqb-true t u i)) ∙ q)));
@@ -293,29 +289,6 @@ module _ (b : Provenance) (p : Step) (other : p .kind ≡ sign → ⊥) (first :
       (λ e. put-told (actedOutcome k (H t)) t 0 (acted k t (H t)) (actedEvent k t (H t)) (λ o L. localFrom k o t L) (λ L. rw (e0, e1, e2, e3, e4, e, ne-eqb k sign other)) (acted-told t (H t) (first t) k))
 
 -- ---- a signing
-
-last-taken : (l : List ℕ) (n : ℕ) → take (length (l ++ (n ∷ [])) - 1) (l ++ (n ∷ [])) ≡ l
-last-taken l n = rw (sizes l n) (front l n)
-  where
-    sizes : (l : List ℕ) (n : ℕ) → length (l ++ (n ∷ [])) - 1 ≡ length l
-    sizes l n = let e = length-append l (n ∷ []) in omega arith
-
-    front : (l : List ℕ) (n : ℕ) → take (length l) (l ++ (n ∷ [])) ≡ l
-    front [] n = refl
-    front (x ∷ l) n = ap (λ z. x ∷ z) (front l n)
-
-last-read : (l : List ℕ) (n : ℕ) → getD (l ++ (n ∷ [])) (length (l ++ (n ∷ [])) - 1) 0 ≡ n
-last-read l n = rw (sizes l n) (at l n)
-  where
-    sizes : (l : List ℕ) (n : ℕ) → length (l ++ (n ∷ [])) - 1 ≡ length l
-    sizes l n = let e = length-append l (n ∷ []) in omega arith
-
-    at : (l : List ℕ) (n : ℕ) → getD (l ++ (n ∷ [])) (length l) 0 ≡ n
-    at [] n = refl
-    at (x ∷ l) n = at l n
-
-before-checkpoint : (a : Incarnation) → beforeCheckpoint (checkpointIncarnation a) ≡ a
-before-checkpoint a = λ i. record { checkpoints = last-taken (a .checkpoints) (a .number) i; number = last-read (a .checkpoints) (a .number) i }
 
 module _ (b : Provenance) (p : Step) (k : p .kind ≡ sign) where
   abbrev done0 : Told

@@ -9,9 +9,9 @@ use lib.Dec.{eqb}
 use lib.ListN.{length}
 use borrow.Author.Tests.{eqb-true, ne-eqb}
 use Rattle.octets.specs.Bytes.{pick}
-use Rattle.maps.specs.Table.{updated}
-use Rattle.maps.proofs.Tables.{updated-view}
-use Rattle.session.proofs.Tables.{pick-view, pick-both}
+use Rattle.octets.specs.Table.{updated}
+use Rattle.octets.proofs.Tables.{updated-view}
+use Rattle.octets.proofs.Tests.{pick-view, pick-both}
 
 module _ {A : Type 0} (number : A → ℕ) where
   -- rising from k on, below m

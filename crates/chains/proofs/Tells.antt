@@ -1,5 +1,5 @@
 -- The engine's tables beside the ledger's state and the book: what they say of each, kept by every step.
-use Prim.Native.Nat.{ℕ, suc, _+_, _-_, _≤_, _<_}
+use Prim.Native.Nat.{ℕ, suc, _+_, _≤_, _<_}
 use mathlib.Core.Bool.{Bool, true, false}
 use mathlib.Core.Path.{_≡_, refl, ap, sym, _∙_, subst}
 use mathlib.Core.List.{List, [], _∷_, _++_}
@@ -11,8 +11,8 @@ use borrow.Author.Tests.{eqb-true, eqb-false}
 use Rattle.octets.specs.Bytes.{pick, tabulate}
 use Rattle.octets.proofs.Chunks.{sides, length-tabulate, getD-tabulate}
 use Rattle.marks.specs.History.{checkpointedView}
-use Rattle.maps.specs.Table.{updated}
-use Rattle.maps.proofs.Tables.{set-updated}
+use Rattle.octets.specs.Table.{updated}
+use Rattle.octets.proofs.Tables.{set-updated}
 use Rattle.rules.specs.Layout.{Layout}
 use Rattle.rules.specs.State.{Transactor, Message, State, noTransactor, noMessage, transactorAt, messageAt, ownHistory, withTransactor, withOpened, withMessage, withoutMessage, placeOf}
 use Rattle.rules.specs.State as state

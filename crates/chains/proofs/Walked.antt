@@ -7,29 +7,18 @@ use mathlib.Core.Logic.{_⊎_, inl, inr, ⊎-elim, _↔_}
 use mathlib.Core.Option.{Option, none, some}
 use borrow.Author.Tests.{not-true}
 use Rattle.octets.specs.Bytes.{pick, _and_, _or_, any}
-use Rattle.octets.proofs.Zero.{both, any-on}
+use Rattle.octets.proofs.Zero.{both, any-on, any-some}
 use Rattle.marks.specs.Incarnation.{Incarnation, nextIncarnation, checkpointIncarnation, Superseded}
-use Rattle.marks.proofs.Trail.{Precedes}
+use Rattle.marks.specs.Order.{Precedes}
 use Rattle.marks.proofs.Order.{precedes-eq, precedes-trans, precedes-antisym, superseded-up, superseded-ne, superseded-precedes, superseded-next, superseded-not-checkpointed, checkpointed-up, checkpointed-ne, checkpointed-checkpoint, precedes-next, precedes-checkpoint}
 use Rattle.rules.specs.Refusals.{groupBits}
-use Rattle.octets.proofs.Tests.{or-off, and-off}
-use Rattle.session.proofs.Tables.{and-of, or-to, or-of}
+use Rattle.octets.proofs.Tests.{or-off, and-off, true-or-false, and-of, or-to, or-of}
 use Rattle.chains.specs.Chain.{Places, Event, back, metOf}
 use Rattle.chains.specs.Internal.Sets.{Met, Traced, here, further}
 use Rattle.chains.specs.Internal.Walk.{isMet, meets}
 use Rattle.chains.proofs.Newest.{met-some, met-none}
 
 -- ---- tests
-
-any-some : (f : ℕ → Bool) (n : ℕ) → any n f ≡ true → (i : ℕ) × (f i ≡ true)
-unfolding any
-any-some f zero e = absurd (false≢true e)
-any-some f (suc n) e = ⊎-elim (λ p. any-some f n p) (λ p. (n, p)) (or-to (any n f) (f n) e)
-
--- true or not
-split : (c : Bool) → (c ≡ true) ⊎ (c ≡ false)
-split true = inl refl
-split false = inr refl
 
 clash : {A : Type 0} {c : Bool} → c ≡ true → c ≡ false → A
 clash e f = absurd (true≢false (sym e ∙ f))
@@ -114,9 +103,9 @@ module _ {P : ℕ → Incarnation → Type 0} {now : ℕ → Incarnation} {met p
 
   known-of : (u : ℕ) (a : Incarnation) → P u a → Superseded (now u) a → past u and ended u ≡ true
   known-of u a p s = ⊎-elim
-      (λ i. ⊎-elim (λ j. and-of (past u) (ended u) i j) (λ j. absurd (k .kept u a i j p s)) (split (ended u)))
+      (λ i. ⊎-elim (λ j. and-of (past u) (ended u) i j) (λ j. absurd (k .kept u a i j p s)) (true-or-false (ended u)))
       (λ i. absurd (superseded-ne s (sym (k .same u a i p))))
-      (split (past u))
+      (true-or-false (past u))
 
 -- those met so far, and the present lives of the takes X
 pub data More (P : ℕ → Incarnation → Type 0) (X : ℕ → Bool) (now : ℕ → Incarnation) (u : ℕ) (a : Incarnation) : Type 0 where
@@ -333,7 +322,7 @@ module _ {E : ℕ → Event} {F S : ℕ → ℕ → Bool} {incarnation : ℕ →
       to : Unallowed allowed now (E r ∷ firstEvents E r) (o .asked) → (any groupBits f ≡ true) ⊎ Unallowed allowed now (firstEvents E r) (back (E r) (o .asked))
       to (unallowed u (here m) e) = inl (any-on f groupBits u (l .few r (o .asked) u (now u) m)
           (and-of (meets (E r) (o .asked) u) (not (o .past u) and not (allowed u)) (met-meets (E r) (o .asked) u (now u) m)
-          (and-of (not (o .past u)) (not (allowed u)) (⊎-elim (λ i. absurd (k .apart u i (sym (l .own r (o .asked) u (now u) m)))) (λ i. rw i) (split (o .past u))) (rw e))))
+          (and-of (not (o .past u)) (not (allowed u)) (⊎-elim (λ i. absurd (k .apart u i (sym (l .own r (o .asked) u (now u) m)))) (λ i. rw i) (true-or-false (o .past u))) (rw e))))
       to (unallowed u (further t) e) = inr (unallowed u t e)
 
       of : (any groupBits f ≡ true) ⊎ Unallowed allowed now (firstEvents E r) (back (E r) (o .asked)) → Unallowed allowed now (E r ∷ firstEvents E r) (o .asked)

@@ -11,9 +11,9 @@ use borrow.Author.Tests.{ne-eqb, ltb-true}
 use Rattle.octets.specs.Bytes.{pick, _and_, _or_, any, Octets}
 use Rattle.marks.specs.History.{HistoryView}
 use Rattle.octets.specs.Numbers.{bound}
-use Rattle.octets.proofs.Tests.{or-none, and-false}
+use Rattle.octets.proofs.Tests.{or-none, and-false, true-or-false, pick-both, same-test}
 use Rattle.marks.specs.Incarnation.{Incarnation, Superseded, Checkpointed}
-use Rattle.marks.proofs.Trail.{Under}
+use Rattle.marks.specs.Order.{Under}
 use Rattle.marks.proofs.Order.{precedes-eq, precedes-refl, precedes-split, under-split, superseded-ne, superseded-not-checkpointed, checkpointed-irrefl, checkpointed-up, initial-precedes}
 use Rattle.rules.specs.Layout.{Layout, Limits, Fitting}
 use Rattle.rules.specs.State.{State}
@@ -29,12 +29,11 @@ use Rattle.session.specs.Provenance.{Live, Incarnations, In, Holder, WaitingMes
 use Rattle.session.specs.Steps.{isDropped, isRolledBack}
 use Rattle.session.proofs.Sets.{SupersededSet, superseded-set, supersededSet-test}
 use Rattle.session.proofs.Model.{Ledger, own, view}
-use Rattle.session.proofs.Tables.{pick-both, same-test}
 use Rattle.session.proofs.Relation.{live-or-not, present-live, own-history, Rel}
 use Rattle.session.proofs.ViewStep.{readyAt}
 use Rattle.session.proofs.Step.{Stepped, step-right}
 use Rattle.chains.specs.Chain as chain
-use Rattle.chains.specs.Chain.{Places, messageAlone, groundOf, Event, back, orElse, metOf}
+use Rattle.chains.specs.Chain.{Places, messageAlone, groundOf, Event, back, metOf}
 use Rattle.chains.specs.Back.{Told, rollbackFrom, receiptFrom, localFrom, eventFrom}
 use Rattle.chains.specs.Internal.Walk.{Walk, isMet, meets, wasRolledBack, wasCheckpointed, over, noIncarnations, overStep, walkBack, receiptStart, signStart}
 use Rattle.chains.specs.Internal.Book.{stepEvent, eventsOf, incarnationsIn}
@@ -45,6 +44,7 @@ use Rattle.chains.proofs.WayBack.{Followed, followed, toldAt}
 use Rattle.chains.proofs.Forward.{step-forward}
 use Rattle.chains.specs.Internal.Sets.{setsOf, Reached, by-state, by-creation, by-behaviour, by-message, Traced, here}
 use Rattle.chains.proofs.BookSets.{book-traced}
+use Rattle.chains.proofs.Newest.{met-either}
 
 -- ---- events that differ in the lives alone
 
@@ -63,11 +63,6 @@ shape-back shape-opens Q = refl
 shape-back shape-renewed Q = refl
 shape-back (shape-later {d = d} x) Q = ap (back d) (shape-back x Q)
 
-met-else : (x y : Option Incarnation) → isMet (orElse x y) ≡ isMet x or isMet y
-unfolding orElse
-met-else none y = refl
-met-else (some a) y = refl
-
 met-pick : (c : Bool) (a d : Incarnation) (x y : Option Incarnation) → isMet x ≡ isMet y → isMet (pick c (some a) x) ≡ isMet (pick c (some d) y)
 met-pick true a d x y e = refl
 met-pick false a d x y e = e
@@ -79,9 +74,9 @@ shape-meets (shape-sent {n} {t} {a} {c}) Q u = met-pick (Q .message n and eqb t 
 shape-meets (shape-opens {t} {o} {a} {c}) Q u = met-pick (Q .creation o and eqb t u) a c _ _ refl
 shape-meets (shape-renewed {v} {a} {c}) Q u = met-pick (v u and Q .state u) (a u) (c u) none none refl
 shape-meets (shape-later {d} {e} {f} x) Q u =
-    met-else (metOf e Q u) (metOf d (back e Q) u)
+    met-either (metOf e Q u) (metOf d (back e Q) u)
     ∙ rw (shape-back x Q) (ap (λ c. c or isMet (metOf d (back f Q) u)) (shape-meets x Q u))
-    ∙ sym (met-else (metOf f Q u) (metOf d (back f Q) u))
+    ∙ sym (met-either (metOf f Q u) (metOf d (back f Q) u))
 
 event-shape : (p : Step) (w : Told) (L M : ℕ → Incarnation) → Shape (eventFrom p w L) (eventFrom p w M)
 unfolding eventFrom receiptFrom localFrom rollbackFrom
@@ -137,10 +132,6 @@ none-any : (f : ℕ → Bool) (n : ℕ) → ((u : ℕ) → f u ≡ false) → an
 unfolding any
 none-any f zero h = refl
 none-any f (suc n) h = rw (none-any f n h, h n)
-
-true-or-false : (c : Bool) → (c ≡ true) ⊎ (c ≡ false)
-true-or-false true = inl refl
-true-or-false false = inr refl
 
 or-neither : (c d : Bool) (a b : Bool) → a ≡ false → b ≡ false → c or (d and (a or b)) ≡ c
 or-neither true d a b e f = refl

@@ -9,7 +9,7 @@ use native.Mathlib.Omega.{arith}
 use lib.Dec.{eqb, ltb}
 use borrow.Author.Tests.{eqb-true, ne-eqb, lt-ltb, le-ltb}
 use Rattle.octets.specs.Bytes.{pick, _and_, _or_, Octets, any}
-use Rattle.octets.proofs.Zero.{both}
+use Rattle.octets.proofs.Zero.{both, any-some, any-on}
 use Rattle.octets.specs.Numbers.{bound}
 use Rattle.marks.specs.Incarnation.{Incarnation, initialIncarnation, Superseded, Checkpointed, checkpointedIn, sameIncarnation}
 use Rattle.marks.specs.History.{HistoryView, incarnationOf}
@@ -25,12 +25,11 @@ use Rattle.rules.specs.Refusals.{Seen, named, refusalOf, malformed, notWaiting,
 use Rattle.rules.specs.Rules.{Result, answer, apply, stepOf}
 use Rattle.rules.specs.Internal.Well.{WellFormed}
 use Rattle.rules.specs.Calls.{stateAfter}
-use Rattle.octets.proofs.Zero.{any-on}
 use Rattle.rules.proofs.Keep.Run.{stepOk-at}
 use Rattle.rules.proofs.Keep.Step.{keeps-after, applied-same}
 use Rattle.session.specs.Provenance.{unused, Live, idle, working, Provenance, emptyProvenance}
 use Rattle.session.specs.Steps.{provenanceSeen, provenanceRefusal, applied, signs, ProvenanceStep, refuses, applies, signing, not-ready}
-use Rattle.session.proofs.Step.{SigningRight, checkpointed, uncheckpointed, StepRight}
+use Rattle.session.proofs.Step.{SigningRight, checkpointed, uncheckpointed, StepRight, Stepped, step-right}
 use Rattle.chains.specs.Chain as chain
 use Rattle.chains.specs.Chain.{Places, messageAlone, groundOf, Event, newest, supersededOf, anySupersededBack, allMet}
 use Rattle.chains.specs.Back.{Told, told, eventFrom, undo, eventsBack}
@@ -39,9 +38,8 @@ use Rattle.chains.specs.Internal.Walk.{wasRolledBack, wasCheckpointed}
 use Rattle.chains.proofs.Walked.{Turned, stays}
 use Rattle.chains.specs.Internal.Book.{appliedEvent, signEvent, stepEvent, eventsOf, incarnationsIn}
 use Rattle.session.proofs.Model.{Ledger, own, findMessage, statusOf, viewNode, view}
-use Rattle.session.proofs.Tables.{pick-view, same-test, and-of, or-to, or-of}
+use Rattle.octets.proofs.Tests.{pick-view, same-test, and-of, or-to, or-of}
 use Rattle.session.proofs.Relation.{Rel, own-history}
-use Rattle.session.proofs.Step.{Stepped, step-right}
 use Rattle.session.proofs.ViewState.{own-view}
 use Rattle.session.proofs.ViewRules.{droppedAt, rolledBackAt}
 use Rattle.session.proofs.ViewStep.{readyAt, same-refusal}
@@ -141,18 +139,13 @@ superseded-of : (x y : Option Incarnation) (a c : Incarnation) → x ≡ some a 
 unfolding supersededOf
 superseded-of x y a c e f k = rw (e, f) (superseded-test a c .1 k)
 
-any-which : (f : ℕ → Bool) (n : ℕ) → any n f ≡ true → (i : ℕ) × (f i ≡ true)
-unfolding any
-any-which f zero e = absurd (false≢true e)
-any-which f (suc n) e = ⊎-elim (λ p. any-which f n p) (λ p. (n, p)) (or-to (any n f) (f n) e)
-
 supersededBack-exact : (n : ℕ) (es : List Event) (Q R : Places) → ((u : ℕ) (a : Incarnation) → Traced es Q u a → u < n) → (anySupersededBack n es Q R ≡ true) ↔ SupersededBack es Q R
 unfolding anySupersededBack
 supersededBack-exact n es Q R below = (to, from)
   where
     to : any n (λ u. supersededOf (newest es Q u) (newest es R u)) ≡ true → SupersededBack es Q R
     to e =
-        let z = any-which (λ u. supersededOf (newest es Q u) (newest es R u)) n e in
+        let z = any-some (λ u. supersededOf (newest es Q u) (newest es R u)) n e in
         let k = superseded-to (newest es Q (z .0)) (newest es R (z .0)) (z .1) in
         superseded-back (z .0) (k .0) (k .1) (k .2) (k .3) (k .4)
 

@@ -3,7 +3,6 @@ use Prim.Native.Nat.{ℕ, _^_, _<_}
 use mathlib.Core.Bool.{Bool, true, false, not, false≢true}
 use mathlib.Core.Path.{_≡_, refl, ap, sym, _∙_}
 use mathlib.Core.List.{List}
-use mathlib.Core.Logic.{_≢_}
 use native.Mathlib.Omega.{arith}
 use lib.Bits.{bitAnd, bitOr, and-le-r}
 use lib.Dec.{eqb}
@@ -11,7 +10,7 @@ use lib.ListN.{length, set}
 use borrow.Author.Tests.{eq-eqb, ne-eqb, eqb-true}
 use Rattle.octets.specs.Bytes.{pick, _and_, _or_}
 use Rattle.rules.specs.Refusals.{named}
-use Rattle.rules.proofs.Bits.{named-same, named-zero, named-one, named-and, named-or, named-xor, one-fits}
+use Rattle.rules.proofs.Bits.{named-same, named-zero, named-one, named-and, named-or, one-fits, named-without}
 use Rattle.chains.specs.Internal.Words.{without, meet, wordIf, openingCarries, sideOpens, openingMeets, sideOver, metOver, onLeft, onRight, sidesIf, followedOn, messagesOver, placesIn}
 use Rattle.chains.specs.declared.words.Event.{Event}
 use Rattle.chains.specs.declared.words.Event.the-variants.{Nothing, Cleared, Sent, Taken, Opens, Reads, Writes, Finishes, Renewed, Annihilated, ClearedRenewed, ClearedAnnihilated}
@@ -21,19 +20,13 @@ use Rattle.chains.specs.Chain.{Places, back, orElse, metOf}
 use Rattle.chains.specs.Internal.Walk.{isMet, meets}
 use mathlib.Core.Option.{Option, none, some}
 use Rattle.marks.specs.Incarnation.{Incarnation, initialIncarnation}
-use Rattle.maps.specs.Table.{updated}
-use Rattle.maps.proofs.Tables.{updated-is}
+use Rattle.octets.specs.Table.{updated}
+use Rattle.octets.proofs.Tables.{updated-is}
 use Rattle.octets.proofs.Tests.{or-none, and-true, and-false}
 use lib.Seq.{getD-set-same, getD-set-other}
+use Rattle.chains.proofs.Newest.{met-either}
 
 -- ---- bits
-
-pub named-without : (a b u : ℕ) → named (without a b) u ≡ named a u and not (named b u)
-named-without a b u = named-xor a (bitAnd a b) u ∙ rw (named-and a b u) (go (named a u) (named b u))
-  where
-    go : (p q : Bool) → (p and not (p and q)) or (not p and (p and q)) ≡ p and not q
-    go true q = or-none (not q)
-    go false q = refl
 
 -- a word meets that of take c exactly if it names c
 pub meet-one : (a c : ℕ) → c < 16 → meet a (2 ^ c) ≡ named a c
@@ -119,11 +112,6 @@ pub data Says (k : ℕ) : Event → chain.Event → Type 0 where
 met-if : (c : Bool) (a : Incarnation) (x : Option Incarnation) → isMet (pick c (some a) x) ≡ c or isMet x
 met-if true a x = refl
 met-if false a x = refl
-
-met-either : (x y : Option Incarnation) → isMet (orElse x y) ≡ isMet x or isMet y
-unfolding orElse
-met-either none y = refl
-met-either (some a) y = refl
 
 and-turn : (p q : Bool) → p and q ≡ q and p
 and-turn true true = refl

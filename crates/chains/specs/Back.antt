@@ -1,11 +1,10 @@
 -- Document 02, W11: what each step did to the places, from the step list, the replies to it and the present lives of the takes.
-use Prim.Native.Nat.{ℕ, zero, suc, _-_}
+use Prim.Native.Nat.{ℕ, zero, suc}
 use mathlib.Core.List.{List, [], _∷_}
 use lib.Dec.{eqb, ltb}
-use lib.ListN.{length, take, getD}
 use Rattle.octets.specs.Bytes.{pick, _and_}
-use Rattle.marks.specs.Incarnation.{Incarnation}
-use Rattle.maps.specs.Table.{updated}
+use Rattle.marks.specs.Incarnation.{Incarnation, beforeRollback, beforeCheckpoint}
+use Rattle.octets.specs.Table.{updated}
 use Rattle.rules.specs.declared.Step.{Step}
 use Rattle.rules.specs.declared.Reply.{Reply}
 use Rattle.rules.specs.Step.{stepAt, done, held, dropped, fallenBack, vanished, notReady, root, letter, receive, new, send, read, write, freeze, finish, fall, lose, sign}
@@ -52,17 +51,6 @@ eventFrom p w L =
     (localFrom (p .kind) (w .outcome) t L)))))))
 
 -- ---- the lives before a step, from those after it
-
--- A fall gave n + 1, same L.
-abbrev pub beforeRollback : Incarnation → Incarnation
-beforeRollback a = record { checkpoints = a .checkpoints; number = a .number - 1 }
-
--- Signing appended n to L.
-abbrev pub beforeCheckpoint : Incarnation → Incarnation
-beforeCheckpoint a = record {
-  checkpoints = take (length (a .checkpoints) - 1) (a .checkpoints);
-  number = getD (a .checkpoints) (length (a .checkpoints) - 1) 0;
-}
 
 unfoldable pub undo : Step → Told → (ℕ → Incarnation) → ℕ → Incarnation
 undo p w L =

@@ -7,7 +7,7 @@ use mathlib.Core.Option.{Option, none, some}
 use lib.Dec.{eqb}
 use Rattle.octets.specs.Bytes.{pick, _and_, _or_, any, every}
 use Rattle.marks.specs.Incarnation.{Incarnation, initialIncarnation, supersededBy}
-use Rattle.maps.specs.Table.{updated}
+use Rattle.octets.specs.Table.{updated}
 
 -- ---- where a chain is followed
 

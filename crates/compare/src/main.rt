@@ -7,9 +7,9 @@
 // and every refusal that a session of this length can have, comes up many times. The file stdout was not made by this program: an
 // independent model of documents 01 and 02 gave the replies to the same lists.
 use image::layout::IMAGE;
-use image::layout::STEP;
 use libc::STDIN_FILENO;
 use libc::STDOUT_FILENO;
+use lists::STEP;
 ghost use Prim.Native.Nat.{_≤_, _<_};
 
 const LISTS: usize = 24;

@@ -10,9 +10,9 @@ use Rattle.octets.specs.Bytes.{put, Octets}
 use Rattle.octets.proofs.Put.{put-whole}
 use Rattle.rules.specs.Layout.{narrow, base, imageBytes}
 use Rattle.rules.specs.Form.{wellFormed}
-use Rattle.rules.specs.Convert.{forward, tooWide, forwardAnswer, forwardImage, backAnswer, backImage}
-use Rattle.rules.specs.Internal.Recast.{recast, widened}
-use Rattle.rules.proofs.Convert.Recast.{length-widened, widened-forward, widened-formed, back-recast}
+use Rattle.convert.specs.Convert.{forward, tooWide, forwardAnswer, forwardImage, backAnswer, backImage}
+use Rattle.convert.specs.Internal.Recast.{recast, widened}
+use Rattle.convert.proofs.Widened.{length-widened, widened-forward, widened-formed, back-recast}
 
 module _ (old new : List ℕ) where
   -- ---- forward

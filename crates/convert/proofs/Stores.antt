@@ -6,20 +6,24 @@ use mathlib.Core.List.{List, _++_, append-assoc, append-nil}
 use native.Mathlib.Nat.{zero-add}
 use native.Mathlib.Omega.{arith}
 use lib.ListN.{length, drop, replicate, length-append}
-use Rattle.octets.specs.Bytes.{put, part, chunks, allZero}
+use Rattle.octets.specs.Bytes.{put, part, chunks, allZero, zeros}
 use Rattle.octets.proofs.Put.{put-behind, put-whole, part-part, length-part, length-put}
 use Rattle.octets.proofs.Chunks.{step, chunks-same, chunks-add}
 use Rattle.octets.proofs.Runs.{lengths, put-next, zero-behind}
+use Rattle.octets.proofs.Zero.{length-zeros, allZero-zeros}
 use Rattle.marks.specs.Packed.{historySize}
 use Rattle.maps.specs.Packed.{entryBytes}
 use Rattle.rules.specs.Layout.{Layout, widest, mapBytes, stateAt, creationAt, behaviourAt, dependencesAt, transactorBytes, messageBytes, headBytes, limitsBytes, transactorAddress, messageAddress, imageBytes}
 use Rattle.rules.specs.Pack.{packLimits, transactorPart, messagePart}
-use Rattle.rules.specs.Internal.Widths.{resized}
-use Rattle.rules.specs.Internal.Recast.{recastHistory, recastEntryAt, recastMap, recastPart, recastTransactor, recastMessage, recastTransactorAt, recastMessageAt, recastFront, recast}
+use Rattle.convert.specs.Internal.Widths.{resized}
+use Rattle.marks.specs.Internal.Recast.{recastHistory}
+use Rattle.maps.specs.Internal.Recast.{recastEntryAt, recastMap}
+use Rattle.maps.proofs.Recast.{length-recastMap}
+use Rattle.convert.specs.Internal.Recast.{recastPart, recastTransactor, recastMessage, recastTransactorAt, recastMessageAt, recastFront, recast, recordSize, recordAt}
 use Rattle.rules.proofs.Pack.Sizes.{length-packLimits}
 use Rattle.rules.proofs.Pack.Loads.{length-transactorPart, length-messagePart}
-use Rattle.rules.proofs.Convert.RecastMap.{length-recast}
-use Rattle.rules.proofs.Convert.RecastParts.{length-recastTransactor, length-recastMessage}
+use Rattle.marks.proofs.Recast.{length-recast}
+use Rattle.convert.proofs.RecastParts.{length-recastTransactor, length-recastMessage}
 
 -- the first i of n chunks are put into a list that is zero from there on
 pub zero-after : (at w n : ℕ) (f : ℕ → List ℕ) → ((i : ℕ) → i < n → length (f i) ≡ w) → (i : ℕ) → i ≤ n → (l l' : List ℕ) → l' ≡ put at (chunks i f) l → at + w * i ≤ length l → allZero (drop at l) ≡ true
@@ -36,6 +40,16 @@ pub zero-buffer : (n : ℕ) → allZero (replicate n 0) ≡ true
 unfolding allZero
 zero-buffer zero = refl
 zero-buffer (suc n) = zero-buffer n
+
+-- a buffer that is cleared
+pub cleared : (n : ℕ) (l l' : List ℕ) → length l ≡ n → l' ≡ put 0 (zeros n) l → (length l' ≡ n) × (allZero l' ≡ true)
+cleared n l l' e h =
+    let all : l' ≡ zeros n = h ∙ put-whole (zeros n) l (length-zeros n ∙ sym e) in
+    (ap length all ∙ length-zeros n, ap allZero all ∙ allZero-zeros n)
+
+-- what is put, by another name
+pub put-as : (at : ℕ) (a b l l' : List ℕ) → l' ≡ put at a l → a ≡ b → l' ≡ put at b l
+put-as at a b l l' e f = e ∙ ap (λ (x : List ℕ). put at x l) f
 
 -- two stores, one behind the other
 pub put-both : (at n : ℕ) (b c l l' l'' : List ℕ) → length b ≡ n → at + n + length c ≤ length l → l' ≡ put at b l → l'' ≡ put (at + n) c l' → l'' ≡ put at (b ++ c) l
@@ -107,6 +121,47 @@ entries-add v w m from a b s h =
     ∙ ap (λ (x : List ℕ). chunks a (entryAt v w m from s) ++ x) (chunks-same b (λ i. entryAt v w m from s (a + i)) (entryAt v w m (from + k * a) s) (λ i p. ap (λ (j : ℕ). recastHistory v w m (part j k s)) (omega arith)))
     ∙ rw (entries-are v w m from a s (omega arith), entries-are v w m (from + k * a) b s (omega arith))
 
+-- ---- records
+
+module _ (v w m front many from n : ℕ) (s : List ℕ) (fits : from + recordSize v m front many * n ≤ length s) where
+  abbrev record' : ℕ → List ℕ
+  record' = recordAt v w m front many from s
+
+  -- where record k stands
+  abbrev place : ℕ → ℕ
+  place k = from + recordSize v m front many * k
+
+  abbrev marks : ℕ → List ℕ
+  marks k = recastMap v w m many (part (place k + front) (historySize v m * many) s)
+
+  record-front : (k : ℕ) → k < n → length (part (place k) front s) ≡ front
+  record-front k h = length-part (place k) front s (omega (arith, step (recordSize v m front many) k n h))
+
+  record-wide : (k : ℕ) → k < n → length (record' k) ≡ recordSize w m front many
+  unfolding recordAt
+  record-wide k h = rw (
+    length-append,
+    record-front k h,
+    length-recastMap v w m many (part (place k + front) (historySize v m * many) s)
+        (length-part (place k + front) (historySize v m * many) s (omega (arith, step (recordSize v m front many) k n h))),
+  )
+
+  -- a turn: the front, then the histories
+  module _ (to k : ℕ) (h : k < n) (l l' l'' : List ℕ) (room : to + recordSize w m front many * n ≤ length l) (e : l' ≡ put to (chunks k record') l)
+      (g : l'' ≡ put (to + recordSize w m front many * k) (part (place k) (place k + front - place k) s) l') where
+    is : record' k ≡ part (place k) front s ++ marks k
+    unfolding recordAt
+    is = refl
+
+    front-there : l'' ≡ put (to + recordSize w m front many * k) (part (place k) front s) l'
+    front-there = g ∙ ap (λ (x : List ℕ). put (to + recordSize w m front many * k) x l') (lent (place k) front s)
+
+    pub record-more : (r : List ℕ) → r ≡ put (to + recordSize w m front many * k + front) (marks k) l'' → r ≡ put to (chunks (k + 1) record') l
+    record-more = records-more to (recordSize w m front many) n record' record-wide k front h (part (place k) front s) (marks k) is (record-front k h) l l' l'' room e front-there
+
+    pub record-zero : allZero (drop to l) ≡ true → allZero (drop (to + recordSize w m front many * k + front) l'') ≡ true
+    record-zero = records-zero to (recordSize w m front many) n record' record-wide k front h (part (place k) front s) (marks k) is (record-front k h) l l' l'' room e front-there
+
 -- ---- transactors and messages
 
 module _ (y : Layout) (v w : ℕ) (old new : Bool) (img : List ℕ) (whole : length img ≡ imageBytes (resized y v old)) where
@@ -162,46 +217,23 @@ module _ (y : Layout) (v w : ℕ) (old new : Bool) (img : List ℕ) (whole : len
         (ap (λ (x : List ℕ). x ++ m (a + behaviourAt s)) (append-assoc (part a stateAt img) (m (a + stateAt)) (m (a + creationAt s)))
         ∙ append-assoc (part a stateAt img) (m (a + stateAt) ++ m (a + creationAt s)) (m (a + behaviourAt s)))
 
-    abbrev pub transactor-front : List ℕ
-    transactor-front = part a stateAt img
-
-    abbrev pub transactor-maps : List ℕ
-    transactor-maps = recastMap v w (y .places) (count + count + count) (part (a + stateAt) (size * (count + count + count)) img)
-
-    -- a turn: the fields in front, then the histories
-    module _ (l l' l'' : List ℕ) (long : length l ≡ imageBytes d) (e : l' ≡ put first (chunks t (recastTransactorAt s w img)) l) (g : l'' ≡ put (transactorAddress d t) (part a (a + stateAt - a) img) l') where
-      short : length transactor-front ≡ stateAt
-      short = length-part a stateAt img (omega (arith, step (transactorBytes s) t count h))
-
-      pub transactors-more : (r : List ℕ) → r ≡ put (transactorAddress d t + stateAt) transactor-maps l'' → r ≡ put first (chunks (t + 1) (recastTransactorAt s w img)) l
-      transactors-more = records-more first (transactorBytes d) count (recastTransactorAt s w img) transactor-wide t stateAt h transactor-front transactor-maps transactor-bytes short l l' l'' (omega arith) e (g ∙ ap (λ (x : List ℕ). put (transactorAddress d t) x l') (lent a stateAt img))
-
-      pub transactors-zero : allZero (drop first l) ≡ true → allZero (drop (transactorAddress d t + stateAt) l'') ≡ true
-      transactors-zero = records-zero first (transactorBytes d) count (recastTransactorAt s w img) transactor-wide t stateAt h transactor-front transactor-maps transactor-bytes short l l' l'' (omega arith) e (g ∙ ap (λ (x : List ℕ). put (transactorAddress d t) x l') (lent a stateAt img))
-
   module _ (k : ℕ) (h : k < y .messages) where
     abbrev c : ℕ
     c = messageAddress s k
 
-    abbrev pub message-front : List ℕ
-    message-front = part c dependencesAt img
-
-    abbrev pub message-map : List ℕ
-    message-map = recastMap v w (y .places) count (part (c + dependencesAt) (mapBytes s) img)
-
-    message-bytes : recastMessageAt s w img k ≡ message-front ++ message-map
+    message-bytes : recastMessageAt s w img k ≡ part c dependencesAt img ++ recastMap v w (y .places) count (part (c + dependencesAt) (mapBytes s) img)
     unfolding recastMessageAt recastMessage messagePart
     message-bytes = rw (front c (messageBytes s) dependencesAt (omega arith), piece c (messageBytes s) dependencesAt (omega arith))
 
-    module _ (l l' l'' : List ℕ) (long : length l ≡ imageBytes d) (e : l' ≡ put (transactorAddress d count) (chunks k (recastMessageAt s w img)) l) (g : l'' ≡ put (messageAddress d k) (part c (c + dependencesAt - c) img) l') where
-      narrow : length message-front ≡ dependencesAt
-      narrow = length-part c dependencesAt img (omega (arith, step (messageBytes s) k (y .messages) h))
+  -- they are records
+  pub transactor-records : chunks count (recordAt v w (y .places) stateAt (count + count + count) (headBytes + limitsBytes s) img) ≡ chunks count (recastTransactorAt s w img)
+  unfolding recordAt
+  transactor-records = chunks-same count (recordAt v w (y .places) stateAt (count + count + count) (headBytes + limitsBytes s) img) (recastTransactorAt s w img)
+      (λ t h. ap (λ (j : ℕ). part j stateAt img ++ recastMap v w (y .places) (count + count + count) (part (j + stateAt) (size * (count + count + count)) img)) (omega arith) ∙ sym (transactor-bytes t h))
 
-      pub messages-more : (r : List ℕ) → r ≡ put (messageAddress d k + dependencesAt) message-map l'' → r ≡ put (transactorAddress d count) (chunks (k + 1) (recastMessageAt s w img)) l
-      messages-more = records-more (transactorAddress d count) (messageBytes d) (y .messages) (recastMessageAt s w img) message-wide k dependencesAt h message-front message-map message-bytes narrow l l' l'' (omega arith) e (g ∙ ap (λ (x : List ℕ). put (messageAddress d k) x l') (lent c dependencesAt img))
-
-      pub messages-zero : allZero (drop (transactorAddress d count) l) ≡ true → allZero (drop (messageAddress d k + dependencesAt) l'') ≡ true
-      messages-zero = records-zero (transactorAddress d count) (messageBytes d) (y .messages) (recastMessageAt s w img) message-wide k dependencesAt h message-front message-map message-bytes narrow l l' l'' (omega arith) e (g ∙ ap (λ (x : List ℕ). put (messageAddress d k) x l') (lent c dependencesAt img))
+  pub message-records : chunks (y .messages) (recordAt v w (y .places) dependencesAt count (transactorAddress s count) img) ≡ chunks (y .messages) (recastMessageAt s w img)
+  unfolding recordAt
+  message-records = chunks-same (y .messages) (recordAt v w (y .places) dependencesAt count (transactorAddress s count) img) (recastMessageAt s w img) (λ k h. sym (message-bytes k h))
 
   -- ---- the whole image: head and limits, transactors, messages
 

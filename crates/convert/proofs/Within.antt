@@ -15,9 +15,10 @@ use Rattle.octets.proofs.Zero.{or-zero}
 use Rattle.marks.specs.Packed.{presentIn}
 use Rattle.rules.specs.Layout.{base, widest, stateAt, dependencesAt, transactorAddress, messageAddress}
 use Rattle.rules.specs.Pack.{waitingIn, unpack}
-use Rattle.rules.specs.Convert.{largestNarrow, limitsAre, stateWithin, tooWide}
-use Rattle.rules.specs.Internal.HighBytes.{entryWithin, entriesWithin}
-use Rattle.rules.proofs.Convert.HighBytes.{firstZero, history-high, state-entries}
+use Rattle.convert.specs.Convert.{largestNarrow, limitsAre, stateWithin, tooWide}
+use Rattle.convert.specs.Internal.HighBytes.{entryWithin, entriesWithin}
+use Rattle.marks.proofs.Within.{firstZero, history-high}
+use Rattle.convert.proofs.HighBytes.{state-entries}
 
 module _ (at : ℕ) (s : List ℕ) where
   first-byte : (i : ℕ) → i < 16 → firstZero (part at 33 s) i ≡ eqb (getD s (at + 1 + 2 * i) 0) 0

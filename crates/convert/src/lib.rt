@@ -1,14 +1,13 @@
 // Images of the old form, 22,132 bytes, to the new one and back (document 02, W6).
 mod low;
-mod narrow;
 mod old;
-mod widen;
+mod recast;
 
 use image::form;
 use image::layout::IMAGE;
 use rules::numbers;
 ghost use mathlib.Core.Path.{_≡_};
-ghost use Rattle.rules.specs.Convert.{forwardAnswer, forwardImage, backAnswer, backImage};
+ghost use Rattle.convert.specs.Convert.{forwardAnswer, forwardImage, backAnswer, backImage};
 
 // Writes the old image in the new form: 0, or 16, 19 with no byte changed. The image is widened whatever it holds, beside the
 // destination, and its form is tested there.
@@ -23,7 +22,7 @@ pub fn forward(source: &[u8], target: &mut [u8]) -> u8
         return numbers::WRONG_LENGTH;
     }
     let mut wide = [0u8; IMAGE];
-    widen::image(source, &mut wide);
+    recast::wider(source, &mut wide);
     if !form::formed(&wide) {
         return numbers::ILL_FORMED;
     }
@@ -48,6 +47,6 @@ pub fn back(source: &[u8], target: &mut [u8]) -> u8
     if !low::image(source) {
         return numbers::TOO_WIDE;
     }
-    narrow::image(source, target);
+    recast::narrower(source, target);
     0
 }

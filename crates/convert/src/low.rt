@@ -17,8 +17,8 @@ ghost use lib.ListN.{length};
 ghost use Rattle.octets.specs.Bytes.{part, every};
 ghost use Rattle.rules.specs.Layout.{base, widest, stateAt, dependencesAt, transactorAddress, messageAddress, imageBytes};
 ghost use Rattle.rules.specs.Pack.{unpack};
-ghost use Rattle.rules.specs.Convert.{limitsAre, tooWide};
-ghost use Rattle.rules.specs.Internal.HighBytes.{entryWithin, entriesWithin};
+ghost use Rattle.convert.specs.Convert.{limitsAre, tooWide};
+ghost use Rattle.convert.specs.Internal.HighBytes.{entryWithin, entriesWithin};
 
 // The limits are those of every image of the old form.
 fn limits(s: &[u8]) -> bool

@@ -1,37 +1,14 @@
 -- The call play: its answer, and the replies.
-use Prim.Native.Nat.{ℕ, _-_, _%_, _≤_, _<_}
+use Prim.Native.Nat.{ℕ}
 use mathlib.Core.Bool.{true, false}
-use mathlib.Core.Path.{_≡_, sym, _∙_, subst}
+use mathlib.Core.Path.{_≡_, sym, _∙_}
 use mathlib.Core.List.{List}
 use native.Mathlib.Omega.{arith}
 use lib.ListN.{length}
 use borrow.Author.Tests.{eq-eqb, ne-eqb}
 use Rattle.rules.specs.Layout.{Layout, Limits, inRange}
-use Rattle.rules.specs.Step.{stepBytes}
-use Rattle.rules.specs.Calls.{freshImage, longest, wrongPart, ranReplies}
-use Rattle.rules.proofs.Calls.Run.{part-broken, part-long, part-fine}
+use Rattle.rules.specs.Calls.{freshImage, wrongPart, ranReplies}
 use Rattle.engine.specs.Play.{playAnswer, playReplies}
-
--- ---- the list as one part
-
-module _ (list : List ℕ) where
-  all : length list - 0 ≡ length list
-  all = omega arith
-
-  pub list-broken : (length list % stepBytes ≡ 0 → ⊥) → wrongPart list 0 (length list) ≡ true
-  list-broken k = part-broken list 0 (length list) (omega arith) (omega arith) (λ e. k (subst (λ (k : ℕ). k % stepBytes ≡ 0) all e))
-
-  module _ (steps : length list % stepBytes ≡ 0) where
-    steps' : (length list - 0) % stepBytes ≡ 0
-    steps' = subst (λ (k : ℕ). k % stepBytes ≡ 0) (sym all) steps
-
-    pub list-long : longest < length list → wrongPart list 0 (length list) ≡ true
-    list-long h = part-long list 0 (length list) (omega arith) (omega arith) steps' (omega arith)
-
-    pub list-fine : length list ≤ longest → wrongPart list 0 (length list) ≡ false
-    list-fine h = part-fine list 0 (length list) (omega arith) (omega arith) steps' (omega arith)
-
--- ---- the answer
 
 module _ (y : Layout) (m : Limits) (list replies : List ℕ) where
   -- r and the replies rs are right

@@ -13,8 +13,8 @@ use Rattle.octets.specs.Bytes.{pick, put, Octets}
 use Rattle.octets.proofs.Chunks.{sides}
 use Rattle.octets.proofs.Put.{put-nil, put-behind, put-whole}
 use Rattle.octets.proofs.Tests.{pick-view}
-use Rattle.maps.specs.Table.{updated}
-use Rattle.maps.proofs.Tables.{updated-same, set-updated}
+use Rattle.octets.specs.Table.{updated}
+use Rattle.octets.proofs.Tables.{updated-same, set-updated}
 use Rattle.rules.specs.Layout.{Limits, base, limitsOf, inRange}
 use Rattle.rules.specs.Status.{unused}
 use Rattle.rules.specs.declared.Step.{Step}

@@ -9,7 +9,7 @@ use borrow.Author.Tests.{eqb-true}
 use Rattle.octets.specs.Bytes.{pick, _and_, _or_}
 use Rattle.octets.proofs.Chunks.{sides}
 use Rattle.octets.proofs.Tests.{never, pick-view}
-use Rattle.maps.proofs.Tables.{updated-view}
+use Rattle.octets.proofs.Tables.{updated-view}
 use Rattle.rules.specs.Layout.{Layout, Limits}
 use Rattle.rules.specs.declared.Step.{Step}
 use Rattle.rules.specs.Step.{done, held, notReady, root, letter, receive, new, send, read, write, freeze, finish, fall, lose, sign}

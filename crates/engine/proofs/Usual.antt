@@ -24,12 +24,7 @@ use Rattle.chains.proofs.Engine.{engine-fresh, replies-fit-bytes}
 use Rattle.engine.specs.Internal.Advance.{most}
 use Rattle.engine.proofs.Ranges.{Ranged, local-small, receive-small}
 use Rattle.engine.proofs.Steps.{told-left, told-last, ranged, replies-long}
-
--- neither 27 nor 28 nor 31
-pub record Usual (outcome : ℕ) : Type 0 where
-  pub not-27 : outcome ≡ 27 → ⊥
-  pub not-28 : outcome ≡ 28 → ⊥
-  pub not-31 : outcome ≡ 31 → ⊥
+use Rattle.engine.specs.Play.{Usual}
 
 low : {o : ℕ} → o < 27 → Usual o
 low h = record { not-27 = λ e. omega arith; not-28 = λ e. omega arith; not-31 = λ e. omega arith }

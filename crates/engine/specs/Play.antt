@@ -3,6 +3,7 @@
 use Prim.Native.Nat.{ℕ}
 use mathlib.Core.Bool.{not}
 use mathlib.Core.List.{List}
+use mathlib.Core.Path.{_≡_}
 use lib.ListN.{length}
 use lib.Dec.{eqb}
 use Rattle.octets.specs.Bytes.{pick}
@@ -22,3 +23,11 @@ playAnswer y m list replies =
 -- those of a run on the fresh image with these limits. Refused, no byte changes.
 unfoldable pub playReplies : Layout → Limits → List ℕ → List ℕ → List ℕ
 playReplies y m list replies = pick (eqb (playAnswer y m list replies) 0) (ranReplies y (freshImage y m) list) replies
+
+-- ---- for theorems
+
+-- neither 27 nor 28 nor 31
+pub record Usual (outcome : ℕ) : Type 0 where
+  pub not-27 : outcome ≡ 27 → ⊥
+  pub not-28 : outcome ≡ 28 → ⊥
+  pub not-31 : outcome ≡ 31 → ⊥

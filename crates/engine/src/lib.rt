@@ -2,15 +2,15 @@
 // list.
 use chains::rows::Row;
 use chains::rows::Slot;
-use image::layout::LONGEST;
-use image::layout::STEP;
-use image::limits;
+use lists::STEP;
+use lists::fields;
+use lists::limits;
+use lists::packed;
 use registers::effects;
 use registers::guards;
 use registers::register::Register;
 use rules::Step;
 use rules::numbers;
-use steps::packed;
 use tables::GroupTurn;
 use tables::Operands;
 use tables::Turn;
@@ -94,7 +94,7 @@ fn advance(list: &[u8], replies: &[u8], i: usize, x: Operands, p: Step) -> Turn
     requires { ⌜ Ahead (now list) (now replies) i x p × (p .kind ≡ kinds.sign → ⊥) ⌝ }
     ensures { λ r. ⌜ Advances (now (list .entry)) (now (replies .entry)) i x p r ⌝ }
 {
-    if steps::malformed(p) {
+    if fields::malformed(p) {
         return tables::answered(x, numbers::MALFORMED);
     }
     let kind = p.kind;
@@ -114,7 +114,7 @@ fn sign(list: &[u8], replies: &[u8], i: usize, x: Register, rows: [Row; 16], p: 
     requires { ⌜ Walkable (now list) (now replies) i × (p .kind ≡ kinds.sign) ⌝ }
     ensures { λ r. ⌜ AdvancesGroup (now (list .entry)) (now (replies .entry)) i x rows p r ⌝ }
 {
-    if steps::malformed(p) {
+    if fields::malformed(p) {
         return tables::group_answered(rows, numbers::MALFORMED);
     }
     let group = p.message;
@@ -183,10 +183,7 @@ pub fn play(
         × (now (replies .exit) ≡ playReplies base (limitsOf transactors messages checkpoints) (now (list .entry)) (now (replies .entry))) ⌝ }
 {
     let n = list.len();
-    if n % STEP != 0 {
-        return numbers::WRONG_PART;
-    }
-    if LONGEST < n {
+    if lists::wrong_part(list, 0, n) {
         return numbers::WRONG_PART;
     }
     if replies.len() != n {

@@ -100,8 +100,9 @@ module _ (y : Layout) (img : List ℕ) (v t u at : ℕ) where
       same-to : (c : Bool) → sameIncarnation (incarnationOf h) (incarnationOf o) ≡ c → sameIncarnation (incarnationOf h) (incarnationOf (ownHistory u x)) ≡ c
       same-to c e = ap (λ (z : History). sameIncarnation (incarnationOf h) (incarnationOf z)) (sym own) ∙ e
 
-      signed-to : (c : Bool) → checkpointedIn (incarnationOf h) (incarnationOf o) ≡ c → checkpointedIn (incarnationOf h) (incarnationOf (ownHistory u x)) ≡ c
-      signed-to c e = ap (λ (z : History). checkpointedIn (incarnationOf h) (incarnationOf z)) (sym own) ∙ e
+      -- the same history, read where it stands
+      signed-to : (g : History) → g ≡ ownHistory u x → (c : Bool) → checkpointedIn (incarnationOf h) (incarnationOf g) ≡ c → checkpointedIn (incarnationOf h) (incarnationOf (ownHistory u x)) ≡ c
+      signed-to g k c e = ap (λ (z : History). checkpointedIn (incarnationOf h) (incarnationOf z)) (sym k) ∙ e
 
       module _ (same : sameIncarnation (incarnationOf h) (incarnationOf o) ≡ true) where
         -- a present life is not signed
@@ -121,13 +122,13 @@ module _ (y : Layout) (img : List ℕ) (v t u at : ℕ) where
         mark-outside n = rw (there-is p, l, n, same-to true same, unsigned)
 
       module _ (other : sameIncarnation (incarnationOf h) (incarnationOf o) ≡ false) where
-        pub mark-signed : checkpointedIn (incarnationOf h) (incarnationOf o) ≡ true → Nothing ≡ markObstacle y img v t u at
+        pub mark-signed : (g : History) → g ≡ ownHistory u x → checkpointedIn (incarnationOf h) (incarnationOf g) ≡ true → Nothing ≡ markObstacle y img v t u at
         unfolding markObstacle entryReady
-        mark-signed e = rw (there-is p, l, signed-to true e)
+        mark-signed g k e = rw (there-is p, l, signed-to g k true e)
 
-        pub mark-withdrawn : checkpointedIn (incarnationOf h) (incarnationOf o) ≡ false → Superseded t u ≡ markObstacle y img v t u at
+        pub mark-withdrawn : (g : History) → g ≡ ownHistory u x → checkpointedIn (incarnationOf h) (incarnationOf g) ≡ false → Superseded t u ≡ markObstacle y img v t u at
         unfolding markObstacle entryReady groundOf isPresent
-        mark-withdrawn e = rw (there-is p, l, signed-to false e, same-to false other) (go (named v u))
+        mark-withdrawn g k e = rw (there-is p, l, signed-to g k false e, same-to false other) (go (named v u))
           where
             go : (c : Bool) → Superseded t u ≡ pick (not (c and false)) (Superseded t u) Nothing
             go true = refl
@@ -141,15 +142,15 @@ module _ (y : Layout) (img : List ℕ) (v t u : ℕ) (low : t < y .transactors) 
   unfolding markObstacle blocksIn
   mark-map at = rw (held-at y at img u within, history-at y at img u within)
 
-  in-state : markObstacle y img v t u (transactorAddress y t + stateAt + historyBytes y * u)
+  pub in-state : markObstacle y img v t u (transactorAddress y t + stateAt + historyBytes y * u)
       ≡ pick (blocksIn (unpack y img) v (transactorAt (unpack y img) t .state) u) (groundOf (unpack y img) t u (historyAt (transactorAt (unpack y img) t .state) u)) Nothing
   in-state = rw (read-state y img t low) (mark-map (transactorAddress y t + stateAt))
 
-  in-creation : markObstacle y img v t u (transactorAddress y t + creationAt y + historyBytes y * u)
+  pub in-creation : markObstacle y img v t u (transactorAddress y t + creationAt y + historyBytes y * u)
       ≡ pick (blocksIn (unpack y img) v (transactorAt (unpack y img) t .creation) u) (groundOf (unpack y img) t u (historyAt (transactorAt (unpack y img) t .creation) u)) Nothing
   in-creation = rw (read-creation y img t low) (mark-map (transactorAddress y t + creationAt y))
 
-  ground-one : (h : History) → isNothing (groundOf (unpack y img) t u h) ≡ false
+  pub ground-one : (h : History) → isNothing (groundOf (unpack y img) t u h) ≡ false
   unfolding groundOf
   ground-one h = go (isPresent (unpack y img) u h)
     where

@@ -1,2 +1,4 @@
 pub mod Words
 pub mod Blocking
+pub mod Reaching
+pub mod Impeding

@@ -1,5 +1,7 @@
 // What rests on what, for a caller that asks: who rests on a transactor's present incarnation (document 01: a take's present life).
+pub mod impediment;
 pub mod obstacle;
+mod ways;
 
 use group::is_live;
 use group::needs::Needs;

@@ -1,12 +1,12 @@
 // Why a group can't be checkpointed (document 01: a volume, signed).
 use group::is_live;
-use group::is_named;
 use group::own;
 use image::layout::CREATION;
 use image::layout::FIRST_TRANSACTOR;
 use image::layout::STATE;
 use image::layout::TRANSACTOR;
 use image::layout::TRANSACTORS;
+use lists::groups::is_named;
 use marks::History;
 use marks::in_place;
 use rules::Obstacle;
@@ -19,7 +19,7 @@ ghost use Rattle.rules.specs.Internal.Good.{Good};
 ghost use Rattle.grounds.specs.Marks.{isNothing, markObstacle};
 
 // Whether it is no obstacle.
-fn is_nothing(o: Obstacle) -> bool
+pub fn is_nothing(o: Obstacle) -> bool
     ensures { λ r. ⌜ r ≡ isNothing o ⌝ }
 {
     match o {
@@ -46,7 +46,7 @@ fn unstable(image: &[u8], group: u16, t: usize) -> Obstacle
 }
 
 // What the history at at, if there is one, of transactor u in a map of transactor t keeps from being checkpointed.
-fn mark(image: &[u8], group: u16, t: usize, u: usize, at: usize) -> Obstacle
+pub fn mark(image: &[u8], group: u16, t: usize, u: usize, at: usize) -> Obstacle
     requires { ⌜ Good (now image) × (t < base .transactors) × (u < base .transactors) × (at + historyBytes base ≤ imageBytes base) ⌝ }
     ensures { λ r. ⌜ r ≡ markObstacle base (now (image .entry)) group t u at ⌝ }
 {
@@ -63,7 +63,8 @@ fn mark(image: &[u8], group: u16, t: usize, u: usize, at: usize) -> Obstacle
         }
         return Obstacle::Outside(t as u8, u as u8);
     }
-    if in_place::checkpointed_by(image, at, h) {
+    let present = FIRST_TRANSACTOR + TRANSACTOR * u + STATE + marks::SIZE * u;
+    if in_place::checkpointed_in(image, at, present) {
         return Obstacle::Nothing;
     }
     Obstacle::Superseded(t as u8, u as u8)

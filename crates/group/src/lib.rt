@@ -8,6 +8,8 @@ use image::layout::STATE;
 use image::layout::TRANSACTOR;
 use image::layout::TRANSACTORS;
 use image::limits;
+use lists::groups::is_named;
+use lists::groups::names_from;
 use marks::History;
 use marks::in_place;
 use rules::numbers;
@@ -23,14 +25,6 @@ ghost use Rattle.rules.specs.Internal.Good.{Good};
 ghost use Rattle.rules.specs.Internal.Guards.{blocksAt, namedRefusal, groupRefusal, Room};
 ghost use Rattle.rules.specs.Internal.Closure.{pairReady, Presents, Kept, vouchedAt, checkpointedAt};
 
-// Whether the group names transactor t.
-pub fn is_named(group: u16, t: usize) -> bool
-    requires { ⌜ t < base .transactors ⌝ }
-    ensures { λ r. ⌜ r ≡ named group t ⌝ }
-{
-    (group >> t) % 2 == 1
-}
-
 // The own history of transactor t.
 pub fn own(image: &[u8], t: usize) -> History
     requires { ⌜ Good (now image) × (t < base .transactors) ⌝ }
@@ -42,18 +36,8 @@ pub fn own(image: &[u8], t: usize) -> History
     )
 }
 
-// Whether the group names a transactor from number n on.
-pub fn names_from(group: u16, n: usize) -> bool
-    ensures { λ r. ⌜ r ≡ anyNamed group (leb n) ⌝ }
-{
-    if TRANSACTORS <= n {
-        return false;
-    }
-    group >> n != 0
-}
-
 // Whether transactor t has no room for one more checkpoint.
-fn is_full(image: &[u8], t: usize) -> bool
+pub fn is_full(image: &[u8], t: usize) -> bool
     requires { ⌜ Good (now image) × (t < base .transactors) ⌝ }
     ensures { λ r. ⌜ r ≡ blocksAt (unpack base (now (image .entry))) 30 t ⌝ }
 {

@@ -1,7 +1,6 @@
 // What each transactor needs of a group: worked out once, so that a group is then tested by a few words.
 use crate::Present;
 use crate::is_full;
-use crate::is_named;
 use crate::presents;
 use crate::signed;
 use crate::vouched;
@@ -10,6 +9,8 @@ use image::layout::FIRST_TRANSACTOR;
 use image::layout::STATE;
 use image::layout::TRANSACTOR;
 use image::layout::TRANSACTORS;
+use lists::groups::is_inside;
+use lists::groups::is_named;
 use marks::History;
 ghost use mathlib.Core.Path.{_≡_};
 ghost use Prim.Native.Nat.{_+_, _≤_, _<_};
@@ -123,13 +124,6 @@ pub fn needs_of(image: &[u8]) -> Needs
         t += 1;
     }
     Needs { need: list, able }
-}
-
-// Whether the group names no one but members.
-pub fn is_inside(group: u16, members: u16) -> bool
-    ensures { λ r. ⌜ r ≡ inside group members ⌝ }
-{
-    group & members == group
 }
 
 // Whether every transactor that the group names is able, and whom it needs is named.

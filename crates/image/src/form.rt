@@ -169,7 +169,7 @@ fn front_formed(s: &[u8], n: usize) -> bool
     }
     let most = limits::transactors(s);
     let crowd = limits::messages(s) as usize;
-    if !limits::in_range(most as usize, crowd, limits::checkpoints(s) as usize) {
+    if !lists::limits::in_range(most as usize, crowd, limits::checkpoints(s) as usize) {
         return false;
     }
     if most < head::opened(s) {

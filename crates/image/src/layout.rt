@@ -50,9 +50,3 @@ pub const FIRST_TRANSACTOR: usize = HEAD + 4;
 pub const FIRST_MESSAGE: usize = FIRST_TRANSACTOR + TRANSACTOR * TRANSACTORS;
 
 pub const IMAGE: usize = FIRST_MESSAGE + MESSAGE * MESSAGES;
-
-// A step of a list, and its reply.
-pub const STEP: usize = 8;
-
-// A run's longest part.
-pub const LONGEST: usize = 8192;

@@ -1,22 +1,26 @@
 // The messages of an image: waiting ones first, in rising number.
 use crate::head;
+use crate::layout::BEHAVIOUR;
 use crate::layout::CONTENT;
+use crate::layout::CREATION;
 use crate::layout::DEPENDENCES;
 use crate::layout::FIRST_MESSAGE;
+use crate::layout::FIRST_TRANSACTOR;
 use crate::layout::MESSAGE;
 use crate::layout::MESSAGES;
 use crate::layout::NEXT;
 use crate::layout::NUMBER;
+use crate::layout::STATE;
+use crate::layout::TRANSACTOR;
 use maps::DependenceMap;
 ghost use mathlib.Core.Path.{_≡_};
 ghost use Prim.Native.Nat.{_+_, _≤_, _<_};
 ghost use lib.ListN.{length, set};
 ghost use Rattle.octets.specs.Bytes.{put};
 ghost use Rattle.octets.specs.Numbers.{be};
-ghost use Rattle.maps.specs.Internal.Fitting.{Bounded};
 ghost use Rattle.rules.specs.Layout.{lastNumber, base, imageBytes, dependencesAt};
-ghost use Rattle.rules.specs.Rules.{noDependences};
-ghost use Rattle.rules.specs.State.{placeFrom, placeOf, messageAt, withMessage, withoutMessage};
+ghost use Rattle.rules.specs.Rules.{carried, noDependences};
+ghost use Rattle.rules.specs.State.{placeFrom, placeOf, transactorAt, messageAt, withMessage, withoutMessage};
 ghost use Rattle.rules.specs.Pack.{waitingIn, pack, unpack};
 ghost use Rattle.rules.specs.Internal.Good.{Good};
 ghost use Rattle.rules.specs.State.{addressedTo};
@@ -37,18 +41,26 @@ pub fn waiting(image: &[u8]) -> usize
 }
 
 // The place of the message with this number, or n, how many wait.
-pub fn place_of(image: &[u8], n: usize, number: u16) -> usize
+pub fn place_numbered(image: &[u8], n: usize, number: usize) -> usize
     requires { ⌜ (length (now image) ≡ imageBytes base) × (n ≡ waitingIn base (now image)) × (n ≤ base .messages) ⌝ }
     ensures { λ r. ⌜ (r ≡ placeOf (unpack base (now (image .entry))) number) × (r ≤ n) ⌝ }
 {
     let mut k: usize = 0;
     while k < n {
-        if number_of(image, k) == number {
+        if number_of(image, k) as usize == number {
             return k;
         }
         k += 1;
     }
     k
+}
+
+// The same of a number that a message can have.
+pub fn place_of(image: &[u8], n: usize, number: u16) -> usize
+    requires { ⌜ (length (now image) ≡ imageBytes base) × (n ≡ waitingIn base (now image)) × (n ≤ base .messages) ⌝ }
+    ensures { λ r. ⌜ (r ≡ placeOf (unpack base (now (image .entry))) number) × (r ≤ n) ⌝ }
+{
+    place_numbered(image, n, number as usize)
 }
 
 // The first place of a message to transactor t, or n, how many wait.
@@ -91,19 +103,23 @@ pub fn content(image: &[u8], k: usize) -> u32
     octets::load32(image, FIRST_MESSAGE + MESSAGE * k + CONTENT)
 }
 
-// One more message, with the next number, in place n, the first that is free.
-pub fn append(image: &mut [u8], n: usize, to: u8, value: u32, m: DependenceMap)
-    requires { ⌜ Good (now image) × (n ≡ waitingIn base (now image)) × (n < base .messages) × (to < 16) × (unpack base (now image) .next < lastNumber) × Bounded (base .places) m ⌝ }
-    ensures { λ _. ⌜ now (image .exit) ≡ pack base (withMessage (unpack base (now (image .entry))) to value m) ⌝ }
+// One more message, with the next number and what transactor t carries, in place n, the first that is free.
+pub fn append(image: &mut [u8], n: usize, to: u8, value: u32, t: usize)
+    requires { ⌜ Good (now image) × (n ≡ waitingIn base (now image)) × (n < base .messages) × (to < 16) × (unpack base (now image) .next < lastNumber) × (t < base .transactors) ⌝ }
+    ensures { λ _. ⌜ now (image .exit) ≡ pack base (withMessage (unpack base (now (image .entry))) to value (carried base t (transactorAt (unpack base (now (image .entry))) t))) ⌝ }
 {
     let number = head::next(image);
     let at = FIRST_MESSAGE + MESSAGE * n;
     store_fields(image, at, to, number, value);
-    m.store(image, at + DEPENDENCES);
+    let from = FIRST_TRANSACTOR + TRANSACTOR * t;
+    let creation = from + CREATION;
+    let behaviour = from + BEHAVIOUR;
+    let own = from + STATE + marks::SIZE * t;
+    DependenceMap::join_to(image, creation, behaviour, own, t, at + DEPENDENCES);
     octets::store16(image, NEXT, number + 1);
 }
 
-// The same of a message whose map is empty: no map by value, and no test whether it is empty.
+// The same of a message whose map is empty.
 pub fn append_empty(image: &mut [u8], n: usize, to: u8, value: u32)
     requires { ⌜ Good (now image) × (n ≡ waitingIn base (now image)) × (n < base .messages) × (to < 16) × (unpack base (now image) .next < lastNumber) ⌝ }
     ensures { λ _. ⌜ now (image .exit) ≡ pack base (withMessage (unpack base (now (image .entry))) to value (noDependences base)) ⌝ }

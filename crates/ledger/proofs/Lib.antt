@@ -1,4 +1,5 @@
 mod Counting
+mod Impeding
 mod Refreshing
 mod Running
 mod Showing

@@ -4,10 +4,9 @@ use mathlib.Core.Path.{_≡_, sym, ap, _∙_}
 use mathlib.Core.List.{List}
 use native.Mathlib.Numerals.{add-one}
 use native.Mathlib.Omega.{arith}
-use lib.ListN.{length, length-append}
+use lib.ListN.{length}
 use Rattle.octets.specs.Bytes.{put, part, chunks, Octets}
 use Rattle.octets.proofs.Put.{put-whole, octets-part}
-use Rattle.octets.proofs.Numbers.{length-be}
 use Rattle.octets.proofs.Chunks.{length-chunks, put-more}
 use Rattle.rules.specs.Layout.{base}
 use Rattle.rules.specs.State.{State}
@@ -24,10 +23,7 @@ use Rattle.rules.proofs.Pack.RoundTrip.{unpack-pack}
 use Rattle.rules.proofs.Keep.Run.{stepOk-unpack}
 use Rattle.rules.proofs.Keep.Step.{keeps-after, fitting-base}
 use Rattle.rules.proofs.Good.{good-pack}
-
-length-packReply : (r : Reply) → length (packReply r) ≡ stepBytes
-unfolding packReply
-length-packReply r = simp (length-append, length-be)
+use Rattle.rules.proofs.Replies.{length-packReply}
 
 -- ---- one step after the other
 

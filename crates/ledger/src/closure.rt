@@ -1,9 +1,9 @@
 // Groups, by what each transactor needs: the least with one of them, and how many are ready.
-use group::is_named;
 use group::needs::Needs;
-use group::needs::is_inside;
 use group::needs::meets;
 use image::layout::TRANSACTORS;
+use lists::groups::is_inside;
+use lists::groups::is_named;
 ghost use mathlib.Core.Path.{_≡_};
 ghost use Prim.Native.Nat.{_<_};
 ghost use lib.Bits.{bitOr};

@@ -3,6 +3,7 @@ mod closure;
 
 use grounds::all_resting;
 use grounds::dependents_of;
+use grounds::impediment::impediment_of;
 use grounds::obstacle::obstacle_of;
 use group::needs;
 use image::form;
@@ -12,22 +13,23 @@ use image::layout::DEPENDENCES;
 use image::layout::FIRST_MESSAGE;
 use image::layout::FIRST_TRANSACTOR;
 use image::layout::IMAGE;
-use image::layout::LONGEST;
 use image::layout::MESSAGE;
 use image::layout::MESSAGES;
 use image::layout::STATE;
-use image::layout::STEP;
 use image::layout::TRANSACTOR;
 use image::layout::TRANSACTORS;
 use image::limits;
 use image::messages;
+use lists::STEP;
+use lists::groups;
+use lists::packed;
 use maps::stability;
 use rules::Dependents;
 use rules::Grouped;
+use rules::Impediment;
 use rules::Obstacle;
 use rules::Offered;
 use rules::numbers;
-use steps::packed;
 ghost use mathlib.Core.Path.{_≡_};
 ghost use Prim.Native.Nat.{_*_, _/_};
 ghost use lib.ListN.{length};
@@ -37,7 +39,7 @@ ghost use Rattle.rules.specs.Step.{stepBytes};
 ghost use Rattle.rules.specs.Internal.Good.{Good};
 ghost use Rattle.rules.specs.Calls.{ranImage, ranReplies, queryRefusal, offeredNumber};
 ghost use Rattle.rules.specs.Groups.{groupNumber};
-ghost use Rattle.rules.specs.Promises.{BeginPromise, RunPromise, OfferPromise, SmallestPromise, HeardPromise, CountPromise, DependentsPromise, ObstaclePromise, ShowPromise};
+ghost use Rattle.rules.specs.Promises.{BeginPromise, RunPromise, OfferPromise, SmallestPromise, HeardPromise, CountPromise, DependentsPromise, ObstaclePromise, ImpedimentPromise, ShowPromise};
 
 // ---- begin
 
@@ -49,7 +51,7 @@ pub fn begin(image: &mut [u8], transactors: usize, messages: usize, checkpoints:
     if image.len() != IMAGE {
         return numbers::WRONG_LENGTH;
     }
-    if !limits::in_range(transactors, messages, checkpoints) {
+    if !lists::limits::in_range(transactors, messages, checkpoints) {
         return numbers::OUT_OF_RANGE;
     }
     refresh(image);
@@ -97,16 +99,7 @@ pub fn run(image: &mut [u8], list: &[u8], start: usize, end: usize, replies: &mu
     if image.len() != IMAGE {
         return numbers::WRONG_LENGTH;
     }
-    if end < start {
-        return numbers::WRONG_PART;
-    }
-    if list.len() < end {
-        return numbers::WRONG_PART;
-    }
-    if (end - start) % STEP != 0 {
-        return numbers::WRONG_PART;
-    }
-    if LONGEST < end - start {
+    if lists::wrong_part(list, start, end) {
         return numbers::WRONG_PART;
     }
     if replies.len() != end - start {
@@ -164,7 +157,7 @@ pub fn smallest_group(image: &[u8], transactor: usize, refusal: &mut u8) -> Grou
     }
     let needs = needs::needs_of(image);
     let group = closure::closure(needs, transactor);
-    if needs::is_inside(group, needs.able) {
+    if groups::is_inside(group, needs.able) {
         return Grouped::Group(group);
     }
     Grouped::NoGroup
@@ -251,11 +244,24 @@ pub fn obstacle(image: &[u8], members: u16, refusal: &mut u8) -> Obstacle
     obstacle_of(image, members)
 }
 
+// Why no group with the transactor could be checkpointed now, and the next transactor on a chain to the one that is in the way; nothing exactly
+// if smallest_group has one. The lent number takes the refusal, 16, 19, 21 or 22, or 0; refused, nothing.
+pub fn impediment(image: &[u8], transactor: usize, refusal: &mut u8) -> Impediment
+    ensures { λ r. ⌜ ImpedimentPromise base (now (image .entry)) transactor (now (refusal .exit)) r ⌝ }
+{
+    let number = query_refusal(image, transactor);
+    *refusal = number;
+    if number != 0 {
+        return Impediment::Nothing;
+    }
+    impediment_of(image, transactor)
+}
+
 // ---- show
 
 // The bytes of the image that hold a waiting message's map. The lent number takes the refusal, 16, 19 or 24, or 0; refused, an
 // empty part.
-pub fn show<'a>(image: &'a [u8], number: u16, refusal: &mut u8) -> &'a [u8]
+pub fn show<'a>(image: &'a [u8], number: usize, refusal: &mut u8) -> &'a [u8]
     ensures { λ r. ⌜ ShowPromise base (now (image .entry)) number (now (refusal .exit)) (now r) ⌝ }
 {
     if image.len() != IMAGE {
@@ -267,7 +273,7 @@ pub fn show<'a>(image: &'a [u8], number: u16, refusal: &mut u8) -> &'a [u8]
         return &image[..0];
     }
     let n = messages::waiting(image);
-    let k = messages::place_of(image, n, number);
+    let k = messages::place_numbered(image, n, number);
     if n <= k {
         *refusal = numbers::NOT_WAITING;
         return &image[..0];

@@ -1,5 +1,5 @@
--- How the answers of offer, smallest group, all heard frozen, obstacle and show are put in numbers.
-use Prim.Native.Nat.{ℕ, _+_}
+-- How the answers of offer, smallest group, all heard frozen, obstacle, impediment and show are put in numbers.
+use Prim.Native.Nat.{ℕ, _+_, _*_}
 use mathlib.Core.Bool.{Bool, true, false}
 use mathlib.Core.List.{List}
 use mathlib.Core.Option.{Option, none, some}
@@ -11,8 +11,15 @@ use Rattle.rules.specs.Pack.{unpack}
 use Rattle.rules.specs.Calls.{showRefusal}
 use Rattle.rules.specs.declared.Obstacle.{Obstacle}
 use Rattle.rules.specs.Obstacle.{obstacleNumbers}
+use Rattle.rules.specs.declared.Impediment.{Impediment}
+use Rattle.rules.specs.Impediment.{impedimentNumbers}
+use Rattle.ledger_c.specs.declared.Cause.{Cause}
 use Rattle.ledger_c.specs.declared.Part.{Part}
 use Rattle.ledger_c.specs.declared.Reason.{Reason}
+
+-- a version's major, minor and patch number, a byte each
+abbrev pub version : ℕ → ℕ → ℕ → ℕ
+version major minor patch = 65536 * major + 256 * minor + patch
 
 -- no parcel has this number: they run 0 to 65,534
 abbrev pub noMessage : ℕ
@@ -44,6 +51,10 @@ numberFor false = 0
 -- The numbers that stand for an answer of obstacle.
 abbrev pub reasonFor : Obstacle → Reason
 reasonFor o = record { kind = obstacleNumbers o .kind; transactor = obstacleNumbers o .transactor; ground = obstacleNumbers o .ground }
+
+-- The numbers that stand for an answer of impediment.
+abbrev pub causeFor : Impediment → Cause
+causeFor o = record { kind = impedimentNumbers o .kind; transactor = impedimentNumbers o .transactor; ground = impedimentNumbers o .ground; next = impedimentNumbers o .next }
 
 -- The bytes of the image that hold a waiting parcel's map: where they start, and how many. Refused: an empty part.
 unfoldable pub shownPart : Layout → List ℕ → ℕ → Part

@@ -6,6 +6,7 @@ use image::layout::MESSAGE;
 use image::messages;
 use rules::Dependents;
 use rules::Grouped;
+use rules::Impediment;
 use rules::Obstacle;
 use rules::Offered;
 use window::Worst;
@@ -15,13 +16,24 @@ ghost use Rattle.rules.specs.Calls.{queryRefusal, showRefusal};
 ghost use Rattle.rules.specs.Promises.{BeginPromise, RunPromise, OfferPromise, SmallestPromise, CountPromise, DependentsPromise};
 ghost use Rattle.rules.specs.Heard.{heardAnswer};
 ghost use Rattle.rules.specs.Obstacle.{obstacleRefusal, obstacleAnswer};
-ghost use Rattle.rules.specs.Thin.{thinRefusal, thinOut, thinCount};
-ghost use Rattle.rules.specs.Convert.{forwardAnswer, forwardImage, backAnswer, backImage};
+ghost use Rattle.rules.specs.Impediment.{impedimentAnswer};
+ghost use Rattle.thin.specs.Thin.{thinRefusal, thinOut, thinCount};
+ghost use Rattle.convert.specs.Convert.{forwardAnswer, forwardImage, backAnswer, backImage};
 ghost use Rattle.window.specs.Window.{windowRefusal, worstWindow};
-ghost use Rattle.ledger_c.specs.Interface.{offeredBy, groupOf, numberFor, reasonFor, shownPart};
+ghost use Rattle.ledger_c.specs.Interface.{version, offeredBy, groupOf, numberFor, reasonFor, causeFor, shownPart};
 
 // The number that stands for no message.
 pub const NONE: u16 = 65535;
+
+// The interface's major, minor and patch number, a byte each: LEDGER_VERSION of include/ledger.h.
+pub const VERSION: u32 = 131072;
+
+// The kinds of what is in the way of every group with a transactor.
+const HOPELESS: u8 = 1;
+
+const EXHAUSTED: u8 = 2;
+
+const NOT_STABLE: u8 = 3;
 
 // A part of the image.
 #[repr(C)]
@@ -37,6 +49,24 @@ pub struct Reason {
     pub kind: u8,
     pub transactor: u8,
     pub ground: u8,
+}
+
+// Why no group with a transactor could be checkpointed, in numbers: the kind, 0 nothing, 1 hopeless, 2 exhausted, 3 unstable; the transactor that
+// is in the way; the one of which it has a history that is superseded or annihilated; and the next from the asked one to the one in the way.
+#[repr(C)]
+pub struct Cause {
+    pub kind: u8,
+    pub transactor: u8,
+    pub ground: u8,
+    pub next: u8,
+}
+
+// The version of this library.
+#[no_mangle]
+pub extern "C" fn ledger_version() -> u32
+    ensures { λ r. ⌜ r ≡ version 2 0 0 ⌝ }
+{
+    VERSION
 }
 
 // Begins a fresh session that opens so many transactors, keeps so many messages waiting and checkpoints a transactor so often: 0, or
@@ -150,6 +180,40 @@ pub extern "C" fn ledger_obstacle(image: &[u8], members: u16, refusal: &mut u8) 
     }
 }
 
+// Why no group with the transactor could be checkpointed now; all are 0 exactly if one could. The lent number takes the refusal, 16, 19, 21 or
+// 22, or 0; refused, all are 0.
+#[no_mangle]
+pub extern "C" fn ledger_impediment(image: &[u8], transactor: usize, refusal: &mut u8) -> Cause
+    ensures { λ r. ⌜ (now (refusal .exit) ≡ queryRefusal base (now (image .entry)) transactor) × (r ≡ causeFor (impedimentAnswer base (now (image .entry)) transactor)) ⌝ }
+{
+    match ledger::impediment(image, transactor, refusal) {
+        Impediment::Nothing => Cause {
+            kind: 0,
+            transactor: 0,
+            ground: 0,
+            next: 0,
+        },
+        Impediment::Hopeless(c, u, x) => Cause {
+            kind: HOPELESS,
+            transactor: c,
+            ground: u,
+            next: x,
+        },
+        Impediment::Exhausted(c, x) => Cause {
+            kind: EXHAUSTED,
+            transactor: c,
+            ground: 0,
+            next: x,
+        },
+        Impediment::Unstable(c, x) => Cause {
+            kind: NOT_STABLE,
+            transactor: c,
+            ground: 0,
+            next: x,
+        },
+    }
+}
+
 // Writes the short list of the steps from start up to end, with zeros after it: how many steps are kept. The lent number takes the
 // refusal, 16, 17, 18 or 19, or 0; refused, no byte of out is changed and the answer is 0.
 #[no_mangle]
@@ -171,7 +235,7 @@ pub extern "C" fn ledger_thin(
 // The part of the image that holds a waiting message's map. The lent number takes the refusal, 16, 19 or 24, or 0; refused, an
 // empty part.
 #[no_mangle]
-pub extern "C" fn ledger_show(image: &[u8], number: u16, refusal: &mut u8) -> Part
+pub extern "C" fn ledger_show(image: &[u8], number: usize, refusal: &mut u8) -> Part
     ensures { λ r. ⌜ (now (refusal .exit) ≡ showRefusal base (now (image .entry)) number) × (r ≡ shownPart base (now (image .entry)) number) ⌝ }
 {
     ledger::show(image, number, refusal);
@@ -181,7 +245,7 @@ pub extern "C" fn ledger_show(image: &[u8], number: u16, refusal: &mut u8) -> Pa
             length: 0,
         };
     }
-    let k = messages::place_of(image, messages::waiting(image), number);
+    let k = messages::place_numbered(image, messages::waiting(image), number);
     let offset = FIRST_MESSAGE + MESSAGE * k + DEPENDENCES;
     Part {
         offset,

@@ -1,5 +1,5 @@
 // Histories, packed in the image: what the crate marks decides.
-use image::limits::LAST;
+use lists::limits::LAST;
 use marks::History;
 use marks::Relation;
 use script::bytes;

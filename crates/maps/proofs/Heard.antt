@@ -13,12 +13,12 @@ use Rattle.marks.specs.declared.History.{History}
 use Rattle.marks.specs.History.{HistoryView, viewOf}
 use Rattle.marks.specs.Packed.{historySize, presentIn, unpackHistory}
 use Rattle.maps.specs.declared.DependenceMap.{DependenceMap}
-use Rattle.maps.specs.Map.{heldAt, historyAt}
+use Rattle.maps.specs.Map.{heldAt, historyAt, Within}
 use Rattle.maps.specs.Heard.{stableEntry, stableAt, othersStable}
 use Rattle.maps.specs.Packed.{mapIn}
 use Rattle.maps.specs.Internal.View.{mapView}
 use Rattle.maps.proofs.Placed.{held-in, history-in}
-use Rattle.maps.proofs.View.{Within, view-held, view-some}
+use Rattle.maps.proofs.View.{view-held, view-some}
 
 -- ---- as a table
 

@@ -26,10 +26,6 @@ use Rattle.maps.proofs.Packed.{length-packMap}
 use Rattle.maps.proofs.Placed.{put-map-more, held-in, history-in}
 use Rattle.maps.proofs.Joins.{entry-there}
 
--- the count of a history that was loaded is within its list
-pub loaded-count : (w l : ℕ) (b : List ℕ) (h : History) → countBound ≤ l + 1 → h ≡ unpackHistory w l b → h .count ≤ l
-loaded-count w l b h long e = omega (arith, ap (λ (x : History). x .count) e, unpack-count w l b)
-
 -- what stands apart from the bytes put
 part-apart : {k from at : ℕ} (b l : List ℕ) → Apart k from at → at + length b ≤ length l → length b ≤ k → (j m : ℕ) → j + m ≤ k
     → part (from + j) m (put at b l) ≡ part (from + j) m l

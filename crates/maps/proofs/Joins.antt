@@ -12,10 +12,10 @@ use Rattle.octets.proofs.Chunks.{step}
 use Rattle.marks.specs.declared.History.{History}
 use Rattle.marks.specs.Packed.{historySize, packHistory, unpackHistory, presentIn}
 use Rattle.maps.specs.declared.DependenceMap.{DependenceMap}
-use Rattle.maps.specs.Map.{heldAt, historyAt, withEntry, singleton, joinedHistory, choosesRight, joinedHeldAt, joinedHistoryAt, joinOf}
+use Rattle.maps.specs.Map.{heldAt, historyAt, withEntry, singleton, joinedHistory, choosesRight, joinedHeldAt, joinedHistoryAt, joinOf, Sized}
 use Rattle.maps.specs.Packed.{mapSize, packEntry, packEntryAt, packMap, entryBytes, mapIn}
 use Rattle.maps.specs.Internal.Fitting.{ExactEntry, Exact, joinedBytes}
-use Rattle.maps.proofs.Map.{Entry, Sized, same-map, sized-withEntry, held-withEntry, history-withEntry, held-withEntry-other, history-withEntry-other, held-singleton, history-singleton, held-singleton-other, joined-pick, joined-pick-held, choosesRightAt, sized-join, held-join, history-join, held-chosen, history-chosen, held-join-off, history-join-off}
+use Rattle.maps.proofs.Map.{Entry, same-map, sized-withEntry, held-withEntry, history-withEntry, held-withEntry-other, history-withEntry-other, held-singleton, history-singleton, held-singleton-other, joined-pick, joined-pick-held, choosesRightAt, sized-join, held-join, history-join, held-chosen, history-chosen, held-join-off, history-join-off}
 use Rattle.maps.proofs.Packed.{length-packMap, entry-packMap}
 use Rattle.maps.proofs.Placed.{put-map-more, put-map-all, entry-here, held-in, history-in}
 

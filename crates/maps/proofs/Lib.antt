@@ -1,3 +1,4 @@
+mod Carrying
 mod Compared
 pub mod Heard
 pub mod Informing
@@ -8,7 +9,8 @@ pub mod Map
 pub mod News
 pub mod Packed
 pub mod Placed
+pub mod Recast
 pub mod Superseded
-pub mod Tables
 pub mod Unrelated
 pub mod View
+pub mod Within

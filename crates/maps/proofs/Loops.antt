@@ -2,24 +2,20 @@
 use Prim.Native.Nat.{ℕ, suc, _+_, _-_, _≤_, _<_}
 use mathlib.Core.Bool.{Bool, true, false, not}
 use mathlib.Core.Path.{_≡_, refl, sym, ap, _∙_, subst}
-use mathlib.Core.List.{List, map}
+use mathlib.Core.List.{List}
 use mathlib.Core.Option.{Option, none, some}
 use mathlib.Core.Logic.{⊎-elim}
 use native.Mathlib.Numerals.{add-one}
 use native.Mathlib.Omega.{arith}
-use lib.ListN.{length, set, getD, length-map, length-set}
+use lib.ListN.{length, set, getD, length-set}
 use lib.Seq.{getD-set-same, getD-set-other}
 use Rattle.octets.specs.Bytes.{pick, tabulate}
 use Rattle.octets.proofs.Chunks.{sides, length-tabulate, getD-tabulate}
 use Rattle.octets.proofs.Zero.{every-none, every-more, every-off}
 use Rattle.marks.specs.declared.History.{History}
 use Rattle.maps.specs.declared.DependenceMap.{DependenceMap}
-use Rattle.maps.specs.Map.{heldAt, historyAt, isEmpty, choosesRight, joinedHeldAt, joinedHistoryAt, joinOf, supersededAt, firstFrom, firstSuperseded}
-use Rattle.maps.proofs.Map.{outside, Entry, Sized, same-map, choosesRightAt, held-picked, history-picked, held-join, history-join, held-join-off, history-join-off}
-
--- an array of structs: what owning it tells stands at a map of its list
-pub length-of-map : (X Y : Type 0) (f : X → Y) (l : List X) (n : ℕ) → length (map f l) ≡ n → length l ≡ n
-length-of-map X Y f l n e = sym (length-map l f) ∙ e
+use Rattle.maps.specs.Map.{heldAt, historyAt, isEmpty, choosesRight, joinedHeldAt, joinedHistoryAt, joinOf, supersededAt, firstFrom, firstSuperseded, Sized}
+use Rattle.maps.proofs.Map.{outside, Entry, same-map, choosesRightAt, held-picked, history-picked, held-join, history-join, held-join-off, history-join-off}
 
 -- ---- a list changed entry by entry: the first i are those of f, the others still those of g
 

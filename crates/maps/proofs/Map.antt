@@ -13,10 +13,10 @@ use Rattle.octets.proofs.Tests.{or-none}
 use Rattle.octets.proofs.Chunks.{sides, length-tabulate, getD-tabulate, tabulate-same, tabulate-getD}
 use Rattle.octets.proofs.Zero.{every-all, every-at}
 use Rattle.marks.specs.declared.History.{History}
-use Rattle.marks.specs.History.{initialHistory, isOlder}
-use Rattle.marks.proofs.Histories.{Newer, newer-view, newer-idem, newer-older}
+use Rattle.marks.specs.History.{initialHistory, isOlder, Newer}
+use Rattle.marks.proofs.Histories.{newer-view, newer-idem, newer-older}
 use Rattle.maps.specs.declared.DependenceMap.{DependenceMap}
-use Rattle.maps.specs.Map.{heldAt, historyAt, emptyMap, withEntry, singleton, isEmpty, joinedHistory, choosesRight, joinedHeldAt, joinedHistoryAt, joinOf}
+use Rattle.maps.specs.Map.{heldAt, historyAt, emptyMap, withEntry, singleton, isEmpty, joinedHistory, choosesRight, joinedHeldAt, joinedHistoryAt, joinOf, Sized, Joined, both, left, right, neither}
 
 -- what stands past the end
 abbrev pub outside : History
@@ -26,11 +26,6 @@ outside = record { stable = false; incarnation = 0; count = 0; checkpoints = [] 
 pub record Entry (m : DependenceMap) (i : ℕ) (p : Bool) (h : History) : Type 0 where
   pub held : p ≡ heldAt m i
   pub history : h ≡ historyAt m i
-
--- m has n entries
-pub record Sized (n : ℕ) (m : DependenceMap) : Type 0 where
-  pub helds : length (m .held) ≡ n
-  pub histories : length (m .histories) ≡ n
 
 -- two maps are equal by their entries
 pub same-map : {n : ℕ} {a b : DependenceMap} → Sized n a → Sized n b
@@ -163,13 +158,6 @@ module _ (a b : DependenceMap) (i : ℕ) (t : Bool) (e : choosesRightAt a b i �
   pub history-picked : pick t (historyAt b i) (historyAt a i) ≡ joinedHistoryAt a b i
   unfolding joinedHistoryAt
   history-picked = sym (joined-pick (heldAt a i) (historyAt a i) (heldAt b i) (historyAt b i) ∙ ap (λ (s : Bool). pick s (historyAt b i) (historyAt a i)) e)
-
--- what two entries join to, whether and with what history
-pub data Joined (p : Bool) (x : History) (q : Bool) (y : History) : Bool → History → Type 0 where
-  both : {m : History} → p ≡ true → q ≡ true → Newer x y m → Joined p x q y true m
-  left : p ≡ true → q ≡ false → Joined p x q y true x
-  right : p ≡ false → q ≡ true → Joined p x q y true y
-  neither : p ≡ false → q ≡ false → Joined p x q y false x
 
 joined-view : (p : Bool) (x : History) (q : Bool) (y : History) → Joined p x q y (p or q) (joinedHistory p x q y)
 unfolding joinedHistory

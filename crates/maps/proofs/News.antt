@@ -13,15 +13,15 @@ use Rattle.octets.proofs.Chunks.{sides, length-tabulate, getD-tabulate}
 use Rattle.marks.specs.declared.History.{History}
 use Rattle.marks.specs.History.{HistoryView, incarnationOf, viewOf}
 use Rattle.marks.specs.News.{informed}
-use Rattle.marks.proofs.News.{informed-incarnation, informed-count, informed-stable, roomy-informed, packable-informed, informedView, view-informed}
+use Rattle.marks.proofs.News.{informed-incarnation, informed-count, roomy-informed, packable-informed, informedView, view-informed}
 use Rattle.maps.specs.declared.DependenceMap.{DependenceMap}
-use Rattle.maps.specs.Map.{heldAt, historyAt, emptyMap}
-use Rattle.maps.specs.News.{informedHistory, informedHistoryAt, informedOf}
+use Rattle.maps.specs.Map.{heldAt, historyAt, emptyMap, Sized, Within}
+use Rattle.maps.specs.News.{informedHistory, informedHistoryAt, informedOf, SameIncarnations}
 use Rattle.maps.specs.Internal.Fitting.{EntryOk, present, absent, MapOk, Bounded}
 use Rattle.maps.specs.Internal.View.{MapView, mapView}
-use Rattle.maps.proofs.Map.{outside, Sized, same-map, sized-empty, held-empty}
+use Rattle.maps.proofs.Map.{outside, same-map, sized-empty, held-empty}
 use Rattle.maps.proofs.Packed.{bounded-at, bounded-within}
-use Rattle.maps.proofs.View.{Within, view-past, view-absent}
+use Rattle.maps.proofs.View.{view-past, view-absent}
 
 both-same : (c : Bool) (h : History) → pick c h h ≡ h
 both-same true h = refl
@@ -47,10 +47,6 @@ module _ (n t : ℕ) (a b : DependenceMap) where
     pub same-incarnation : incarnationOf (historyAt (informedOf n t a b) u) ≡ incarnationOf (historyAt a u)
     same-incarnation = informed-entry (λ h. incarnationOf h ≡ incarnationOf (historyAt a u)) refl (informed-incarnation (historyAt a u) (historyAt b u))
 
-    -- nor is a frozen one unfrozen, or changed
-    pub same-stable : historyAt a u .stable ≡ true → historyAt (informedOf n t a b) u ≡ historyAt a u
-    same-stable e = informed-entry (λ h. h ≡ historyAt a u) refl (informed-stable (historyAt a u) (historyAt b u) e)
-
     -- another take's mark, where both maps have one
     pub history-shown : u ≢ t → heldAt a u ≡ true → heldAt b u ≡ true → historyAt (informedOf n t a b) u ≡ informed (historyAt a u) (historyAt b u)
     unfolding informedHistoryAt informedHistory
@@ -66,6 +62,10 @@ module _ (n t : ℕ) (a b : DependenceMap) where
   pub own-informed : t < n → historyAt (informedOf n t a b) t ≡ historyAt a t
   unfolding informedHistoryAt
   own-informed below = history-informed t below ∙ rw (eq-eqb t t refl)
+
+-- "no mark changes its life"
+pub same-informed : (n t : ℕ) (a b : DependenceMap) → SameIncarnations n a (informedOf n t a b)
+same-informed n t a b = record { held = held-informed n t a b; incarnation = same-incarnation n t a b }
 
 -- a map that holds nothing hears nothing
 module _ (l n t : ℕ) (b : DependenceMap) where

@@ -1,6 +1,6 @@
 -- Laws of packed maps: there and back, well-formed bytes, what can be packed, counts within their lists.
 use Prim.Native.Nat.{ℕ, _+_, _*_, _≤_, _<_}
-use mathlib.Core.Bool.{Bool, true, false, false≢true}
+use mathlib.Core.Bool.{Bool, true, false}
 use mathlib.Core.Path.{_≡_, refl, sym, ap, _∙_, subst}
 use mathlib.Core.List.{List}
 use mathlib.Core.Logic.{⊎-elim}
@@ -15,15 +15,14 @@ use Rattle.octets.proofs.Put.{length-part, octets-part}
 use Rattle.octets.proofs.Zero.{length-zeros, octets-zeros, allZero-zeros, zeros-is, chunks-zeros, every-all, every-at}
 use Rattle.octets.proofs.Chunks.{sides, step, length-tabulate, getD-tabulate, length-chunks, part-chunks, chunks-same, chunks-parts, octets-chunks}
 use Rattle.marks.specs.declared.History.{History}
-use Rattle.marks.specs.History.{initialHistory}
 use Rattle.marks.specs.Packed.{countBound, historySize, unpackHistory, presentIn, formedHistory}
 use Rattle.marks.proofs.Histories.{newer-which}
 use Rattle.marks.proofs.Packed.{length-packHistory, octets-packHistory, unpack-packHistory, pack-unpackHistory, packable-unpack, unpack-count, unpack-zeros as unpack-zero, roomy-unpack, count-unpack, present-packHistory, formed-packHistory, absent-zeros, absent-is-zero, unpack-absent, formed-zeros}
 use Rattle.maps.specs.declared.DependenceMap.{DependenceMap}
-use Rattle.maps.specs.Map.{heldAt, historyAt, emptyMap, withEntry, singleton, isEmpty, joinOf}
+use Rattle.maps.specs.Map.{heldAt, historyAt, emptyMap, withEntry, singleton, isEmpty, joinOf, Sized, Joined, both, left, right, neither}
 use Rattle.maps.specs.Packed.{mapSize, packEntry, packEntryAt, packMap, entryBytes, unpackHeldAt, unpackHistoryAt, unpackMap, formedEntry, formedEntryAt, formedMap}
 use Rattle.maps.specs.Internal.Fitting.{EntryOk, present, absent, MapOk, Bounded}
-use Rattle.maps.proofs.Map.{outside, Sized, same-map, sized-empty, held-empty, history-empty, isEmpty-test, isEmpty-empty, sized-withEntry, held-withEntry, history-withEntry, held-withEntry-other, history-withEntry-other, Joined, both, left, right, neither, sized-join, join-view}
+use Rattle.maps.proofs.Map.{outside, same-map, sized-empty, held-empty, history-empty, isEmpty-test, isEmpty-empty, sized-withEntry, held-withEntry, history-withEntry, held-withEntry-other, history-withEntry-other, sized-join, join-view}
 
 -- ---- one entry
 
@@ -87,11 +86,11 @@ module _ (w l n : ℕ) (b : List ℕ) where
     unfolding unpackMap unpackHistoryAt
     history-unpack = getD-tabulate (unpackHistoryAt w l b) n i outside below
 
-  length-entry : length b ≡ mapSize w l n → (i : ℕ) → i < n → length (entryBytes w l b i) ≡ historySize w l
+  pub length-entry : length b ≡ mapSize w l n → (i : ℕ) → i < n → length (entryBytes w l b i) ≡ historySize w l
   unfolding entryBytes
   length-entry whole i below = length-part (historySize w l * i) (historySize w l) b (omega (arith, step (historySize w l) i n below))
 
-octets-entry : (w l : ℕ) (b : List ℕ) → Octets b → (i : ℕ) → Octets (entryBytes w l b i)
+pub octets-entry : (w l : ℕ) (b : List ℕ) → Octets b → (i : ℕ) → Octets (entryBytes w l b i)
 unfolding entryBytes
 octets-entry w l b o i = octets-part (historySize w l * i) (historySize w l) b o
 
@@ -187,14 +186,6 @@ formed-packMap {w} {l} {n} {m} c opened k b f = every-all (formedEntryAt w l c o
     each i h = subst (λ (x : List ℕ). formedEntry w c (ltb i opened) x ≡ true) (sym (entry-packMap w l n m i h)) (entry i h (ltb i opened) refl)
 
 -- ---- what can be packed
-
--- an entry that is not held is the initial one
-absent-is : {w l : ℕ} {p : Bool} {h : History} → EntryOk w l p h → p ≡ false → h ≡ initialHistory l
-absent-is (present r k) e = absurd (false≢true (sym e))
-absent-is absent e = refl
-
-pub mapOk-absent : {w l n : ℕ} {m : DependenceMap} → MapOk w l n m → (i : ℕ) → i < n → heldAt m i ≡ false → historyAt m i ≡ initialHistory l
-mapOk-absent k i h e = absent-is (k .each i h) e
 
 pub mapOk-empty : (w l n : ℕ) → MapOk w l n (emptyMap l n)
 mapOk-empty w l n = record {

@@ -17,10 +17,10 @@ use Rattle.marks.specs.History.{initialHistory}
 use Rattle.marks.specs.Packed.{historySize, packHistory, unpackHistory, presentIn, formedHistory}
 use Rattle.marks.proofs.Packed.{length-packHistory}
 use Rattle.maps.specs.declared.DependenceMap.{DependenceMap}
-use Rattle.maps.specs.Map.{heldAt, historyAt, emptyMap, withEntry, isEmpty}
+use Rattle.maps.specs.Map.{heldAt, historyAt, emptyMap, withEntry, isEmpty, Sized}
 use Rattle.maps.specs.Packed.{mapSize, packEntry, packEntryAt, packMap, entryBytes, unpackHeldAt, unpackHistoryAt, unpackMap, mapIn, formedEntry, formedEntryAt, formedMap}
 use Rattle.maps.specs.Internal.Fitting.{looked}
-use Rattle.maps.proofs.Map.{Sized, held-empty, history-empty, held-withEntry, history-withEntry, held-withEntry-other, history-withEntry-other}
+use Rattle.maps.proofs.Map.{held-empty, history-empty, held-withEntry, history-withEntry, held-withEntry-other, history-withEntry-other}
 use Rattle.maps.proofs.Packed.{length-packEntryAt, held-unpack, history-unpack, pack-isEmpty, unpack-zeros, formed-zeroMap}
 
 -- ---- one entry

@@ -15,14 +15,14 @@ use Rattle.marks.specs.Incarnation.{Superseded}
 use Rattle.marks.specs.History.{Roomy, HistoryView, viewOf}
 use Rattle.marks.proofs.Histories.{roomy-initial, roomy-newer, view-newer}
 use Rattle.maps.specs.declared.DependenceMap.{DependenceMap}
-use Rattle.maps.specs.Map.{heldAt, historyAt, emptyMap, withEntry, singleton, joinedHistory, joinedHeldAt, joinedHistoryAt, joinOf, supersededAt, firstSuperseded}
-use Rattle.maps.specs.Table.{updated}
+use Rattle.maps.specs.Map.{heldAt, historyAt, emptyMap, withEntry, singleton, joinedHistory, joinedHeldAt, joinedHistoryAt, joinOf, supersededAt, firstSuperseded, Sized, Joined, both, left, right, neither, Within}
+use Rattle.octets.specs.Table.{updated}
 use Rattle.maps.specs.Internal.Fitting.{EntryOk, present, absent, MapOk}
 use Rattle.maps.specs.Internal.View.{MapView, mapView, singletonView, joinEntry, joinView, SupersededView, superseded-entry}
-use Rattle.maps.proofs.Map.{Sized, sized-empty, held-empty, sized-singleton, history-singleton, held-singleton-other, Joined, both, left, right, neither, sized-join, held-join, history-join, join-view, held-withEntry, history-withEntry, held-withEntry-other, history-withEntry-other}
+use Rattle.maps.proofs.Map.{sized-empty, held-empty, sized-singleton, history-singleton, held-singleton-other, sized-join, held-join, history-join, join-view, held-withEntry, history-withEntry, held-withEntry-other, history-withEntry-other}
 use Rattle.maps.proofs.Packed.{mapOk-sized}
 use Rattle.maps.proofs.Superseded.{supersededAt-test, First, found, nowhere, superseded-view}
-use Rattle.maps.proofs.Tables.{updated-is}
+use Rattle.octets.proofs.Tables.{updated-is}
 
 -- ---- one entry
 
@@ -42,12 +42,6 @@ module _ (m : DependenceMap) (u : ℕ) where
       go : (t : Bool) → heldAt m u ≡ t → pick t (some (viewOf (historyAt m u))) none ≡ some x → (heldAt m u ≡ true) × (x ≡ viewOf (historyAt m u))
       go true e p = (e, cc)
       go false e p = let z : _≡_ {A = ℕ} 0 1 = cc in absurd (omega arith)
-
--- ---- every mark of a map is of one of the n takes, and has room for l signings
-
-pub record Within (l n : ℕ) (m : DependenceMap) : Type 0 where
-  pub below : (u : ℕ) → heldAt m u ≡ true → u < n
-  pub roomy : (u : ℕ) → heldAt m u ≡ true → Roomy l (historyAt m u)
 
 held-past : {n : ℕ} {m : DependenceMap} → Sized n m → (u : ℕ) → n ≤ u → heldAt m u ≡ false
 held-past {n} {m} s u h = List·getD-eq-default (m .held) false {n = u} (omega (arith, s .helds))

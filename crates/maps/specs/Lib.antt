@@ -3,5 +3,5 @@ pub mod Internal
 pub mod Map
 pub mod News
 pub mod Packed
-pub mod Table
 pub mod View
+pub mod Within

@@ -1,12 +1,13 @@
 -- Document 01, "Lives and marks": dependence maps (maps), over the number n of entries and the length l of a history's list.
-use Prim.Native.Nat.{ℕ, zero, suc}
+use Prim.Native.Nat.{ℕ, zero, suc, _<_}
 use mathlib.Core.Bool.{Bool, true, false, not}
 use mathlib.Core.List.{List, []}
 use mathlib.Core.Option.{Option, none, some}
-use lib.ListN.{getD, set, replicate}
+use mathlib.Core.Path.{_≡_}
+use lib.ListN.{getD, set, replicate, length}
 use Rattle.octets.specs.Bytes.{pick, _and_, _or_, tabulate, every}
 use Rattle.marks.specs.declared.History.{History}
-use Rattle.marks.specs.History.{incarnationOf, initialHistory, newerOf, isOlder}
+use Rattle.marks.specs.History.{incarnationOf, initialHistory, newerOf, isOlder, Roomy, Newer}
 use Rattle.marks.specs.Incarnation.{supersededBy}
 use Rattle.marks.specs.declared.Relation.{Relation}
 use Rattle.marks.specs.declared.Relation.the-variants.{Same}
@@ -106,3 +107,22 @@ anyUnrelated n a b = anyFrom (unrelatedAt a b) 0 n
 -- what the comparison of two entries says: the same where one is not held
 unfoldable pub relationEntry : Bool → History → Bool → History → Relation
 relationEntry p x q y = pick (p and q) (relationOf (incarnationOf x) (incarnationOf y)) Same
+
+-- ---- for theorems
+
+-- m has n entries
+pub record Sized (n : ℕ) (m : DependenceMap) : Type 0 where
+  pub helds : length (m .held) ≡ n
+  pub histories : length (m .histories) ≡ n
+
+-- what two entries join to, whether and with what history
+pub data Joined (p : Bool) (x : History) (q : Bool) (y : History) : Bool → History → Type 0 where
+  both : {m : History} → p ≡ true → q ≡ true → Newer x y m → Joined p x q y true m
+  left : p ≡ true → q ≡ false → Joined p x q y true x
+  right : p ≡ false → q ≡ true → Joined p x q y true y
+  neither : p ≡ false → q ≡ false → Joined p x q y false x
+
+-- every mark of a map is of one of the n takes, and has room for l signings
+pub record Within (l n : ℕ) (m : DependenceMap) : Type 0 where
+  pub below : (u : ℕ) → heldAt m u ≡ true → u < n
+  pub roomy : (u : ℕ) → heldAt m u ≡ true → Roomy l (historyAt m u)

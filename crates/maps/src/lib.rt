@@ -10,7 +10,7 @@ ghost use Rattle.octets.specs.Bytes.{put, part};
 ghost use Rattle.marks.specs.Packed.{width, places, historySize, restSize, rampOf, historyIn, presentIn};
 ghost use Rattle.maps.specs.Map.{emptyMap, withEntry, singleton, isEmpty, choosesRight, joinOf, firstSuperseded, answerOf, anyUnrelated, relationEntry};
 ghost use Rattle.maps.specs.Packed.{entries, mapSize, packEntry, packMap, unpackMap, mapIn, formedEntry, formedMap};
-ghost use Rattle.maps.specs.Internal.Fitting.{Bounded, ExactEntry, Exact, looked, joinedBytes};
+ghost use Rattle.maps.specs.Internal.Fitting.{MapOk, Bounded, ExactEntry, Exact, looked, joinedBytes};
 
 // One entry for each transactor, and the bytes of a packed map.
 pub const ENTRIES: usize = 16;
@@ -173,6 +173,23 @@ impl DependenceMap {
         }
     }
 
+    // The maps packed at left and right, joined, and then with the history packed at own, that of transactor i: stored from to on, behind all
+    // three, where the right one's bytes are copied first. No map is passed on.
+    pub fn join_to(image: &mut [u8], left: usize, right: usize, own: usize, i: usize, to: usize)
+        requires { ⌜ (left + mapSize width places entries ≤ to) × (right + mapSize width places entries ≤ to) × (own + historySize width places ≤ to)
+            × (to + mapSize width places entries ≤ length (now image)) × (i < entries)
+            × MapOk width places entries (mapIn width places entries (now image) left) × MapOk width places entries (mapIn width places entries (now image) right)
+            × Exact width places entries (now image) right ⌝ }
+        ensures { λ _. ⌜ now (image .exit) ≡ put to (packMap width places entries (joinOf entries
+            (joinOf entries (mapIn width places entries (now (image .entry)) left) (mapIn width places entries (now (image .entry)) right))
+            (singleton places entries i (historyIn width places (now (image .entry)) own)))) (now (image .entry)) ⌝ }
+    {
+        octets::raise(image, right, to, SIZE);
+        DependenceMap::join_into(image, left, to);
+        let h = History::load(image, own);
+        join_right(image, to, i, h);
+    }
+
     // The map packed from at on compared with it: one comparison an entry, from the last entry to the first.
     pub fn compare(self, s: &[u8], at: usize) -> Comparisons
         requires { ⌜ (at + mapSize width places entries ≤ length (now s)) × Bounded places self ⌝ }
@@ -330,6 +347,20 @@ fn join_at(image: &mut [u8], at: usize, p: bool, h: History)
         return;
     }
     h.store(image, at);
+}
+
+// Joins h as the right one into entry i of the map packed at at: it is stored where it is the newer.
+fn join_right(image: &mut [u8], at: usize, i: usize, h: History)
+    requires { ⌜ (at + mapSize width places entries ≤ length (now image)) × (i < entries) × (h .count ≤ places) × Exact width places entries (now image) at ⌝ }
+    ensures { λ _. ⌜ now (image .exit) ≡ put at (packMap width places entries
+        (joinOf entries (mapIn width places entries (now (image .entry)) at) (singleton places entries i h))) (now (image .entry)) ⌝ }
+{
+    let from = at + marks::SIZE * i;
+    let p = History::present(image, from);
+    let x = History::load(image, from);
+    if chooses_right(p, x, true, h) {
+        h.store(image, from);
+    }
 }
 
 fn store_entry(image: &mut [u8], at: usize, p: bool, h: History)

@@ -14,8 +14,8 @@ use Rattle.octets.proofs.Chunks.{sides}
 use Rattle.octets.proofs.Zero.{length-zeros, getD-zeros}
 use Rattle.marks.specs.declared.History.{History}
 use Rattle.marks.specs.Incarnation.{Incarnation, initialIncarnation, nextIncarnation, checkpointIncarnation}
-use Rattle.marks.specs.History.{incarnationOf, initialHistory, stabilized, rolledBack, checkpointed, newerOf, isOlder, Roomy, HistoryView, viewOf, initialView, stabilizedView, rolledBackView, checkpointedView, historyOf, newerView}
-use Rattle.marks.proofs.Trail.{Precedes}
+use Rattle.marks.specs.History.{incarnationOf, initialHistory, stabilized, rolledBack, checkpointed, newerOf, isOlder, Roomy, HistoryView, viewOf, initialView, stabilizedView, rolledBackView, checkpointedView, historyOf, newerView, Newer, right-longer, left-longer, right-number, left-number, left-stable, right-stable, left-same}
+use Rattle.marks.specs.Order.{Precedes}
 use Rattle.marks.proofs.Order.{precedes-refl, precedes-trans, precedes-antisym, precedes-eq, precedes-next, precedes-checkpoint, superseded-next, superseded-ne, checkpointed-checkpoint, checkpointed-ne, by-size, by-number, later-size, same-incarnation}
 
 -- ---- the life of a mark
@@ -52,15 +52,6 @@ roomy-checkpointed {l} {h} r k = record {
 }
 
 -- ---- the newer of two
-
-pub data Newer (a b : History) : History → Type 0 where
-  right-longer : a .count < b .count → Newer a b b
-  left-longer : b .count < a .count → Newer a b a
-  right-number : a .count ≡ b .count → a .incarnation < b .incarnation → Newer a b b
-  left-number : a .count ≡ b .count → b .incarnation < a .incarnation → Newer a b a
-  left-stable : a .count ≡ b .count → a .incarnation ≡ b .incarnation → a .stable ≡ true → Newer a b a
-  right-stable : a .count ≡ b .count → a .incarnation ≡ b .incarnation → a .stable ≡ false → b .stable ≡ true → Newer a b b
-  left-same : a .count ≡ b .count → a .incarnation ≡ b .incarnation → a .stable ≡ false → b .stable ≡ false → Newer a b a
 
 pick-view : (P : History → Type 0) (t : Bool) (x y : History) → (t ≡ true → P x) → (t ≡ false → P y) → P (pick t x y)
 pick-view P true x y f g = f refl
@@ -170,8 +161,9 @@ module _ {l : ℕ} {a b : History} (r : Roomy l a) (s : Roomy l b) where
 
 -- ---- views
 
-pub view-stabilized : (h : History) → viewOf (stabilized h) ≡ stabilizedView (viewOf h)
-view-stabilized h = refl
+-- a frozen mark frozen again
+pub stable-is : (m : HistoryView) → m .stable ≡ true → stabilizedView m ≡ m
+stable-is m e = λ i. record { stable = sym e i; incarnation = m .incarnation }
 
 pub view-rolledBack : (h : History) → viewOf (rolledBack h) ≡ rolledBackView (viewOf h)
 view-rolledBack h = refl

@@ -1,10 +1,13 @@
 pub mod Trail
 pub mod Order
+pub mod Before
 pub mod Tests
 pub mod Related
 mod Compare
 pub mod Histories
 pub mod Packed
+pub mod Recast
+pub mod Within
 mod Masked
 mod Placed
 mod Unpacked

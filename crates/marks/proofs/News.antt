@@ -15,7 +15,7 @@ use Rattle.marks.specs.Incarnation.{Incarnation, sameIncarnation, checkp
 use Rattle.marks.specs.History.{HistoryView, incarnationOf, viewOf, stabilized, stabilizedView, Roomy}
 use Rattle.marks.specs.Relation.{relationOf, isSame, isLeftCheckpointed}
 use Rattle.marks.specs.Packed.{Packable}
-use Rattle.marks.specs.News.{showsStable, mayShow, informed}
+use Rattle.marks.specs.News.{showsStable, mayShow, informed, Shows, by-stable, by-list}
 use Rattle.marks.proofs.Compare.{checkpointed-short}
 use Rattle.marks.proofs.Order.{checkpointed-up, checkpointed-ne}
 use Rattle.marks.proofs.Tests.{checkpointed-test, same-test}
@@ -24,11 +24,6 @@ use Rattle.marks.proofs.Histories.{_⊑_, roomy-stabilized}
 use Rattle.marks.proofs.Packed.{packable-stabilized}
 
 -- ---- what is shown
-
--- the mark p shows that life a was frozen: it is frozen and of that life, or its list begins with a's followed by a's n
-pub data Shows (a : Incarnation) (p : HistoryView) : Type 0 where
-  by-stable : a ≡ p .incarnation → p .stable ≡ true → Shows a p
-  by-list : Checkpointed a (p .incarnation) → Shows a p
 
 pub shows-test : (a : Incarnation) (p : HistoryView) → (showsStable a p ≡ true) ↔ Shows a p
 unfolding showsStable

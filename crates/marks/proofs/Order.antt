@@ -6,7 +6,8 @@ use mathlib.Core.Logic.{_⊎_, inl, inr, ⊎-elim}
 use native.Mathlib.Omega.{arith}
 use lib.ListN.{length, length-append}
 use Rattle.marks.specs.Incarnation.{Incarnation, initialIncarnation, nextIncarnation, checkpointIncarnation, Superseded, lower, Checkpointed, begins}
-use Rattle.marks.proofs.Trail.{Along, same, next, more, weaken, clash, follow, branch, here, places, only-here, eq-or-lt, alike, longer, Under, Precedes, SupersededAlong, superseded-along, CheckpointedAlong, checkpointed-along}
+use Rattle.marks.proofs.Trail.{weaken, clash, follow, branch, here, places, only-here, eq-or-lt, alike, longer, SupersededAlong, superseded-along, CheckpointedAlong, checkpointed-along}
+use Rattle.marks.specs.Order.{Step, stabilize, rollback, checkpoint, Along, same, next, more, Under, Precedes}
 
 -- the relations of specs as trails
 s-to : {a b : Incarnation} → Superseded a b → SupersededAlong a b
@@ -236,12 +237,6 @@ checkpointed-split a c s = go (checkpointed-snoc (a .checkpoints) (c .checkpoint
 -- signed goes by the list alone
 pub checkpointed-list : {a b c : Incarnation} → b .checkpoints ≡ c .checkpoints → Checkpointed a b → Checkpointed a c
 checkpointed-list e (begins r f) = begins r (sym e ∙ f)
-
--- how the present life of a take moves on: a freeze leaves it as it is
-pub data Step (a : Incarnation) : Incarnation → Type 0 where
-  stabilize : Step a a
-  rollback : Step a (nextIncarnation a)
-  checkpoint : Step a (checkpointIncarnation a)
 
 pub step-precedes : {a b : Incarnation} → Step a b → Precedes a b
 step-precedes {a} stabilize = precedes-refl a

@@ -12,10 +12,11 @@ use lib.Seq.{take-at, drop-at, drop-append-add, getD-drop}
 use borrow.Author.Tests.{le-leb, lt-leb, leb-true, leb-false, eqb-true}
 use Rattle.octets.specs.Bytes.{_and_, part, chunks, tabulate, zeros, allZero, Octets}
 use Rattle.octets.specs.Numbers.{be, ofBe, bound}
-use Rattle.octets.proofs.Put.{part-def, part-right, part-part, part-add, part-whole, length-part, getD-part, octet, octets-append, octets-part}
+use Rattle.octets.proofs.Put.{part-def, part-part, part-add, part-whole, length-part, getD-part, octet, octets-append, octets-part}
 use Rattle.octets.proofs.Numbers.{bound-pos, length-be, octets-be, be-zero, be-one, be-byte, ofBe-same, ofBe-zeros, ofBe-bound, ofBe-be, be-ofBe}
 use Rattle.octets.proofs.Chunks.{sides, step, length-tabulate, getD-tabulate, tabulate-same, tabulate-getD, tabulate-all, length-chunks, part-chunks, chunks-same, chunks-add, chunks-parts, octets-chunks}
 use Rattle.octets.proofs.Zero.{getD-zeros, chunks-zeros, tabulate-zeros, allZero-zeros, zeros-is, both}
+use Rattle.octets.proofs.Runs.{further}
 use Rattle.marks.specs.declared.History.{History}
 use Rattle.marks.specs.History.{initialHistory, stabilized, rolledBack, checkpointed, Roomy}
 use Rattle.marks.specs.Packed.{countBound, historySize, bit, packNumberAt, packHistory, unpackHistory, loadNumberAt, presentIn, formedHistory, Packable}
@@ -64,9 +65,6 @@ length-packNumberAt w ns i = length-be w (getD ns i 0)
 part-mid : (at n : ℕ) (p q r : List ℕ) → length p ≡ at → length q ≡ n → part at n (p ++ q ++ r) ≡ q
 part-mid at n p q r e f = rw (part-def, append-assoc, drop-at p (q ++ r) at e, take-at q r n f)
 
-part-rest : (k at n : ℕ) (p q : List ℕ) → length p ≡ k → part (k + at) n (p ++ q) ≡ part at n q
-part-rest k at n p q e = ap (λ (j : ℕ). part (j + at) n (p ++ q)) (sym e) ∙ part-right at n p q
-
 drop-rest : (k n : ℕ) (p q : List ℕ) → length p ≡ k → drop (k + n) (p ++ q) ≡ drop n q
 drop-rest k n p q e = ap (λ (j : ℕ). drop (j + n) (p ++ q)) (sym e) ∙ drop-append-add p q n
 
@@ -97,7 +95,7 @@ module _ (w l : ℕ) (h : History) where
 
   place-part : (i : ℕ) → i < l → part (1 + w + w * i) w (packHistory w l h) ≡ be w (getD (h .checkpoints) i 0)
   unfolding packHistory packNumberAt
-  place-part i p = part-rest (1 + w) (w * i) w (front w h) (numbers w l h) length-front
+  place-part i p = further (1 + w) (w * i) w (front w h) (numbers w l h) length-front
       ∙ part-chunks w (packNumberAt w (h .checkpoints)) (length-packNumberAt w (h .checkpoints)) l i p
 
   places-rest : (c : ℕ) → c ≤ l → drop (1 + w + w * c) (packHistory w l h) ≡ chunks (l - c) (λ i. packNumberAt w (h .checkpoints) (c + i))
@@ -306,3 +304,7 @@ packable-checkpointed {w} {l} {h} p k = record {
   checkpoints = λ i. set-below (h .checkpoints) (h .count) (h .incarnation) (bound w) i (p .incarnation) (p .checkpoints);
   count = k;
 }
+
+-- the count of a history that was loaded is within its list
+pub loaded-count : (w l : ℕ) (b : List ℕ) (h : History) → countBound ≤ l + 1 → h ≡ unpackHistory w l b → h .count ≤ l
+loaded-count w l b h long e = omega (arith, ap (λ (x : History). x .count) e, unpack-count w l b)

@@ -13,21 +13,13 @@ use Rattle.octets.proofs.Zero.{both}
 use Rattle.marks.specs.declared.Relation.{Relation}
 use Rattle.marks.specs.declared.Relation.the-variants.{Same, LeftCheckpointed, RightCheckpointed, LeftSuperseded, RightSuperseded, Unrelated}
 use Rattle.marks.specs.Incarnation.{Incarnation, sameList, beginsWith, strictPrefix, supersededBy, checkpointedIn, sameIncarnation, Superseded, lower, passed, Checkpointed, begins}
-use Rattle.marks.specs.Relation.{turned, byNumbers, byNextEntry, nextEntry, relationOf, isSame, isLeftCheckpointed, isLeftSuperseded, isUnrelated}
-use Rattle.marks.proofs.Trail.{Along, clash, there, places, Precedes}
+use Rattle.marks.specs.Relation.{turned, byNumbers, byNextEntry, nextEntry, relationOf, isSame, isLeftCheckpointed, isLeftSuperseded, isUnrelated, Related, same, left-checkpointed, right-checkpointed, left-superseded, right-superseded, unrelated}
+use Rattle.marks.specs.Order.{Along, Precedes}
+use Rattle.marks.proofs.Trail.{clash, there, places}
 use Rattle.marks.proofs.Order.{checkpointed-precedes, superseded-precedes, precedes-eq, precedes-size, precedes-antisym, comparable, superseded-not-checkpointed, superseded-ne, checkpointed-ne}
 use Rattle.marks.proofs.Tests.{not-test, sameList-test, strict-to, strict-of, superseded-test, checkpointed-test, same-test}
 
 -- ---- what each answer means
-
--- a and b compared
-pub data Related (a b : Incarnation) : Relation → Type 0 where
-  same : a ≡ b → Related a b Same
-  left-checkpointed : Checkpointed a b → Related a b LeftCheckpointed
-  right-checkpointed : Checkpointed b a → Related a b RightCheckpointed
-  left-superseded : Superseded a b → Related a b LeftSuperseded
-  right-superseded : Superseded b a → Related a b RightSuperseded
-  unrelated : (Precedes a b → ⊥) → (Precedes b a → ⊥) → Related a b Unrelated
 
 pub turned-related : {a b : Incarnation} {r : Relation} → Related a b r → Related b a (turned r)
 turned-related (same e) = same (sym e)

@@ -10,23 +10,13 @@ use lib.Dec.{eqb, ltb}
 use lib.ListN.{length, take, drop, getD, length-append, take-append-drop}
 use lib.Seq.{take-suc, take-append-seam, getD-append-seam, getD-take, split-at, append-snoc}
 use borrow.Author.Tests.{ltb-true, lt-ltb, eqb-true, eq-eqb}
-use Rattle.octets.specs.Bytes.{_and_, _or_}
+use Rattle.marks.proofs.Order.{checkpointed-ne}
+use Rattle.octets.specs.Bytes.{_and_}
 use Rattle.octets.proofs.Zero.{both}
+use Rattle.octets.proofs.Tests.{and-of, or-to, or-of}
 use Rattle.marks.specs.Incarnation.{Incarnation, sameList, beginsWith, strictPrefix, supersededBy, checkpointedIn, sameIncarnation, Superseded, lower, passed, Checkpointed, begins}
 
 -- ---- tests and what they stand for
-
-and-of : (t u : Bool) → t ≡ true → u ≡ true → t and u ≡ true
-and-of t u e f = rw (e, f)
-
-or-to : (t u : Bool) → t or u ≡ true → (t ≡ true) ⊎ (u ≡ true)
-or-to true u e = inl refl
-or-to false u e = inr e
-
-or-of : (t u : Bool) → (t ≡ true) ⊎ (u ≡ true) → t or u ≡ true
-or-of true u h = refl
-or-of false u (inl e) = absurd (false≢true e)
-or-of false u (inr e) = e
 
 -- a test that stands for P decides it
 pub decTest : {P : Type 0} (t : Bool) → (t ≡ true) ↔ P → Dec P
@@ -157,3 +147,7 @@ same-test a b = (to, of)
 
 pub decCheckpointed : (a b : Incarnation) → Dec (Checkpointed a b)
 decCheckpointed a b = decTest (checkpointedIn a b) (checkpointed-test a b)
+
+-- a life is not both signed and present
+pub present-unsigned : (a b : Incarnation) → sameIncarnation a b ≡ true → checkpointedIn a b ≡ false
+present-unsigned a b e = not-test (checkpointedIn a b) (checkpointed-test a b) .1 (λ c. checkpointed-ne c (same-test a b .0 e))

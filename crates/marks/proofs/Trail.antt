@@ -7,17 +7,7 @@ use native.Mathlib.Decide.{decLt, decLe}
 use native.Mathlib.Omega.{arith}
 use lib.ListN.{length}
 use Rattle.marks.specs.Incarnation.{Incarnation, Superseded, lower, passed, Checkpointed, begins}
-
--- One trail along another: entry by entry the same, up to where the first one's list ends.
--- E relates the two numbers where both lists end; N the first one's number and the other's next entry.
-pub data Along (E N : ℕ → ℕ → Type 0) : List ℕ → ℕ → List ℕ → ℕ → Type 0 where
-  same : {n m : ℕ} → E n m → Along E N [] n [] m
-  next : {n y m : ℕ} {r : List ℕ} → N n y → Along E N [] n (y ∷ r) m
-  more : {x n m : ℕ} {p q : List ℕ} → Along E N p n q m → Along E N (x ∷ p) n (x ∷ q) m
-
--- the same between lives
-abbrev pub Trails : (ℕ → ℕ → Type 0) → (ℕ → ℕ → Type 0) → Incarnation → Incarnation → Type 0
-Trails E N a b = Along E N (a .checkpoints) (a .number) (b .checkpoints) (b .number)
+use Rattle.marks.specs.Order.{Along, same, next, more, Trails, Under, Precedes}
 
 -- ---- two relations
 
@@ -136,14 +126,6 @@ module _ where
       go {x} (inr h) = inr (ap (λ z. x ∷ z) (h .0), h .1)
 
 -- ---- the relations between lives
-
--- a is b, or signed in b
-abbrev pub Under : Incarnation → Incarnation → Type 0
-Under = Trails (λ n m. n ≡ m) (λ n m. n ≡ m)
-
--- a is a past or present life of the take whose present life is b
-abbrev pub Precedes : Incarnation → Incarnation → Type 0
-Precedes = Trails (λ n m. n ≤ m) (λ n m. n ≤ m)
 
 abbrev pub SupersededAlong : Incarnation → Incarnation → Type 0
 SupersededAlong = Trails (λ n m. n < m) (λ n m. n < m)

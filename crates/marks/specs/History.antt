@@ -1,5 +1,5 @@
 -- Document 01, "Lives and marks": histories (marks), as the struct that the code passes by value.
-use Prim.Native.Nat.{ℕ, _+_, _≤_}
+use Prim.Native.Nat.{ℕ, _+_, _≤_, _<_}
 use mathlib.Core.Bool.{Bool, true, false}
 use mathlib.Core.Path.{_≡_}
 use lib.ListN.{length, take, getD, set}
@@ -84,3 +84,15 @@ historyOf v = record { stable = v .stable; incarnation = v .incarnation .number;
 -- the newer of two, as above
 unfoldable pub newerView : HistoryView → HistoryView → HistoryView
 newerView a b = viewOf (newerOf (historyOf a) (historyOf b))
+
+-- ---- for theorems
+
+-- the newer of a and b: "longer list; then greater n; then frozen; else the left one"
+pub data Newer (a b : History) : History → Type 0 where
+  right-longer : a .count < b .count → Newer a b b
+  left-longer : b .count < a .count → Newer a b a
+  right-number : a .count ≡ b .count → a .incarnation < b .incarnation → Newer a b b
+  left-number : a .count ≡ b .count → b .incarnation < a .incarnation → Newer a b a
+  left-stable : a .count ≡ b .count → a .incarnation ≡ b .incarnation → a .stable ≡ true → Newer a b a
+  right-stable : a .count ≡ b .count → a .incarnation ≡ b .incarnation → a .stable ≡ false → b .stable ≡ true → Newer a b b
+  left-same : a .count ≡ b .count → a .incarnation ≡ b .incarnation → a .stable ≡ false → b .stable ≡ false → Newer a b a

@@ -1,6 +1,9 @@
 pub mod Incarnation
+pub mod Order
 pub mod Relation
 pub mod History
 pub mod News
 pub mod Packed
+pub mod Within
 pub mod Starred
+pub mod Internal

@@ -1,10 +1,11 @@
 -- Document 02, W4, "News of a freeze": "A recorded unfrozen mark becomes frozen when the parcel shows that this same life was frozen,
 -- either by a frozen mark of that life or by a longer list that begins with this mark's list and whose next entry is its n."
-use mathlib.Core.Bool.{Bool, not}
+use mathlib.Core.Bool.{Bool, not, true}
+use mathlib.Core.Path.{_≡_}
 use lib.Dec.{ltb}
 use Rattle.octets.specs.Bytes.{pick, _and_, _or_}
 use Rattle.marks.specs.declared.History.{History}
-use Rattle.marks.specs.Incarnation.{Incarnation, sameIncarnation, checkpointedIn}
+use Rattle.marks.specs.Incarnation.{Incarnation, sameIncarnation, checkpointedIn, Checkpointed}
 use Rattle.marks.specs.History.{HistoryView, incarnationOf, viewOf, stabilized}
 
 -- the parcel's mark p shows that life a of the same take was frozen
@@ -19,3 +20,10 @@ mayShow p x q y = (p and not (x .stable)) and ((q and y .stable) or ltb (x .coun
 -- the recorded mark x after that of the parcel, y
 unfoldable pub informed : History → History → History
 informed x y = pick (showsStable (incarnationOf x) (viewOf y)) (stabilized x) x
+
+-- ---- for theorems
+
+-- the mark p shows that life a was frozen: it is frozen and of that life, or its list begins with a's followed by a's n
+pub data Shows (a : Incarnation) (p : HistoryView) : Type 0 where
+  by-stable : a ≡ p .incarnation → p .stable ≡ true → Shows a p
+  by-list : Checkpointed a (p .incarnation) → Shows a p

@@ -2,12 +2,14 @@
 -- width. "It says: same life, earlier one signed, earlier one withdrawn, or unrelated; of the middle two, also which mark is earlier."
 use Prim.Native.Nat.{ℕ}
 use mathlib.Core.Bool.{Bool, true, false}
+use mathlib.Core.Path.{_≡_}
 use lib.ListN.{length, getD}
 use lib.Dec.{eqb, ltb}
 use Rattle.octets.specs.Bytes.{pick}
 use Rattle.marks.specs.declared.Relation.{Relation}
 use Rattle.marks.specs.declared.Relation.the-variants.{Same, LeftCheckpointed, RightCheckpointed, LeftSuperseded, RightSuperseded, Unrelated}
-use Rattle.marks.specs.Incarnation.{Incarnation, sameList, strictPrefix}
+use Rattle.marks.specs.Incarnation.{Incarnation, sameList, strictPrefix, Superseded, Checkpointed}
+use Rattle.marks.specs.Order.{Precedes}
 
 -- the same two marks, the other way round
 abbrev pub turned : Relation → Relation
@@ -83,3 +85,14 @@ isUnrelated RightCheckpointed = false
 isUnrelated LeftSuperseded = false
 isUnrelated RightSuperseded = false
 isUnrelated Unrelated = true
+
+-- ---- for theorems: what each answer means
+
+-- a and b compared
+pub data Related (a b : Incarnation) : Relation → Type 0 where
+  same : a ≡ b → Related a b Same
+  left-checkpointed : Checkpointed a b → Related a b LeftCheckpointed
+  right-checkpointed : Checkpointed b a → Related a b RightCheckpointed
+  left-superseded : Superseded a b → Related a b LeftSuperseded
+  right-superseded : Superseded b a → Related a b RightSuperseded
+  unrelated : (Precedes a b → ⊥) → (Precedes b a → ⊥) → Related a b Unrelated

@@ -2,17 +2,21 @@
 use Prim.Native.Nat.{ℕ, zero, suc, _+_, _-_, _*_, _≤_, _<_}
 use mathlib.Core.Path.{_≡_, refl, sym, ap, _∙_, subst}
 use mathlib.Core.Bool.{Bool, true, false}
-use mathlib.Core.List.{List, [], _∷_, _++_, append-assoc, append-nil}
+use mathlib.Core.List.{List, [], _∷_, _++_, append-assoc, append-nil, map}
 use native.Mathlib.Nat.{add-suc, mul-add, add-zero, mul-suc, mul-zero, mul-le-mul-left}
 use native.Mathlib.Numerals.{add-one}
 use native.Mathlib.Omega.{arith}
 use lib.Dec.{ltb}
 use borrow.Author.Tests.{ltb-true, ltb-false}
 use mathlib.Core.Logic.{_⊎_, inl, inr, ⊎-elim}
-use lib.ListN.{length, take, getD, set, length-append, List·getD-append, List·getD-eq-default}
+use lib.ListN.{length, take, getD, set, length-append, List·getD-append, List·getD-eq-default, length-map}
 use lib.Seq.{take-add, take-suc, take-suc-set, take-all, drop-at, getD-at}
 use Rattle.octets.specs.Bytes.{put, part, chunks, tabulate, Octets}
 use Rattle.octets.proofs.Put.{put-nil, put-mid, part-add, put-left, put-right, put-append, part-def, part-left, octets-nil, octets-append}
+
+-- an array of structs: what owning it tells stands at a map of its list
+pub length-of-map : (X Y : Type 0) (f : X → Y) (l : List X) (n : ℕ) → length (map f l) ≡ n → length l ≡ n
+length-of-map X Y f l n e = sym (length-map l f) ∙ e
 
 -- i is below n, or n or above
 pub sides : (i n : ℕ) → (i < n) ⊎ (n ≤ i)

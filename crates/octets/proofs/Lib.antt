@@ -3,5 +3,6 @@ mod Move
 pub mod Numbers
 pub mod Put
 pub mod Runs
+pub mod Tables
 pub mod Tests
 pub mod Zero

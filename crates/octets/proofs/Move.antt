@@ -1,4 +1,4 @@
--- The loops that write, clear and lower: what each has put after i turns.
+-- The loops that write, clear, lower and raise: what each has put after i turns.
 use Prim.Native.Nat.{ℕ, _+_, _≤_, _<_}
 use mathlib.Core.Path.{_≡_, ap, _∙_}
 use mathlib.Core.List.{List, _++_}
@@ -6,7 +6,7 @@ use native.Mathlib.Nat.{zero-add}
 use native.Mathlib.Omega.{arith}
 use lib.ListN.{length, getD, set}
 use Rattle.octets.specs.Bytes.{put, part, zeros}
-use Rattle.octets.proofs.Put.{part-def, part-suc, part-whole, length-part, getD-put-after, put-nil, put-snoc, put-append}
+use Rattle.octets.proofs.Put.{part-def, part-suc, part-whole, length-part, getD-put-after, getD-put-before, put-nil, put-snoc, put-append}
 use Rattle.octets.proofs.Zero.{length-zeros, zeros-suc}
 
 -- the first turn: nothing is put
@@ -37,6 +37,17 @@ lower-more at gap i l l' e h =
     let n : length (part (at + gap) i l) ≡ i = length-part (at + gap) i l (omega arith) in
     part-more at (at + gap) i (getD l' (at + gap + i) 0) l l l' e h (omega arith)
     (ap (λ (x : List ℕ). getD x (at + gap + i) 0) e ∙ getD-put-after at (part (at + gap) i l) l (at + gap + i) (omega arith) (omega arith))
+
+-- nor is the byte that a turn of raise reads
+pub raise-more : (from to i : ℕ) (l l' : List ℕ) → l' ≡ put to (part from i l) l → from + i < to → to + i < length l
+    → set l' (to + i) (getD l' (from + i) 0) ≡ put to (part from (i + 1) l) l
+raise-more from to i l l' e h k =
+    let long : length (part from i l) ≡ i = length-part from i l (omega arith) in
+    part-more to from i (getD l' (from + i) 0) l l l' e (omega arith) (omega arith)
+    (ap (λ (x : List ℕ). getD x (from + i) 0) e ∙ getD-put-before to (part from i l) l (from + i) (omega arith) (omega arith))
+
+pub raise-all : (from to i n : ℕ) (l l' : List ℕ) → l' ≡ put to (part from i l) l → i ≡ n → l' ≡ put to (part from n l) l
+raise-all from to i n l l' e h = e ∙ rw h
 
 pub lower-all : (at gap i n : ℕ) (l l' : List ℕ) → l' ≡ put at (part (at + gap) i l) l → i ≡ n → l' ≡ put at (part (at + gap) n l) l
 lower-all at gap i n l l' e h = e ∙ rw h

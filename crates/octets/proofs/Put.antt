@@ -147,6 +147,30 @@ getD-put-after at bs l k f h =
     ∙ ap (λ (x : List ℕ). getD x (k - (at + length bs)) 0) (drop-put at bs l f)
     ∙ getD-drop (at + length bs) l (k - (at + length bs)) 0)
 
+pub getD-put-before : (at : ℕ) (bs l : List ℕ) (k : ℕ) → at + length bs ≤ length l → k < at → getD (put at bs l) k 0 ≡ getD l k 0
+getD-put-before at bs l k fits h =
+    let z : k + 0 ≡ k = add-zero k in
+    rw z at (sym (getD-part k 1 (put at bs l) 0 (omega arith)) ∙ ap (λ (x : List ℕ). getD x 0 0) (part-put-before at bs l fits k 1 (omega arith)) ∙ getD-part k 1 l 0 (omega arith))
+
+-- within a part
+pub put-inside : (at k n : ℕ) (bs l : List ℕ) → at + n ≤ length l → k + length bs ≤ n → put (at + k) bs l ≡ put at (put k bs (part at n l)) l
+put-inside at k n bs l fits h =
+    let p : List ℕ = take at l in
+    let q : List ℕ = part at n l in
+    let r : List ℕ = drop (at + n) l in
+    let long : length q ≡ n = length-part at n l fits in
+    let same : length (put k bs q) ≡ n = length-put k bs q (omega arith) ∙ long in
+    let front : length p ≡ at = length-take-le at l (omega arith) in
+    let split : l ≡ p ++ (q ++ r) =
+    put-part at n l fits ∙ put-def at q l ∙ ap (λ (j : ℕ). take at l ++ q ++ drop (at + j) l) long ∙ append-assoc p q r in
+    let whole : put at (put k bs q) l ≡ p ++ (put k bs q ++ r) =
+    put-def at (put k bs q) l ∙ ap (λ (j : ℕ). take at l ++ put k bs q ++ drop (at + j) l) same ∙ append-assoc p (put k bs q) r in
+    ap (put (at + k) bs) split
+    ∙ ap (λ (j : ℕ). put (j + k) bs (p ++ (q ++ r))) (sym front)
+    ∙ put-right k bs p (q ++ r)
+    ∙ ap (λ (x : List ℕ). p ++ x) (put-left k bs q r (omega arith))
+    ∙ sym whole
+
 pub part-add : (at n m : ℕ) (l : List ℕ) → part at (n + m) l ≡ part at n l ++ part (at + n) m l
 part-add at n m l = rw (part-def at (n + m) l, part-def at n l, part-def (at + n) m l, take-add n m (drop at l), drop-drop n at l)
 

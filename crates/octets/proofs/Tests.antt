@@ -2,6 +2,7 @@
 use Prim.Native.Nat.{ℕ, _<_}
 use mathlib.Core.Bool.{Bool, true, false, not}
 use mathlib.Core.Path.{_≡_, refl, sym, _∙_}
+use mathlib.Core.Logic.{_⊎_, inl, inr}
 use native.Mathlib.Omega.{arith}
 use borrow.Author.Tests.{not-true, not-false}
 use Rattle.octets.specs.Bytes.{pick, _and_, _or_}
@@ -14,12 +15,43 @@ pub pick-view {ℓ} : {A : Type ℓ} (P : A → Type 0) (c : Bool) (x y : A) →
 pick-view P true x y f g = f refl
 pick-view P false x y f g = g refl
 
+-- two choices by equal tests
+pub pick-both {ℓ κ} : {A : Type ℓ} {B : Type κ} (P : A → B → Type 0) (t u : Bool) → t ≡ u → (x y : A) (z w : B)
+    → (t ≡ true → P x z) → (t ≡ false → P y w) → P (pick t x y) (pick u z w)
+pick-both P true true e x y z w f g = f refl
+pick-both P true false e x y z w f g = never e
+pick-both P false true e x y z w f g = never (sym e)
+pick-both P false false e x y z w f g = g refl
+
+-- one number for two conditions
+pub pick-or : (a b : Bool) (n r : ℕ) → pick (a or b) n r ≡ pick b n (pick a n r)
+pick-or true true n r = refl
+pick-or true false n r = refl
+pick-or false b n r = refl
+
 -- 0, which a number before it is not
 pub pick-zero : (c : Bool) (n r : ℕ) → 0 < n → pick c n r ≡ 0 → (c ≡ false) × (r ≡ 0)
 pick-zero true n r h e = absurd (omega arith)
 pick-zero false n r h e = (refl, e)
 
+-- true or not
+pub true-or-false : (c : Bool) → (c ≡ true) ⊎ (c ≡ false)
+true-or-false true = inl refl
+true-or-false false = inr refl
+
 -- ---- and, or
+
+pub and-of : (t u : Bool) → t ≡ true → u ≡ true → t and u ≡ true
+and-of t u e f = rw (e, f)
+
+pub or-to : (t u : Bool) → t or u ≡ true → (t ≡ true) ⊎ (u ≡ true)
+or-to true u e = inl refl
+or-to false u e = inr e
+
+pub or-of : (t u : Bool) → (t ≡ true) ⊎ (u ≡ true) → t or u ≡ true
+or-of true u h = refl
+or-of false u (inl e) = never (sym e)
+or-of false u (inr e) = e
 
 pub or-none : (c : Bool) → c or false ≡ c
 or-none true = refl

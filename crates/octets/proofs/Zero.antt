@@ -14,7 +14,7 @@ use Rattle.octets.proofs.Chunks.{cases}
 use lib.Seq.{take-at, drop-at, drop-drop}
 use borrow.Author.Tests.{eq-eqb, ne-eqb, eqb-true, eqb-false, not-true, not-false}
 use Rattle.octets.specs.Bytes.{pick, _and_, _or_, part, zeros, allZero, every, any, chunks, tabulate, Octets}
-use Rattle.octets.proofs.Tests.{and-true}
+use Rattle.octets.proofs.Tests.{and-true, never, or-to}
 use Rattle.octets.proofs.Put.{part-def, part-suc, length-part}
 
 pub both : (t u : Bool) → t and u ≡ true → (t ≡ true) × (u ≡ true)
@@ -227,3 +227,8 @@ any-off f n h = any-not f n ∙ ap not (every-all (λ i. not (f i)) n (λ i p. a
 
 pub any-at : (f : ℕ → Bool) (n i : ℕ) → any n f ≡ false → i < n → f i ≡ false
 any-at f n i e h = not-true (f i) (every-at (λ i. not (f i)) n i (not-false (every n (λ i. not (f i))) (sym (any-not f n) ∙ e)) h)
+
+pub any-some : (f : ℕ → Bool) (n : ℕ) → any n f ≡ true → (i : ℕ) × (f i ≡ true)
+unfolding any
+any-some f zero e = never (sym e)
+any-some f (suc n) e = ⊎-elim (λ p. any-some f n p) (λ p. (n, p)) (or-to (any n f) (f n) e)

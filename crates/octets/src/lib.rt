@@ -42,6 +42,18 @@ pub fn lower(image: &mut [u8], at: usize, gap: usize, n: usize)
     }
 }
 
+// Copies the n bytes from from on to to on, which is behind them.
+pub fn raise(image: &mut [u8], from: usize, to: usize, n: usize)
+    requires { ⌜ (from + n ≤ to) × (to + n ≤ length (now image)) ⌝ }
+    ensures { λ _. ⌜ now (image .exit) ≡ put to (part from n (now (image .entry))) (now (image .entry)) ⌝ }
+{
+    let mut i: usize = 0;
+    while i < n {
+        image[to + i] = image[from + i];
+        i += 1;
+    }
+}
+
 // Removes the gap bytes at at, of those up to at + gap + n, and clears the last gap of these.
 pub fn remove(image: &mut [u8], at: usize, gap: usize, n: usize)
     requires { ⌜ at + gap + n ≤ length (now image) ⌝ }

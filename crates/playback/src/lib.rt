@@ -1,9 +1,9 @@
 // Plays packed steps from standard input on a fresh session, part by part, and prints a line for each: step from 1, outcome or
 // refusal, transactor, message, value. A rest under 8 bytes is ignored.
 use image::layout::IMAGE;
-use image::layout::LONGEST;
 use libc::STDIN_FILENO;
 use libc::STDOUT_FILENO;
+use lists::LONGEST;
 ghost use Prim.Native.Nat.{_+_, _*_, _^_, _≤_, _<_};
 ghost use mathlib.Core.Path.{_≡_};
 ghost use lib.ListN.{length};

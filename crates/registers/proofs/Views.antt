@@ -2,19 +2,14 @@
 use Prim.Native.Nat.{ℕ, _-_}
 use mathlib.Core.Bool.{Bool}
 use mathlib.Core.Path.{_≡_, refl, ap, sym, _∙_}
-use mathlib.Core.List.{List, map}
-use lib.ListN.{length, length-map}
-use Rattle.maps.specs.Table.{updated}
+use mathlib.Core.List.{List}
+use Rattle.octets.specs.Table.{updated}
 use Rattle.chains.specs.declared.rows.Row.{Row}
 use Rattle.chains.specs.declared.rows.Slot.{Slot}
 use Rattle.chains.specs.Internal.Tables.{openedRow, filledSlot, emptySlot, openRow, withSlot, withoutSlot, checkpointRows}
 use Rattle.chains.proofs.BookSets.{updated-self}
 use Rattle.registers.specs.declared.register.Register.{Register}
 use Rattle.registers.specs.Internal.Register.{rowAt, viewOf, withOpened, withNumber, withoutNumber, checkpointedRow, CheckpointedRows}
-
--- an array of structs has its length
-pub length-of-map : (X Y : Type 0) (f : X → Y) (l : List X) (n : ℕ) → length (map f l) ≡ n → length l ≡ n
-length-of-map X Y f l n e = sym (length-map l f) ∙ e
 
 -- one parcel less, if there is one
 pub without-none : (x : Register) → x .waiting ≡ 0 → x ≡ withoutNumber x

@@ -1,9 +1,9 @@
 // What steps do to one transactor, and a signing to those of a group.
 use chains::rows::Row;
 use chains::rows::RowEffect;
-use group::is_named;
-use image::layout::TRANSACTORS;
-use image::limits;
+use lists::groups::is_named;
+use lists::limits;
+use lists::limits::TRANSACTORS;
 use rules::numbers;
 ghost use mathlib.Core.Path.{_≡_};
 ghost use mathlib.Core.Bool.{false, not};

@@ -3,9 +3,10 @@ use crate::effects;
 use crate::register::Register;
 use chains::rows::Row;
 use chains::rows::Slot;
-use group::is_named;
-use image::layout::TRANSACTORS;
-use image::limits;
+use lists::groups;
+use lists::groups::is_named;
+use lists::limits;
+use lists::limits::TRANSACTORS;
 use rules::numbers;
 ghost use mathlib.Core.Path.{_≡_};
 ghost use mathlib.Core.Bool.{not};
@@ -143,7 +144,7 @@ pub fn group(x: Register, rows: [Row; 16], group: u16) -> u8
     if group == 0 {
         return numbers::EMPTY_GROUP;
     }
-    if group::names_from(group, x.opened as usize) {
+    if groups::names_from(group, x.opened as usize) {
         return numbers::UNOPENED;
     }
     if blocked(rows, x.checkpoints, group, numbers::GONE) {

@@ -250,3 +250,12 @@ inside-and v w fits = same-test (eqb (bitAnd v w) v) (inside v w) to of
         met : (n m : Bool) → not n or m ≡ true → n and m ≡ n
         met true m e = e
         met false m e = refl
+
+-- volume v without the takes of w
+pub named-without : (v w t : ℕ) → named (bitXor v (bitAnd v w)) t ≡ named v t and not (named w t)
+named-without v w t = named-xor v (bitAnd v w) t ∙ rw (named-and v w t) (go (named v t) (named w t))
+  where
+    go : (a b : Bool) → (a and not (a and b)) or (not a and (a and b)) ≡ a and not b
+    go true true = refl
+    go true false = refl
+    go false b = refl

@@ -3,6 +3,7 @@ pub mod Closure
 pub mod Counting
 pub mod Dependents
 pub mod Examples
+pub mod Impediments
 pub mod Needs
 pub mod Obstacles
 pub mod Ready

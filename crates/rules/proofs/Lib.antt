@@ -1,7 +1,6 @@
 pub mod Bits
 pub mod ByKind
 pub mod Calls
-pub mod Convert
 pub mod Exchange
 pub mod Form
 pub mod Good
@@ -12,5 +11,5 @@ pub mod Keep
 pub mod Pack
 pub mod Places
 pub mod Ranges
-pub mod Thin
+pub mod Replies
 pub mod Tries

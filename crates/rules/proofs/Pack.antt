@@ -1,4 +1,5 @@
 -- The packed image: sizes, loads, stores, the round trip.
+pub mod Exact
 pub mod Fresh
 pub mod Loads
 pub mod Messages

@@ -9,7 +9,7 @@ use borrow.Author.Tests.{leb-true, le-leb}
 use Rattle.octets.specs.Bytes.{_and_}
 use Rattle.octets.proofs.Zero.{both}
 use Rattle.octets.proofs.Tests.{and-assoc}
-use Rattle.rules.specs.Layout.{Layout, Limits, limitsOf, base, lowest, inRange, Fitting}
+use Rattle.rules.specs.Layout.{Layout, Limits, limitsOf, base, lowest, inRange, Fitting, LimitsInRange}
 use Rattle.rules.specs.Internal.Well.{Allowed, LimitsOk, stored, counted}
 
 module _ {y : Layout} {m : Limits} where
@@ -55,13 +55,7 @@ allowed-ok {y} {m} z l = go (y .limited) refl
 
 -- ---- at the layout of an image
 
--- "takes 1 to 16, parcels waiting 1 to 32, signings 1 to 15"
-pub record InRange (m : Limits) : Type 0 where
-  pub transactors : (1 ≤ m .transactors) × (m .transactors ≤ 16)
-  pub messages : (1 ≤ m .messages) × (m .messages ≤ 32)
-  pub checkpoints : (1 ≤ m .checkpoints) × (m .checkpoints ≤ 15)
-
-pub in-range-exactly : (m : Limits) → (inRange base m ≡ true) ↔ InRange m
+pub in-range-exactly : (m : Limits) → (inRange base m ≡ true) ↔ LimitsInRange m
 in-range-exactly m = (
   λ e.
       let a = allowed-of e in

@@ -1,5 +1,5 @@
--- Who rests on a take's present life. "A student withdraws the speaker list and thinks only of later pages; but a page already set from
--- those names rests on them, and so does a page set from that page." The query says it before the withdrawal.
+-- Who rests on a take's present life. Whoever withdraws the speaker list may think only of later pages; but a page already set from those names
+-- rests on them, and a page set from that page is lost with it. The query says it before the withdrawal.
 use Prim.Native.Nat.{ℕ, zero, suc, _+_, _^_}
 use mathlib.Core.Bool.{Bool}
 use mathlib.Core.List.{List}
@@ -22,11 +22,11 @@ use Rattle.rules.specs.ReadyGroups.{howMany}
 unfoldable pub holdsPresent : State → ℕ → DependenceMap → Bool
 holdsPresent s t m = heldAt m t and sameIncarnation (incarnationOf (historyAt m t)) (incarnationOf (ownHistory t (transactorAt s t)))
 
--- "the live takes whose state or creation map holds the take's present life": take u is one
+-- the live takes whose state or creation map holds take t's present life: take u is one
 unfoldable pub restsAt : State → ℕ → ℕ → Bool
 restsAt s t u = live (transactorAt s u) and (holdsPresent s t (transactorAt s u .state) or holdsPresent s t (transactorAt s u .creation))
 
--- "the takes at work whose behaviour map holds it": take u is one
+-- the takes at work whose behaviour map holds it: take u is one
 unfoldable pub worksAt : State → ℕ → ℕ → Bool
 worksAt s t u = eqb (transactorAt s u .status) busy and holdsPresent s t (transactorAt s u .behaviour)
 
@@ -39,8 +39,8 @@ unfoldable pub groupOf : ℕ → (ℕ → Bool) → ℕ
 groupOf zero f = 0
 groupOf (suc n) f = groupOf n f + pick (f n) (2 ^ n) 0
 
--- Take w is take t, or rests on its present life, directly or through the present lives of some of the first k takes: "and so does a page set
--- from that page". With k all takes, this is the least set with take t and, with each take, those that rest on its present life
+-- Take w is take t, or rests on its present life, directly or through the present lives of some of the first k takes, as
+-- a page set from that page does. With k all takes, this is the least set with take t and, with each take, those that rest on its present life
 -- (session/specs/Withdrawal, RestsThrough).
 unfoldable pub throughAt : State → ℕ → ℕ → ℕ → Bool
 throughAt s zero t w = eqb t w or restsAt s t w

@@ -3,7 +3,4 @@ pub mod Closure
 pub mod Good
 pub mod Guards
 pub mod Held
-pub mod HighBytes
-pub mod Recast
 pub mod Well
-pub mod Widths

@@ -121,3 +121,11 @@ messageAddress y k = transactorAddress y (y .transactors) + messageBytes y * k
 
 abbrev pub imageBytes : Layout → ℕ
 imageBytes y = messageAddress y (y .messages)
+
+-- ---- for theorems: at the layout of an image
+
+-- "takes 1 to 16, parcels waiting 1 to 32, signings 1 to 15"
+pub record LimitsInRange (m : Limits) : Type 0 where
+  pub transactors : (1 ≤ m .transactors) × (m .transactors ≤ 16)
+  pub messages : (1 ≤ m .messages) × (m .messages ≤ 32)
+  pub checkpoints : (1 ≤ m .checkpoints) × (m .checkpoints ≤ 15)

@@ -1,16 +1,17 @@
 pub mod Calls
-pub mod Convert
 pub mod Dependents
 pub mod Exchange
 pub mod Form
 pub mod Groups
 pub mod Heard
+pub mod Impediment
 pub mod InOrder
 pub mod Internal
 pub mod Layout
 pub mod News
 pub mod Obstacle
 pub mod Pack
+pub mod Examples
 pub mod Promises
 pub mod ReadyGroups
 pub mod Refusals
@@ -18,4 +19,3 @@ pub mod Rules
 pub mod State
 pub mod Status
 pub mod Step
-pub mod Thin

@@ -7,6 +7,7 @@ use mathlib.Core.List.{List}
 use mathlib.Core.Option.{Option}
 use Rattle.rules.specs.declared.Dependents.{Dependents}
 use Rattle.rules.specs.declared.Obstacle.{Obstacle}
+use Rattle.rules.specs.declared.Impediment.{Impediment}
 use Rattle.rules.specs.Layout.{Layout, Limits}
 use Rattle.rules.specs.Calls.{beginAnswer, beginImage, runAnswer, runImage, runReplies, queryRefusal, Offers, showRefusal, shown}
 use Rattle.rules.specs.Groups.{Smallest}
@@ -14,6 +15,7 @@ use Rattle.rules.specs.Heard.{heardAnswer}
 use Rattle.rules.specs.ReadyGroups.{readyRefusal, readyAnswer}
 use Rattle.rules.specs.Dependents.{dependentsAnswer}
 use Rattle.rules.specs.Obstacle.{obstacleRefusal, obstacleAnswer}
+use Rattle.rules.specs.Impediment.{impedimentAnswer}
 
 abbrev pub BeginPromise : Layout → Limits → (img : List ℕ) (r : ℕ) (after : List ℕ) → Type 0
 BeginPromise y m img r after = (r ≡ beginAnswer y m img) × (after ≡ beginImage y m img)
@@ -43,6 +45,9 @@ DependentsPromise y img t r d = (r ≡ queryRefusal y img t) × (d ≡ dependent
 
 abbrev pub ObstaclePromise : Layout → (img : List ℕ) (v r : ℕ) → Obstacle → Type 0
 ObstaclePromise y img v r o = (r ≡ obstacleRefusal y img v) × (o ≡ obstacleAnswer y img v)
+
+abbrev pub ImpedimentPromise : Layout → (img : List ℕ) (t r : ℕ) → Impediment → Type 0
+ImpedimentPromise y img t r o = (r ≡ queryRefusal y img t) × (o ≡ impedimentAnswer y img t)
 
 abbrev pub ShowPromise : Layout → (img : List ℕ) (n r : ℕ) (bytes : List ℕ) → Type 0
 ShowPromise y img n r bytes = (bytes ≡ shown y img n) × (r ≡ showRefusal y img n)

@@ -64,3 +64,17 @@ pub enum Obstacle {
     // A named transactor rests on an incarnation that is superseded or annihilated (document 01: withdrawn).
     Superseded(u8, u8),
 }
+
+// Why no group with a transactor could be checkpointed: the transactor that is in the way, the asked one or one that it rests on; and last, the
+// next on a chain from the asked one to that, each resting on the present incarnation of the next: asked about, it has the same in its way.
+pub enum Impediment {
+    // One could.
+    Nothing,
+    // It rests on an incarnation of the second one that is superseded or annihilated (document 01: withdrawn): it can't be checkpointed any
+    // more, as long as it keeps its present incarnation.
+    Hopeless(u8, u8, u8),
+    // It has as many checkpoints as the session allows.
+    Exhausted(u8, u8),
+    // It is not stable (document 01: frozen).
+    Unstable(u8, u8),
+}

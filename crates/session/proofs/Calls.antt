@@ -27,8 +27,8 @@ use Rattle.rules.proofs.Pack.Fresh.{pack-fresh}
 use Rattle.rules.proofs.Keep.State.{well-fresh}
 use Rattle.rules.proofs.Keep.Step.{keeps-after}
 use Rattle.session.specs.Provenance.{Provenance, emptyProvenance, statusNumber, isMissing}
-use Rattle.session.specs.Fed.{Call, begin, run, counts, hinders, show, provenanceQueryRefusal, callRefusal, ProvenanceCall, provenance-refuses, provenance-begins, provenance-runs, provenance-offers, provenance-names, provenance-hears, provenance-counts, provenance-depends, provenance-hinders, provenance-shows}
-use Rattle.session.specs.Trace.{Answer, begun, ran, refusalIn, Performed, beginning, running, offering, naming, hearing, counting, depending, hindering, showing, Matches}
+use Rattle.session.specs.Fed.{Call, begin, run, counts, hinders, blocks, show, provenanceQueryRefusal, callRefusal, ProvenanceCall, provenance-refuses, provenance-begins, provenance-runs, provenance-offers, provenance-names, provenance-hears, provenance-counts, provenance-depends, provenance-hinders, provenance-blocks, provenance-shows}
+use Rattle.session.specs.Trace.{Answer, begun, ran, refusalIn, Performed, beginning, running, offering, naming, hearing, counting, depending, hindering, blocking, showing, Matches}
 use Rattle.session.proofs.Model.{view}
 use Rattle.session.proofs.Relation.{Rel, fresh-rel}
 use Rattle.session.proofs.Messages.{missing-same}
@@ -71,7 +71,7 @@ module _ {y : Layout} {img : List ℕ} {b : Provenance} (h : Holds y img b) wher
   unfolding runAnswer
   run-same list o start end replies = rw (right-length, right-form)
 
-  query-same : (t : ℕ) → queryRefusal y img t ≡ provenanceQueryRefusal b t
+  pub query-same : (t : ℕ) → queryRefusal y img t ≡ provenanceQueryRefusal b t
   unfolding queryRefusal view
   query-same t =
       let n : unpack y img .opened ≡ b .opened = h .rel .opened in
@@ -167,4 +167,5 @@ module _ {y : Layout} (z : layout.Fitting y) {img : List ℕ} {b : Provenance} (
   call-right (counting {size} e) = called-as (kept provenance-counts) (e .0 ∙ counts-same h size) h
   call-right (depending {t} e) = called-as (kept provenance-depends) (e .0 ∙ query-same h t) h
   call-right (hindering {v} e) = called-as (kept provenance-hinders) (e .0 ∙ hinders-same h v) h
+  call-right (blocking {t} e) = called-as (kept provenance-blocks) (e .0 ∙ query-same h t) h
   call-right (showing {n} e) = called-as (kept provenance-shows) (e .1 ∙ show-same h n) h

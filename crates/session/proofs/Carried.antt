@@ -89,7 +89,7 @@ there idle = refl
 there working = refl
 
 -- where the named takes are live and keep their marks, under the same limits, no refusal of their signing arises
-signing-on : (y : Layout) (b c : Provenance) (k : Ledger) → Rel k c → (v : ℕ) → c .limits ≡ b .limits → ((t : ℕ) → named v t ≡ true → Stays (b .holders t) (c .holders t))
+pub signing-on : (y : Layout) (b c : Provenance) (k : Ledger) → Rel k c → (v : ℕ) → c .limits ≡ b .limits → ((t : ℕ) → named v t ≡ true → Stays (b .holders t) (c .holders t))
     → provenanceRefusal y b (groups.signing v) ≡ 0 → provenanceRefusal y c (groups.signing v) ≡ 0
 unfolding provenanceRefusal provenanceSeen
 signing-on y b c k r v limits same e =

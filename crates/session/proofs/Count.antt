@@ -8,7 +8,7 @@ use native.Mathlib.Omega.{arith}
 use lib.Dec.{eqb}
 use lib.ListN.{length, getD, take, drop, length-append, length-drop, length-map}
 use lib.Seq.{length-take-le}
-use borrow.Author.Tests.{eqb-true, eqb-false, ne-eqb, leb-false}
+use borrow.Author.Tests.{eqb-true, eqb-false, ne-eqb}
 use Rattle.octets.specs.Bytes.{_or_, part, chunks, Octets}
 use Rattle.octets.proofs.Put.{getD-part, octets-part}
 use Rattle.octets.proofs.Tests.{and-false}
@@ -27,7 +27,7 @@ use Rattle.rules.proofs.Keep.Step.{keeps-after, replies-fit, fitting-base}
 use Rattle.session.specs.Count.{made, received, lost, once, countSteps, countCall, count, waiting}
 use Rattle.session.specs.Provenance.{Provenance}
 use Rattle.session.specs.Fed.{Call, begin, run}
-use Rattle.session.specs.Trace.{Answer, begun, ran, Performed, beginning, running, offering, naming, hearing, counting, depending, hindering, showing, Trace, called}
+use Rattle.session.specs.Trace.{Answer, begun, ran, Performed, beginning, running, offering, naming, hearing, counting, depending, hindering, blocking, showing, Trace, called}
 use Rattle.session.specs.Trace as trace
 use Rattle.session.proofs.Model.{viewMessage, view}
 use Rattle.session.proofs.Relation.{all2-length}
@@ -35,7 +35,8 @@ use Rattle.session.proofs.Run.{first-packReply, reply-part}
 use Rattle.session.proofs.Calls.{Holds, holds-fresh, right-length}
 use Rattle.session.proofs.Grown.{begun-fresh, grown}
 use Rattle.session.proofs.Tables.{pick-view}
-use Rattle.rules.proofs.Keep.Accepted.{Accepted, accepted, message-waits, refusal-range}
+use Rattle.rules.proofs.Keep.Accepted.{Accepted, accepted, refusal-range}
+use Rattle.rules.proofs.Keep.Kinds.{place-waits}
 
 -- ---- a step that is not refused
 
@@ -74,20 +75,16 @@ receipt y t x q =
     pick-view Received (receiverSuperseded y x q) _ _ (λ e. pick-view Received (eqb (ownHistory t x .count) 0) _ _ (λ e. refl) (λ e. refl)) (λ e. refl)
 
 module _ (y : Layout) (s : State) (p : Step) (ok : Accepted y (seen y s) p) where
-  waits : eqb (p .kind) receive or eqb (p .kind) lose ≡ true → placeOf s (p .message) < length (s .messages)
-  unfolding seen
-  waits e = leb-false (length (s .messages)) (placeOf s (p .message)) (message-waits ok e)
-
   receive-balanced : p .kind ≡ receive → Balanced (p .kind) s (applyReceive y s p)
   unfolding applyReceive withoutMessage withTransactor received lost
   receive-balanced k =
       let q : Message = messageAt s (placeOf s (p .message)) in
       let e = receipt y (q .addressee) (transactorAt s (q .addressee)) q in
-      spending (p .kind) s (applyReceive y s p) (rw k) (rw (k, e)) (shorter (s .messages) (placeOf s (p .message)) (waits (rw k)))
+      spending (p .kind) s (applyReceive y s p) (rw k) (rw (k, e)) (shorter (s .messages) (placeOf s (p .message)) (place-waits y s p ok (rw k)))
 
   lose-balanced : p .kind ≡ lose → Balanced (p .kind) s (applyLose s p)
   unfolding applyLose withoutMessage received lost
-  lose-balanced k = spending (p .kind) s (applyLose s p) (rw k) (rw k) (shorter (s .messages) (placeOf s (p .message)) (waits (rw k)))
+  lose-balanced k = spending (p .kind) s (applyLose s p) (rw k) (rw k) (shorter (s .messages) (placeOf s (p .message)) (place-waits y s p ok (rw k)))
 
   apply-balanced : Balanced (p .kind) s (apply y s p)
   unfolding apply applyRoot applyLetter applyNew applySend applySign applyLocal opened withOpened withTransactor withMessage checkpointGroup
@@ -195,6 +192,7 @@ module _ {y : Layout} (z : Fitting y) {img : List ℕ} {b : Provenance} (h : Hol
   call-counted (counting f) = before
   call-counted (depending f) = before
   call-counted (hindering f) = before
+  call-counted (blocking f) = before
   call-counted (showing f) = before
 
 -- In a session grown from a fresh one, counting only from its last accepted begin, parcels made, counted from the steps, are

@@ -1,11 +1,12 @@
 -- Demand 3 of document 01, over every list of calls: each of its claims by itself, then the whole (specs/Demand3).
 use Prim.Native.Nat.{ℕ, _-_, _*_, _≤_, _<_}
-use mathlib.Core.Path.{_≡_, refl, ap, sym, _∙_}
-use mathlib.Core.List.{List}
+use mathlib.Core.Path.{_≡_, refl, ap, sym, _∙_, subst}
+use mathlib.Core.List.{List, _∷_}
 use mathlib.Core.Logic.{_↔_}
 use native.Mathlib.Decide.{ℕ-discrete}
 use native.Mathlib.Omega.{arith}
 use lib.ListN.{getD}
+use borrow.Author.Tests.{eq-eqb}
 use Rattle.octets.specs.Bytes.{part, Octets}
 use Rattle.octets.proofs.Put.{octets-part}
 use Rattle.rules.specs.Layout.{Layout, Fitting, base}
@@ -14,15 +15,17 @@ use Rattle.rules.specs.declared.Step.{Step}
 use Rattle.rules.specs.declared.Reply.{Reply}
 use Rattle.rules.specs.Step.{stepBytes, stepAt, packReply, sign, done, notReady}
 use Rattle.rules.specs.Rules.{answer, stepOf, checkpointGroup}
-use Rattle.rules.specs.Calls.{stepsIn}
+use Rattle.rules.specs.Pack.{pack, unpack}
+use Rattle.rules.specs.Calls.{stateAfter, stepsIn, runAnswer, ranImage, runImage}
 use Rattle.rules.proofs.Keep.Accepted.{refusal-range}
-use Rattle.rules.proofs.Keep.Step.{fitting-base}
+use Rattle.rules.proofs.Pack.RoundTrip.{unpack-pack}
+use Rattle.rules.proofs.Keep.Step.{keeps-after, fitting-base}
 use Rattle.session.specs.Provenance.{Provenance}
 use Rattle.session.specs.Grounds.{Equal, Sound}
 use Rattle.session.specs.Steps.{provenanceSeen, provenanceRefusal}
-use Rattle.session.specs.Fed.{Call, run, callRefusal, ProvenanceOf}
-use Rattle.session.specs.Trace.{Answer, ran, refusalIn, Trace, callsOf, Matches, Started, Traced}
-use Rattle.session.specs.Point.{CallIn, last-call, earlier-call, StepIn, last-run, earlier-run, Point, in-run, earlier, replied, outcomeIn}
+use Rattle.session.specs.Fed.{Call, run, callRefusal, ProvenanceSteps, provenance-runs, ProvenanceOf, fed}
+use Rattle.session.specs.Trace.{Answer, ran, refusalIn, Performed, running, Trace, called, callsOf, Matches, Started, Traced}
+use Rattle.session.specs.Point.{CallIn, last-call, earlier-call, StepIn, last-run, earlier-run, Point, at-end, at-step, replied, outcomeIn}
 use Rattle.session.specs.Demand3.{Demand3}
 use Rattle.session.proofs.Model.{view}
 use Rattle.session.proofs.Sign.{rel-sound}
@@ -127,8 +130,31 @@ module _ (y : Layout) (z : Fitting y) where
 
   -- and stands at a point, so that what is said of points is said in the middle of runs
   pub step-point : {img : List ℕ} {τ : Trace y img} {s s' : State} {b : Provenance} {p : Step} {reply : List ℕ} → StepIn y img τ s b p reply s' → Point y img τ s b
-  step-point (last-run {list = list} {start = start} {end = end} i f e n g) = let h : i ≤ stepsIn (part start (end - start) list) = omega (arith, n) in in-run i f e h g
-  step-point (earlier-run k) = earlier (step-point k)
+  step-point = at-step
+
+  -- After the first i steps of an accepted run, all of them included, there is a point: after the last step is after the run.
+  pub in-run : {img after list : List ℕ} {o : Octets list} {start end : ℕ} {lent replies : List ℕ} {r : ℕ} {τ : Trace y img}
+      {p : Performed y img (run list o start end lent) (ran r replies) after} {b d : Provenance} (i : ℕ)
+      → ProvenanceOf y (callsOf τ) b → r ≡ 0 → i ≤ stepsIn (part start (end - start) list) → ProvenanceSteps y b (part start (end - start) list) i d
+      → Point y after (called τ (run list o start end lent) (ran r replies) p) (stateAfter y (unpack y img) (part start (end - start) list) i) d
+  unfolding callsOf runImage ranImage
+  in-run {img} {after} {list} {o} {start} {end} {lent} {replies} {r} {τ} {p} {b} {d} i f e n g = go (ℕ-discrete i (stepsIn steps)) p
+    where
+      steps : List ℕ
+      steps = part start (end - start) list
+
+      go : Dec (i ≡ stepsIn steps) → (q : Performed y img (run list o start end lent) (ran r replies) after)
+          → Point y after (called τ (run list o start end lent) (ran r replies) q) (stateAfter y (unpack y img) steps i) d
+      go (no m) q = let h : i < stepsIn steps = omega (arith, n) in at-step (last-run i f e h g)
+      go (yes m) (running {after = after} k) =
+          let zero : runAnswer y img list start end lent ≡ 0 = sym (k .0) ∙ e in
+          let same : after ≡ pack y (stateAfter y (unpack y img) steps (stepsIn steps)) = k .1 ∙ rw (eq-eqb (runAnswer y img list start end lent) 0 zero) in
+          let h = held z τ f in
+          let back : unpack y after ≡ stateAfter y (unpack y img) steps (stepsIn steps) =
+          ap (unpack y) same ∙ unpack-pack y (stateAfter y (unpack y img) steps (stepsIn steps)) (keeps-after z (h .well) steps (octets-part start (end - start) list o) (stepsIn steps) .packable) in
+          let refusal : callRefusal y b (run list o start end lent) ≡ 0 = sym (call-right z h (running {o = o} k) .refusal) ∙ e in
+          let fed-all : ProvenanceOf y (run list o start end lent ∷ callsOf τ) d = fed f (provenance-runs refusal (subst (λ (j : ℕ). ProvenanceSteps y b steps j d) m g)) in
+          subst (λ (s : State). Point y after (called τ (run list o start end lent) (ran r replies) (running k)) s d) (back ∙ ap (stateAfter y (unpack y img) steps) (sym m)) (at-end fed-all)
 
   -- ---- the whole
 

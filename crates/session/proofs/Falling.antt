@@ -15,8 +15,8 @@ use Rattle.marks.specs.Incarnation.{Incarnation, Superseded}
 use Rattle.marks.specs.History.{HistoryView, initialView, rolledBack, rolledBackView, checkpointedView, viewOf}
 use Rattle.marks.proofs.Order.{superseded-next, superseded-irrefl, superseded-not-checkpointed, checkpointed-checkpoint}
 use Rattle.marks.proofs.Histories.{view-rolledBack}
-use Rattle.maps.specs.Table.{updated}
-use Rattle.maps.proofs.Tables.{updated-view, updated-other}
+use Rattle.octets.specs.Table.{updated}
+use Rattle.octets.proofs.Tables.{updated-view, updated-other}
 use Rattle.rules.specs.Layout.{Layout}
 use Rattle.rules.specs.State.{Transactor, Message, State, transactorAt, messageAt, ownHistory, withTransactor, withoutMessage, placeOf}
 use Rattle.rules.specs.State as state
@@ -220,7 +220,7 @@ module _ (l : Ledger) (b : Provenance) (r : Rel l b) (y : Layout) (p : Step) (t 
       opener : {A : Type 0} (f : Holder → A) {h : Holder} → f h ≡ f (H (p .transactor)) → f (updated H (p .transactor) h t) ≡ f (H t)
       opener f {h} e = updated-view (λ (u : ℕ) (k : Holder). f k ≡ f (H u)) H (p .transactor) h e (λ u n. refl) t
 
-  signed-others : (g : ℕ) → Past (checkpointedAt b g t) (H t .history .incarnation) → ⊥
+  pub signed-others : (g : ℕ) → Past (checkpointedAt b g t) (H t .history .incarnation) → ⊥
   unfolding checkpointedAt
   signed-others g = pick-view (λ (h : Holder). Past h (H t .history .incarnation) → ⊥) (named g t) _ _ (λ e. new-mark) (λ e. present-not-past live)
     where

@@ -6,8 +6,8 @@ use mathlib.Core.List.{[]}
 use mathlib.Core.Logic.{_↔_}
 use native.Mathlib.Decide.{ℕ-discrete}
 use native.Mathlib.Omega.{arith}
-use lib.Dec.{eqb, leb}
-use borrow.Author.Tests.{eqb-true, eqb-false, eq-eqb, ne-eqb, le-leb}
+use lib.Dec.{eqb}
+use borrow.Author.Tests.{eqb-true, eqb-false, eq-eqb, ne-eqb}
 use Rattle.octets.specs.Bytes.{pick}
 use Rattle.octets.specs.Numbers.{bound}
 use Rattle.marks.specs.History.{initialView}
@@ -15,13 +15,14 @@ use Rattle.maps.specs.Internal.View.{emptyView}
 use Rattle.rules.specs.Layout.{Layout}
 use Rattle.rules.specs.declared.Step.{Step}
 use Rattle.rules.specs.Step.{root, letter, receive, new, send, fail, lose, sign}
-use Rattle.rules.specs.Refusals.{named, acts}
+use Rattle.rules.specs.Refusals.{named}
 use Rattle.rules.proofs.Keep.Accepted.{kind-known}
+use Rattle.rules.proofs.Keep.Kinds.{acts-between}
 use Rattle.session.specs.Provenance.{Live, Provenance, withHolder, withWaitingMessage, withoutWaitingMessage}
 use Rattle.session.specs.Grounds.{Equal}
 use Rattle.session.specs.Steps.{carried, acted, opensRoot, opensChild, receives, applied, signs, provenanceRefusal, ProvenanceStep, refuses, applies, signing, not-ready}
 use Rattle.session.proofs.Model.{News, Node, Ledger, withNode, openNode, withMessageView, withoutMessageView, findMessage, anewNode, sentMap, childNode, openerNode, signLedger}
-use Rattle.session.proofs.Tables.{pick-view, pick-both, and-of}
+use Rattle.session.proofs.Tables.{pick-view, pick-both}
 use Rattle.session.proofs.News.{NewsLaw}
 use Rattle.session.proofs.Relation.{Rel}
 use Rattle.session.proofs.Locals.{actedNode, step-acted}
@@ -55,9 +56,6 @@ pub record StepTests (l : Ledger) (p : Step) (d e ok : Bool) : Type 0 where
   pub ready : (ok ≡ true) ↔ Ready l (named (p .message))
 
 -- ---- a step that is not refused
-
-acts-between : (k : ℕ) → new ≤ k → k ≤ fail → acts k ≡ true
-acts-between k h g = and-of (leb new k) (leb k fail) (le-leb new k h) (le-leb k fail g)
 
 module _ (w : News) (law : NewsLaw w) (l : Ledger) (b : Provenance) (r : Rel l b) (y : Layout) (p : Step) (zero : provenanceRefusal y b p ≡ 0) (d e ok : Bool) (tests : StepTests l p d e ok) where
   applied-rel : (p .kind ≡ sign → ⊥) → Rel (appliedLedger w d e ok l p) (applied b p)

@@ -5,6 +5,7 @@ pub mod Count
 pub mod Demand3
 pub mod Falling
 pub mod Grown
+pub mod Impediments
 pub mod Kept
 pub mod Locals
 pub mod Log
@@ -31,6 +32,7 @@ pub mod Sets
 pub mod Sign
 pub mod Signing
 pub mod Silent
+pub mod Heard
 pub mod Spreading
 pub mod Stands
 pub mod Step
@@ -46,3 +48,4 @@ pub mod ViewState
 pub mod ViewStep
 pub mod Waiting
 pub mod Withdrawal
+pub mod Withdrawals

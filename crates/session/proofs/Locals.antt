@@ -13,8 +13,8 @@ use Rattle.marks.specs.Incarnation.{Incarnation}
 use Rattle.marks.specs.History.{HistoryView, initialView, stabilizedView, rolledBackView}
 use Rattle.marks.proofs.Order.{superseded-ne}
 use Rattle.marks.proofs.Histories.{_⊑_, ⊑-refl, ⊑-stabilized, ⊑-rolledBack, ⊑-annihilated}
-use Rattle.maps.specs.Table.{updated}
-use Rattle.maps.proofs.Tables.{updated-same, updated-view}
+use Rattle.octets.specs.Table.{updated}
+use Rattle.octets.proofs.Tables.{updated-same, updated-view}
 use Rattle.rules.specs.Step.{read, write, freeze, finish, fall}
 use Rattle.session.specs.Provenance.{unused, ready, annihilated, Live, idle, In, Holder, Provenance, blank, withHolder}
 use Rattle.session.specs.Steps.{anew, isNil, rolledBackHolder, reads, writes, freezes, finishes, rollsBackOrFinishes, rollsBackOrStays, acted}

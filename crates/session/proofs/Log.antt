@@ -10,11 +10,11 @@ use lib.Dec.{eqb}
 use borrow.Author.Tests.{eqb-true}
 use Rattle.marks.specs.Incarnation.{Incarnation, Checkpointed}
 use Rattle.marks.specs.History.{HistoryView, initialView, newerView}
+use Rattle.marks.specs.News.{Shows, by-stable, by-list}
 use Rattle.marks.proofs.Histories.{newerView-which}
-use Rattle.marks.proofs.News.{Shows, by-stable, by-list}
-use Rattle.maps.specs.Table.{updated}
+use Rattle.octets.specs.Table.{updated}
 use Rattle.maps.specs.Internal.View.{MapView, joinEntry, joinView, emptyView, singletonView}
-use Rattle.maps.proofs.Tables.{updated-view}
+use Rattle.octets.proofs.Tables.{updated-view}
 use Rattle.rules.specs.Layout.{Layout}
 use Rattle.rules.specs.declared.Step.{Step}
 use Rattle.rules.specs.Step.{root, letter, receive, new, send, read, write, freeze, finish, fall, lose, sign}

@@ -14,7 +14,7 @@ use Rattle.octets.proofs.Zero.{both}
 use Rattle.marks.specs.Incarnation.{Incarnation}
 use Rattle.marks.specs.History.{HistoryView}
 use Rattle.maps.proofs.News.{informedTable}
-use Rattle.maps.proofs.Tables.{updated-same}
+use Rattle.octets.proofs.Tables.{updated-same}
 use Rattle.rules.specs.Layout.{Layout, Limits, inRange, base, Fitting}
 use Rattle.rules.specs.State.{State, transactorAt}
 use Rattle.rules.specs.declared.Step.{Step}
@@ -35,8 +35,8 @@ use Rattle.rules.proofs.Keep.Step.{keeps-after, fitting-base}
 use Rattle.session.specs.Provenance.{unused, Provenance, emptyProvenance}
 use Rattle.session.specs.Steps.{freezes, acted, applied, ProvenanceStep, refuses, applies, signing, not-ready}
 use Rattle.session.specs.Fed as book
-use Rattle.session.specs.Fed.{Call, begin, run, heard, callRefusal, ProvenanceSteps, ProvenanceCall, provenance-refuses, provenance-begins, provenance-runs, provenance-offers, provenance-names, provenance-hears, provenance-counts, provenance-depends, provenance-hinders, provenance-shows, ProvenanceOf, new-provenance, fed}
-use Rattle.session.specs.Trace.{Answer, told, Performed, beginning, running, offering, naming, hearing, counting, depending, hindering, showing, Trace, opened, called, callsOf}
+use Rattle.session.specs.Fed.{Call, begin, run, heard, callRefusal, ProvenanceSteps, ProvenanceCall, provenance-refuses, provenance-begins, provenance-runs, provenance-offers, provenance-names, provenance-hears, provenance-counts, provenance-depends, provenance-hinders, provenance-blocks, provenance-shows, ProvenanceOf, new-provenance, fed}
+use Rattle.session.specs.Trace.{Answer, told, Performed, beginning, running, offering, naming, hearing, counting, depending, hindering, blocking, showing, Trace, opened, called, callsOf}
 use Rattle.session.specs.Stabilized.{Stabilizes, StabilizedBy, at-step, restarts, StabilizedIn, in-run, in-earlier}
 use Rattle.session.proofs.Model.{view}
 use Rattle.session.proofs.Relation.{freshLedger, Rel, nothing-checkpointed}
@@ -212,6 +212,7 @@ module _ {y : Layout} (z : Fitting y) where
   performed-grown g (counting {size} f) = reading g (book.counts size) refl provenance-counts
   performed-grown g (depending {t} f) = reading g (book.depends t) refl provenance-depends
   performed-grown g (hindering {v} f) = reading g (book.hinders v) refl provenance-hinders
+  performed-grown g (blocking {t} f) = reading g (book.blocks t) refl provenance-blocks
   performed-grown g (showing {n} f) = reading g (book.show n) refl provenance-shows
 
   pub grown-log : {img : List ℕ} (τ : Trace y img) → GrownLog y img (callsOf τ)

@@ -4,24 +4,25 @@ use mathlib.Core.Bool.{Bool, true, false}
 use mathlib.Core.Path.{_≡_, refl, ap, sym, _∙_}
 use mathlib.Core.Logic.{_⊎_, inl, inr}
 use native.Mathlib.Omega.{arith}
-use lib.Dec.{eqb, leb}
-use borrow.Author.Tests.{eqb-true, eqb-false, le-leb}
+use lib.Dec.{eqb}
+use borrow.Author.Tests.{eqb-true, eqb-false}
 use Rattle.octets.specs.Bytes.{pick}
 use Rattle.octets.specs.Numbers.{bound}
 use Rattle.marks.specs.Incarnation.{Incarnation, nextIncarnation, checkpointIncarnation, Checkpointed, begins}
 use Rattle.marks.specs.History.{HistoryView, initialView}
 use Rattle.marks.proofs.Order.{checkpointed-up, checkpointed-irrefl, checkpointed-split, initial-precedes}
-use Rattle.maps.specs.Table.{updated}
-use Rattle.maps.proofs.Tables.{updated-view}
+use Rattle.octets.specs.Table.{updated}
+use Rattle.octets.proofs.Tables.{updated-view}
 use Rattle.rules.specs.Layout.{Layout}
 use Rattle.rules.specs.declared.Step.{Step}
 use Rattle.rules.specs.Step.{root, letter, receive, new, send, read, write, freeze, finish, fall, lose, sign, fail}
-use Rattle.rules.specs.Refusals.{named, acts}
+use Rattle.rules.specs.Refusals.{named}
 use Rattle.rules.proofs.Keep.Accepted.{kind-known}
+use Rattle.rules.proofs.Keep.Kinds.{acts-between}
 use Rattle.session.specs.Provenance.{Status, ready, busy, annihilated, Live, idle, working, Holder, WaitingMessage, Provenance, blank, find}
 use Rattle.session.specs.Steps.{anew, isNil, rolledBackHolder, reads, writes, freezes, finishes, rollsBackOrFinishes, rollsBackOrStays, acted, isDropped, isRolledBack, received, receives, opensRoot, opensChild, applied, checkpointedAt, provenanceRefusal, ProvenanceStep, refuses, applies, signing, not-ready}
 use Rattle.session.proofs.Model.{News, Ledger, own}
-use Rattle.session.proofs.Tables.{pick-view, and-of}
+use Rattle.session.proofs.Tables.{pick-view}
 use Rattle.session.proofs.Sets.{cell-has}
 use Rattle.session.proofs.Relation.{presentOf, present, present-live, nothing-checkpointed, Rel, own-history}
 use Rattle.session.proofs.Messages.{find-rel}
@@ -76,9 +77,6 @@ module _ (a : Incarnation) where
     received-past q =
         pick-view Past (isDropped h q) h _ (λ e. same-past) λ e1.
         pick-view Past (isRolledBack h q) (rolledBackHolder t h) _ (λ e. rolledBack-past) (λ e. live-past busy (h .history) (h .history) working refl)
-
-acts-between : (k : ℕ) → new ≤ k → k ≤ fail → acts k ≡ true
-acts-between k h g = and-of (leb new k) (leb k fail) (le-leb new k h) (le-leb k fail g)
 
 module _ (l : Ledger) (b : Provenance) (r : Rel l b) (y : Layout) (p : Step) (zero : provenanceRefusal y b p ≡ 0) (a : Incarnation) where
   abbrev Onto : Provenance → Type 0

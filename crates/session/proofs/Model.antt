@@ -7,7 +7,7 @@ use mathlib.Core.Option.{some, Option·getD}
 use lib.Dec.{eqb}
 use Rattle.octets.specs.Bytes.{pick}
 use Rattle.marks.specs.History.{HistoryView, initialView, stabilizedView, rolledBackView, checkpointedView}
-use Rattle.maps.specs.Table.{updated}
+use Rattle.octets.specs.Table.{updated}
 use Rattle.maps.specs.Internal.View.{MapView, mapView, emptyView, singletonView, joinView}
 use Rattle.rules.specs.Layout.{Limits}
 use Rattle.rules.specs.State.{Transactor, Message, State, transactorAt}

@@ -9,8 +9,8 @@ use borrow.Author.Tests.{eq-eqb}
 use Rattle.octets.specs.Bytes.{pick}
 use Rattle.marks.specs.Incarnation.{Incarnation}
 use Rattle.marks.specs.History.{HistoryView, stabilizedView}
-use Rattle.marks.specs.News.{showsStable}
-use Rattle.marks.proofs.News.{Shows, shows-test, informedView, shown-known}
+use Rattle.marks.specs.News.{showsStable, Shows}
+use Rattle.marks.proofs.News.{shows-test, informedView, shown-known}
 use Rattle.maps.specs.Internal.View.{MapView}
 use Rattle.maps.proofs.News.{informedEntry, informedTable}
 use Rattle.session.proofs.Model.{News}

@@ -1,28 +1,30 @@
 -- Why a volume can't be signed, in a session: what each answer means in the book.
 use Prim.Native.Nat.{ℕ}
-use mathlib.Core.Bool.{true, false}
+use mathlib.Core.Bool.{true}
 use mathlib.Core.List.{List}
 use mathlib.Core.Path.{_≡_, refl, ap, sym, _∙_, subst}
 use Rattle.marks.specs.declared.History.{History}
-use Rattle.marks.specs.Incarnation.{Incarnation, Checkpointed}
+use Rattle.marks.specs.Incarnation.{Checkpointed}
 use Rattle.marks.specs.History.{HistoryView, incarnationOf}
 use Rattle.marks.proofs.Order.{checkpointed-irrefl}
 use Rattle.maps.proofs.View.{view-held}
 use Rattle.rules.specs.declared.Obstacle.{Obstacle}
 use Rattle.rules.specs.declared.Obstacle.the-variants.{Unstable, Outside, Superseded}
-use Rattle.rules.specs.Layout.{Layout, Fitting}
+use Rattle.rules.specs.Layout.{Layout, Fitting, base}
 use Rattle.rules.specs.State.{State, transactorAt, ownHistory, live}
 use Rattle.rules.specs.Refusals.{named}
 use Rattle.rules.specs.Obstacle.{obstacleOf, StandsIn, WithdrawnMark, Obstructs, is-unstable, is-outside, is-superseded}
 use Rattle.rules.specs.Obstacle as obstacle
 use Rattle.rules.specs.Internal.Well.{WellFormed}
+use Rattle.rules.proofs.Keep.Step.{fitting-base}
 use Rattle.rules.proofs.Groups.Obstacles.{obstructs}
 use Rattle.session.specs.Provenance.{Live, In, Provenance}
-use Rattle.session.specs.Grounds.{from-start, in-state, in-creation, RestsOn, Present, CheckpointedNow, SupersededOrAnnihilated, neither}
+use Rattle.session.specs.Grounds.{from-start, in-state, in-creation, RestsOn, SupersededOrAnnihilated, neither}
 use Rattle.session.specs.Waiting.{ReadyGroup}
 use Rattle.session.specs.Trace.{Trace}
 use Rattle.session.specs.Point.{Point}
-use Rattle.session.specs.Withdrawal.{Further, SameLife}
+use Rattle.session.specs.Withdrawal.{Further, SameLife, Doomed}
+use Rattle.session.specs.Meanings.{UnstableMeans, OutsideMeans, WithdrawnMeans}
 use Rattle.session.proofs.Model.{view}
 use Rattle.session.proofs.Sets.{cell-has}
 use Rattle.session.proofs.Relation.{Rel, own-history}
@@ -36,11 +38,11 @@ module _ {y : Layout} {s : State} (w : WellFormed y s) {b : Provenance} (r : Rel
   unfolding view
   life-is u = ap (λ (m : HistoryView). m .incarnation) (sym (own-view w u) ∙ own-history (r .holders u))
 
-  live-to : (u : ℕ) → live (transactorAt s u) ≡ true → Live (b .holders u .status)
+  pub live-to : (u : ℕ) → live (transactorAt s u) ≡ true → Live (b .holders u .status)
   unfolding view
   live-to u e = rw (r .holders u .status) at (live-test (transactorAt s u .status) .0 e)
 
-  live-of : (u : ℕ) → Live (b .holders u .status) → live (transactorAt s u) ≡ true
+  pub live-of : (u : ℕ) → Live (b .holders u .status) → live (transactorAt s u) ≡ true
   unfolding view
   live-of u k = live-test (transactorAt s u .status) .1 (rw (r .holders u .status) k)
 
@@ -50,32 +52,12 @@ module _ {y : Layout} {s : State} (w : WellFormed y s) {b : Provenance} (r : Rel
   stands-rests {t} {u} {h} (obstacle.in-state k e) = from-start (in-state (subst (λ (x : History). In u (incarnationOf x) (b .holders t .state)) (sym e) (cell-has (view-held (transactorAt s t .state) u k) (r .holders t .state u) .has)))
   stands-rests {t} {u} {h} (obstacle.in-creation k e) = from-start (in-creation (subst (λ (x : History). In u (incarnationOf x) (b .holders t .creation)) (sym e) (cell-has (view-held (transactorAt s t .creation) u k) (r .holders t .creation u) .has)))
 
-  withdrawn-mark : {u : ℕ} {h : History} → WithdrawnMark s u h → SupersededOrAnnihilated b u (incarnationOf h)
+  pub withdrawn-mark : {u : ℕ} {h : History} → WithdrawnMark s u h → SupersededOrAnnihilated b u (incarnationOf h)
   withdrawn-mark {u} {h} m = neither
       (λ p. m .not-present (live-of u (p .live)) (p .is ∙ sym (life-is u)))
       (λ c. m .not-checkpointed (live-of u (c .live)) (subst (Checkpointed (incarnationOf h)) (sym (life-is u)) (c .is)))
 
 -- ---- what each answer means in the book
-
--- Unstable t: take t is named, and not frozen.
-pub record UnstableMeans (b : Provenance) (v t : ℕ) : Type 0 where
-  pub names : named v t ≡ true
-  pub unstable : b .holders t .history .stable ≡ false
-
--- Outside t u: the named take t rests on the present life of take u, which is not signed, and which the volume does not name.
-pub record OutsideMeans (b : Provenance) (v t u : ℕ) : Type 0 where
-  pub names : named v t ≡ true
-  pub unnamed : named v u ≡ false
-  pub present : Present b u (b .holders u .history .incarnation)
-  pub rests : RestsOn b t u (b .holders u .history .incarnation)
-  pub uncheckpointed : CheckpointedNow b u (b .holders u .history .incarnation) → ⊥
-
--- Superseded t u: the named take t rests on a withdrawn life of take u.
-pub record WithdrawnMeans (b : Provenance) (v t u : ℕ) : Type 0 where
-  pub names : named v t ≡ true
-  pub incarnation : Incarnation
-  pub rests : RestsOn b t u incarnation
-  pub withdrawn : SupersededOrAnnihilated b u incarnation
 
 module _ {y : Layout} (z : Fitting y) {img : List ℕ} {τ : Trace y img} {s : State} {b : Provenance} (k : Point y img τ s b) where
   answered : (v : ℕ) (o : Obstacle) → obstacleOf y s v ≡ o → Obstructs y s v o
@@ -116,3 +98,17 @@ module _ {y : Layout} (z : Fitting y) {img : List ℕ} {τ : Trace y img} {s : S
   withdrawn-for-good v t u e o same =
       let m = withdrawn-means v t u e in
       never-ready z (well z k) (related z k) (m .rests) (m .withdrawn) o same
+
+-- At the ledger's own layout: no hypothesis but the trace.
+module _ {img : List ℕ} {τ : Trace base img} {s : State} {b : Provenance} (k : Point base img τ s b) where
+  pub unstable-means-base : (v t : ℕ) → obstacleOf base s v ≡ Unstable t → UnstableMeans b v t
+  unstable-means-base = unstable-means fitting-base k
+
+  pub outside-means-base : (v t u : ℕ) → obstacleOf base s v ≡ Outside t u → OutsideMeans b v t u
+  outside-means-base = outside-means fitting-base k
+
+  pub withdrawn-means-base : (v t u : ℕ) → obstacleOf base s v ≡ Superseded t u → WithdrawnMeans b v t u
+  withdrawn-means-base = withdrawn-means fitting-base k
+
+  pub withdrawn-for-good-base : (v t u : ℕ) → obstacleOf base s v ≡ Superseded t u → Doomed base s t
+  withdrawn-for-good-base v t u e after o same = withdrawn-for-good fitting-base k v t u e o same

@@ -2,7 +2,7 @@
 -- are, but for what they are at work on.
 use Prim.Native.Nat.{ℕ, _≤_}
 use mathlib.Core.Bool.{Bool, true, false}
-use mathlib.Core.Path.{_≡_, refl, sym, _∙_}
+use mathlib.Core.Path.{_≡_, refl, _∙_}
 use mathlib.Core.List.{[]}
 use mathlib.Core.Logic.{_≢_}
 use native.Mathlib.Omega.{arith}
@@ -10,9 +10,9 @@ use lib.Dec.{eqb, leb}
 use borrow.Author.Tests.{eqb-true, eqb-false, le-leb}
 use Rattle.marks.specs.Incarnation.{Incarnation}
 use Rattle.marks.specs.History.{HistoryView, initialView, stabilizedView, rolledBackView}
-use Rattle.marks.proofs.Histories.{_⊑_, ⊑-refl, ⊑-trans, ⊑-stabilized, ⊑-rolledBack, ⊑-annihilated}
-use Rattle.maps.specs.Table.{updated}
-use Rattle.maps.proofs.Tables.{updated-view, updated-other}
+use Rattle.marks.proofs.Histories.{_⊑_, ⊑-refl, ⊑-trans, ⊑-stabilized, ⊑-rolledBack, ⊑-annihilated, stable-is}
+use Rattle.octets.specs.Table.{updated}
+use Rattle.octets.proofs.Tables.{updated-view, updated-other}
 use Rattle.rules.specs.Layout.{Layout}
 use Rattle.rules.specs.declared.Step.{Step}
 use Rattle.rules.specs.Step.{root, letter, receive, new, send, read, write, freeze, finish, fall, fail, lose, sign}
@@ -62,9 +62,6 @@ Grows h k = h .history ⊑ presentOf (k .status) (k .history)
 
 grows-same : (h : Holder) {s : Status} {m : HistoryView} → Live s → m ≡ h .history → h .history ⊑ presentOf s m
 grows-same h {s} {m} live e = rw (present-live s m live, e) (⊑-refl _)
-
-stable-is : (m : HistoryView) → m .stable ≡ true → stabilizedView m ≡ m
-stable-is m e = λ i. record { stable = sym e i; incarnation = m .incarnation }
 
 module _ (t : ℕ) (h : Holder) (live : Live (h .status)) (first : h .history .incarnation .checkpoints ≡ [] → h .history .incarnation .number ≡ 0) where
   rolled-grows : Grows h (rolledBackHolder t h)

@@ -6,12 +6,12 @@ use mathlib.Core.Logic.{_⊎_, inl, inr, ⊎-elim}
 use native.Mathlib.Omega.{arith}
 use Rattle.marks.specs.Incarnation.{Incarnation, initialIncarnation}
 use Rattle.marks.specs.History.{HistoryView, initialView}
-use Rattle.marks.proofs.Trail.{Precedes}
+use Rattle.marks.specs.Order.{Precedes}
 use Rattle.marks.proofs.Order.{precedes-initial, superseded-ne}
 use Rattle.marks.proofs.Histories.{_⊑_, ⊑-refl, ⊑-trans}
-use Rattle.maps.specs.Table.{updated}
+use Rattle.octets.specs.Table.{updated}
 use Rattle.maps.specs.Internal.View.{singletonView}
-use Rattle.maps.proofs.Tables.{updated-same, updated-view}
+use Rattle.octets.proofs.Tables.{updated-same, updated-view}
 use Rattle.session.specs.Provenance.{unused, ready, Live, idle, one, Holder, Provenance, withHolder, withOpened}
 use Rattle.session.specs.Steps.{anew, carried, opensRoot, opensChild}
 use Rattle.session.proofs.Model.{Node, Ledger, withNode, openNode, anewNode, sentMap, childNode, openerNode}

@@ -18,7 +18,7 @@ use Rattle.rules.specs.Refusals.{named}
 use Rattle.session.specs.Provenance.{Entry, Incarnations, In, one, Live, Holder, Provenance, emptyProvenance}
 use Rattle.session.specs.Grounds.{Brought, from-start, from-noted, from-list, Ground, in-state, in-creation, RestsOn, CheckpointedNow, StablePresent, Equal}
 use Rattle.session.specs.Steps.{opensRoot, opensChild, receives, applied, provenanceRefusal, ProvenanceStep, applies}
-use Rattle.session.specs.Play.{Play, end, then}
+use Rattle.session.specs.Play.{Play, end, then, played}
 use Rattle.session.proofs.Tables.{pick-view}
 use Rattle.session.proofs.Accepted.{named-within}
 use Rattle.session.proofs.Sign.{Settled, settle, settled-equal}
@@ -31,11 +31,6 @@ play-on (then s p) q = then s (play-on p q)
 unfoldable pub quiet : Provenance → List Step → Bool
 quiet b [] = true
 quiet b (p ∷ ps) = eqb (provenanceRefusal base b p) 0 and (not (eqb (p .kind) sign) and quiet (applied b p) ps)
-
--- the book after them
-unfoldable pub played : Provenance → List Step → Provenance
-played b [] = b
-played b (p ∷ ps) = played (applied b p) ps
 
 pub play-quiet : (b : Provenance) (ps : List Step) → quiet b ps ≡ true → Play b ps (played b ps)
 unfolding quiet played

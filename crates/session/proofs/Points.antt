@@ -22,7 +22,7 @@ use Rattle.rules.proofs.Keep.Step.{keeps-after}
 use Rattle.session.specs.Provenance.{Provenance}
 use Rattle.session.specs.Fed.{Call, ProvenanceSteps, ProvenanceOf}
 use Rattle.session.specs.Trace.{Answer, refusalIn, Performed, running, Trace, callsOf}
-use Rattle.session.specs.Point.{CallIn, last-call, earlier-call, StepIn, last-run, earlier-run, Point, at-end, in-run, earlier}
+use Rattle.session.specs.Point.{CallIn, last-call, earlier-call, StepIn, last-run, earlier-run, Point, at-end, at-step, earlier}
 use Rattle.session.proofs.Model.{view}
 use Rattle.session.proofs.Relation.{Rel}
 use Rattle.session.proofs.Unique.{provenance-unique, steps-determined}
@@ -57,12 +57,6 @@ module _ {y : Layout} (z : Fitting y) where
         rel = subst (λ c. Rel (view (stateAfter y (unpack y img) steps i)) c) (steps-determined (r .fed) f) (r .rel);
       }
 
-  pub point-beside : {img : List ℕ} {τ : Trace y img} {s : State} {b : Provenance} → Point y img τ s b → Beside y s b
-  point-beside {τ = τ} (at-end f) = let h = held τ f in record { well = h .well; rel = h .rel }
-  point-beside (in-run {list = list} {o = o} {start = start} {end = end} {τ = τ} i f e n g) =
-      beside-steps (held τ f) (part start (end - start) list) (octets-part start (end - start) list o) i g
-  point-beside (earlier k) = point-beside k
-
   -- what a run that is accepted hands back
   replies-accepted : (img list lent : List ℕ) (start end : ℕ) → runAnswer y img list start end lent ≡ 0 → runReplies y img list start end lent ≡ ranReplies y img (part start (end - start) list)
   unfolding runReplies
@@ -80,3 +74,8 @@ module _ {y : Layout} (z : Fitting y) where
         after = refl;
       }
   step-taken (earlier-run k) = step-taken k
+
+  pub point-beside : {img : List ℕ} {τ : Trace y img} {s : State} {b : Provenance} → Point y img τ s b → Beside y s b
+  point-beside {τ = τ} (at-end f) = let h = held τ f in record { well = h .well; rel = h .rel }
+  point-beside (at-step k) = step-taken k .beside
+  point-beside (earlier k) = point-beside k

@@ -12,7 +12,7 @@ use Rattle.octets.specs.Bytes.{_and_}
 use Rattle.marks.specs.Incarnation.{Incarnation}
 use Rattle.marks.specs.History.{HistoryView, incarnationOf}
 use Rattle.marks.specs.Relation.{relationOf, isUnrelated}
-use Rattle.marks.proofs.Trail.{Precedes}
+use Rattle.marks.specs.Order.{Precedes}
 use Rattle.marks.proofs.Related.{related-before}
 use Rattle.maps.specs.declared.DependenceMap.{DependenceMap}
 use Rattle.maps.specs.Map.{heldAt, historyAt}

@@ -8,7 +8,7 @@ use native.Mathlib.Omega.{arith}
 use lib.ListN.{length}
 use Rattle.marks.specs.Incarnation.{Incarnation, Checkpointed}
 use Rattle.marks.specs.History.{HistoryView, initialView, stabilizedView}
-use Rattle.marks.proofs.Trail.{Precedes}
+use Rattle.marks.specs.Order.{Precedes}
 use Rattle.marks.proofs.Order.{checkpointed-up, checkpointed-list, checkpointed-irrefl, initial-precedes}
 use Rattle.marks.proofs.Histories.{_⊑_}
 use Rattle.rules.specs.Layout.{Limits}

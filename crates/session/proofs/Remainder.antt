@@ -6,19 +6,19 @@ use mathlib.Core.Path.{_≡_, refl, ap, sym, _∙_}
 use mathlib.Core.Logic.{_⊎_, inl, inr, ⊎-elim}
 use mathlib.Core.Option.{some, Option·getD}
 use lib.Bits.{bitAnd, bitXor}
-use Rattle.octets.specs.Bytes.{_and_, _or_}
+use Rattle.octets.specs.Bytes.{_and_}
 use Rattle.octets.specs.Numbers.{bound}
-use Rattle.marks.specs.Incarnation.{Incarnation, Checkpointed}
+use Rattle.marks.specs.Incarnation.{Checkpointed}
 use Rattle.marks.specs.History.{HistoryView, initialView, checkpointedView}
 use Rattle.marks.proofs.Order.{checkpointed-up, checkpointed-checkpoint}
 use Rattle.marks.proofs.Histories.{⊑-checkpointed}
 use Rattle.maps.specs.Internal.View.{emptyView, singletonView}
-use Rattle.maps.proofs.Tables.{updated-same}
+use Rattle.octets.proofs.Tables.{updated-same}
 use Rattle.rules.specs.Layout.{Layout}
 use Rattle.rules.specs.declared.Step.{Step}
 use Rattle.rules.specs.Step.{sign}
 use Rattle.rules.specs.Refusals.{named}
-use Rattle.rules.proofs.Bits.{named-and, named-xor}
+use Rattle.rules.proofs.Bits.{named-without}
 use Rattle.session.specs.Provenance.{Live, idle, Provenance}
 use Rattle.session.specs.Grounds.{Equal}
 use Rattle.session.specs.Steps.{signs, provenanceRefusal, ProvenanceStep, refuses, applies, signing, not-ready}
@@ -34,14 +34,6 @@ use Rattle.session.proofs.Carried.{rule-on}
 -- volume v without the takes of w
 abbrev pub without : ℕ → ℕ → ℕ
 without v w = bitXor v (bitAnd v w)
-
-pub named-without : (v w t : ℕ) → named (without v w) t ≡ named v t and not (named w t)
-named-without v w t = named-xor v (bitAnd v w) t ∙ rw (named-and v w t) (go (named v t) (named w t))
-  where
-    go : (a b : Bool) → (a and not (a and b)) or (not a and (a and b)) ≡ a and not b
-    go true true = refl
-    go true false = refl
-    go false b = refl
 
 -- ---- the rule
 

@@ -9,9 +9,9 @@ use Rattle.octets.proofs.Chunks.{sides}
 use Rattle.octets.proofs.Zero.{both}
 use Rattle.marks.specs.Incarnation.{Incarnation, sameIncarnation}
 use Rattle.marks.specs.History.{HistoryView, incarnationOf}
+use Rattle.marks.specs.Order.{Precedes}
 use Rattle.marks.proofs.Order.{checkpointed-up, checkpointed-under, under-checkpointed, before-checkpointed, checkpointed-longer, precedes-antisym}
 use Rattle.marks.proofs.Tests.{same-test}
-use Rattle.marks.proofs.Trail.{Precedes}
 use Rattle.maps.specs.declared.DependenceMap.{DependenceMap}
 use Rattle.maps.specs.Map.{heldAt, historyAt}
 use Rattle.maps.specs.View.{mapView}
@@ -152,11 +152,11 @@ rests-trans p itself = p
 rests-trans p (via q e) = via (rests-trans p q) e
 
 module _ {y : Layout} {s : State} (well : WellFormed y s) {b : Provenance} (r : Rel (view s) b) where
-  through-live : {t u : ℕ} → Live (b .holders t .status) → RestsThrough b t u → Live (b .holders u .status)
+  pub through-live : {t u : ℕ} → Live (b .holders t .status) → RestsThrough b t u → Live (b .holders u .status)
   through-live there itself = there
   through-live there (via q e) = ground-live (view s) b r (rests-present (view s) b r e)
 
-  live-below : (t : ℕ) → Live (b .holders t .status) → t < y .transactors
+  pub live-below : (t : ℕ) → Live (b .holders t .status) → t < y .transactors
   unfolding view
   live-below t there = ⊎-elim (λ h. h) (λ (h : y .transactors ≤ t). absurd (past (no-transactor well t h))) (sides t (y .transactors))
     where
@@ -165,7 +165,7 @@ module _ {y : Layout} {s : State} (well : WellFormed y s) {b : Provenance} (r : 
           let k : live (transactorAt s t) ≡ true = live-test (transactorAt s t .status) .1 (rw (r .holders t .status) there) in
           false≢true (subst (λ (x : Transactor). live x ≡ true) e k)
 
-  through-to : (k t w : ℕ) → Live (b .holders t .status) → throughAt s k t w ≡ true → RestsThrough b t w
+  pub through-to : (k t w : ℕ) → Live (b .holders t .status) → throughAt s k t w ≡ true → RestsThrough b t w
   through-to zero t w there e = ⊎-elim (λ (q : t ≡ w). subst (RestsThrough b t) q itself) (λ q. via itself (rests-exactly well r t there w .0 q)) (through-first s t w e)
   through-to (suc k) t w there e = go (through-split s k t w e) (λ (u x : ℕ). through-to k u x)
     where

@@ -2,19 +2,17 @@
 use Prim.Native.Nat.{ℕ, zero, suc, _*_, _<_}
 use mathlib.Core.Path.{_≡_}
 use mathlib.Core.List.{List}
-use lib.ListN.{length, getD, length-append}
 use Rattle.octets.specs.Bytes.{part, chunks, Octets}
 use Rattle.octets.proofs.Chunks.{part-chunks}
-use Rattle.octets.proofs.Numbers.{length-be, be-one}
 use Rattle.rules.specs.Layout.{Layout, Fitting}
 use Rattle.rules.specs.State.{State}
-use Rattle.rules.specs.declared.Reply.{Reply}
 use Rattle.rules.specs.Step.{stepBytes, stepAt, packReply}
 use Rattle.rules.specs.Rules.{stepOf}
 use Rattle.rules.specs.Calls.{stateAfter, replyAt}
 use Rattle.rules.specs.Internal.Well.{WellFormed}
 use Rattle.rules.proofs.Keep.Run.{stepOk-at}
 use Rattle.rules.proofs.Keep.Step.{keeps-after}
+pub use Rattle.rules.proofs.Replies.{length-packReply, first-packReply}
 use Rattle.session.specs.Provenance.{Provenance}
 use Rattle.session.specs.Fed.{ProvenanceSteps, none, more}
 use Rattle.session.proofs.Model.{view}
@@ -40,15 +38,6 @@ module _ {y : Layout} (z : Fitting y) {s : State} (well : WellFormed y s) {b : P
   run-right (suc i) = one-more i (run-right i)
 
 -- ---- the bytes handed back
-
-pub length-packReply : (r : Reply) → length (packReply r) ≡ stepBytes
-unfolding packReply
-length-packReply r = simp (length-append, length-be)
-
--- its first byte is the outcome
-pub first-packReply : (r : Reply) → r .outcome < 256 → getD (packReply r) 0 0 ≡ r .outcome
-unfolding packReply
-first-packReply r h = rw (be-one (r .outcome) h)
 
 -- reply i among n packed ones
 pub reply-part : (y : Layout) (s : State) (steps : List ℕ) (n i : ℕ) → i < n

@@ -12,13 +12,13 @@ use borrow.Author.Tests.{eqb-true, eq-eqb}
 use Rattle.octets.specs.Bytes.{_and_}
 use Rattle.marks.specs.Incarnation.{Incarnation, Superseded, supersededBy}
 use Rattle.marks.specs.History.{HistoryView, newerView}
-use Rattle.marks.proofs.Trail.{Precedes}
+use Rattle.marks.specs.Order.{Precedes}
 use Rattle.marks.proofs.Order.{precedes-refl, precedes-trans, newest-superseded}
 use Rattle.octets.proofs.Zero.{both}
 use Rattle.marks.proofs.Tests.{superseded-test}
 use Rattle.marks.proofs.Histories.{_⊑_, ⊑-trans, newerView-which, newerView-later, newerView-right}
 use Rattle.maps.specs.Internal.View.{MapView, joinEntry, joinView, emptyView, singletonView, SupersededView, superseded-entry}
-use Rattle.maps.proofs.Tables.{updated-view, updated-same}
+use Rattle.octets.proofs.Tables.{updated-view, updated-same}
 use Rattle.session.specs.Provenance.{Entry, Incarnations, In, one, anyEntry, supersededEntry, anySuperseded}
 use Rattle.session.proofs.Tables.{or-to, or-of, and-of}
 

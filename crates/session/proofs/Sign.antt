@@ -6,7 +6,7 @@ use mathlib.Core.Logic.{_⊎_, inl, inr, ⊎-elim}
 use mathlib.Core.Option.{some}
 use Rattle.marks.specs.Incarnation.{Incarnation, Checkpointed}
 use Rattle.marks.specs.History.{HistoryView}
-use Rattle.marks.proofs.Trail.{Under}
+use Rattle.marks.specs.Order.{Under}
 use Rattle.marks.proofs.Order.{precedes-split, under-split, under-checkpointed, checkpointed-under, checkpointed-longer, before-checkpointed}
 use Rattle.marks.proofs.Tests.{decCheckpointed}
 use Rattle.maps.specs.Internal.View.{MapView}
@@ -49,7 +49,7 @@ checkpointedNow-under b h s = record { live = s .live; is = under-checkpointed h
 
 -- ---- withdrawn: neither a signed life is, nor a present one
 
-live-there : {s : Status} → Live s → s ≡ annihilated → ⊥
+pub live-there : {s : Status} → Live s → s ≡ annihilated → ⊥
 live-there {s} k e = none (rw e at k)
   where
     none : Live annihilated → ⊥

@@ -6,7 +6,7 @@ use mathlib.Core.Path.{_≡_, refl, ap, sym, _∙_}
 use native.Mathlib.Omega.{arith}
 use lib.Dec.{eqb}
 use lib.ListN.{length}
-use borrow.Author.Tests.{eqb-true, leb-false}
+use borrow.Author.Tests.{eqb-true}
 use Rattle.octets.specs.Bytes.{pick, _and_, _or_}
 use Rattle.octets.specs.Numbers.{bound}
 use Rattle.octets.proofs.Zero.{both}
@@ -19,7 +19,7 @@ use Rattle.rules.specs.declared.Reply.{Reply}
 use Rattle.rules.specs.Step.{receive, dropped}
 use Rattle.rules.specs.Rules.{Effect, Result, rollback, messageSuperseded, receiverSuperseded, receiveBy, receiptRollsBack, seen, refusal, answer, applyReceive, apply, stepOf}
 use Rattle.rules.specs.Internal.Well.{TransactorOk, MessageOk, Known, Live, Alive, TransactorFormed, StepOk, WellFormed}
-use Rattle.rules.proofs.Keep.Accepted.{Accepted, accepted, message-waits, receiver-ready, falls-received}
+use Rattle.rules.proofs.Keep.Accepted.{Accepted, accepted, receiver-ready, falls-received}
 use Rattle.rules.proofs.Keep.Transactor.{TransactorWell, EffectOk, formed-alive, rollback-ok}
 use Rattle.rules.proofs.Keep.State.{well-withTransactor, well-withoutMessage}
 use Rattle.rules.proofs.Keep.Step.{applied-same, keeps}
@@ -34,6 +34,7 @@ use Rattle.session.proofs.Messages.{receiveMessage}
 use Rattle.session.proofs.Kept.{appliedLedger, stepLedger, Kept, step-kept}
 use Rattle.session.proofs.ViewRules.{droppedAt, rolledBackAt, view-receive-silently}
 use Rattle.session.proofs.ViewStep.{readyAt, step-tests, view-step, same-refusal}
+use Rattle.rules.proofs.Keep.Kinds.{place-waits}
 
 -- ---- a receipt that is not refused
 
@@ -56,8 +57,7 @@ module _ {y : Layout} {s : State} {p : Step} (well : WellFormed y s) (k : eqb (p
   x = transactorAt s receiver
 
   pub place : waits < length (s .messages)
-  unfolding seen
-  place = leb-false (length (s .messages)) (placeOf s (p .message)) (message-waits a (rw k))
+  place = place-waits y s p a (rw k)
 
   receiver-opened : receiver < s .opened
   receiver-opened = well .addressees waits place

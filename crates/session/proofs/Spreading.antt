@@ -10,6 +10,7 @@ use native.Mathlib.Decide.{ℕ-discrete}
 use native.Mathlib.Omega.{arith}
 use lib.Dec.{eqb, leb}
 use lib.ListN.{length, getD, length-map}
+use Rattle.octets.proofs.Tests as law
 use borrow.Author.Tests.{eqb-true, eqb-false, eq-eqb, le-leb}
 use Rattle.octets.specs.Bytes.{pick, _and_}
 use Rattle.octets.specs.Numbers.{bound}
@@ -20,8 +21,8 @@ use Rattle.marks.specs.declared.History.{History}
 use Rattle.marks.specs.History.{initialView, incarnationOf}
 use Rattle.marks.proofs.Order.{superseded-up, superseded-irrefl, precedes-next, precedes-checkpoint}
 use Rattle.maps.specs.View.{mapView}
-use Rattle.maps.specs.Table.{updated}
-use Rattle.maps.proofs.Tables.{updated-view}
+use Rattle.octets.specs.Table.{updated}
+use Rattle.octets.proofs.Tables.{updated-view}
 use Rattle.maps.proofs.View.{view-empty}
 use Rattle.rules.specs.Layout.{Layout, Fitting}
 use Rattle.rules.specs.Status as number
@@ -32,8 +33,8 @@ use Rattle.rules.specs.Refusals.{named}
 use Rattle.rules.specs.Rules.{stepOf}
 use Rattle.rules.specs.Dependents.{holdsPresent, worksAt, carriesAt, groupOf, dependentsOf}
 use Rattle.rules.specs.ReadyGroups.{howMany}
-use Rattle.rules.proofs.Bits.{named-zero}
-use Rattle.rules.proofs.Groups.Dependents.{in-group}
+use Rattle.rules.proofs.Bits.{named-zero, named-past}
+use Rattle.rules.proofs.Groups.Dependents.{group-names, in-group}
 use Rattle.rules.specs.Obstacle.{StandsIn}
 use Rattle.rules.specs.Internal.Well.{StepOk, TransactorFormed, not-opened, gone, alive, WellFormed}
 use Rattle.rules.proofs.Keep.Accepted.{kind-known}
@@ -385,6 +386,11 @@ module _ {y : Layout} (z : Fitting y) {img : List ℕ} {τ : Trace y img} {s : S
 none-named : (n : ℕ) (f : ℕ → Bool) → groupOf n f ≡ 0 → (u : ℕ) → u < n → f u ≡ false
 none-named n f e u h = sym (in-group n f u h) ∙ ap (λ (g : ℕ). named g u) e ∙ named-zero u
 
+counted-alike : (n : ℕ) (f g : ℕ → Bool) → ((i : ℕ) → i < n → f i ≡ g i) → howMany n f ≡ howMany n g
+unfolding howMany
+counted-alike zero f g e = refl
+counted-alike (suc n) f g e = rw (counted-alike n f g (λ i h. e i (omega arith)), e n (omega arith))
+
 none-counted : (n : ℕ) (f : ℕ → Bool) → howMany n f ≡ 0 → (i : ℕ) → i < n → f i ≡ false
 unfolding howMany
 none-counted zero f e i h = absurd (omega arith)
@@ -415,3 +421,38 @@ module _ {y : Layout} (z : Fitting y) {img : List ℕ} {τ : Trace y img} {s : S
       → {after : State} → Further y (stepOf y s p .state) after → (u : ℕ) (h : History) → StandsIn after u t h
       → incarnationOf h ≡ incarnationOf (ownHistory t (transactorAt s t)) → ⊥
   spoils-nobody-answered ok taken {t} w alone-in e f = spoils-nobody z k ok taken w alone-in (idle-by t e) (carried-by t f)
+
+  -- ---- `unfinished` and `carried`, by the book
+
+  -- Take u is in `unfinished` exactly if the present life of take t is in u's behaviour set. Such a take is at work.
+  pub unfinished-means : (t : ℕ) → Live (b .holders t .status) → (u : ℕ) → (named (dependentsOf y s t .unfinished) u ≡ true) ↔ In t (b .holders t .history .incarnation) (b .holders u .behaviour)
+  unfolding dependentsOf
+  unfinished-means t there u = (
+    λ e. works-exactly (well z k) (related z k) t there u .0 (inside e (sides u (y .transactors))),
+    λ i. let e = works-exactly (well z k) (related z k) t there u .1 i in in-group (y .transactors) (worksAt s t) u (below e (sides u (y .transactors))) ∙ e,
+  )
+    where
+      inside : named (groupOf (y .transactors) (worksAt s t)) u ≡ true → (u < y .transactors) ⊎ (y .transactors ≤ u) → worksAt s t u ≡ true
+      inside e (inl h) = sym (in-group (y .transactors) (worksAt s t) u h) ∙ e
+      inside e (inr h) = absurd (false≢true (sym (named-past _ u (y .transactors) (group-names (y .transactors) (worksAt s t) .bits) h) ∙ e))
+
+      below : worksAt s t u ≡ true → (u < y .transactors) ⊎ (y .transactors ≤ u) → u < y .transactors
+      below e (inl h) = h
+      below e (inr h) = absurd (false≢true (sym (idle-past t u h) ∙ e))
+
+  -- `carried` is how many of the book's waiting parcels have it in their sets, by whatever test f that says so.
+  pub carried-means : (t : ℕ) → Live (b .holders t .status) → (f : ℕ → Bool)
+      → ((i : ℕ) → i < length (b .messages) → (f i ≡ true) ↔ In t (b .holders t .history .incarnation) (getD (b .messages) i noWaitingMessage .incarnations))
+      → dependentsOf y s t .carried ≡ howMany (length (b .messages)) f
+  unfolding dependentsOf view
+  carried-means t there f tests = subst (λ (n : ℕ). howMany n (carriesAt s t) ≡ howMany (length (b .messages)) f) (sym many)
+      (counted-same (length (b .messages)) (λ i h.
+      let l : i < length (s .messages) = omega (arith, many) in
+      let c = carries-exactly (well z k) (related z k) t there i l in
+      law.same-test (carriesAt s t i) (f i) (λ e. tests i h .1 (c .0 e)) (λ e. c .1 (tests i h .0 e))))
+    where
+      many : length (s .messages) ≡ length (b .messages)
+      many = sym (length-map (s .messages) viewMessage) ∙ all2-length (related z k .messages)
+
+      counted-same : (n : ℕ) → ((i : ℕ) → i < n → carriesAt s t i ≡ f i) → howMany n (carriesAt s t) ≡ howMany n f
+      counted-same n e = counted-alike n (carriesAt s t) f e

@@ -12,7 +12,7 @@ use borrow.Author.Tests.{eq-eqb, eqb-true}
 use Rattle.octets.specs.Numbers.{bound}
 use Rattle.marks.specs.Incarnation.{Incarnation}
 use Rattle.marks.specs.History.{HistoryView}
-use Rattle.marks.proofs.Trail.{Under}
+use Rattle.marks.specs.Order.{Under}
 use Rattle.marks.proofs.Order.{checkpointed-under, under-eq, under-split, precedes-split, superseded-up, superseded-not-under, precedes-antisym}
 use Rattle.marks.proofs.Histories.{newerView-which}
 use Rattle.maps.specs.Internal.View.{MapView, joinEntry, SupersededView, superseded-entry}
@@ -21,7 +21,6 @@ use Rattle.rules.proofs.Bits.{named-add, add-fits}
 use Rattle.session.specs.Provenance.{Live, Incarnations, In, Provenance, find}
 use Rattle.session.specs.Grounds.{in-state, in-creation}
 use Rattle.session.specs.Steps.{isRolledBack}
-use Rattle.session.specs.Waiting.{none}
 use Rattle.session.proofs.Model.{Ledger, own, findMessage, knownMap}
 use Rattle.session.proofs.Tables.{or-to, or-of}
 use Rattle.session.proofs.Sets.{SetRel, set-join, cell-has}

@@ -1,9 +1,8 @@
 -- Every list of calls that starts with an accepted begin has a trace, and so a book: the book is a function of the calls.
 use Prim.Native.Nat.{ℕ}
 use mathlib.Core.Bool.{true, false, not}
-use mathlib.Core.Path.{_≡_, refl, ap, sym, subst}
+use mathlib.Core.Path.{_≡_, refl, ap}
 use mathlib.Core.List.{List, _∷_}
-use mathlib.Core.Logic.{_↔_}
 use lib.ListN.{length}
 use borrow.Author.Tests.{eq-eqb}
 use Rattle.octets.specs.Bytes.{zeros}
@@ -13,8 +12,8 @@ use Rattle.rules.specs.Calls.{wrongLength, beginAnswer}
 use Rattle.rules.proofs.Calls.Begin.{begin-accepted}
 use Rattle.rules.proofs.Keep.Step.{fitting-base}
 use Rattle.session.specs.Provenance.{Provenance}
-use Rattle.session.specs.Fed.{Call, begin, run, offer, smallest, heard, counts, depends, hinders, show, ProvenanceOf}
-use Rattle.session.specs.Trace.{Answer, Performed, beginning, running, offering, naming, hearing, counting, depending, hindering, showing, Trace, opened, called, callsOf, Started, first, later, Traced}
+use Rattle.session.specs.Fed.{Call, begin, run, offer, smallest, heard, counts, depends, hinders, blocks, show, ProvenanceOf}
+use Rattle.session.specs.Trace.{Answer, Performed, beginning, running, offering, naming, hearing, counting, depending, hindering, blocking, showing, Trace, opened, called, callsOf, Started, first, later, Traced}
 use Rattle.session.proofs.Unique.{provenance-unique}
 use Rattle.session.proofs.Calls.{Holds}
 use Rattle.session.proofs.Queries.{offers-exist, smallest-exist}
@@ -32,6 +31,7 @@ performs h (heard t) = (_, _, hearing (refl, refl))
 performs h (counts n) = (_, _, counting (refl, refl))
 performs h (depends t) = (_, _, depending (refl, refl))
 performs h (hinders v) = (_, _, hindering (refl, refl))
+performs h (blocks t) = (_, _, blocking (refl, refl))
 performs h (show n) = (_, _, showing (refl, refl))
 
 -- ---- every list of calls, the last one first
@@ -69,13 +69,3 @@ provenance-exists {y} z s =
     let k = every-list z s in
     let d = grown z (k .trace) in
     (d .provenance, rw (k .calls) at (d .fed))
-
--- With provenance-unique it is one book: a function of the calls alone.
-unfoldable pub provenanceFed : {cs : List Call} → Started base cs → Provenance
-provenanceFed s = provenance-exists fitting-base s .0
-
-pub provenance-fed : {cs : List Call} (s : Started base cs) {b : Provenance} → ProvenanceOf base cs b ↔ (b ≡ provenanceFed s)
-unfolding provenanceFed
-provenance-fed {cs} s {b} =
-    let k = provenance-exists fitting-base s in
-    (λ f. provenance-unique f (k .1), λ e. subst (λ c. ProvenanceOf base cs c) (sym e) (k .1))

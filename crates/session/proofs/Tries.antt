@@ -10,7 +10,7 @@ use Rattle.octets.specs.Numbers.{bound}
 use Rattle.marks.specs.Incarnation.{Incarnation, initialIncarnation, Checkpointed, begins, sameList, beginsWith, strictPrefix, supersededBy}
 use Rattle.marks.specs.Relation.{byNumbers, byNextEntry, relationOf}
 use Rattle.marks.proofs.Order.{checkpointed-irrefl}
-use Rattle.maps.specs.Table.{updated}
+use Rattle.octets.specs.Table.{updated}
 use Rattle.octets.specs.Bytes.{any}
 use Rattle.rules.specs.Layout.{Limits, base}
 use Rattle.rules.specs.declared.Step.{Step}
@@ -21,26 +21,11 @@ use Rattle.session.specs.Grounds.{from-start, from-noted, from-list, Gro
 use Rattle.session.specs.Unrelated.{unrelatedEntry, anyUnrelated, isUnrelatedTo}
 use Rattle.session.specs.Steps.{rolledBackHolder, reads, writes, freezes, finishes, rollsBackOrFinishes, rollsBackOrStays, acted, isDropped, isRolledBack, received, signs, checkpointedAt, NotedBy, before, now-checkpointed, opensRoot, opensChild, receives, applied, provenanceSeen, provenanceRefusal, signing, not-ready}
 use Rattle.session.proofs.Accepted.{named-within}
-use Rattle.session.specs.Play.{wideProvenance, aRoot, aLetter, aReceive, aNew, aSend, aWrite, aStep, aSign, Play, end, then, After}
-use Rattle.session.proofs.Plays.{play-on, quiet, played, play-quiet, played-notes, entry-cases, one-case, ground-state, differs, brings-itself, alone-equal, pair-equal, only-3, only-6}
+use Rattle.session.specs.Play.{wideProvenance, aRoot, aLetter, aReceive, aNew, aSend, aWrite, aStep, aSign, Play, end, then, After, played}
+use Rattle.session.specs.Sessions.{firstNine, firstEleven, thirteen, carriedOn, upToSigning, oldMessage, thenRolledBack, thenTold, unreadSteps, readSteps, childSteps, openerSteps, smallLimits, smallSteps, receiveAndFreeze, smallProvenance, usedProvenance, incarnation0, incarnation1, incarnation2, incarnation3, child, holder, strange, pastedProvenance}
+use Rattle.session.proofs.Plays.{play-on, quiet, play-quiet, played-notes, entry-cases, one-case, ground-state, differs, brings-itself, alone-equal, pair-equal, only-3, only-6}
 
 -- ---- document 01's session
-
--- root 7; root 8; letter to 0 text 5; receive 0; write take 0 text 9; send 0 to 1 text 9; receive 1; write take 1 text 10; freeze 1
-abbrev pub firstNine : List Step
-firstNine = aRoot 7 ∷ aRoot 8 ∷ aLetter 0 5 ∷ aReceive 0 ∷ aWrite 0 9 ∷ aSend 0 1 9 ∷ aReceive 1 ∷ aWrite 1 10 ∷ aStep freeze 1 ∷ []
-
--- sign 2; freeze 0
-abbrev pub firstEleven : List Step
-firstEleven = firstNine ++ (aSign 2 ∷ aStep freeze 0 ∷ [])
-
--- sign 3; fail 0
-abbrev pub thirteen : List Step
-thirteen = firstEleven ++ (aSign 3 ∷ aStep fail 0 ∷ [])
-
--- carried on after step 12: root 3; letter to 1; receive 2; send 1 to 2; receive 3; write take 2; freeze 2; freeze 1
-abbrev pub carriedOn : List Step
-carriedOn = aRoot 3 ∷ aLetter 1 4 ∷ aReceive 2 ∷ aSend 1 2 5 ∷ aReceive 3 ∷ aWrite 2 6 ∷ aStep freeze 2 ∷ aStep freeze 1 ∷ []
 
 provenance9 : Provenance
 provenance9 = played wideProvenance firstNine
@@ -55,22 +40,6 @@ carriedProvenance : Provenance
 carriedProvenance = played (signs provenance11 3) carriedOn
 
 -- ---- sessions in which take 0 is signed at its opening life
-
--- parcel 1 carries the opening life of take 0
-abbrev pub upToSigning : List Step
-upToSigning = aRoot 1 ∷ aRoot 2 ∷ aLetter 0 3 ∷ aReceive 0 ∷ aSend 0 1 4 ∷ aStep freeze 0 ∷ []
-
--- take 0 falls, and take 1 takes that in by parcel 4; then it receives parcel 1
-abbrev pub oldMessage : List Step
-oldMessage = aLetter 0 5 ∷ aReceive 2 ∷ aStep fail 0 ∷ aLetter 0 6 ∷ aReceive 3 ∷ aSend 0 1 7 ∷ aReceive 4 ∷ aWrite 1 8 ∷ aStep finish 1 ∷ aReceive 1 ∷ []
-
--- take 1 takes in the second life of take 0 and is frozen; take 0 falls and is frozen
-abbrev pub thenRolledBack : List Step
-thenRolledBack = aLetter 0 5 ∷ aReceive 2 ∷ aSend 0 1 6 ∷ aReceive 3 ∷ aWrite 1 7 ∷ aStep freeze 1 ∷ aStep fail 0 ∷ aLetter 0 8 ∷ aReceive 4 ∷ aStep freeze 0 ∷ []
-
--- the same, but take 1 is idle, and parcel 5 carries the third life of take 0 to it
-abbrev pub thenTold : List Step
-thenTold = aLetter 0 5 ∷ aReceive 2 ∷ aSend 0 1 6 ∷ aReceive 3 ∷ aWrite 1 7 ∷ aStep freeze 1 ∷ aStep finish 1 ∷ aStep fail 0 ∷ aLetter 0 8 ∷ aReceive 4 ∷ aSend 0 1 9 ∷ []
 
 uncheckpointedProvenance : Provenance
 uncheckpointedProvenance = played wideProvenance upToSigning
@@ -92,12 +61,6 @@ toldProvenance = played checkpointedProvenance thenTold
 
 -- ---- a sender that has not read, and then has
 
-abbrev pub unreadSteps : List Step
-unreadSteps = aRoot 1 ∷ aRoot 2 ∷ aRoot 3 ∷ aLetter 0 4 ∷ aReceive 0 ∷ aSend 0 1 5 ∷ aReceive 1 ∷ aWrite 1 6 ∷ aStep finish 1 ∷ aLetter 1 7 ∷ aReceive 2 ∷ aSend 1 2 8 ∷ []
-
-abbrev pub readSteps : List Step
-readSteps = aStep read 1 ∷ aSend 1 2 9 ∷ []
-
 unreadProvenance : Provenance
 unreadProvenance = played wideProvenance unreadSteps
 
@@ -106,77 +69,13 @@ readProvenance = played unreadProvenance readSteps
 
 -- ---- a take that opens another
 
--- take 0 opens take 1, which is written after a letter and frozen: its state set holds its own life alone
-abbrev pub childSteps : List Step
-childSteps = aRoot 1 ∷ aLetter 0 2 ∷ aReceive 0 ∷ aNew 0 3 ∷ aLetter 1 4 ∷ aReceive 1 ∷ aWrite 1 5 ∷ aStep freeze 1 ∷ []
-
--- sign 2; freeze 0
-abbrev pub openerSteps : List Step
-openerSteps = childSteps ++ (aSign 2 ∷ aStep freeze 0 ∷ [])
-
 childProvenance : Provenance
 childProvenance = played wideProvenance childSteps
 
 openerProvenance : Provenance
 openerProvenance = played childProvenance (aStep freeze 0 ∷ [])
 
--- ---- a small book (document 02, W7)
-
-abbrev pub smallLimits : Limits
-smallLimits = record { transactors = 2; messages = 1; checkpoints = 1 }
-
--- root 1; root 2; letter to 0
-abbrev pub smallSteps : List Step
-smallSteps = aRoot 1 ∷ aRoot 2 ∷ aLetter 0 3 ∷ []
-
--- take 0 receives, is frozen and signed; and once more, up to the second signing
-abbrev pub receiveAndFreeze : ℕ → List Step
-receiveAndFreeze n = aReceive n ∷ aStep freeze 0 ∷ []
-
-pub smallProvenance : Provenance
-smallProvenance = played (emptyProvenance smallLimits) smallSteps
-
-pub usedProvenance : Provenance
-usedProvenance = played (signs (played smallProvenance (receiveAndFreeze 0)) 1) (aLetter 0 4 ∷ receiveAndFreeze 1)
-
 -- ---- what computes
-
--- lives: the opening one, that after a signing at it, the next one, that after a signing at this one
-abbrev incarnation0 : Incarnation
-incarnation0 = initialIncarnation
-
-abbrev incarnation1 : Incarnation
-incarnation1 = record { checkpoints = 0 ∷ []; number = 0 }
-
-abbrev incarnation2 : Incarnation
-incarnation2 = record { checkpoints = 0 ∷ []; number = 1 }
-
-abbrev incarnation3 : Incarnation
-incarnation3 = record { checkpoints = 0 ∷ 1 ∷ []; number = 0 }
-
-abbrev child : Status → Bool → Incarnation → Incarnations → Incarnations → Incarnations → Holder
-child s f a state creation behaviour = record { status = s; history = record { stable = f; incarnation = a }; state = state; creation = creation; behaviour = behaviour }
-
--- one that nobody opened
-abbrev holder : Status → Bool → Incarnation → Incarnations → Incarnations → Holder
-holder s f a state behaviour = child s f a state [] behaviour
-
--- ---- a take pasted from another book (document 02, W3): no session comes to it
-
--- a life that (0;0) cannot follow: it was never signed at 0
-abbrev strange : Incarnation
-strange = record { checkpoints = []; number = 2 }
-
--- every take is idle and has these two sets; parcel 0, to take 0, carries life (0;0) of take 1
-abbrev pub pastedProvenance : Incarnations → Incarnations → Provenance
-pastedProvenance state creation = record {
-  limits = wideProvenance .limits;
-  opened = 2;
-  next = 1;
-  holders = λ t. child ready false incarnation0 state creation [];
-  messages = record { number = 0; addressee = 0; incarnations = one 1 incarnation1 } ∷ [];
-  noted = λ t a u c. ⊥;
-}
 
 record Computed : Type 0 where
   quiet-9 : quiet wideProvenance firstNine ≡ true

@@ -10,8 +10,8 @@ use Rattle.octets.specs.Numbers.{bound}
 use Rattle.marks.specs.Incarnation.{Incarnation, Superseded, Checkpointed, nextIncarnation, checkpointIncarnation}
 use Rattle.marks.specs.History.{initialView, rolledBackView, checkpointedView}
 use Rattle.marks.proofs.Order.{superseded-up, checkpointed-up, superseded-irrefl, checkpointed-irrefl, superseded-next, precedes-next, checkpointed-checkpoint, precedes-checkpoint}
-use Rattle.maps.specs.Table.{updated}
-use Rattle.maps.proofs.Tables.{updated-view}
+use Rattle.octets.specs.Table.{updated}
+use Rattle.octets.proofs.Tables.{updated-view}
 use Rattle.rules.specs.Layout.{Layout}
 use Rattle.rules.specs.declared.Step.{Step}
 use Rattle.rules.specs.Step.{root, letter, receive, new, send, read, write, freeze, finish, fall, fail, lose, sign}
@@ -23,7 +23,7 @@ use Rattle.session.specs.Steps.{isNil, anew, rolledBackHolder, reads, wr
 use Rattle.session.proofs.Model.{Ledger}
 use Rattle.session.proofs.Tables.{pick-view, and-of}
 use Rattle.session.proofs.Relation.{live-used, gone-used, Rel}
-use Rattle.session.proofs.Sign.{Ready, equal-ready}
+use Rattle.session.proofs.Sign.{Ready, equal-ready, live-there}
 use Rattle.session.proofs.Accepted.{provenance-accepted, acting-live, receiving-live, named-live}
 
 -- ---- one take, h before and k after
@@ -154,10 +154,7 @@ data Since (h k : Holder) : Type 0 where
   dead : k .status ≡ annihilated → Since h k
 
 pub dead-live : {s : Status} → s ≡ annihilated → Live s → ⊥
-dead-live {s} e k = not-live (rw e at k)
-  where
-    not-live : Live annihilated → ⊥
-    not-live w = elim w [ ]
+dead-live e k = live-there k e
 
 later-next : {a c : Incarnation} → Later a c → Later a (nextIncarnation c)
 later-next {a} {c} (later-superseded s) = later-superseded (superseded-up s (precedes-next c))

@@ -18,11 +18,11 @@ use Rattle.marks.specs.History.{incarnationOf, initialHistory, stabilized, roll
 use Rattle.marks.proofs.Histories.{roomy-length, roomy-initial}
 use Rattle.marks.proofs.Tests.{checkpointed-test, same-test}
 use Rattle.maps.specs.declared.DependenceMap.{DependenceMap}
-use Rattle.maps.specs.Map.{heldAt, historyAt}
-use Rattle.maps.specs.Table.{updated}
+use Rattle.maps.specs.Map.{heldAt, historyAt, Within}
+use Rattle.octets.specs.Table.{updated}
 use Rattle.maps.specs.Internal.View.{joinEntry, emptyView, singletonView, mapView, SupersededView}
 use Rattle.maps.proofs.News.{informedTable, table-informed}
-use Rattle.maps.proofs.View.{Answers, one, no-one, view-superseded, view-held, view-some, Within, roomy-entry, within-none, within-ok, within-singleton, within-join, view-empty, view-withEntry, view-singleton, view-join}
+use Rattle.maps.proofs.View.{Answers, one, no-one, view-superseded, view-held, view-some, roomy-entry, within-none, within-ok, within-singleton, within-join, view-empty, view-withEntry, view-singleton, view-join}
 use Rattle.rules.specs.Layout.{Layout}
 use Rattle.rules.specs.State.{Transactor, Message, State, transactorAt, messageAt, ownHistory, live, withTransactor, withoutMessage, numbered, placeOf}
 use Rattle.rules.specs.State as state

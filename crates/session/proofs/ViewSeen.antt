@@ -28,7 +28,7 @@ module _ {y : Layout} {s : State} (well : WellFormed y s) where
       (λ t h. sym (status-number (transactorAt s t .status) (well .packable .transactors t h .status)))
       (λ t. sym (status-number 0 (omega arith)))
 
-  seen-checkpoints : (t : ℕ) → ownHistory t (transactorAt s t) .count ≡ length (incarnationOf (ownHistory t (transactorAt s t)) .checkpoints)
+  pub seen-checkpoints : (t : ℕ) → ownHistory t (transactorAt s t) .count ≡ length (incarnationOf (ownHistory t (transactorAt s t)) .checkpoints)
   seen-checkpoints = at-transactor well (λ t x. ownHistory t x .count ≡ length (incarnationOf (ownHistory t x) .checkpoints))
       (λ t h. sym (roomy-length (own-roomy well t h)))
       (λ t. refl)

@@ -18,10 +18,10 @@ use Rattle.marks.proofs.Histories.{view-checkpointed}
 use Rattle.maps.specs.declared.DependenceMap.{DependenceMap}
 use Rattle.maps.specs.Map.{historyAt}
 use Rattle.maps.specs.Internal.Fitting.{EntryOk, present, absent, MapOk}
-use Rattle.maps.specs.Table.{updated}
+use Rattle.octets.specs.Table.{updated}
 use Rattle.maps.specs.Internal.View.{mapView}
 use Rattle.maps.proofs.Map.{outside}
-use Rattle.maps.proofs.Tables.{updated-is}
+use Rattle.octets.proofs.Tables.{updated-is}
 use Rattle.maps.proofs.View.{roomy-entry, within-ok, view-past, view-empty, view-singleton}
 use Rattle.rules.specs.Layout.{Layout, Limits}
 use Rattle.rules.specs.State.{Transactor, Message, State, bare, noMap, noTransactor, noMessage, transactorAt, messageAt, fresh, ownHistory, withTransactor, withOpened, withMessage, withoutMessage, placeFrom, numbered, placeOf}

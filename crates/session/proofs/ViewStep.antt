@@ -4,9 +4,9 @@ use mathlib.Core.Bool.{Bool, true, false, not, false≢true}
 use mathlib.Core.Path.{_≡_, refl, ap, sym, _∙_}
 use mathlib.Core.Logic.{_↔_, inl, inr, ⊎-elim}
 use native.Mathlib.Omega.{arith}
-use lib.Dec.{eqb, ltb, leb}
+use lib.Dec.{eqb, ltb}
 use lib.ListN.{length}
-use borrow.Author.Tests.{ltb-true, lt-ltb, leb-false, eqb-true, eqb-false, le-leb}
+use borrow.Author.Tests.{ltb-true, lt-ltb, leb-false, eqb-true, eqb-false}
 use Rattle.octets.specs.Bytes.{_and_, _or_, every}
 use Rattle.octets.specs.Numbers.{bound}
 use Rattle.octets.proofs.Chunks.{sides}
@@ -29,6 +29,7 @@ use Rattle.session.proofs.Messages.{ReceiptTests}
 use Rattle.session.proofs.Seen.{seenOf, refusal-same}
 use Rattle.session.proofs.Sign.{Ready}
 use Rattle.rules.proofs.Keep.Accepted.{Accepted, accepted, kind-known, message-waits, one-unopened, transactor-opened, named-opened, named-room}
+use Rattle.rules.proofs.Keep.Kinds.{acts-between}
 use Rattle.session.proofs.Accepted.{named-below}
 use Rattle.session.proofs.News.{informed-law}
 use Rattle.session.proofs.Kept.{appliedLedger, stepLedger, StepTests, Kept, step-kept}
@@ -108,10 +109,6 @@ pub record Applicable (y : Layout) (s : State) (p : Step) : Type 0 where
   pub among : eqb (p .kind) sign ≡ true → (t : ℕ) → named (p .message) t ≡ true → t < y .transactors
   pub room : eqb (p .kind) sign ≡ true → (t : ℕ) → named (p .message) t ≡ true → ownHistory t (transactorAt s t) .count < y .places
 
--- the kinds that act
-acting-kind : (k : ℕ) → new ≤ k → k ≤ fail → acts k ≡ true
-acting-kind k h l = and-of (leb new k) (leb k fail) (le-leb new k h) (le-leb k fail l)
-
 -- a result whose state is l
 abbrev Leaves : Result → Ledger → Type 0
 Leaves r l = view (r .state) ≡ l
@@ -121,7 +118,7 @@ module _ {y : Layout} {s : State} {p : Step} (well : WellFormed y s) (bits : p .
   unfolding apply appliedLedger
   view-apply =
       let k : ℕ = p .kind in
-      let acting : new ≤ k → k ≤ fail → p .transactor < y .transactors = λ h l. a .acting (acting-kind k h l) in
+      let acting : new ≤ k → k ≤ fail → p .transactor < y .transactors = λ h l. a .acting (acts-between k h l) in
       pick-both Leaves (eqb k root) (eqb k root) refl _ _ _ _ (λ e. view-root well p (a .opens (rw e))) λ e0.
       pick-both Leaves (eqb k letter) (eqb k letter) refl _ _ _ _ (λ e. view-letter well p) λ e1.
       pick-both Leaves (eqb k receive) (eqb k receive) refl _ _ _ _ (λ e. view-receive well p (a .waits e)) λ e2.

@@ -35,9 +35,9 @@ use Rattle.rules.proofs.Keep.Step.{refused-same, applied-same, keeps, keeps-aft
 use Rattle.session.specs.Provenance.{Live, Holder, Provenance}
 use Rattle.session.specs.Grounds.{Equal}
 use Rattle.session.specs.Steps.{provenanceRefusal, signing}
-use Rattle.session.specs.Fed.{Call, begin, run, offer, smallest, heard, counts, depends, hinders, show}
-use Rattle.session.specs.Trace.{Answer, Performed, beginning, running, offering, naming, hearing, counting, depending, hindering, showing, Trace, called}
-use Rattle.session.specs.Waiting.{ReadyGroup, Grounded, Falls, falls-back, vanishes, falls-last, Stands, NoSigning, Waits, Waiting, none, one-more, SignsTake, Unsigned, Leaves, Leaving}
+use Rattle.session.specs.Fed.{Call, run}
+use Rattle.session.specs.Trace.{Answer, Performed, beginning, running, offering, naming, hearing, counting, depending, hindering, blocking, showing, Trace, CallsFrom, none, one-more, GoesOn}
+use Rattle.session.specs.Waiting.{ReadyGroup, Grounded, Falls, falls-back, vanishes, falls-last, Stands, NoSigning, Waits, Waiting, SignsTake, Unsigned, Leaves, Leaving}
 use Rattle.session.proofs.Model.{MessageView, own, findMessage, knownMap, view}
 use Rattle.session.proofs.Tables.{pick-view}
 use Rattle.session.proofs.Relation.{live-or-not, Rel, own-history}
@@ -48,7 +48,7 @@ use Rattle.session.proofs.ViewRules.{rolledBackAt, rolledBack-test, ent
 use Rattle.session.proofs.ViewStep.{stable-below, state-kept}
 use Rattle.session.proofs.Step.{SigningRight, checkpointed, uncheckpointed, StepRight, step-right}
 use Rattle.session.proofs.Run.{Ran, run-right}
-use Rattle.session.proofs.Grown.{grown}
+use Rattle.session.proofs.Grown.{grown, on-trace}
 use Rattle.session.proofs.Stands.{stands, With, with-exists, rule-with}
 use Rattle.session.proofs.Carried.{Signs, signs-on}
 use Rattle.session.proofs.Remainder.{Beside, beside-on}
@@ -123,7 +123,7 @@ module _ {y : Layout} (z : Fitting y) {s : State} (well : WellFormed y s) {b : P
     signing-ok = record { kind = omega arith; transactor = omega arith; other = omega arith; zero = omega arith; message = bits; value = omega arith }
 
     -- the signing of volume v would reply 0 exactly if the book signs it
-    signs-exactly : (stepOf y s (groups.signing v) .reply .outcome ≡ done) ↔ Signs y b v
+    pub signs-exactly : (stepOf y s (groups.signing v) .reply .outcome ≡ done) ↔ Signs y b v
     signs-exactly = (λ e. to e (ℕ-discrete (provenanceRefusal y b (groups.signing v)) 0), λ k. of (k .same) (right .signing (k .zero) refl))
       where
         right : StepRight y s b (groups.signing v) (step-right z well r signing-ok .after)
@@ -142,7 +142,7 @@ module _ {y : Layout} (z : Fitting y) {s : State} (well : WellFormed y s) {b : P
         of k (uncheckpointed n f g) = absurd (n k)
 
 module _ {y : Layout} (z : Fitting y) {s : State} (well : WellFormed y s) {b : Provenance} (r : Rel (view s) b) where
-  ready-on : {p : Step} → StepOk p → (p .kind ≡ sign → ⊥) → {v : ℕ} → ReadyGroup y s v → ReadyGroup y (stepOf y s p .state) v
+  pub ready-on : {p : Step} → StepOk p → (p .kind ≡ sign → ⊥) → {v : ℕ} → ReadyGroup y s v → ReadyGroup y (stepOf y s p .state) v
   ready-on {p} fits other {v} before =
       let k = state-kept well r p (fits .message) in
       let now = signs-exactly z well r v (before .bits) .0 (before .signs) in
@@ -303,80 +303,65 @@ module _ (y : Layout) (z : Fitting y) where
         octets : Octets b
         octets = octets-part start (end - start) list o
 
-  -- ---- calls that sign nothing
+  -- so is it by a call that goes on, if the runs keep it
+  pub call-keeps : (P : State → Type 0) {img after : List ℕ} {c : Call} {a : Answer} → GoesOn y img c → Performed y img c a after
+      → ((list : List ℕ) (o : Octets list) (start end : ℕ) (lent : List ℕ) → c ≡ run list o start end lent → P (unpack y img) → P (unpack y (runImage y img list start end lent)))
+      → P (unpack y img) → P (unpack y after)
+  unfolding beginImage
+  call-keeps P g (running {list} {o} {start} {end} {lent} e) keeps before = rw (e .1) (keeps list o start end lent refl before)
+  call-keeps P {img} g (beginning {m} q) keeps before = rw (q .1) (pick-view (λ (i : List ℕ). P (unpack y i)) (eqb (beginAnswer y m img) 0) _ img (λ e. absurd (g m refl (eqb-true (beginAnswer y m img) 0 e))) (λ e. before))
+  call-keeps P g (offering q) keeps before = before
+  call-keeps P g (naming q) keeps before = before
+  call-keeps P g (hearing q) keeps before = before
+  call-keeps P g (counting q) keeps before = before
+  call-keeps P g (depending q) keeps before = before
+  call-keeps P g (hindering q) keeps before = before
+  call-keeps P g (blocking q) keeps before = before
+  call-keeps P g (showing q) keeps before = before
 
-  waited : {img after : List ℕ} → Trace y img → Waiting y img after → Trace y after
-  waited τ none = τ
-  waited τ (one-more {c = c} {a = a} k w p) = called (waited τ k) c a p
+  -- ---- calls that sign nothing
 
   module _ (v : ℕ) where
     part-ready : (img : List ℕ) → Trace y img → (b : List ℕ) → Octets b → NoSigning b 0 (stepsIn b) → ReadyGroup y (stateAfter y (unpack y img) b 0) v → ReadyGroup y (stateAfter y (unpack y img) b (stepsIn b)) v
     part-ready i σ b o f = still-ready-steps y z σ b o 0 (stepsIn b) v (omega arith) f
 
-    call-ready : {img after : List ℕ} {c : Call} {a : Answer} → Trace y img → Waits c → Performed y img c a after → ReadyGroup y (unpack y img) v → ReadyGroup y (unpack y after) v
-    call-ready τ f (running {list} {o} {start} {end} {lent} e) before = rw (e .1) (run-keeps (λ i b. NoSigning b 0 (stepsIn b)) (λ s. ReadyGroup y s v) part-ready τ list o start end lent (λ q. f) before)
-    call-ready τ w (beginning q) before = absurd w
-    call-ready τ w (offering q) before = before
-    call-ready τ w (naming q) before = before
-    call-ready τ w (hearing q) before = before
-    call-ready τ w (counting q) before = before
-    call-ready τ w (depending q) before = before
-    call-ready τ w (hindering q) before = before
-    call-ready τ w (showing q) before = before
+    call-ready : {img after : List ℕ} {c : Call} {a : Answer} → Trace y img → Waits y img c → Performed y img c a after → ReadyGroup y (unpack y img) v → ReadyGroup y (unpack y after) v
+    call-ready τ w p = call-keeps (λ s. ReadyGroup y s v) (w .goes-on) p
+        (λ list o start end lent e. run-keeps (λ i b. NoSigning b 0 (stepsIn b)) (λ s. ReadyGroup y s v) part-ready τ list o start end lent (w .unsigned list o start end lent e))
 
-    -- The same over any list of calls that sign nothing: runs without a signing, offers, shows and queries, refused ones included.
+    -- The same over any list of calls that sign nothing: runs without a signing, offers, shows and queries, and whatever is refused.
     pub still-ready-calls : {img after : List ℕ} → Trace y img → Waiting y img after → ReadyGroup y (unpack y img) v → ReadyGroup y (unpack y after) v
     still-ready-calls τ none before = before
-    still-ready-calls τ (one-more k w p) before = call-ready (waited τ k) w p (still-ready-calls τ k before)
+    still-ready-calls τ (one-more k w p) before = call-ready (on-trace τ k) w p (still-ready-calls τ k before)
 
   -- ---- calls that leave take t unsigned
-
-  left : {t : ℕ} {img after : List ℕ} → Trace y img → Leaving y img t after → Trace y after
-  left τ none = τ
-  left τ (one-more {c = c} {a = a} k w p) = called (left τ k) c a p
 
   module _ (t : ℕ) where
     part-beside : (img : List ℕ) → Trace y img → (b : List ℕ) → Octets b → Unsigned y (unpack y img) b t 0 (stepsIn b) → Beside (view (stateAfter y (unpack y img) b 0)) t → Beside (view (stateAfter y (unpack y img) b (stepsIn b))) t
     part-beside i σ b o f = beside-after y z σ b o 0 (stepsIn b) t (omega arith) f
 
-    call-beside : {img after : List ℕ} {c : Call} {a : Answer} → Trace y img → Leaves y img t c → Performed y img c a after → Beside (view (unpack y img)) t → Beside (view (unpack y after)) t
-    unfolding beginImage
-    call-beside τ f (running {list} {o} {start} {end} {lent} e) before = rw (e .1) (run-keeps (λ i b. Unsigned y (unpack y i) b t 0 (stepsIn b)) (λ s. Beside (view s) t) part-beside τ list o start end lent f before)
-    call-beside {img} τ w (beginning {m} q) before = rw (q .1) (pick-view (λ (i : List ℕ). Beside (view (unpack y i)) t) (eqb (beginAnswer y m img) 0) _ img (λ e. absurd (w (eqb-true (beginAnswer y m img) 0 e))) (λ e. before))
-    call-beside τ w (offering q) before = before
-    call-beside τ w (naming q) before = before
-    call-beside τ w (hearing q) before = before
-    call-beside τ w (counting q) before = before
-    call-beside τ w (depending q) before = before
-    call-beside τ w (hindering q) before = before
-    call-beside τ w (showing q) before = before
+    call-beside : {img after : List ℕ} {c : Call} {a : Answer} → Trace y img → Leaves y t img c → Performed y img c a after → Beside (view (unpack y img)) t → Beside (view (unpack y after)) t
+    call-beside τ w p = call-keeps (λ s. Beside (view s) t) (w .goes-on) p
+        (λ list o start end lent e. run-keeps (λ i b. Unsigned y (unpack y i) b t 0 (stepsIn b)) (λ s. Beside (view s) t) part-beside τ list o start end lent (w .unsigned list o start end lent e))
 
     calls-beside : {img after : List ℕ} → Trace y img → Leaving y img t after → Beside (view (unpack y img)) t → Beside (view (unpack y after)) t
     calls-beside τ none before = before
-    calls-beside τ (one-more k w p) before = call-beside (left τ k) w p (calls-beside τ k before)
+    calls-beside τ (one-more k w p) before = call-beside (on-trace τ k) w p (calls-beside τ k before)
 
     -- And of the fact: no parcel of that session makes the take fall, until it is signed itself or the session is begun anew.
     pub never-falls-calls : {img after : List ℕ} → Trace y img → Leaving y img t after → (v : ℕ) → ReadyGroup y (unpack y img) v → Grounded (unpack y img) v t → Stands y (unpack y after) t
     never-falls-calls τ k v before g =
         let r = grown z τ .holds in
-        let q = grown z (left τ k) .holds in
+        let q = grown z (on-trace τ k) .holds in
         beside-stands z (q .well) (q .rel) t (calls-beside τ k (grounded-beside z (r .well) (r .rel) before g))
 
 -- calls that sign nothing leave every take unsigned
 pub waiting-leaves : {y : Layout} {img after : List ℕ} (t : ℕ) → Waiting y img after → Leaving y img t after
 waiting-leaves t none = none
-waiting-leaves {y} t (one-more {now} {c = c} k w p) = one-more (waiting-leaves t k) (leaves c w) p
-  where
-    leaves : (c : Call) → Waits c → Leaves y now t c
-    leaves (begin m) f = absurd f
-    leaves (run list o start end lent) f = λ e k a b s. f k a b (s .kind)
-    leaves (offer u) f = f
-    leaves (smallest u) f = f
-    leaves (heard u) f = f
-    leaves (counts n) f = f
-    leaves (depends u) f = f
-    leaves (hinders v) f = f
-    leaves (show n) f = f
+waiting-leaves t (one-more k w p) = one-more (waiting-leaves t k) (record {
+  goes-on = w .goes-on;
+  unsigned = λ list o start end lent e f i a b s. w .unsigned list o start end lent e f i a b (s .kind);
+}) p
 
 -- At the ledger's own layout: no hypothesis but the trace.
 module _ {img : List ℕ} (τ : Trace base img) where

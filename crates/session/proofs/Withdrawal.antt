@@ -1,21 +1,22 @@
 -- What a withdrawal spoils, and what it does not: of every session, at every s.
 use Prim.Native.Nat.{ℕ, zero, suc, _-_, _≤_, _<_}
-use mathlib.Core.Bool.{true, false, not, false≢true}
+use mathlib.Core.Bool.{Bool, true, false, not, false≢true}
 use mathlib.Core.Path.{_≡_, refl, ap, sym, _∙_, subst}
 use mathlib.Core.List.{List, [], _∷_, _++_}
 use mathlib.Core.Logic.{_⊎_, inl, inr, ⊎-elim, _↔_, _≢_}
-use mathlib.Core.Option.{some, none}
+use mathlib.Core.Option.{Option, some, none}
 use native.Mathlib.Decide.{ℕ-discrete}
 use native.Mathlib.Omega.{arith}
 use lib.Dec.{eqb, leb}
-use borrow.Author.Tests.{eq-eqb, eqb-false, leb-false}
+use borrow.Author.Tests.{eq-eqb, eqb-false, leb-false, leb-true, le-leb}
 use Rattle.octets.specs.Bytes.{part, Octets}
 use Rattle.octets.proofs.Chunks.{sides}
 use Rattle.octets.proofs.Put.{octets-part}
 use Rattle.octets.proofs.Tests.{pick-zero}
+use Rattle.octets.proofs.Tests as tests
 use Rattle.marks.specs.Incarnation.{Incarnation, Checkpointed, begins, nextIncarnation, sameIncarnation}
 use Rattle.marks.specs.History.{HistoryView, checkpointedView, incarnationOf}
-use Rattle.marks.proofs.Trail.{Precedes}
+use Rattle.marks.specs.Order.{Precedes}
 use Rattle.marks.proofs.Order.{superseded-ne, superseded-not-checkpointed, precedes-split, under-split, checkpointed-longer, checkpointed-irrefl, checkpointed-up, checkpointed-checkpoint, precedes-next}
 use Rattle.marks.proofs.Tests.{decTest, decCheckpointed, same-test}
 use Rattle.maps.specs.declared.DependenceMap.{DependenceMap}
@@ -26,10 +27,12 @@ use Rattle.rules.specs.State.{Transactor, State, noTransactor, transactorAt, ow
 use Rattle.rules.specs.State as state
 use Rattle.rules.specs.Form.{wellFormed}
 use Rattle.rules.specs.declared.Step.{Step}
-use Rattle.rules.specs.Step.{stepAt}
+use Rattle.rules.specs.Step.{stepAt, sign}
 use Rattle.rules.specs.Refusals.{named}
 use Rattle.rules.specs.Rules.{stepOf}
-use Rattle.rules.specs.Pack.{unpack}
+use Rattle.rules.specs.Pack.{pack, unpack}
+use Rattle.rules.specs.Groups.{Checkpointable, Smallest}
+use Rattle.rules.specs.Groups as groups
 use Rattle.rules.specs.Calls.{wrongLength, stateAfter, stepsIn, runAnswer, ranImage, runImage, queryRefusal}
 use Rattle.rules.specs.Dependents.{dependentsOf, dependentsAnswer}
 use Rattle.rules.specs.Internal.Well.{StepOk, Known, TransactorFormed, not-opened, gone, alive, WellFormed}
@@ -39,30 +42,33 @@ use Rattle.rules.proofs.Keep.Step.{keeps, keeps-after}
 use Rattle.session.specs.Provenance.{Status, unused, ready, busy, annihilated, statusNumber, Live, idle, working, Holder, Provenance}
 use Rattle.session.specs.Grounds.{from-start, from-noted, from-list, Ground, in-state, in-creation, RestsOn, Present, CheckpointedNow, SupersededOrAnnihilated, neither, StablePresent, Equal}
 use Rattle.session.specs.Grounds as grounds
-use Rattle.session.specs.Steps.{isNil, anew, rolledBackHolder, ProvenanceStep}
-use Rattle.session.specs.Fed.{Call, ProvenanceOf}
-use Rattle.session.specs.Trace.{Answer, Performed, beginning, running, offering, naming, hearing, counting, depending, hindering, showing, Trace, called, callsOf}
+use Rattle.session.specs.Steps.{isNil, anew, rolledBackHolder, ProvenanceStep, refuses, applies, signing, not-ready}
+use Rattle.session.specs.Fed.{Call, provenanceQueryRefusal, ProvenanceOf}
+use Rattle.session.specs.Trace.{Answer, Performed, depending, Trace, callsOf, none, one-more}
 use Rattle.session.specs.Point.{Point, at-end}
 use Rattle.session.specs.Waiting.{ReadyGroup}
-use Rattle.session.specs.Withdrawal.{Withdraws, Further, here, step, SameLife, RestsThrough, itself, via, Spoilt, on-withdrawn, on-spoilt, Doomed, GoesOn, Continued, none, one-more}
+use Rattle.session.specs.Withdrawal.{Withdraws, Further, here, step, SameLife, RestsThrough, itself, via, Spoilt, on-withdrawn, on-spoilt, Doomed, SmallestIn, Continued}
 use Rattle.session.proofs.Model.{Ledger, view}
 use Rattle.session.proofs.Tables.{pick-view}
 use Rattle.session.proofs.Sets.{cell-some}
 use Rattle.session.proofs.Relation.{live-or-not, live-used, present, present-live, Whole, Rel, whole-known, own-history}
 use Rattle.session.proofs.Relation as relation
-use Rattle.session.proofs.Sign.{Ready, checkpointed-stands, present-stands, own-has, Settled, settled, settled-equal, equal-settled}
+use Rattle.session.proofs.Sign.{Ready, checkpointed-stands, present-stands, own-has, ready-live, Settled, settled, settled-equal, equal-settled}
 use Rattle.session.proofs.Kept.{provenance-determined}
 use Rattle.session.proofs.Locals.{isNil-true}
 use Rattle.session.proofs.ViewState.{no-transactor, own-view, view-no-map}
 use Rattle.session.proofs.ViewRules.{live-test}
 use Rattle.session.proofs.ViewStep.{state-kept}
 use Rattle.session.proofs.Step.{matches-rel}
-use Rattle.session.proofs.Grown.{grown}
-use Rattle.session.proofs.Waiting.{ready-rule}
+use Rattle.session.proofs.Grown.{grown, on-trace}
+use Rattle.session.proofs.Calls.{holds-pack, query-same}
+use Rattle.session.proofs.Onward.{Stays, stays-refl, limits-stay}
+use Rattle.session.proofs.Carried.{signing-on}
+use Rattle.session.proofs.Waiting.{signs-exactly, ready-on, ready-rule, call-keeps}
 use Rattle.session.proofs.Resting.{ground-live, rests-ground, rests-present, resting-exactly, rests-trans, through-exactly}
 use Rattle.session.proofs.Turns.{Keeps, Turns, kept-all, Past, passed, vanished, past-on, past-all, Turn, turn, turn-because, Fate, kept, lost, fate-on}
 use Rattle.session.proofs.Turns as turns
-use Rattle.session.proofs.Falling.{fell, fell-past, present-not-past, Alone, alone}
+use Rattle.session.proofs.Falling.{fell, fell-past, present-not-past, Alone, signed-others, alone}
 use Rattle.session.proofs.Reached.{related, well}
 
 -- ---- withdrawn, by the book
@@ -90,7 +96,7 @@ not-used annihilated n m = refl
 
 module _ {y : Layout} {s : State} (w : WellFormed y s) {b : Provenance} (r : Rel (view s) b) where
   -- a mark in the map of a live take
-  held-opened : (u t : ℕ) (m : HistoryView) → (mapView (transactorAt s u .state) t ≡ some m) ⊎ (mapView (transactorAt s u .creation) t ≡ some m) → t < s .opened
+  pub held-opened : (u t : ℕ) (m : HistoryView) → (mapView (transactorAt s u .state) t ≡ some m) ⊎ (mapView (transactorAt s u .creation) t ≡ some m) → t < s .opened
   held-opened u t m e = ⊎-elim (λ (h : u < y .transactors). go (w .transactors u h) e) (λ h. absurd (past (no-transactor w u h))) (sides u (y .transactors))
     where
       nothing : {m : HistoryView} → none ≡ some m → ⊥
@@ -339,10 +345,6 @@ further-trans o here = o
 further-trans o (step q steps octets i) = step (further-trans o q) steps octets i
 
 module _ (y : Layout) (z : Fitting y) where
-  on-trace : {img after : List ℕ} → Trace y img → Continued y img after → Trace y after
-  on-trace τ none = τ
-  on-trace τ (one-more {c = c} {a = a} k g p) = called (on-trace τ k) c a p
-
   run-onward : {img : List ℕ} → Trace y img → (list : List ℕ) → Octets list → (start end : ℕ) (lent : List ℕ) → Further y (unpack y img) (unpack y (runImage y img list start end lent))
   unfolding runImage ranImage stateAfter
   run-onward {img} τ list o start end lent = pick-view (λ (i : List ℕ). Further y (unpack y img) (unpack y i)) (eqb (runAnswer y img list start end lent) 0) _ img
@@ -358,21 +360,20 @@ module _ (y : Layout) (z : Fitting y) where
       octets : Octets b
       octets = octets-part start (end - start) list o
 
-  -- the calls that follow, any but begins
+  -- the calls that follow, any but accepted begins
   pub after-calls : {img after : List ℕ} → Trace y img → Continued y img after → Further y (unpack y img) (unpack y after)
   after-calls τ none = here
-  after-calls τ (one-more k g p) = further-trans (after-calls τ k) (one (on-trace τ k) g p)
-    where
-      one : {now after : List ℕ} {c : Call} {a : Answer} → Trace y now → GoesOn c → Performed y now c a after → Further y (unpack y now) (unpack y after)
-      one {now} σ g (running {list} {o} {start} {end} {lent} e) = rw (e .1) (run-onward σ list o start end lent)
-      one σ g (beginning q) = absurd g
-      one σ g (offering q) = here
-      one σ g (naming q) = here
-      one σ g (hearing q) = here
-      one σ g (counting q) = here
-      one σ g (depending q) = here
-      one σ g (hindering q) = here
-      one σ g (showing q) = here
+  after-calls {img} τ (one-more {now} k g p) = call-keeps y z (Further y (unpack y img)) g p
+      (λ list o start end lent e f. further-trans f (run-onward (on-trace τ k) list o start end lent)) (after-calls τ k)
+
+-- ---- what smallest_group answers
+
+-- by the refusal and the volumes that could be signed
+smallest-as : {y : Layout} {img other : List ℕ} {u : ℕ} → queryRefusal y img u ≡ queryRefusal y other u
+    → ((v : ℕ) → Checkpointable y (unpack y img) u v ↔ Checkpointable y (unpack y other) u v) → {a : Option ℕ} → Smallest y img u a → Smallest y other u a
+smallest-as e f (groups.refused n) = groups.refused (λ q. n (e ∙ q))
+smallest-as e f (groups.nothing q n) = groups.nothing (sym e ∙ q) (λ v c. n v (f v .1 c))
+smallest-as e f (groups.smallest {v} q c l) = groups.smallest (sym e ∙ q) (f v .0 c) (λ w d. l w (f w .1 d))
 
 -- ---- every session, at every s
 
@@ -387,6 +388,10 @@ module _ {y : Layout} (z : Fitting y) {img : List ℕ} {τ : Trace y img} {s : S
 
   -- the step p, with which take t falls, and the book after it
   module _ {p : Step} (ok : StepOk p) {c : Provenance} (taken : ProvenanceStep y b p c) {t : ℕ} (w : Withdraws y s p t) where
+    status-of : (after : State) {d : Provenance} → Rel (view after) d → (u : ℕ) → Live (d .holders u .status) → live (transactorAt after u) ≡ true
+    unfolding view
+    status-of after q u l = live-test (transactorAt after u .status) .1 (rw (q .holders u .status) l)
+
     there : Live (b .holders t .status)
     there = fell (well z k) (related z k) p (ok .message) w .0
 
@@ -517,8 +522,7 @@ module _ {y : Layout} (z : Fitting y) {img : List ℕ} {τ : Trace y img} {s : S
       λ q. ⊎-elim (λ o. spoilt-after n o) (λ o. ⊎-elim (λ i. absurd (n i)) (λ m. m) (through-after (through-means t there x .0 o))) q,
     )
 
-    -- And no volume that names one of those of `through` is ready, after whatever steps, as long as that take keeps its present life: "one class
-    -- re-read ninety pages".
+    -- And no volume that names one of those of `through` is ready, after whatever steps, as long as that take keeps its present life.
     pub spoilt-through : (x : ℕ) → named (dependentsOf y s t .through) x ≡ true → t ≢ x → {after : State} → Further y (stepOf y s p .state) after → SameLife s after x
         → (v : ℕ) → named v x ≡ true → ReadyGroup y after v → ⊥
     spoilt-through x q n {after} o same =
@@ -565,6 +569,93 @@ module _ {y : Layout} (z : Fitting y) {img : List ℕ} {τ : Trace y img} {s : S
         λ same. settled-equal c v (λ u n w a rests. settled-on (equal-settled b v same u n w a (rests-to only-t u (apart n) rests))) (λ u n l. own-has (view (stepOf y s p .state)) c rel-after u l),
       )
 
+    -- ---- what could be signed before the fall and after it
+
+    no-signing : {d : Provenance} → ProvenanceStep y b p d → Past (d .holders t) (b .holders t .history .incarnation) → p .kind ≡ sign → ⊥
+    no-signing (refuses q) past i = present-not-past there past
+    no-signing (applies q n) past i = n i
+    no-signing (signing q i e) past j = signed-others (view s) b (related z k) y p t there (p .message) past
+    no-signing (not-ready q i e) past j = present-not-past there past
+
+    limits-same : {d : Provenance} → ProvenanceStep y b p d → b .limits ≡ d .limits
+    limits-same (refuses q) = refl
+    limits-same (applies q n) = sym (limits-stay b p)
+    limits-same (signing q i e) = refl
+    limits-same (not-ready q i e) = refl
+
+    unfrozen : c .holders t .history .stable ≡ false
+    unfolding rolledBackHolder
+    unfrozen = subst (λ (h : Holder). h .history .stable ≡ false) (sym fell-back)
+        (pick-view (λ (h : Holder). h .history .stable ≡ false) (isNil (b .holders t .history .incarnation .checkpoints)) _ _ (λ e. refl) (λ e. refl))
+
+    -- a volume that is ready after it does not name take t
+    without-t : {v : ℕ} → ReadyGroup y (stepOf y s p .state) v → named v t ≡ false
+    without-t {v} after = go (named v t) refl
+      where
+        go : (n : Bool) → named v t ≡ n → n ≡ false
+        go false e = refl
+        go true e =
+            let stable = ready-rule z (keeps z (well z k) ok) rel-after after .stable t e in
+            absurd (false≢true (sym unfrozen ∙ ap (λ (m : HistoryView). m .stable) (sym (own-history (rel-after .holders t))) ∙ stable))
+
+    ready-before : {v : ℕ} → ReadyGroup y (stepOf y s p .state) v → ReadyGroup y s v
+    ready-before {v} after =
+        let now = signs-exactly z (keeps z (well z k) ok) rel-after v (after .bits) .0 (after .signs) in
+        let apart = without-t after in
+        let lives = ready-live (view (stepOf y s p .state)) c rel-after v (ready-rule z (keeps z (well z k) ok) rel-after after) in
+        record {
+          bits = after .bits;
+          signs = signs-exactly z (well z k) (related z k) v (after .bits) .1 (record {
+            zero = signing-on y c b (view s) (related z k) v (limits-same taken)
+                (λ u n. subst (Stays (c .holders u)) (only-t .others u (λ e. false≢true (sym apart ∙ subst (λ (x : ℕ). named v x ≡ true) (sym e) n))) (stays-refl (lives u n))) (now .zero);
+            same = same-sets v apart .0 (now .same);
+          });
+        }
+
+    -- Every volume is ready after the fall exactly if it was before.
+    pub ready-same : (v : ℕ) → ReadyGroup y s v ↔ ReadyGroup y (stepOf y s p .state) v
+    ready-same v = (λ before. ready-on z (well z k) (related z k) ok (no-signing taken life-past) before, λ after. ready-before after)
+
+    -- So none with a take of `through` was.
+    pub unready-before : (x : ℕ) → named (dependentsOf y s t .through) x ≡ true → (v : ℕ) → named v x ≡ true → ReadyGroup y s v → ⊥
+    unready-before x q v m before = go (ℕ-discrete t x)
+      where
+        go : Dec (t ≡ x) → ⊥
+        go (yes e) = false≢true (sym (without-t (ready-same v .0 before)) ∙ subst (λ (u : ℕ). named v u ≡ true) (sym e) m)
+        go (no n) =
+            let lives = ready-live (view s) b (related z k) v (ready-rule z (well z k) (related z k) before) x m in
+            let alive = status-of (stepOf y s p .state) rel-after x (subst (λ (h : Holder). Live (h .status)) (sym (only-t .others x n)) lives) in
+            spoilt-through x q n here (record { live = alive; is = life-same x n }) v m (ready-same v .0 before)
+
+    -- the refusals of a query about another take
+    query-kept : (u : ℕ) → t ≢ u → provenanceQueryRefusal b u ≡ provenanceQueryRefusal c u
+    query-kept u n = rw (
+      tests.same-test (leb (b .opened) u) (leb (c .opened) u)
+          (λ e. le-leb (c .opened) u (⊎-elim (λ (h : u < c .opened). absurd (rel-after .used u h (ap (λ (h : Holder). h .status) (only-t .others u n) ∙ related z k .fresh u (leb-true (b .opened) u e)))) (λ h. h) (sides u (c .opened))))
+          (λ e. le-leb (b .opened) u (⊎-elim (λ (h : u < b .opened). absurd (related z k .used u h (ap (λ (h : Holder). h .status) (sym (only-t .others u n)) ∙ rel-after .fresh u (leb-true (c .opened) u e)))) (λ h. h) (sides u (b .opened)))),
+      only-t .others u n,
+    )
+
+    -- What smallest_group answers about any take but t is the same before and after the fall, its refusal included.
+    pub smallest-same : (u : ℕ) → t ≢ u → (a : Option ℕ) → SmallestIn y s u a ↔ SmallestIn y (stepOf y s p .state) u a
+    smallest-same u n a = (λ q. smallest-as same (λ v. could v) q, λ q. smallest-as (sym same) (λ v. (could v .1, could v .0)) q)
+      where
+        back : (x : State) → WellFormed y x → unpack y (pack y x) ≡ x
+        back x w = unpack-pack y x (w .packable)
+
+        same : queryRefusal y (pack y s) u ≡ queryRefusal y (pack y (stepOf y s p .state)) u
+        same = query-same (holds-pack (well z k) (related z k)) u ∙ query-kept u n ∙ sym (query-same (holds-pack (keeps z (well z k) ok) rel-after) u)
+
+        could : (v : ℕ) → Checkpointable y (unpack y (pack y s)) u v ↔ Checkpointable y (unpack y (pack y (stepOf y s p .state))) u v
+        could v = rw (back s (well z k), back (stepOf y s p .state) (keeps z (well z k) ok)) (
+          λ e. let r = ready-same v .0 (record { bits = e .bits; signs = e .signs }) in record { bits = e .bits; contains = e .contains; signs = r .signs },
+          λ e. let r = ready-same v .1 (record { bits = e .bits; signs = e .signs }) in record { bits = e .bits; contains = e .contains; signs = r .signs },
+        )
+
+    -- Those that are not in `through` among them.
+    pub smallest-kept : (u : ℕ) → named (dependentsOf y s t .through) u ≡ false → (a : Option ℕ) → SmallestIn y s u a ↔ SmallestIn y (stepOf y s p .state) u a
+    smallest-kept u q = smallest-same u (λ e. false≢true (sym q ∙ subst (λ (x : ℕ). named (dependentsOf y s t .through) x ≡ true) e (through-means t there t .1 itself)))
+
   -- ---- and who is not spoilt can be signed
 
   spread : {u x : ℕ} → Spoilt b u → RestsThrough b u x → Spoilt b x
@@ -608,7 +699,7 @@ module _ {y : Layout} (z : Fitting y) {img : List ℕ} (τ : Trace y img) {b : P
   opened-used t l = related-here .used t (subst (λ (n : ℕ). t < n) (related-here .opened) l)
 
   -- a query that is not refused is about a live take
-  query-live : (t : ℕ) → queryRefusal y img t ≡ 0 → Live (b .holders t .status)
+  pub query-live : (t : ℕ) → queryRefusal y img t ≡ 0 → Live (b .holders t .status)
   unfolding queryRefusal
   query-live t e =
       let f = pick-zero (wrongLength y img) 16 _ (omega arith) e in

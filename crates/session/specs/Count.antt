@@ -11,8 +11,8 @@ use Rattle.rules.specs.Step.{stepBytes, stepAt, receive, lose, done, dropped, f
 use Rattle.rules.specs.Refusals.{sends}
 use Rattle.rules.specs.Pack.{unpack}
 use Rattle.rules.specs.Calls.{stepsIn}
-use Rattle.session.specs.Fed.{Call, begin, run, offer, smallest, heard, counts, depends, hinders, show}
-use Rattle.session.specs.Trace.{Answer, begun, ran, offered, grouped, told, counted, depended, hindered, showed, refusalIn, Trace, opened, called}
+use Rattle.session.specs.Fed.{Call, begin, run, offer, smallest, heard, counts, depends, hinders, blocks, show}
+use Rattle.session.specs.Trace.{Answer, begun, ran, offered, grouped, told, counted, depended, hindered, blocked, showed, refusalIn, Trace, opened, called}
 
 -- ---- what is counted, by a step's kind and the first byte of its reply
 
@@ -48,6 +48,7 @@ repliesIn (told r stable) = []
 repliesIn (counted r n) = []
 repliesIn (depended r d) = []
 repliesIn (hindered r o) = []
+repliesIn (blocked r o) = []
 repliesIn (showed r bytes) = []
 
 -- a call, n counted before it: an accepted begin counts from 0, an accepted run adds its steps
@@ -61,6 +62,7 @@ countCall f (heard t) a n = n
 countCall f (counts k) a n = n
 countCall f (depends t) a n = n
 countCall f (hinders v) a n = n
+countCall f (blocks t) a n = n
 countCall f (show k) a n = n
 
 -- the whole session

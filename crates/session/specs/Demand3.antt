@@ -1,6 +1,6 @@
--- Document 01, demand 3, said of every call, every step and every point of a session: an accepted begin, then any list of calls on one
--- image, refused ones included (Trace). What is claimed, in the order of the demand; no more need be read than this file, Point,
--- Grounds (the two sets), Steps and Fed (the book).
+-- Document 01, demand 3, said of every call, every step and every point of a session τ: an accepted begin, then any list of calls on one
+-- image, refused ones included (Trace). In the order of the demand. To be read before it: Provenance, Grounds, Unrelated, Steps and Fed
+-- (the book), Trace and Point (the session). It is claimed of every session, so of every shorter one: each call of τ ends one.
 use Prim.Native.Nat.{ℕ, _-_, _*_, _≤_, _<_}
 use mathlib.Core.Path.{_≡_}
 use mathlib.Core.List.{List}
@@ -20,7 +20,7 @@ use Rattle.session.specs.Trace.{Answer, ran, refusalIn, Trace, callsOf, 
 use Rattle.session.specs.Point.{CallIn, StepIn, Point, replied, outcomeIn}
 
 pub record Demand3 (y : Layout) (img : List ℕ) (τ : Trace y img) : Type 1 where
-  -- One book is fed the calls of the list, and no other.
+  -- There is a book that is fed the calls of the list, and only one.
   pub book : (b : Provenance) × ProvenanceOf y (callsOf τ) b × ((c : Provenance) → ProvenanceOf y (callsOf τ) c → c ≡ b)
   -- "a call .. is refused exactly where the book of document 01 refuses it": what it answers, a refusal or 0, is what the book answers.
   pub call-refused : {b : Provenance} {c : Call} {a : Answer} → CallIn y img τ b c a → refusalIn a ≡ callRefusal y b c
@@ -30,7 +30,7 @@ pub record Demand3 (y : Layout) (img : List ℕ) (τ : Trace y img) : Type 1 whe
       → ((outcomeIn reply ≤ notReady) ↔ (provenanceRefusal y b p ≡ 0))
       × ((provenanceRefusal y b p ≡ 0 → ⊥) → (reply ≡ replied (provenanceRefusal y b p)) × (s' ≡ s))
   -- "a signing step that isn't refused signs its volume, reply 0, exactly when two sets of lives, taken just before it from that book, are
-  -- equal; otherwise its reply is 5", and nothing changes.
+  -- equal; otherwise its reply is 5". Where they are equal, what it leaves is the volume signed; otherwise nothing changes.
   pub signs-exactly : {s s' : State} {b : Provenance} {p : Step} {reply : List ℕ} → StepIn y img τ s b p reply s'
       → provenanceRefusal y b p ≡ 0 → p .kind ≡ sign
       → ((reply ≡ replied done) ↔ Equal b (p .message))
@@ -41,7 +41,7 @@ pub record Demand3 (y : Layout) (img : List ℕ) (τ : Trace y img) : Type 1 whe
   pub takes-match : {s : State} {b : Provenance} → Point y img τ s b → Matches s b
   -- "Hence at no point of the list does a text signed since the last accepted begin rest, through any chain, on a withdrawn life."
   pub never-withdrawn : {s : State} {b : Provenance} → Point y img τ s b → Sound b
-  -- Every step of every accepted run is among those above.
+  -- None is left out: every step of every accepted run is a StepIn, with some book before it.
   pub every-step : {b : Provenance} {list : List ℕ} {o : Octets list} {start end : ℕ} {lent replies : List ℕ} → CallIn y img τ b (run list o start end lent) (ran 0 replies)
       → (i : ℕ) → i < stepsIn (part start (end - start) list)
       → (s : State) × (s' : State) × (d : Provenance) × StepIn y img τ s d (stepAt (part start (end - start) list) i) (part (stepBytes * i) stepBytes replies) s'

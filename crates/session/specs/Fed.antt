@@ -1,4 +1,5 @@
--- Document 01, "The book of demand 3": the calls that it is fed, and what it does at each. Document 02, W1, W4 and W10: one call more each.
+-- Document 01, "The book of demand 3": the calls that it is fed, and what it does at each. Document 02, W1, W4 and W10: one call more
+-- each; and the three queries about withdrawals.
 use Prim.Native.Nat.{ℕ, suc, _-_}
 use mathlib.Core.Bool.{true, not}
 use mathlib.Core.Path.{_≡_}
@@ -31,6 +32,8 @@ pub data Call : Type 0 where
   depends : (transactor : ℕ) → Call
   -- why a volume can't be signed
   hinders : (group : ℕ) → Call
+  -- why no volume with a take could be signed
+  blocks : (transactor : ℕ) → Call
   show : (message : ℕ) → Call
 
 -- ---- what the book does at a call
@@ -49,6 +52,7 @@ callRefusal y b (heard t) = provenanceQueryRefusal b t
 callRefusal y b (counts n) = pick (not (leb 1 n and leb n groupBits)) 34 0
 callRefusal y b (depends t) = provenanceQueryRefusal b t
 callRefusal y b (hinders v) = provenanceRefusal y b (signing v)
+callRefusal y b (blocks t) = provenanceQueryRefusal b t
 callRefusal y b (show n) = pick (isMissing n (b .messages)) 24 0
 
 -- the first i steps of a part
@@ -56,8 +60,8 @@ pub data ProvenanceSteps (y : Layout) (b : Provenance) (steps : List ℕ) : ℕ 
   none : ProvenanceSteps y b steps 0 b
   more : {i : ℕ} {c d : Provenance} → ProvenanceSteps y b steps i c → ProvenanceStep y c (stepAt steps i) d → ProvenanceSteps y b steps (suc i) d
 
--- Offer, show and whatever is refused change nothing in it, nor do naming a volume, asking what was heard and counting volumes:
--- the image is only read. An accepted begin empties it and sets its limits.
+-- "Offer, show and whatever is refused change nothing in it", nor do the queries. "An accepted begin empties it, with all that was
+-- noted and signed", and sets its limits.
 pub data ProvenanceCall (y : Layout) (b : Provenance) : Call → Provenance → Type 1 where
   provenance-refuses : {c : Call} → (callRefusal y b c ≡ 0 → ⊥) → ProvenanceCall y b c b
   provenance-begins : {m : Limits} → callRefusal y b (begin m) ≡ 0 → ProvenanceCall y b (begin m) (emptyProvenance m)
@@ -71,6 +75,7 @@ pub data ProvenanceCall (y : Layout) (b : Provenance) : Call → Provenance → 
   provenance-counts : {n : ℕ} → callRefusal y b (counts n) ≡ 0 → ProvenanceCall y b (counts n) b
   provenance-depends : {t : ℕ} → callRefusal y b (depends t) ≡ 0 → ProvenanceCall y b (depends t) b
   provenance-hinders : {v : ℕ} → callRefusal y b (hinders v) ≡ 0 → ProvenanceCall y b (hinders v) b
+  provenance-blocks : {t : ℕ} → callRefusal y b (blocks t) ≡ 0 → ProvenanceCall y b (blocks t) b
   provenance-shows : {n : ℕ} → callRefusal y b (show n) ≡ 0 → ProvenanceCall y b (show n) b
 
 -- the book that is fed these calls, the last one first, and nothing else; the first one is an accepted begin

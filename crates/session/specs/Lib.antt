@@ -11,5 +11,7 @@ pub mod Demand3
 pub mod Count
 pub mod Related
 pub mod Waiting
+pub mod Meanings
 pub mod Play
+pub mod Sessions
 pub mod Withdrawal

@@ -1,6 +1,7 @@
--- Document 01, demand 3: the points of a session, its calls and its steps, each with the book there. The book is fed the calls before
--- it, and the steps before it in the same run, and nothing else (ProvenanceOf, ProvenanceSteps); there is one such book at every point.
-use Prim.Native.Nat.{ℕ, suc, _-_, _*_, _≤_, _<_}
+-- Document 01, demand 3: the calls, the steps and the points of a session, each with the book there: the one that is fed the calls
+-- before, and in a run the steps before, and nothing else (ProvenanceOf, ProvenanceSteps). There is such a book at each, and only one
+-- (Demand3: book, every-step; proofs/Unique).
+use Prim.Native.Nat.{ℕ, suc, _-_, _*_, _<_}
 use mathlib.Core.Path.{_≡_}
 use mathlib.Core.List.{List}
 use lib.ListN.{getD}
@@ -16,7 +17,8 @@ use Rattle.session.specs.Provenance.{Provenance}
 use Rattle.session.specs.Fed.{Call, run, ProvenanceSteps, ProvenanceOf}
 use Rattle.session.specs.Trace.{Answer, ran, Performed, Trace, called, callsOf}
 
--- A call of the session τ: b, the book just before it; c, the call; a, what it gave back.
+-- A call of the session τ after the begin that opens it, before which there is no book: b, the book just before the call; c, the call;
+-- a, what it gave back.
 pub data CallIn (y : Layout) : (img : List ℕ) → Trace y img → Provenance → Call → Answer → Type 1 where
   last-call : {img after : List ℕ} {τ : Trace y img} {c : Call} {a : Answer} {p : Performed y img c a after} {b : Provenance}
       → ProvenanceOf y (callsOf τ) b → CallIn y after (called τ c a p) b c a
@@ -37,21 +39,18 @@ pub data StepIn (y : Layout) : (img : List ℕ) → Trace y img → State → Pr
   earlier-run : {img after : List ℕ} {τ : Trace y img} {k : Call} {x : Answer} {q : Performed y img k x after} {s s' : State} {b : Provenance} {p : Step} {reply : List ℕ}
       → StepIn y img τ s b p reply s' → StepIn y after (called τ k x q) s b p reply s'
 
--- A point of the session τ: after one of its calls, or after the first i steps of one of its accepted runs; s and b, the ledger's state
--- and the book there.
+-- A point of the session τ: after one of its calls, the begin that opens it included, or just before a step of one of its accepted runs;
+-- s and b, the ledger's state and the book there. After the last step of a run is after the run (Demand3.in-run).
 pub data Point (y : Layout) : (img : List ℕ) → Trace y img → State → Provenance → Type 1 where
   at-end : {img : List ℕ} {τ : Trace y img} {b : Provenance} → ProvenanceOf y (callsOf τ) b → Point y img τ (unpack y img) b
-  in-run : {img after list : List ℕ} {o : Octets list} {start end : ℕ} {lent replies : List ℕ} {r : ℕ} {τ : Trace y img}
-      {p : Performed y img (run list o start end lent) (ran r replies) after} {b d : Provenance} (i : ℕ)
-      → ProvenanceOf y (callsOf τ) b → r ≡ 0 → i ≤ stepsIn (part start (end - start) list) → ProvenanceSteps y b (part start (end - start) list) i d
-      → Point y after (called τ (run list o start end lent) (ran r replies) p) (stateAfter y (unpack y img) (part start (end - start) list) i) d
+  at-step : {img : List ℕ} {τ : Trace y img} {s s' : State} {b : Provenance} {p : Step} {reply : List ℕ} → StepIn y img τ s b p reply s' → Point y img τ s b
   earlier : {img after : List ℕ} {τ : Trace y img} {k : Call} {x : Answer} {q : Performed y img k x after} {s : State} {b : Provenance}
       → Point y img τ s b → Point y after (called τ k x q) s b
 
--- the eight bytes of a reply that has an outcome or refusal and is zero else
+-- the eight bytes of a reply that has the outcome or refusal n and is zero else
 abbrev pub replied : ℕ → List ℕ
 replied n = packReply (answer n 0 0 0)
 
--- the outcome or refusal in eight bytes of reply
+-- the outcome or refusal in the eight bytes of a reply: the first of them
 abbrev pub outcomeIn : List ℕ → ℕ
 outcomeIn reply = getD reply 0 0

@@ -7,7 +7,7 @@ use lib.Dec.{eqb}
 use Rattle.octets.specs.Bytes.{pick, _and_, _or_}
 use Rattle.marks.specs.Incarnation.{Incarnation, supersededBy}
 use Rattle.marks.specs.History.{HistoryView, initialView}
-use Rattle.maps.specs.Table.{updated}
+use Rattle.octets.specs.Table.{updated}
 use Rattle.rules.specs.Layout.{Limits}
 use Rattle.rules.specs.Status as number
 

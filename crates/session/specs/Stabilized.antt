@@ -11,7 +11,7 @@ use Rattle.rules.specs.Step.{stepAt, freeze}
 use Rattle.rules.specs.Calls.{stepsIn}
 use Rattle.session.specs.Provenance.{Provenance}
 use Rattle.session.specs.Steps.{provenanceRefusal}
-use Rattle.session.specs.Fed.{Call, begin, run, offer, smallest, heard, counts, depends, hinders, show, callRefusal, ProvenanceSteps, ProvenanceOf}
+use Rattle.session.specs.Fed.{Call, begin, run, offer, smallest, heard, counts, depends, hinders, blocks, show, callRefusal, ProvenanceSteps, ProvenanceOf}
 
 -- step p, beside the book b, is not refused and freezes take u in its life a, also where it was frozen already
 pub record Stabilizes (y : Layout) (b : Provenance) (p : Step) (u : ℕ) (a : Incarnation) : Type 0 where
@@ -34,6 +34,7 @@ restarts y (heard t) = false
 restarts y (counts n) = false
 restarts y (depends t) = false
 restarts y (hinders v) = false
+restarts y (blocks t) = false
 restarts y (show n) = false
 
 -- a step of these calls, the last one first, freezes take u in its life a, in an accepted run after which there is no accepted begin

@@ -37,16 +37,16 @@ rolledBackHolder t h =
 
 -- ---- one take alone
 
--- Read adds state to behaviour.
+-- "Read adds state to behaviour."
 unfoldable pub reads : Holder → Holder
 reads h = record { status = h .status; history = h .history; state = h .state; creation = h .creation; behaviour = h .state ++ h .behaviour }
 
--- Write, unfrozen, adds behaviour to state.
+-- "Write, unfrozen, adds behaviour to state."
 unfoldable pub writes : Holder → Holder
 writes h = pick (h .history .stable) h
     (record { status = h .status; history = h .history; state = h .behaviour ++ h .state; creation = h .creation; behaviour = h .behaviour })
 
--- Freeze sets the flag.
+-- "Freeze sets the flag."
 unfoldable pub freezes : Holder → Holder
 freezes h = record {
   status = h .status;
@@ -56,7 +56,7 @@ freezes h = record {
   behaviour = h .behaviour;
 }
 
--- Done, and a held fall, empty behaviour.
+-- "Done, and a held fall, empty behaviour."
 unfoldable pub finishes : Holder → Holder
 finishes h = record { status = ready; history = h .history; state = h .state; creation = h .creation; behaviour = [] }
 
@@ -80,15 +80,15 @@ acted k t h =
 
 -- ---- receive
 
--- If a life of its set is stale by one of the same take in the addressee's state or creation: nothing else.
+-- "If a life of its set is stale by one of the same take in the addressee's state or creation: nothing else."
 unfoldable pub isDropped : Holder → WaitingMessage → Bool
 isDropped h q = anySuperseded (q .incarnations) (h .state ++ h .creation)
 
--- Otherwise, if one there is stale by one of the same take in the parcel's set: the addressee falls.
+-- "Otherwise, if one there is stale by one of the same take in the parcel's set: the addressee falls."
 unfoldable pub isRolledBack : Holder → WaitingMessage → Bool
 isRolledBack h q = anySuperseded (h .state ++ h .creation) (q .incarnations)
 
--- Otherwise its behaviour is the parcel's set.
+-- "Otherwise its behaviour is the parcel's set."
 unfoldable pub received : ℕ → Holder → WaitingMessage → Holder
 received t h q =
     pick (isDropped h q) h

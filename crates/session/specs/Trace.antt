@@ -12,24 +12,36 @@ use Rattle.rules.specs.State.{State, Transactor, transactorAt, ownHistory}
 use Rattle.rules.specs.Calls.{beginAnswer, beginImage}
 use Rattle.rules.specs.declared.Dependents.{Dependents}
 use Rattle.rules.specs.declared.Obstacle.{Obstacle}
-use Rattle.rules.specs.Promises.{BeginPromise, RunPromise, OfferPromise, SmallestPromise, HeardPromise, CountPromise, DependentsPromise, ObstaclePromise, ShowPromise}
+use Rattle.rules.specs.declared.Impediment.{Impediment}
+use Rattle.rules.specs.Promises.{BeginPromise, RunPromise, OfferPromise, SmallestPromise, HeardPromise, CountPromise, DependentsPromise, ObstaclePromise, ImpedimentPromise, ShowPromise}
 use Rattle.session.specs.Provenance.{statusNumber, Live, Holder, Provenance}
-use Rattle.session.specs.Fed.{Call, begin, run, offer, smallest, heard, counts, depends, hinders, show}
+use Rattle.session.specs.Fed.{Call, begin, run, offer, smallest, heard, counts, depends, hinders, blocks, show}
 
 -- ---- calls performed
 
--- what a call gives back: its answer or refusal, and the replies, the parcel's number, the volume, yes or no, how many, who rests on the take, why not, or the part of the image
+-- What a call gives back: first its refusal, or 0; then, but for a begin,
 pub data Answer : Type 0 where
   begun : ℕ → Answer
+  -- the bytes lent for the replies, as they stand after the call
   ran : ℕ → List ℕ → Answer
+  -- the parcel's number, or none
   offered : ℕ → Option ℕ → Answer
+  -- the volume, or none
   grouped : ℕ → Option ℕ → Answer
+  -- yes or no
   told : ℕ → Bool → Answer
+  -- how many
   counted : ℕ → ℕ → Answer
+  -- who rests on the take
   depended : ℕ → Dependents → Answer
+  -- why the volume can't be signed
   hindered : ℕ → Obstacle → Answer
+  -- why no volume with the take could be signed
+  blocked : ℕ → Impediment → Answer
+  -- the part of the image
   showed : ℕ → List ℕ → Answer
 
+-- the refusal, or 0
 abbrev pub refusalIn : Answer → ℕ
 refusalIn (begun r) = r
 refusalIn (ran r replies) = r
@@ -39,10 +51,12 @@ refusalIn (told r stable) = r
 refusalIn (counted r n) = r
 refusalIn (depended r d) = r
 refusalIn (hindered r o) = r
+refusalIn (blocked r o) = r
 refusalIn (showed r bytes) = r
 
--- A call performed on an image: what it gives back and leaves is what the contract of begin, run, offer, smallest_group, all_heard_stable,
--- ready_count, dependents, obstacle and show promises, by the same definitions (rules/specs/Promises). The queries borrow the image to read it, so it stays.
+-- A call performed on the image img: the answer and the image after it are what the contract of begin, run, offer, smallest_group,
+-- all_heard_stable, ready_count, dependents, obstacle, impediment or show promises, by the same definitions (rules/specs/Promises). From offer on
+-- the image is borrowed for reading, so it stays.
 pub data Performed (y : Layout) (img : List ℕ) : Call → Answer → List ℕ → Type 0 where
   beginning : {m : Limits} {r : ℕ} {after : List ℕ} → BeginPromise y m img r after → Performed y img (begin m) (begun r) after
   running : {list : List ℕ} {o : Octets list} {start end : ℕ} {lent : List ℕ} {r : ℕ} {after given : List ℕ}
@@ -53,9 +67,11 @@ pub data Performed (y : Layout) (img : List ℕ) : Call → Answer → List ℕ 
   counting : {size r n : ℕ} → CountPromise y img size r n → Performed y img (counts size) (counted r n) img
   depending : {t r : ℕ} {d : Dependents} → DependentsPromise y img t r d → Performed y img (depends t) (depended r d) img
   hindering : {v r : ℕ} {o : Obstacle} → ObstaclePromise y img v r o → Performed y img (hinders v) (hindered r o) img
+  blocking : {t r : ℕ} {o : Impediment} → ImpedimentPromise y img t r o → Performed y img (blocks t) (blocked r o) img
   showing : {n r : ℕ} {bytes : List ℕ} → ShowPromise y img n r bytes → Performed y img (show n) (showed r bytes) img
 
--- A session grown from a fresh one: an accepted begin, then any list of calls, each on the image that the last one left.
+-- "A session grown from a fresh one is an accepted begin, then any list of begins, runs, offers and shows on that image, refused ones
+-- included. Each gets the image as the last left it". With these the queries. The index is the image as it stands after the list.
 pub data Trace (y : Layout) : List ℕ → Type 0 where
   opened : (m : Limits) (img : List ℕ) → beginAnswer y m img ≡ 0 → Trace y (beginImage y m img)
   called : {img after : List ℕ} → Trace y img → (c : Call) (a : Answer) → Performed y img c a after → Trace y after
@@ -65,9 +81,21 @@ unfoldable pub callsOf : {y : Layout} {img : List ℕ} → Trace y img → List 
 callsOf (opened m img e) = begin m ∷ []
 callsOf (called τ c a p) = c ∷ callsOf τ
 
+-- ---- calls that follow
+
+-- Calls one after the other, from the image img to the one after them, each on the image that the last left: of each, with the image that
+-- it gets, P holds.
+pub data CallsFrom (y : Layout) (P : List ℕ → Call → Type 0) (img : List ℕ) : List ℕ → Type 0 where
+  none : CallsFrom y P img img
+  one-more : {now after : List ℕ} {c : Call} {a : Answer} → CallsFrom y P img now → P now c → Performed y now c a after → CallsFrom y P img after
+
+-- no accepted begin: the call c on the image img goes on with the same session
+abbrev pub GoesOn : Layout → (img : List ℕ) → Call → Type 0
+GoesOn y img c = (m : Limits) → c ≡ begin m → beginAnswer y m img ≡ 0 → ⊥
+
 -- ---- lists of calls, the last one first
 
--- the first of these calls is an accepted begin
+-- the first of these calls is an accepted begin: its limits are in range
 pub data Started (y : Layout) : List Call → Type 0 where
   first : {m : Limits} → inRange y m ≡ true → Started y (begin m ∷ [])
   later : {cs : List Call} (c : Call) → Started y cs → Started y (c ∷ cs)

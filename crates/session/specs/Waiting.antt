@@ -4,7 +4,7 @@ use Prim.Native.Nat.{ℕ, _-_, _≤_, _<_}
 use mathlib.Core.Bool.{true}
 use mathlib.Core.Path.{_≡_}
 use mathlib.Core.List.{List}
-use Rattle.octets.specs.Bytes.{part}
+use Rattle.octets.specs.Bytes.{part, Octets}
 use Rattle.octets.specs.Numbers.{bound}
 use Rattle.maps.specs.Map.{heldAt, historyAt}
 use Rattle.rules.specs.Layout.{Layout}
@@ -15,9 +15,9 @@ use Rattle.rules.specs.Rules.{entryReady, stepOf}
 use Rattle.rules.specs.Groups.{signing}
 use Rattle.rules.specs.Refusals.{named}
 use Rattle.rules.specs.Pack.{unpack}
-use Rattle.rules.specs.Calls.{beginAnswer, stateAfter, stepsIn, runAnswer}
-use Rattle.session.specs.Fed.{Call, begin, run, offer, smallest, heard, counts, depends, hinders, show}
-use Rattle.session.specs.Trace.{Answer, Performed}
+use Rattle.rules.specs.Calls.{stateAfter, stepsIn, runAnswer}
+use Rattle.session.specs.Fed.{Call, run}
+use Rattle.session.specs.Trace.{CallsFrom, GoesOn}
 
 -- volume v is ready: the step that signs it would reply 0
 pub record ReadyGroup (y : Layout) (s : State) (v : ℕ) : Type 0 where
@@ -49,22 +49,15 @@ Stands y s t = (p : Step) → p .kind ≡ receive → messageAt s (placeOf s (p 
 abbrev pub NoSigning : List ℕ → ℕ → ℕ → Type 0
 NoSigning steps i j = (k : ℕ) → i ≤ k → k < j → stepAt steps k .kind ≡ sign → ⊥
 
--- a call that signs nothing: a run without a signing, or one that only reads; no begin is among them, since an accepted one is a new session
-abbrev pub Waits : Call → Type 0
-Waits (begin m) = ⊥
-Waits (run list o start end lent) = NoSigning (part start (end - start) list) 0 (stepsIn (part start (end - start) list))
-Waits (offer t) = Unit
-Waits (smallest t) = Unit
-Waits (heard t) = Unit
-Waits (counts n) = Unit
-Waits (depends t) = Unit
-Waits (hinders v) = Unit
-Waits (show n) = Unit
+-- a call on the image img that signs nothing: no accepted begin, which is a new session, and no accepted run with a signing among its steps
+pub record Waits (y : Layout) (img : List ℕ) (c : Call) : Type 0 where
+  pub goes-on : GoesOn y img c
+  pub unsigned : (list : List ℕ) (o : Octets list) (start end : ℕ) (lent : List ℕ) → c ≡ run list o start end lent → runAnswer y img list start end lent ≡ 0
+      → NoSigning (part start (end - start) list) 0 (stepsIn (part start (end - start) list))
 
--- such calls, one after the other, from the image img to the one after them
-pub data Waiting (y : Layout) (img : List ℕ) : List ℕ → Type 0 where
-  none : Waiting y img img
-  one-more : {now after : List ℕ} {c : Call} {a : Answer} → Waiting y img now → Waits c → Performed y now c a after → Waiting y img after
+-- such calls, one after the other
+abbrev pub Waiting : Layout → (img after : List ℕ) → Type 0
+Waiting y img after = CallsFrom y (Waits y) img after
 
 -- ---- lists of steps and of calls that leave one take unsigned
 
@@ -78,19 +71,12 @@ pub record SignsTake (y : Layout) (s : State) (p : Step) (t : ℕ) : Type 0 wher
 abbrev pub Unsigned : Layout → State → List ℕ → (t i j : ℕ) → Type 0
 Unsigned y s steps t i j = (k : ℕ) → i ≤ k → k < j → SignsTake y (stateAfter y s steps k) (stepAt steps k) t → ⊥
 
--- a call on the image that does not sign take t: a begin that is refused, a run none of whose steps signs it, if it is accepted, or a call that only reads
-abbrev pub Leaves : Layout → List ℕ → ℕ → Call → Type 0
-Leaves y img t (begin m) = beginAnswer y m img ≡ 0 → ⊥
-Leaves y img t (run list o start end lent) = runAnswer y img list start end lent ≡ 0 → Unsigned y (unpack y img) (part start (end - start) list) t 0 (stepsIn (part start (end - start) list))
-Leaves y img t (offer k) = Unit
-Leaves y img t (smallest k) = Unit
-Leaves y img t (heard k) = Unit
-Leaves y img t (counts n) = Unit
-Leaves y img t (depends u) = Unit
-Leaves y img t (hinders v) = Unit
-Leaves y img t (show n) = Unit
+-- a call on the image img that does not sign take t: no accepted begin, and no accepted run one of whose steps signs it
+pub record Leaves (y : Layout) (t : ℕ) (img : List ℕ) (c : Call) : Type 0 where
+  pub goes-on : GoesOn y img c
+  pub unsigned : (list : List ℕ) (o : Octets list) (start end : ℕ) (lent : List ℕ) → c ≡ run list o start end lent → runAnswer y img list start end lent ≡ 0
+      → Unsigned y (unpack y img) (part start (end - start) list) t 0 (stepsIn (part start (end - start) list))
 
 -- such calls, one after the other: "that session", until take t is signed in it
-pub data Leaving (y : Layout) (img : List ℕ) (t : ℕ) : List ℕ → Type 0 where
-  none : Leaving y img t img
-  one-more : {now after : List ℕ} {c : Call} {a : Answer} → Leaving y img t now → Leaves y now t c → Performed y now c a after → Leaving y img t after
+abbrev pub Leaving : Layout → (img : List ℕ) (t : ℕ) (after : List ℕ) → Type 0
+Leaving y img t after = CallsFrom y (Leaves y t) img after

@@ -1,9 +1,13 @@
 -- What a withdrawal spoils: a take falls, and others rest on the life that it had.
 use Prim.Native.Nat.{ℕ, _-_}
-use mathlib.Core.Bool.{true}
+use mathlib.Core.Bool.{true, false}
 use mathlib.Core.Path.{_≡_}
 use mathlib.Core.List.{List}
+use mathlib.Core.Logic.{_⊎_, _↔_, _≢_}
+use mathlib.Core.Option.{Option}
+use lib.ListN.{getD}
 use Rattle.octets.specs.Bytes.{Octets}
+use Rattle.marks.specs.declared.History.{History}
 use Rattle.marks.specs.Incarnation.{Incarnation}
 use Rattle.marks.specs.History.{incarnationOf}
 use Rattle.rules.specs.Layout.{Layout}
@@ -12,10 +16,14 @@ use Rattle.rules.specs.declared.Step.{Step}
 use Rattle.rules.specs.Step.{stepAt, fallenBack, vanished}
 use Rattle.rules.specs.Refusals.{named}
 use Rattle.rules.specs.Rules.{stepOf}
+use Rattle.rules.specs.Pack.{pack}
+use Rattle.rules.specs.Groups.{Smallest}
+use Rattle.rules.specs.Dependents.{dependentsOf}
+use Rattle.rules.specs.Obstacle.{StandsIn}
 use Rattle.session.specs.Provenance.{Provenance}
-use Rattle.session.specs.Grounds.{RestsOn, SupersededOrAnnihilated}
-use Rattle.session.specs.Fed.{Call, begin, run, offer, smallest, heard, counts, depends, hinders, show}
-use Rattle.session.specs.Trace.{Answer, Performed}
+use Rattle.session.specs.Grounds.{RestsOn, Present, SupersededOrAnnihilated}
+use Rattle.session.specs.Trace.{CallsFrom, GoesOn}
+use Rattle.session.specs.Point.{outcomeIn}
 use Rattle.session.specs.Waiting.{ReadyGroup}
 
 -- step p makes take t fall: outcome 3 or 4, with t the take acted on
@@ -23,7 +31,7 @@ pub data Withdraws (y : Layout) (s : State) (p : Step) (t : ℕ) : Type 0 where
   falls-back : stepOf y s p .reply .outcome ≡ fallenBack → stepOf y s p .reply .transactor ≡ t → Withdraws y s p t
   vanishes : stepOf y s p .reply .outcome ≡ vanished → stepOf y s p .reply .transactor ≡ t → Withdraws y s p t
 
--- any further steps from state s on, signings among them, refused ones included
+-- any further steps from state s on, signings among them, refused ones included; a step is what some eight bytes hold
 pub data Further (y : Layout) (s : State) : State → Type 0 where
   here : Further y s s
   step : {now : State} → Further y s now → (steps : List ℕ) → Octets steps → (i : ℕ) → Further y s (stepOf y now (stepAt steps i) .state)
@@ -33,9 +41,9 @@ pub record SameLife (s after : State) (u : ℕ) : Type 0 where
   pub live : live (transactorAt after u) ≡ true
   pub is : incarnationOf (ownHistory u (transactorAt after u)) ≡ incarnationOf (ownHistory u (transactorAt s u))
 
--- Take w is take t, or rests on its present life, or on the present life of a take that does, and so on: the least such set. "A page already set
--- from those names rests on them, and so does a page set from that page": where the first page was not read before it was sent, the second has
--- the first one's life in its sets and not the names'.
+-- Take w is take t, or rests on its present life, or on the present life of a take that does, and so on: the least such set. A page
+-- set from a page that was not read before it was sent has that page's life in its sets and not that of the names; it is lost with them all the
+-- same.
 pub data RestsThrough (b : Provenance) (t : ℕ) : ℕ → Type 0 where
   itself : RestsThrough b t t
   via : {u w : ℕ} → RestsThrough b t u → RestsOn b w u (b .holders u .history .incarnation) → RestsThrough b t w
@@ -49,19 +57,38 @@ pub data Spoilt (b : Provenance) : ℕ → Type 0 where
 abbrev pub Doomed : Layout → State → ℕ → Type 0
 Doomed y s u = (after : State) → Further y s after → SameLife s after u → (v : ℕ) → named v u ≡ true → ReadyGroup y after v → ⊥
 
--- a call of the same session: any but a begin
-abbrev pub GoesOn : Call → Type 0
-GoesOn (begin m) = ⊥
-GoesOn (run list o start end lent) = Unit
-GoesOn (offer t) = Unit
-GoesOn (smallest t) = Unit
-GoesOn (heard t) = Unit
-GoesOn (counts n) = Unit
-GoesOn (depends t) = Unit
-GoesOn (hinders v) = Unit
-GoesOn (show n) = Unit
+-- what smallest_group answers about take u on the image that holds state s, its refusal included
+abbrev pub SmallestIn : Layout → State → ℕ → Option ℕ → Type 0
+SmallestIn y s u a = Smallest y (pack y s) u a
 
--- such calls, one after the other, from the image img to the one after them; signings are among their steps
-pub data Continued (y : Layout) (img : List ℕ) : List ℕ → Type 0 where
-  none : Continued y img img
-  one-more : {now after : List ℕ} {c : Call} {a : Answer} → Continued y img now → GoesOn c → Performed y now c a after → Continued y img after
+-- ---- a step of a session by which a take falls
+
+-- its eight bytes of reply say that take t fell: outcome 3 or 4, with t the take acted on
+pub data FellIn (reply : List ℕ) (t : ℕ) : Type 0 where
+  fell-back : outcomeIn reply ≡ fallenBack → getD reply 1 0 ≡ t → FellIn reply t
+  vanished-in : outcomeIn reply ≡ vanished → getD reply 1 0 ≡ t → FellIn reply t
+
+-- What the two queries say of it: s and b, the ledger's state and the book just before the step; s' and c, just after it.
+pub record Withdrawal (y : Layout) (s : State) (b : Provenance) (s' : State) (c : Provenance) (t : ℕ) : Type 1 where
+  -- Its life was present, and is withdrawn.
+  pub withdrawn : Present b t (b .holders t .history .incarnation) × SupersededOrAnnihilated c t (b .holders t .history .incarnation)
+  -- The takes that rest on that life afterwards are those of `resting`, but for take t itself.
+  pub resting : (u : ℕ) → RestsOn c u t (b .holders t .history .incarnation) ↔ ((named (dependentsOf y s t .resting) u ≡ true) × (t ≢ u))
+  -- The takes that are spoilt afterwards are those that were before, and those of `through`; take t apart.
+  pub spoils : (x : ℕ) → t ≢ x → Spoilt c x ↔ (Spoilt b x ⊎ (named (dependentsOf y s t .through) x ≡ true))
+  -- No volume that names one of `through` is ready, after whatever steps, as long as that take keeps its present life; nor was one before.
+  pub doomed : (x : ℕ) → named (dependentsOf y s t .through) x ≡ true → t ≢ x → {after : State} → Further y s' after → SameLife s after x → (v : ℕ) → named v x ≡ true → ReadyGroup y after v → ⊥
+  pub unready : (x : ℕ) → named (dependentsOf y s t .through) x ≡ true → (v : ℕ) → named v x ≡ true → ReadyGroup y s v → ⊥
+  -- Where the answer names nobody but take t, no work and no parcel, no state or creation map ever has a mark of that life again.
+  pub nobody : ((u : ℕ) → named (dependentsOf y s t .resting) u ≡ true → t ≡ u) → dependentsOf y s t .unfinished ≡ 0 → dependentsOf y s t .carried ≡ 0
+      → {after : State} → Further y s' after → (u : ℕ) (h : History) → StandsIn after u t h → incarnationOf h ≡ incarnationOf (ownHistory t (transactorAt s t)) → ⊥
+  -- Every volume is ready after it exactly if it was before: what the fall takes from those of `through` is the future.
+  pub ready : (v : ℕ) → ReadyGroup y s v ↔ ReadyGroup y s' v
+  -- What smallest_group answers about a take that is not in `through` is the same before and after the fall, a refusal included.
+  pub smallest : (u : ℕ) → named (dependentsOf y s t .through) u ≡ false → (a : Option ℕ) → SmallestIn y s u a ↔ SmallestIn y s' u a
+
+-- ---- calls after it
+
+-- calls of the same session, one after the other, signings among their steps
+abbrev pub Continued : Layout → (img after : List ℕ) → Type 0
+Continued y img after = CallsFrom y (GoesOn y) img after

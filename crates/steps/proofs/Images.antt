@@ -9,7 +9,6 @@ use borrow.Author.Tests.{le-leb, lt-leb, not-true, not-false}
 use Rattle.octets.specs.Bytes.{pick}
 use Rattle.octets.specs.Numbers.{bound}
 use Rattle.maps.specs.declared.DependenceMap.{DependenceMap}
-use Rattle.maps.specs.Internal.Fitting.{Bounded}
 use Rattle.rules.specs.Layout.{base, lastNumber}
 use Rattle.rules.specs.State.{Transactor, State, transactorAt, withTransactor, withMessage, withoutMessage, placeOf}
 use Rattle.rules.specs.declared.Step.{Step}
@@ -30,7 +29,7 @@ use Rattle.rules.proofs.ByKind.Refused.{refusal-malformed, Refuses, refuses}
 use Rattle.rules.proofs.ByKind.Applied.{applies}
 use Rattle.steps.proofs.Stepped.{stepped-refused, stepped-applied}
 
--- not crowded: a place and a number are free for one more message, without a map or with one
+-- not crowded: a place and a number are free for one more message, with no map or with what a take carries
 module _ (img : List ℕ) (n to : ℕ) (good : Good img) (w : n ≡ waitingIn base img) (z : crowdedRefusal (unpack base img) ≡ 0) (small : to < 16) where
   pub free-place : Good img × (n ≡ waitingIn base img) × (n < base .messages) × (to < 16) × (unpack base img .next < lastNumber)
   unfolding bound
@@ -38,9 +37,9 @@ module _ (img : List ℕ) (n to : ℕ) (good : Good img) (w : n ≡ waitingIn ba
       let f = free (unpack base img) z in
       (good, w, omega (arith, unpack-waiting base img, f .room, good .well .limits .messages-high), small, omega (arith, good .well .packable .next, f .number))
 
-  pub free-place-for : (m : DependenceMap) → Bounded (base .places) m
-      → Good img × (n ≡ waitingIn base img) × (n < base .messages) × (to < 16) × (unpack base img .next < lastNumber) × Bounded (base .places) m
-  free-place-for m b = (good, w, free-place .2, small, free-place .4, b)
+  pub free-place-for : (t : ℕ) → t < base .transactors
+      → Good img × (n ≡ waitingIn base img) × (n < base .messages) × (to < 16) × (unpack base img .next < lastNumber) × (t < base .transactors)
+  free-place-for t h = (good, w, free-place .2, small, free-place .4, h)
 
 module _ (img : List ℕ) (p : Step) where
   -- what the image says
@@ -110,13 +109,13 @@ module _ (img : List ℕ) (p : Step) where
         pub send-crowded : (r : Reply) → (crowdedRefusal s ≡ 0 → ⊥) → r ≡ answer (crowdedRefusal s) 0 0 0 → Stepped img p r img
         send-crowded r = stepped-refused img p r (a .good) (crowdedRefusal s) send-left
 
-        pub send-done : crowdedRefusal s ≡ 0 → (number : ℕ) (after : List ℕ) (m : DependenceMap) → number ≡ s .next → m ≡ carries → after ≡ pack base (withMessage s (p .other) (p .value) m)
+        pub send-done : crowdedRefusal s ≡ 0 → (number : ℕ) (after : List ℕ) → number ≡ s .next
+            → after ≡ pack base (withMessage s (p .other) (p .value) (carried base (p .transactor) (transactorAt s (p .transactor))))
             → Stepped img p (answer done (p .transactor) number 0) after
         unfolding applySend
-        send-done z number after m e k i =
-            let f : m ≡ carried base (p .transactor) (transactorAt s (p .transactor)) = rw (unpack-lent base img (p .transactor) (a .step .transactor)) at k in
+        send-done z number after e i =
             stepped-applied img p (answer done (p .transactor) number 0) after (applySend base s p) (send-left ∙ z) (applies base s p .send (a .kind))
-            (ap (λ (k : ℕ). answer done (p .transactor) k 0) e) (i ∙ rw f)
+            (ap (λ (k : ℕ). answer done (p .transactor) k 0) e) i
 
   -- ---- new
 

@@ -1,7 +1,4 @@
-mod Decoding
 mod Effects
-mod Encoding
-mod Fields
 mod Images
 mod Locals
 mod Receiving

@@ -1,12 +1,11 @@
 // The steps on an image, kind by kind: each refuses in the table's order, or replies and changes the image.
-pub mod packed;
-
 use image::head;
 use image::layout::FIRST_TRANSACTOR;
 use image::layout::OPENED;
 use image::layout::TRANSACTOR;
 use image::limits;
 use image::messages;
+use lists::fields;
 use maps::DependenceMap;
 use rules::Reply;
 use rules::Step;
@@ -42,82 +41,6 @@ fn answered(number: u8) -> Reply
     }
 }
 
-// ---- 20
-
-// A field that is not used and is not zero.
-fn stray(used: bool, field: u32) -> bool
-    ensures { λ r. ⌜ r ≡ not (used or eqb field 0) ⌝ }
-{
-    if used {
-        return false;
-    }
-    field != 0
-}
-
-fn uses_transactor(kind: u8) -> bool
-    ensures { λ r. ⌜ r ≡ refusals.usesTransactor kind ⌝ }
-{
-    if kind == numbers::LETTER {
-        return true;
-    }
-    if kind < numbers::NEW {
-        return false;
-    }
-    kind <= numbers::FAIL
-}
-
-fn uses_message(kind: u8) -> bool
-    ensures { λ r. ⌜ r ≡ refusals.usesMessage kind ⌝ }
-{
-    if kind == numbers::RECEIVE {
-        return true;
-    }
-    if kind == numbers::LOSE {
-        return true;
-    }
-    kind == numbers::SIGN
-}
-
-fn uses_value(kind: u8) -> bool
-    ensures { λ r. ⌜ r ≡ refusals.usesValue kind ⌝ }
-{
-    if kind == numbers::ROOT {
-        return true;
-    }
-    if kind == numbers::LETTER {
-        return true;
-    }
-    if kind == numbers::NEW {
-        return true;
-    }
-    if kind == numbers::SEND {
-        return true;
-    }
-    kind == numbers::WRITE
-}
-
-pub fn malformed(p: Step) -> bool
-    ensures { λ r. ⌜ r ≡ refusals.malformed p ⌝ }
-{
-    let kind = p.kind;
-    if numbers::SIGN < kind {
-        return true;
-    }
-    if stray(uses_transactor(kind), p.transactor as u32) {
-        return true;
-    }
-    if stray(kind == numbers::SEND, p.other as u32) {
-        return true;
-    }
-    if p.zero != 0 {
-        return true;
-    }
-    if stray(uses_message(kind), p.message as u32) {
-        return true;
-    }
-    stray(uses_value(kind), p.value)
-}
-
 // ---- 21 to 23, 26, 27
 
 fn busy_refusal(image: &[u8], t: usize) -> u8
@@ -141,7 +64,7 @@ fn crowded(image: &[u8], n: usize) -> u8
     if limits::messages(image) as usize <= n {
         return numbers::ALL_WAITING;
     }
-    if head::next(image) == limits::LAST_NUMBER {
+    if head::next(image) == lists::limits::LAST_NUMBER {
         return numbers::ALL_NUMBERED;
     }
     0
@@ -279,11 +202,8 @@ fn send(image: &mut [u8], p: Step) -> Reply
     if r != 0 {
         return answered(r);
     }
-    let at = FIRST_TRANSACTOR + TRANSACTOR * t;
-    let end = at + TRANSACTOR;
-    let m = transactor::carry(&image[at..end], t);
     let number = head::next(image);
-    messages::append(image, n, to, p.value, m);
+    messages::append(image, n, to, p.value, t);
     Reply {
         outcome: numbers::DONE,
         transactor: p.transactor,
@@ -355,7 +275,7 @@ pub fn step(image: &mut [u8], p: Step) -> Reply
     requires { ⌜ Good (now image) × StepOk p ⌝ }
     ensures { λ r. ⌜ Stepped (now (image .entry)) p r (now (image .exit)) ⌝ }
 {
-    if malformed(p) {
+    if fields::malformed(p) {
         return answered(numbers::MALFORMED);
     }
     let kind = p.kind;

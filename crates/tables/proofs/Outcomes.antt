@@ -9,7 +9,7 @@ use lib.ListN.{length}
 use borrow.Author.Tests.{le-leb, lt-leb, ne-eqb}
 use Rattle.octets.specs.Bytes.{pick, _and_}
 use Rattle.octets.proofs.Tests.{and-assoc}
-use Rattle.maps.specs.Table.{updated}
+use Rattle.octets.specs.Table.{updated}
 use Rattle.rules.specs.Layout.{base}
 use Rattle.rules.specs.declared.Step.{Step}
 use Rattle.rules.specs.declared.Reply.{Reply}

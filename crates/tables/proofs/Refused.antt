@@ -8,7 +8,7 @@ use lib.Dec.{eqb, leb}
 use borrow.Author.Tests.{le-leb, lt-leb, ne-eqb, eq-eqb, eqb-false}
 use Rattle.octets.specs.Bytes.{pick, _and_, _or_}
 use Rattle.octets.proofs.Chunks.{sides}
-use Rattle.octets.proofs.Tests.{or-none}
+use Rattle.octets.proofs.Tests.{or-none, pick-or}
 use Rattle.rules.specs.Layout.{base}
 use Rattle.rules.specs.Status.{ready, busy, annihilated}
 use Rattle.rules.specs.declared.Step.{Step}
@@ -41,12 +41,6 @@ busy-first n t x r = three 21 22 23 (leb n t) (eqb (x .status) annihilated) (not
 receipt-first : (m : Slot) (x : Row) (r : ℕ) → first (receiptGuard m x) r ≡ pick (m .missing) 24 (pick (eqb (x .status) annihilated) 22 (pick (not (eqb (x .status) ready)) 23 r))
 unfolding receiptGuard
 receipt-first m x r = three 24 22 23 (m .missing) (eqb (x .status) annihilated) (not (eqb (x .status) ready)) r (omega arith) (omega arith) (omega arith)
-
--- one number for two conditions
-either : (a b : Bool) (n r : ℕ) → pick (a or b) n r ≡ pick b n (pick a n r)
-either true true n r = refl
-either true false n r = refl
-either false b n r = refl
 
 -- the last two of kinds 5 to 10
 falling : (k : ℕ) → k ≤ fail → eqb k fall or eqb k fail ≡ leb fall k
@@ -83,7 +77,7 @@ module _ (x : Register) (R : ℕ → Row) (F : ℕ → Slot) (p : Step) (d f : B
     letter = λ e. simp (formed, e, or-none);
     receive = λ e. simp (formed, e, or-none, receipt-first);
     new = λ e. simp (formed, e, or-none, busy-first);
-    send = λ e. simp (formed, e, or-none, busy-first, either);
+    send = λ e. simp (formed, e, or-none, busy-first, pick-or);
     local = λ low high.
         let k = otherwise (p .kind) low high in
         simp (formed, k .root, k .letter, k .receive, k .new, k .send, k .lose, k .sign, k .from, k .upto, or-none, falling (p .kind) high);

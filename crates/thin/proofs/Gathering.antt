@@ -15,10 +15,10 @@ use Rattle.rules.specs.Layout.{base}
 use Rattle.rules.specs.declared.Step.{Step}
 use Rattle.rules.specs.Step.{stepBytes, unpackStep, stepAt, read}
 use Rattle.rules.specs.Calls.{stepsIn}
-use Rattle.rules.specs.Thin.{notRefused, touches, empties, emptiedFrom, unused, kept, chosen, counted}
-use Rattle.rules.proofs.Thin.Chosen.{chosen-none, chosen-suc, counted-none, counted-suc, counted-few, length-chosen}
+use Rattle.thin.specs.Thin.{notRefused, touches, empties, emptiedFrom, unused, kept, chosen, counted}
+use Rattle.thin.proofs.Chosen.{chosen-none, chosen-suc, counted-none, counted-suc, counted-few, length-chosen}
 use Rattle.thin.specs.Internal.Gather.{Says, with, keptBy, outcomeIn, keptIn, Placed, Gathered, Shortened}
-use Rattle.rules.proofs.Thin.Same.{emptied-none, emptied-turn}
+use Rattle.thin.proofs.Same.{emptied-none, emptied-turn}
 use Rattle.thin.proofs.Looking.{says-as}
 
 -- p in front of q, which stands already
@@ -99,9 +99,6 @@ module _ (b rs : List ℕ) (same : length rs ≡ length b) (steps : stepBytes * 
 
     next : suc j ≡ i
     next = omega arith
-
-    fits : stepBytes * k ≤ length rs
-    fits = omega (arith, g .long)
 
     -- its reply stands there still
     replied : getD out (stepBytes * j) 0 ≡ outcomeIn rs j

@@ -17,8 +17,8 @@ use Rattle.rules.specs.Layout.{base}
 use Rattle.rules.specs.declared.Step.{Step}
 use Rattle.rules.specs.Step.{done, new, sign, fail}
 use Rattle.rules.specs.Refusals.{named, acts}
-use Rattle.rules.specs.Thin.{notRefused, touches, empties}
-use Rattle.rules.proofs.Thin.Touches.{touch-none, touch-own, touch-other, touch-unsigned, touch-refused, touch-named}
+use Rattle.thin.specs.Thin.{notRefused, touches, empties}
+use Rattle.thin.proofs.Touches.{touch-none, touch-own, touch-other, touch-unsigned, touch-refused, touch-named}
 use Rattle.thin.specs.Internal.Gather.{Says, with}
 
 -- ---- a table that says the same, or is changed for one take

@@ -15,15 +15,15 @@ use Rattle.rules.specs.Step.{stepBytes}
 use Rattle.rules.specs.Pack.{unpack}
 use Rattle.rules.specs.Calls.{stepsIn, runAnswer, ranReplies, runReplies}
 use Rattle.rules.specs.Internal.Well.{WellFormed}
-use Rattle.rules.specs.Thin.{chosen, outcomeAt, keptFrom, shortList, keptCount, thinRefusal, partOf, thinOut, thinCount}
+use Rattle.thin.specs.Thin.{chosen, outcomeAt, keptFrom, shortList, keptCount, thinRefusal, partOf, thinOut, thinCount}
 use Rattle.rules.proofs.Form.State.{formed-state}
 use Rattle.rules.proofs.Keep.Step.{fitting-base}
 use Rattle.rules.proofs.Calls.Run.{ran-16}
 use Rattle.rules.proofs.Calls.Stored.{Accepted, accepted}
-use Rattle.rules.proofs.Thin.Calls.{untouched, length-short}
-use Rattle.rules.proofs.Thin.Outcomes.{outcome-byte}
+use Rattle.thin.proofs.Calls.{untouched, length-short}
+use Rattle.thin.proofs.Outcomes.{outcome-byte}
 use Rattle.thin.specs.Internal.Gather.{outcomeIn, keptIn, Shortened}
-use Rattle.rules.proofs.Thin.Same.{kept-same, chosen-same, counted-same}
+use Rattle.thin.proofs.Same.{kept-same, chosen-same, counted-same}
 
 -- an image of another length
 pub ran-wrong : (img list : List ℕ) (start end : ℕ) (out : List ℕ) → (length img ≡ imageBytes base → ⊥)

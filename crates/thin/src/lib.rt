@@ -2,17 +2,17 @@
 mod lookahead;
 
 use image::layout::IMAGE;
-use image::layout::STEP;
+use lists::STEP;
+use lists::packed;
 use lookahead::Lookahead;
 use rules::numbers;
-use steps::packed;
 ghost use mathlib.Core.Path.{_≡_};
 ghost use Prim.Native.Nat.{_+_, _*_, _/_, _≤_, _<_};
 ghost use lib.ListN.{length};
 ghost use Rattle.rules.specs.Layout.{base};
 ghost use Rattle.rules.specs.Step.{stepBytes};
 ghost use Rattle.rules.specs.Calls.{runAnswer, runReplies};
-ghost use Rattle.rules.specs.Thin.{thinRefusal, thinOut, thinCount};
+ghost use Rattle.thin.specs.Thin.{thinRefusal, thinOut, thinCount};
 ghost use Rattle.thin.specs.Internal.Gather.{Placed, Gathered, Shortened};
 
 // Step i, if it is kept, in front of the steps from place k on; the first place of them then.

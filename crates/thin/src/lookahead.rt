@@ -1,6 +1,6 @@
 // What the steps after a place in the list do to the behaviour maps.
-use group::is_named;
-use image::layout::TRANSACTORS;
+use lists::groups::is_named;
+use lists::limits::TRANSACTORS;
 use rules::Step;
 use rules::numbers;
 ghost use mathlib.Core.Path.{_≡_};
@@ -10,7 +10,7 @@ ghost use lib.ListN.{getD};
 ghost use Rattle.octets.specs.Bytes.{_or_};
 ghost use Rattle.rules.specs.Layout.{base};
 ghost use Rattle.rules.specs.Refusals as refusals;
-ghost use Rattle.rules.specs.Thin as definitions;
+ghost use Rattle.thin.specs.Thin as definitions;
 ghost use Rattle.thin.specs.Internal.Gather.{Says, with, keptBy};
 
 // For each transactor, whether the next step that touches it empties its map.

@@ -18,10 +18,9 @@ use Rattle.marks.specs.declared.History.{History}
 use Rattle.marks.specs.History.{rolledBack}
 use Rattle.marks.specs.Packed.{packHistory}
 use Rattle.maps.specs.declared.DependenceMap.{DependenceMap}
-use Rattle.maps.specs.Map.{withEntry}
+use Rattle.maps.specs.Map.{withEntry, Sized}
 use Rattle.maps.specs.Packed.{unpackMap}
 use Rattle.maps.specs.Internal.Fitting.{Exact}
-use Rattle.maps.proofs.Map.{Sized}
 use Rattle.maps.proofs.Packed.{length-packMap, pack-emptyMap, bounded-at, bounded-unpack}
 use Rattle.rules.specs.Layout.{Layout, largest, base, historyBytes, mapBytes, valueAt, savedAt, stateAt, creationAt, behaviourAt, transactorBytes}
 use Rattle.rules.specs.Step.{done, held, fallenBack, vanished, read, write, freeze, finish, fall, fail}

@@ -16,14 +16,15 @@ use Rattle.maps.proofs.Packed.{length-packMap}
 use Rattle.rules.specs.Layout.{Layout, base, mapBytes, stateAt, creationAt, transactorBytes, dependencesAt, messageBytes, transactorAddress, messageAddress, imageBytes}
 use Rattle.rules.specs.State.{Transactor, State, transactorAt, messageAt, withState, withTransactor}
 use Rattle.rules.specs.Rules.{informedBy}
-use Rattle.rules.specs.Pack.{packDependences, packTransactor, packTransactorAt, transactorPart, unpackDependences, waitingIn, pack, unpack}
+use Rattle.rules.specs.Pack.{packDependences, packTransactor, unpackDependences, waitingIn, pack, unpack}
 use Rattle.rules.specs.Internal.Good.{Good}
 use Rattle.rules.specs.Internal.Well.{WellFormed}
 use Rattle.rules.proofs.Good.{good-pack}
-use Rattle.rules.proofs.Pack.Sizes.{length-packTransactor, length-pack}
+use Rattle.rules.proofs.Pack.Exact.{state-exact, creation-exact}
+use Rattle.rules.proofs.Pack.Sizes.{length-pack}
 use Rattle.rules.proofs.Pack.Stores.{put-state, put-creation, withTransactor-many, withTransactor-here, withTransactor-again, pack-inTransactor}
-use Rattle.rules.proofs.Pack.Loads.{part-transactor, unpack-many, unpack-waiting, waiting-few, read-state, read-creation, read-dependences}
-use Rattle.rules.proofs.Pack.RoundTrip.{map-part, transactorPart-pack, unpack-pack}
+use Rattle.rules.proofs.Pack.Loads.{unpack-many, unpack-waiting, waiting-few, read-state, read-creation, read-dependences}
+use Rattle.rules.proofs.Pack.RoundTrip.{unpack-pack}
 use Rattle.rules.proofs.Keep.Kinds.{well-informed}
 use Rattle.transactor.specs.Internal.Effects.{takenIn}
 
@@ -53,21 +54,6 @@ module _ (y : Layout) (img : List ℕ) (t : ℕ) (below : t < y .transactors) (k
       let n : length img ≡ imageBytes y = sym (ap length packed) ∙ length-pack y s in
       omega (arith, step (messageBytes y) k (y .messages) (omega (arith, waiting-few y img)))
 
-  map-there : (off : ℕ) (m : DependenceMap) → off + mapBytes y ≤ transactorBytes y → put off (packDependences y m) (packTransactor y x) ≡ packTransactor y x
-      → part (at + off) (mapBytes y) img ≡ packDependences y m
-  unfolding packTransactorAt
-  map-there off m h same =
-      let bytes : transactorPart y img t ≡ packTransactor y x = ap (λ (l : List ℕ). transactorPart y l t) (sym packed) ∙ transactorPart-pack y s t below in
-      sym (part-transactor y img t off (mapBytes y) h) ∙ ap (part off (mapBytes y)) bytes ∙ map-part y off m (packTransactor y x) (omega (arith, length-packTransactor y x)) same
-
-  state-exact : Exact (y .width) (y .places) (y .transactors) img (at + stateAt)
-  unfolding Exact
-  state-exact = ap (packDependences y) (sym (read-state y img t below)) ∙ sym (map-there stateAt (x .state) (omega arith) (put-state y x (x .state)))
-
-  creation-exact : Exact (y .width) (y .places) (y .transactors) img (at + creationAt y)
-  unfolding Exact
-  creation-exact = ap (packDependences y) (sym (read-creation y img t below)) ∙ sym (map-there (creationAt y) (x .creation) (omega arith) (put-creation y x (x .creation)))
-
   -- ---- the state map is told
 
   -- what is asked of the two maps
@@ -75,7 +61,7 @@ module _ (y : Layout) (img : List ℕ) (t : ℕ) (below : t < y .transactors) (k
   Asked l off = (from + mapBytes y ≤ length l) × (at + off + mapBytes y ≤ length l) × Apart (mapBytes y) from (at + off) × Exact (y .width) (y .places) (y .transactors) l (at + off)
 
   pub state-asked : Asked img stateAt
-  state-asked = (from-fits, omega (arith, fits, from-fits), behind (omega (arith, fits)), state-exact)
+  state-asked = (from-fits, omega (arith, fits, from-fits), behind (omega (arith, fits)), state-exact y img packed t below)
 
   abbrev heardState : DependenceMap
   heardState = informedOf (y .transactors) t (x .state) deps
@@ -107,7 +93,7 @@ module _ (y : Layout) (img : List ℕ) (t : ℕ) (below : t < y .transactors) (k
     creation-exact-then : Exact (y .width) (y .places) (y .transactors) img' (at + creationAt y)
     unfolding Exact
     creation-exact-then =
-        subst (λ (b : List ℕ). packDependences y (unpackMap (y .width) (y .places) (y .transactors) b) ≡ b) (sym (kept-part (at + creationAt y) (omega arith))) creation-exact
+        subst (λ (b : List ℕ). packDependences y (unpackMap (y .width) (y .places) (y .transactors) b) ≡ b) (sym (kept-part (at + creationAt y) (omega arith))) (creation-exact y img packed t below)
 
     -- ---- and then the creation map
 

@@ -8,7 +8,7 @@ use image::layout::SAVED;
 use image::layout::STATE;
 use image::layout::TRANSACTOR;
 use image::layout::VALUE;
-use image::limits;
+use lists::limits;
 use maps::DependenceMap;
 use marks::History;
 use rules::numbers;

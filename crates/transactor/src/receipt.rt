@@ -10,10 +10,15 @@ use image::layout::MESSAGE;
 use image::layout::STATE;
 use image::layout::TRANSACTOR;
 use maps::Comparison;
+use maps::Comparisons;
 use maps::DependenceMap;
 use rules::numbers;
 ghost use mathlib.Core.Path.{_≡_};
-ghost use Prim.Native.Nat.{_<_};
+ghost use Prim.Native.Nat.{_+_, _≤_, _<_};
+ghost use lib.ListN.{length};
+ghost use Rattle.marks.specs.Packed.{width, places};
+ghost use Rattle.maps.specs.Map.{joinOf, firstSuperseded, answerOf, anyUnrelated};
+ghost use Rattle.maps.specs.Packed.{entries, mapSize, mapIn};
 ghost use Rattle.rules.specs.Layout.{base};
 ghost use Rattle.rules.specs.State.{transactorAt, messageAt, withTransactor};
 ghost use Rattle.rules.specs.Pack.{waitingIn, pack, unpack};
@@ -33,6 +38,29 @@ fn take_in(image: &mut [u8], t: usize, k: usize)
     octets::lower(image, to, from - to, maps::SIZE);
 }
 
+// The map packed at m compared with those at state and creation, joined: both ways. Of a letter, whose map has no entry, nothing is stale
+// or unrelated, and no map is loaded.
+fn compared(image: &[u8], state: usize, creation: usize, m: usize) -> Comparisons
+    requires { ⌜ (state + mapSize width places entries ≤ length (now image)) × (creation + mapSize width places entries ≤ length (now image)) × (m + mapSize width places entries ≤ length (now image)) ⌝ }
+    ensures { λ r. ⌜ (r .unrelated ≡ anyUnrelated entries (mapIn width places entries (now (image .entry)) m)
+        (joinOf entries (mapIn width places entries (now (image .entry)) state) (mapIn width places entries (now (image .entry)) creation)))
+        × (answerOf (r .packed) ≡ firstSuperseded entries (mapIn width places entries (now (image .entry)) m)
+        (joinOf entries (mapIn width places entries (now (image .entry)) state) (mapIn width places entries (now (image .entry)) creation)))
+        × (answerOf (r .own) ≡ firstSuperseded entries
+        (joinOf entries (mapIn width places entries (now (image .entry)) state) (mapIn width places entries (now (image .entry)) creation))
+        (mapIn width places entries (now (image .entry)) m)) ⌝ }
+{
+    if octets::all_zero(image, m, maps::SIZE) {
+        return Comparisons {
+            unrelated: false,
+            packed: Comparison::Current,
+            own: Comparison::Current,
+        };
+    }
+    let known = DependenceMap::joined(image, state, creation);
+    known.compare(image, m)
+}
+
 // The message in place k, addressed to transactor t: refused as of another book, or dropped, or a fall, or taken in with its news.
 pub fn accept(image: &mut [u8], t: usize, k: usize) -> Acted
     requires { ⌜ Good (now image) × (t < base .transactors) × (k < waitingIn base (now image)) ⌝ }
@@ -45,8 +73,7 @@ pub fn accept(image: &mut [u8], t: usize, k: usize) -> Acted
     let state = at + STATE;
     let creation = at + CREATION;
     let m = FIRST_MESSAGE + MESSAGE * k + DEPENDENCES;
-    let known = DependenceMap::joined(image, state, creation);
-    let answers = known.compare(image, m);
+    let answers = compared(image, state, creation, m);
     if answers.unrelated {
         return crate::outcome_of(numbers::UNRELATED);
     }

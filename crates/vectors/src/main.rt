@@ -9,7 +9,7 @@ mod lines;
 use libc::STDIN_FILENO;
 
 // The longest script.
-const SCRIPT: usize = 65536;
+const SCRIPT: usize = 131072;
 
 fn main() {
     let mut text = [0u8; SCRIPT];

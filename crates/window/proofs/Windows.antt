@@ -1,20 +1,20 @@
 -- The worst window: what pins it down, and the laws of the functions that find it.
-use Prim.Native.Nat.{ℕ, zero, suc, _+_, _-_, _%_, _≤_, _<_}
-use mathlib.Core.Bool.{Bool, true, false, not}
+use Prim.Native.Nat.{ℕ, zero, suc, _+_, _-_, _≤_, _<_}
+use mathlib.Core.Bool.{Bool, true, false}
 use mathlib.Core.Path.{_≡_, refl, sym, subst, _∙_}
 use mathlib.Core.List.{List, []}
 use mathlib.Core.Logic.{⊎-elim}
 use native.Mathlib.Numerals.{add-one}
 use native.Mathlib.Omega.{arith}
 use borrow.Author.Tests.{lt-ltb, le-ltb, ltb-true, ltb-false, eq-eqb, ne-eqb}
-use lib.Dec.{eqb, ltb}
+use lib.Dec.{ltb}
 use lib.ListN.{length}
-use Rattle.octets.specs.Bytes.{pick, _or_}
+use Rattle.octets.specs.Bytes.{pick}
 use Rattle.octets.proofs.Chunks.{sides, cases}
-use Rattle.octets.proofs.Tests.{pick-zero, or-off}
-use Rattle.rules.specs.Step.{stepBytes, fallenBack, vanished}
+use Rattle.octets.proofs.Tests.{pick-zero}
+use Rattle.rules.specs.Step.{fallenBack, vanished}
 use Rattle.rules.specs.Calls.{stepsIn, longest, wrongPart}
-use Rattle.rules.proofs.Calls.Run.{part-broken, part-long, part-fine}
+use Rattle.lists.proofs.Parts.{right-part}
 use Rattle.window.specs.Window.{Worst, outcomeAt, isTrouble, troubleAt, troubles, windowLength, lastPlace, windowCount, worseOf, worstUpTo, worst, wrongWidth, windowRefusal, worstWindow}
 
 -- ---- windows
@@ -207,33 +207,22 @@ upTo-end b n k m x e h = e ∙ rw h
 -- ---- the call
 
 module _ (b : List ℕ) (w : ℕ) where
-  all : length b - 0 ≡ length b
-  all = omega arith
-
-  pub refusal-broken : (length b % stepBytes ≡ 0 → ⊥) → 17 ≡ windowRefusal b w
+  pub refusal-part : wrongPart b 0 (length b) ≡ true → 17 ≡ windowRefusal b w
   unfolding windowRefusal
-  refusal-broken n = rw (part-broken b 0 (length b) (omega arith) (omega arith) (rw all n))
+  refusal-part e = rw e
 
-  module _ (whole : length b % stepBytes ≡ 0) where
-    pub refusal-long : longest < length b → 17 ≡ windowRefusal b w
-    unfolding windowRefusal
-    refusal-long h = rw (part-long b 0 (length b) (omega arith) (omega arith) (rw all whole) (rw all h))
+  module _ (fine : wrongPart b 0 (length b) ≡ false) where
+    pub refusal-narrow : w < 1 → 35 ≡ windowRefusal b w
+    unfolding windowRefusal wrongWidth
+    refusal-narrow h = rw (fine, lt-ltb w 1 h)
 
-    module _ (short : length b ≤ longest) where
-      fine : wrongPart b 0 (length b) ≡ false
-      fine = part-fine b 0 (length b) (omega arith) (omega arith) (rw all whole) (rw all short)
+    pub refusal-wide : 1 ≤ w → 256 < w → 35 ≡ windowRefusal b w
+    unfolding windowRefusal wrongWidth
+    refusal-wide h i = rw (fine, le-ltb w 1 h, lt-ltb 256 w i)
 
-      pub refusal-narrow : w < 1 → 35 ≡ windowRefusal b w
-      unfolding windowRefusal wrongWidth
-      refusal-narrow h = rw (fine, lt-ltb w 1 h)
-
-      pub refusal-wide : 1 ≤ w → 256 < w → 35 ≡ windowRefusal b w
-      unfolding windowRefusal wrongWidth
-      refusal-wide h i = rw (fine, le-ltb w 1 h, lt-ltb 256 w i)
-
-      pub refusal-none : 1 ≤ w → w ≤ 256 → 0 ≡ windowRefusal b w
-      unfolding windowRefusal wrongWidth
-      refusal-none h i = rw (fine, le-ltb w 1 h, le-ltb 256 w i)
+    pub refusal-none : 1 ≤ w → w ≤ 256 → 0 ≡ windowRefusal b w
+    unfolding windowRefusal wrongWidth
+    refusal-none h i = rw (fine, le-ltb w 1 h, le-ltb 256 w i)
 
 -- r is the refusal
 module _ (b : List ℕ) (w r : ℕ) (is : r ≡ windowRefusal b w) where
@@ -247,14 +236,10 @@ module _ (b : List ℕ) (w r : ℕ) (is : r ≡ windowRefusal b w) where
 
     -- an accepted list is no longer than it may be
     pub accepted-short : length b ≤ longest
-    unfolding windowRefusal wrongPart
+    unfolding windowRefusal
     accepted-short =
-        let n : ℕ = length b - 0 in
         let a = pick-zero (wrongPart b 0 (length b)) 17 (pick (wrongWidth w) 35 0) (omega arith) accepted .0 in
-        let d = or-off (ltb (length b) 0) (ltb (length b) (length b) or not (eqb (n % stepBytes) 0) or ltb longest n) a .1 in
-        let f = or-off (ltb (length b) (length b)) (not (eqb (n % stepBytes) 0) or ltb longest n) d .1 in
-        let g = or-off (not (eqb (n % stepBytes) 0)) (ltb longest n) f .1 in
-        omega (arith, ltb-false longest n g)
+        omega (arith, right-part b 0 (length b) a .short)
 
     module _ (x : Worst) where
       pub worst-narrow : stepsIn b < w → x ≡ worstUpTo b (stepsIn b) (stepsIn b - stepsIn b) → x ≡ worstWindow b w

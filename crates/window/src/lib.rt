@@ -1,4 +1,5 @@
 // The worst window of a list of replies (document 02, W13). No call on an image: it reads replies alone.
+use lists::STEP;
 use rules::numbers;
 ghost use mathlib.Core.Path.{_≡_};
 ghost use Prim.Native.Nat.{_-_, _*_, _≤_, _<_};
@@ -6,12 +7,6 @@ ghost use lib.ListN.{length};
 ghost use Rattle.rules.specs.Step.{stepBytes};
 ghost use Rattle.rules.specs.Calls.{stepsIn, longest};
 ghost use Rattle.window.specs.Window.{troubleAt, troubles, worseOf, worstUpTo, windowRefusal, worstWindow};
-
-// A reply's bytes.
-const REPLY: usize = 8;
-
-// The longest list.
-const LONGEST: usize = 8192;
 
 // The greatest width.
 const WIDEST: usize = 256;
@@ -28,7 +23,7 @@ fn trouble(replies: &[u8], i: usize) -> usize
     requires { ⌜ stepBytes * i < length (now replies) ⌝ }
     ensures { λ r. ⌜ r ≡ troubleAt (now (replies .entry)) i ⌝ }
 {
-    let outcome = replies[REPLY * i];
+    let outcome = replies[STEP * i];
     if outcome == numbers::FALLEN_BACK {
         return 1;
     }
@@ -68,7 +63,7 @@ fn slide(replies: &[u8], width: usize) -> Worst
     requires { ⌜ (stepBytes * width ≤ length (now replies)) × (length (now replies) ≤ longest) ⌝ }
     ensures { λ r. ⌜ r ≡ worstUpTo (now (replies .entry)) width (stepsIn (now (replies .entry)) - width) ⌝ }
 {
-    let n = replies.len() / REPLY;
+    let n = replies.len() / STEP;
     let mut count = first(replies, width);
     let mut best = Worst { count, place: 0 };
     let mut place: usize = 0;
@@ -84,10 +79,8 @@ fn slide(replies: &[u8], width: usize) -> Worst
 fn window_refusal(replies: &[u8], width: usize) -> u8
     ensures { λ r. ⌜ r ≡ windowRefusal (now (replies .entry)) width ⌝ }
 {
-    if replies.len() % REPLY != 0 {
-        return numbers::WRONG_PART;
-    }
-    if LONGEST < replies.len() {
+    let n = replies.len();
+    if lists::wrong_part(replies, 0, n) {
         return numbers::WRONG_PART;
     }
     if width < 1 {
@@ -109,7 +102,7 @@ pub fn worst_window(replies: &[u8], width: usize, refusal: &mut u8) -> Worst
     if number != 0 {
         return Worst { count: 0, place: 0 };
     }
-    let n = replies.len() / REPLY;
+    let n = replies.len() / STEP;
     if n < width {
         return slide(replies, n);
     }

@@ -5,7 +5,7 @@ use mathlib.Core.Path.{_≡_}
 use mathlib.Core.List.{List, [], _∷_, _++_}
 use Rattle.octets.specs.Bytes.{pick}
 use Rattle.marks.specs.Incarnation.{Incarnation, initialIncarnation}
-use Rattle.maps.specs.Table.{updated}
+use Rattle.octets.specs.Table.{updated}
 use Rattle.session.specs.Provenance.{Incarnations, In, one, Provenance, find}
 use Rattle.chains.specs.Chain.{Places, Event, nothing, cleared, sent, taken, opens, reads, writes, finishes, renewed, annihilated, successive, back}
 

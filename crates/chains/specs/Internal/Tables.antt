@@ -3,7 +3,7 @@ use Prim.Native.Nat.{ℕ, _+_, _-_}
 use mathlib.Core.Bool.{Bool, true, false, not}
 use lib.Dec.{eqb}
 use Rattle.octets.specs.Bytes.{pick, _and_}
-use Rattle.maps.specs.Table.{updated}
+use Rattle.octets.specs.Table.{updated}
 use Rattle.rules.specs.Layout.{Layout, Limits}
 use Rattle.rules.specs.Status.{unused, ready, busy, annihilated}
 use Rattle.rules.specs.declared.Step.{Step}

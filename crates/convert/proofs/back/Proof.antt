@@ -17,7 +17,7 @@ returns-5 : tie.Need-returns-5
 returns-5 c =
     let l = c .before .before .before .before in
     let f = l .before .before in
-    back-done _ _ (search needs) (search needs) (passed (f .before .formed .ensures) (f .if3 .left)) (octets-of _ (f .before .before .before .before .before .shared-slice-known .given)) (not-true _ (passed (l .before .image .ensures) (l .if4 .left))) _ (c .before .before .image2 .ensures)
+    back-done _ _ (search needs) (search needs) (passed (f .before .formed .ensures) (f .if3 .left)) (octets-of _ (f .before .before .before .before .before .shared-slice-known .given)) (not-true _ (passed (l .before .image .ensures) (l .if4 .left))) _ (c .before .before .narrower .ensures)
 
 pub back-spec : {M : Type 1} → statement M
 back-spec =

@@ -13,22 +13,22 @@ use borrow.Author.Needs.{needs}
 use Rattle.convert.proofs.forward.Statement.{statement}
 use Rattle.convert.proofs.forward.Tie as tie
 
-image-requires : tie.Need-image-requires
-image-requires c κs = (search needs, search needs, zero-buffer 42616)
+wider-requires : tie.Need-wider-requires
+wider-requires c κs = (search needs, search needs, zero-buffer 42616)
 
 returns-3 : tie.Need-returns-3
 returns-3 c =
     let i = c .before .before .before .before in
     let b = i .before .before .before .before .before in
-    forward-ill-formed _ _ (search needs) (search needs) (octets-of _ (b .shared-slice-known .given)) (ap (wellFormed base) (sym (i .image .ensures)) ∙ failed (c .before .formed .ensures) (c .if3 .taken))
+    forward-ill-formed _ _ (search needs) (search needs) (octets-of _ (b .shared-slice-known .given)) (ap (wellFormed base) (sym (i .wider .ensures)) ∙ failed (c .before .formed .ensures) (c .if3 .taken))
 
 returns-4 : tie.Need-returns-4
 returns-4 c =
     let f = c .before .before .before .before .before in
     let i = f .before .before .before .before in
     let b = i .before .before .before .before .before in
-    forward-done _ _ (search needs) (search needs) (octets-of _ (b .shared-slice-known .given)) (ap (wellFormed base) (sym (i .image .ensures)) ∙ passed (f .before .formed .ensures) (f .if3 .left))
-    _ (c .before .before .write .ensures ∙ ap (λ (x : List ℕ). put 0 x (b .before .args .target .now)) (i .image .ensures))
+    forward-done _ _ (search needs) (search needs) (octets-of _ (b .shared-slice-known .given)) (ap (wellFormed base) (sym (i .wider .ensures)) ∙ passed (f .before .formed .ensures) (f .if3 .left))
+    _ (c .before .before .write .ensures ∙ ap (λ (x : List ℕ). put 0 x (b .before .args .target .now)) (i .wider .ensures))
 
 pub forward-spec : {M : Type 1} → statement M
 forward-spec =
@@ -37,7 +37,7 @@ forward-spec =
     (λ c. forward-source _ _ (search needs))
     (λ c. forward-target _ _ (search needs) (search needs))
     (λ c. search needs)
-    image-requires
+    wider-requires
     (λ c. search needs)
     (λ c κs. search needs)
     returns-3

@@ -3,15 +3,15 @@ use mathlib.Core.Path.{sym, _∙_}
 use native.Mathlib.Omega.{arith}
 use borrow.Author.Needs.{needs}
 use borrow.Author.Tests.{not-true, not-false}
-use Rattle.rules.specs.Layout.{base, limitsOf}
-use Rattle.rules.proofs.Ranges.{InRange, in-range-exactly}
+use Rattle.rules.specs.Layout.{base, limitsOf, LimitsInRange}
+use Rattle.rules.proofs.Ranges.{in-range-exactly}
 use Rattle.rules.proofs.Calls.Begin.{begin-16, begin-33, begin-0}
 use Rattle.ledger.proofs.Refreshing.{fresh-stored}
 use Rattle.ledger.proofs.begin.Statement.{statement}
 use Rattle.ledger.proofs.begin.Tie as tie
 
 -- the limits are in range
-abbrev range : (c : tie.After-store-arg) → InRange (limitsOf (c .before .before .before .before .before .before .before .before .before .args .transactors) (c .before .before .before .before .before .before .before .before .before .args .messages) (c .before .before .before .before .before .before .before .before .before .args .checkpoints))
+abbrev range : (c : tie.After-store-arg) → LimitsInRange (limitsOf (c .before .before .before .before .before .before .before .before .before .args .transactors) (c .before .before .before .before .before .before .before .before .before .args .messages) (c .before .before .before .before .before .before .before .before .before .args .checkpoints))
 range c =
     let b = c .before .before .before .before .before in
     in-range-exactly _ .0 (sym (b .before .in-range .ensures) ∙ not-false _ (b .if2 .left))

@@ -32,4 +32,4 @@ show-spec =
     (λ c. search needs)
     (λ c. search needs)
     (λ c. search needs)
-    (λ c. shown-part base _ _ (search needs) (formed (c .before .before .before .before)) _ (c .before .before .place-of .ensures .0) (search needs)))
+    (λ c. shown-part base _ _ (search needs) (formed (c .before .before .before .before)) _ (c .before .before .place-numbered .ensures .0) (search needs)))

@@ -8,8 +8,8 @@ use Rattle.ledger_c.proofs.ledger_show.Tie as tie
 waiting-requires : tie.Need-waiting-requires
 waiting-requires c κs = shown-length _ _ (sym (c .before .before .show .ensures .1) ∙ c .if1 .left)
 
-place-of-requires : tie.Need-place-of-requires
-place-of-requires c κs = (shown-length _ _ (sym (c .before .before .before .show .ensures .1) ∙ c .before .if1 .left), search needs, search needs)
+place-numbered-requires : tie.Need-place-numbered-requires
+place-numbered-requires c κs = (shown-length _ _ (sym (c .before .before .before .show .ensures .1) ∙ c .before .if1 .left), search needs, search needs)
 
 pub ledger-show-spec : {M : Type 1} → statement M
 ledger-show-spec =
@@ -18,8 +18,8 @@ ledger-show-spec =
     (λ c κs. search needs)
     (λ c. (search needs, part-refused _ _ (search needs)))
     waiting-requires
-    place-of-requires
+    place-numbered-requires
     (λ c. search needs)
     (λ c. search needs)
     (λ c. search needs)
-    (λ c. (search needs, part-shown _ _ (search needs) _ (c .place-of .ensures .0))))
+    (λ c. (search needs, part-shown _ _ (search needs) _ (c .place-numbered .ensures .0))))

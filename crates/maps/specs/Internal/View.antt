@@ -2,12 +2,9 @@
 use Prim.Native.Nat.{ℕ}
 use mathlib.Core.Path.{_≡_}
 use mathlib.Core.Option.{Option, none, some}
-use Rattle.octets.specs.Bytes.{pick}
 use Rattle.marks.specs.Incarnation.{Superseded}
-use Rattle.marks.specs.History.{HistoryView, viewOf, newerView}
-use Rattle.maps.specs.declared.DependenceMap.{DependenceMap}
-use Rattle.maps.specs.Map.{heldAt, historyAt}
-use Rattle.maps.specs.Table.{updated}
+use Rattle.marks.specs.History.{HistoryView, newerView}
+use Rattle.octets.specs.Table.{updated}
 pub use Rattle.maps.specs.View.{MapView}
 unfoldable pub use Rattle.maps.specs.View.{mapView}
 

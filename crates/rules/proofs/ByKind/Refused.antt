@@ -1,7 +1,7 @@
 -- What refuses a step, kind by kind and in the order of the code.
 use Prim.Native.Nat.{ℕ, _≤_}
-use mathlib.Core.Bool.{Bool, true, false, not}
-use mathlib.Core.Path.{_≡_, refl}
+use mathlib.Core.Bool.{true, false, not}
+use mathlib.Core.Path.{_≡_}
 use native.Mathlib.Omega.{arith}
 use lib.Dec.{eqb, ltb, leb}
 use lib.ListN.{length}
@@ -14,7 +14,7 @@ use Rattle.rules.specs.Step.{Step, root, letter, receive, new, send, rea
 use Rattle.rules.specs.Refusals.{malformed, notWaiting, emptyGroup, unopened, isGone, wrongStatus, unrelatedReceipt, allOpened, allWaiting, allNumbered, allCheckpointed, atLast, lastRollsBack, refusalOf}
 use Rattle.rules.specs.Rules.{receiptRollsBack, receiptUnrelated, seen, refusal}
 use Rattle.rules.specs.Internal.Guards.{isLastIncarnation, busyRefusal, crowdedRefusal, namedRefusal, groupRefusal, blocksAt}
-use Rattle.octets.proofs.Tests.{or-none, or-off}
+use Rattle.octets.proofs.Tests.{or-none, or-off, pick-or}
 use Rattle.rules.proofs.ByKind.Guards.{first, working-first}
 
 pub refusal-malformed : (y : Layout) (s : State) (p : Step) → malformed p ≡ true → refusal y s p ≡ 20
@@ -24,12 +24,6 @@ refusal-malformed y s p e = rw e
 pub kind-formed : (p : Step) → malformed p ≡ false → p .kind ≤ sign
 unfolding malformed
 kind-formed p e = ltb-false sign (p .kind) (or-off (ltb sign (p .kind)) _ e .0)
-
--- one number for two conditions
-either : (a b : Bool) (n r : ℕ) → pick (a or b) n r ≡ pick b n (pick a n r)
-either true true n r = refl
-either true false n r = refl
-either false b n r = refl
 
 -- kind k of 5 to 10, the take t being opened
 abbrev pub localRefusal : Layout → ℕ → ℕ → Transactor → ℕ
@@ -90,7 +84,7 @@ refuses y s p formed = record {
   letter = λ e. simp (formed, e, or-none);
   receive = λ e. simp (formed, e, or-none);
   new = λ e. simp (formed, e, or-none, working-first);
-  send = λ e. simp (formed, e, or-none, working-first, either);
+  send = λ e. simp (formed, e, or-none, working-first, pick-or);
   local = λ low high.
       let k = otherwise (p .kind) low high in
       simp (formed, k .root, k .letter, k .receive, k .new, k .send, k .lose, k .sign, k .from, k .upto, or-none);

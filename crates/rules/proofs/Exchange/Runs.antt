@@ -12,7 +12,6 @@ use lib.ListN.{length, take, drop, length-append, length-drop, take-append-drop,
 use lib.Seq.{take-all, length-take-le}
 use Rattle.octets.specs.Bytes.{put, part, chunks}
 use Rattle.octets.proofs.Put.{put-def, part-def, length-part, length-put, put-part, put-left, put-right, put-mid, part-left, part-right, part-part, part-add, part-whole}
-use Rattle.octets.proofs.Numbers.{length-be}
 use Rattle.octets.proofs.Chunks.{sides, length-chunks}
 use Rattle.rules.specs.Layout.{Layout}
 use Rattle.rules.specs.State.{State}
@@ -24,6 +23,7 @@ use Rattle.rules.specs.Exchange.{EditsApart, Exchanged, exchangedAt, Pai
 use Rattle.rules.proofs.Keep.Run.{after-append, replies-append}
 use Rattle.rules.proofs.Calls.Stored.{Accepted, accepted}
 use Rattle.rules.proofs.Exchange.Steps.{exchanged}
+use Rattle.rules.proofs.Replies.{length-packReply}
 
 -- ---- two places of a list exchanged
 
@@ -119,10 +119,6 @@ replies-two : (y : Layout) (s : State) (l : List ℕ)
     → chunks 2 (replyAt y s l) ≡ packReply (stepOf y s (stepAt l 0) .reply) ++ packReply (stepOf y (stepOf y s (stepAt l 0) .state) (stepAt l 1) .reply)
 unfolding chunks replyAt stateAfter
 replies-two y s l = refl
-
-length-packReply : (r : Reply) → length (packReply r) ≡ stepBytes
-unfolding packReply
-length-packReply r = simp (length-append, length-be)
 
 length-replies : (y : Layout) (s : State) (b : List ℕ) (n : ℕ) → length (chunks n (replyAt y s b)) ≡ stepBytes * n
 unfolding replyAt

@@ -34,7 +34,7 @@ pub live-high : {n : ℕ} → Live n → n ≤ 2
 live-high idle = omega arith
 live-high working = omega arith
 
-live-true : {n : ℕ} → Live n → eqb n ready or eqb n busy ≡ true
+pub live-true : {n : ℕ} → Live n → eqb n ready or eqb n busy ≡ true
 live-true idle = refl
 live-true working = refl
 

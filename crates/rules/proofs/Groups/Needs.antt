@@ -14,10 +14,9 @@ use Rattle.octets.proofs.Chunks.{sides}
 use Rattle.octets.proofs.Tests.{never, or-none, and-false, implied, implying, same-test}
 use Rattle.octets.proofs.Zero.{both, every-all, every-at, every-off, Held, held-none, held-more, held-all}
 use Rattle.marks.specs.declared.History.{History}
-use Rattle.marks.specs.Incarnation.{Incarnation, checkpointedIn, sameIncarnation}
+use Rattle.marks.specs.Incarnation.{checkpointedIn, sameIncarnation}
 use Rattle.marks.specs.History.{incarnationOf}
 use Rattle.marks.specs.Packed.{unpackHistory, presentIn}
-use Rattle.marks.proofs.Order.{checkpointed-ne}
 use Rattle.marks.proofs.Tests as tests
 use Rattle.rules.specs.Layout.{Layout, historyBytes, stateAt, creationAt, transactorAddress}
 use Rattle.rules.specs.Status.{annihilated}
@@ -33,10 +32,6 @@ use Rattle.rules.proofs.Bits.{named-zero, shifted, names-none, names-fi
 use Rattle.rules.proofs.Groups.Ready.{stable-alive, alive-there, transactor-is, kept-vouched, kept-other}
 use Rattle.rules.proofs.Groups.Signable.{ready-exactly}
 use Rattle.rules.proofs.Groups.Closure.{inside-at, inside-all}
-
--- a life is not both signed and present
-present-unsigned : (a b : Incarnation) → sameIncarnation a b ≡ true → checkpointedIn a b ≡ false
-present-unsigned a b e = tests.not-test (checkpointedIn a b) (tests.checkpointed-test a b) .1 (λ c. checkpointed-ne c (tests.same-test a b .0 e))
 
 -- ---- one mark, in a volume that does not name its take, and in one that does
 
@@ -72,7 +67,7 @@ module _ (y : Layout) (img : List ℕ) (at u : ℕ) where
     unfolding vouchedAt checkpointedAt
     vouched-unsigned g e =
         let a : named g u and sameIncarnation (incarnationOf h) (incarnationOf (ownHistory u x)) ≡ true = rw there at e in
-        rw (present-unsigned (incarnationOf h) (incarnationOf (ownHistory u x)) (both (named g u) (sameIncarnation (incarnationOf h) (incarnationOf (ownHistory u x))) a .1)) (and-false (live x))
+        rw (tests.present-unsigned (incarnationOf h) (incarnationOf (ownHistory u x)) (both (named g u) (sameIncarnation (incarnationOf h) (incarnationOf (ownHistory u x))) a .1)) (and-false (live x))
 
     module _ {g : ℕ} {o : History} (kept : Kept (unpack y img) g u o) where
       pub asked-vouched : vouchedAt y img g at u ≡ true → 1 ≡ askedAt y img g at u

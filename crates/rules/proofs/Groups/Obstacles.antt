@@ -232,7 +232,7 @@ module _ (y : Layout) (s : State) (v : ℕ) where
   unfolding mapReady
   mark-ready m e u l h = let q = every-at (λ u. not (heldAt m u) or entryReady s v u (historyAt m u)) (y .transactors) u e l in rw h at q
 
-  stands-ready : groupReady y s v ≡ true → (t u : ℕ) (h : History) → t < y .transactors → u < y .transactors → named v t ≡ true → StandsIn s t u h → entryReady s v u h ≡ true
+  pub stands-ready : groupReady y s v ≡ true → (t u : ℕ) (h : History) → t < y .transactors → u < y .transactors → named v t ≡ true → StandsIn s t u h → entryReady s v u h ≡ true
   stands-ready e t u h l m n (in-state k q) = rw q (mark-ready (transactorAt s t .state) (parts-ready t (transactor-ready e t l n) .1) u m k)
   stands-ready e t u h l m n (in-creation k q) = rw q (mark-ready (transactorAt s t .creation) (parts-ready t (transactor-ready e t l n) .2) u m k)
 

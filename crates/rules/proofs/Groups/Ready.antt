@@ -17,7 +17,7 @@ use Rattle.maps.specs.Map.{entryOf, heldAt, historyAt}
 use Rattle.maps.proofs.Map.{history-empty}
 use Rattle.maps.proofs.Packed.{bounded-at, mapOk-bounded}
 use Rattle.rules.specs.Layout.{Layout, base, historyBytes, stateAt, creationAt, transactorAddress}
-use Rattle.rules.specs.Status.{unused, ready, busy, annihilated}
+use Rattle.rules.specs.Status.{unused, annihilated}
 use Rattle.rules.specs.State.{Transactor, State, bare, live, transactorAt, ownHistory}
 use Rattle.rules.specs.Refusals.{named, groupBits}
 use Rattle.rules.specs.Rules.{entryReady, mapReady, transactorReady, groupReady}
@@ -28,6 +28,7 @@ use Rattle.rules.specs.Internal.Guards.{blocksAt}
 use Rattle.rules.specs.Internal.Closure.{storedReady, pairReady, stableNamed, Presents, Kept, vouchedAt, checkpointedAt}
 use Rattle.rules.proofs.Bits.{named-same}
 use Rattle.rules.proofs.Pack.Loads.{held-at, history-at, read-state, read-creation}
+use Rattle.rules.proofs.Form.Transactor.{live-true}
 
 -- ---- what blocks a signing
 
@@ -40,10 +41,6 @@ blocks-full s t n e = ap (leb (s .limits .checkpoints)) e
 pub alive-there : {n : ℕ} → Live n → eqb n annihilated ≡ false
 alive-there idle = refl
 alive-there working = refl
-
-alive-live : {n : ℕ} → Live n → eqb n ready or eqb n busy ≡ true
-alive-live idle = refl
-alive-live working = refl
 
 module _ {y : Layout} {s : State} (well : WellFormed y s) (t : ℕ) (below : t < y .transactors) where
   -- the own history of a take that is not live is not stable
@@ -250,7 +247,7 @@ module _ (y : Layout) (s : State) (g : ℕ) where
     -- what the walk has of each take: of a frozen one that it is live, and its own mark
     pub kept-stable : WellFormed y s → (u : ℕ) → u < y .transactors → Kept s v u (entryOf l u)
     kept-stable well u h = record {
-      there = λ n. alive-live (stable-alive well u h (flags n .1) .1);
+      there = λ n. live-true (stable-alive well u h (flags n .1) .1);
       own = λ n. present .own u h (flags n .0);
     }
       where

@@ -10,7 +10,7 @@ use lib.Dec.{eqb}
 use lib.ListN.{getD}
 use borrow.Author.Tests.{eq-eqb, eqb-true}
 use Rattle.octets.specs.Bytes.{_and_, _or_}
-use Rattle.octets.proofs.Tests.{same-test}
+use Rattle.octets.proofs.Tests.{same-test, or-to as either, and-of as together}
 use Rattle.octets.proofs.Zero.{both}
 use Rattle.rules.specs.State.{State}
 use Rattle.rules.specs.Layout.{Layout}
@@ -22,19 +22,12 @@ use Rattle.rules.proofs.Bits.{named-same}
 use Rattle.rules.proofs.Groups.Closure.{inside-at, inside-all}
 use Rattle.rules.proofs.Groups.Dependents.{group-names, in-group}
 
-either : (a b : Bool) → a or b ≡ true → (a ≡ true) ⊎ (b ≡ true)
-either true b e = inl refl
-either false b e = inr e
-
 first : (a b : Bool) → a ≡ true → a or b ≡ true
 first a b e = rw e
 
 second : (a b : Bool) → b ≡ true → a or b ≡ true
 second true b e = refl
 second false b e = e
-
-together : (a b : Bool) → a ≡ true → b ≡ true → a and b ≡ true
-together a b e f = rw (e, f)
 
 module _ (s : State) where
   -- ---- by its steps
@@ -47,25 +40,25 @@ module _ (s : State) where
   unfolding throughAt
   through-first t w e = ⊎-elim (λ q. inl (eqb-true t w q)) (λ q. inr q) (either (eqb t w) (restsAt s t w) e)
 
-  on : (k t w : ℕ) → throughAt s k t w ≡ true → throughAt s (suc k) t w ≡ true
+  pub through-more : (k t w : ℕ) → throughAt s k t w ≡ true → throughAt s (suc k) t w ≡ true
   unfolding throughAt
-  on k t w e = first (throughAt s k t w) (throughAt s k t k and throughAt s k k w) e
+  through-more k t w e = first (throughAt s k t w) (throughAt s k t k and throughAt s k k w) e
 
-  by : (k t w : ℕ) → throughAt s k t k ≡ true → throughAt s k k w ≡ true → throughAt s (suc k) t w ≡ true
+  pub through-by : (k t w : ℕ) → throughAt s k t k ≡ true → throughAt s k k w ≡ true → throughAt s (suc k) t w ≡ true
   unfolding throughAt
-  by k t w e f = second (throughAt s k t w) (throughAt s k t k and throughAt s k k w) (together (throughAt s k t k) (throughAt s k k w) e f)
+  through-by k t w e f = second (throughAt s k t w) (throughAt s k t k and throughAt s k k w) (together (throughAt s k t k) (throughAt s k k w) e f)
 
   -- itself
   pub through-self : (k t : ℕ) → throughAt s k t t ≡ true
   unfolding throughAt
   through-self zero t = first (eqb t t) (restsAt s t t) (eq-eqb t t refl)
-  through-self (suc k) t = on k t t (through-self k t)
+  through-self (suc k) t = through-more k t t (through-self k t)
 
   -- who rests on it
   pub through-rests : (k t w : ℕ) → restsAt s t w ≡ true → throughAt s k t w ≡ true
   unfolding throughAt
   through-rests zero t w e = second (eqb t w) (restsAt s t w) e
-  through-rests (suc k) t w e = on k t w (through-rests k t w e)
+  through-rests (suc k) t w e = through-more k t w (through-rests k t w e)
 
   -- and through any of the first k takes
   pub through-trans : (k t u w : ℕ) → u < k → throughAt s k t u ≡ true → throughAt s k u w ≡ true → throughAt s k t w ≡ true
@@ -75,14 +68,14 @@ module _ (s : State) where
       go : Dec (u ≡ k) → (throughAt s k t u ≡ true) ⊎ ((throughAt s k t k ≡ true) × (throughAt s k k u ≡ true))
           → (throughAt s k u w ≡ true) ⊎ ((throughAt s k u k ≡ true) × (throughAt s k k w ≡ true))
           → (u < k → (a b : ℕ) → throughAt s k a u ≡ true → throughAt s k u b ≡ true → throughAt s k a b ≡ true) → throughAt s (suc k) t w ≡ true
-      go (yes i) (inl p) (inl q) r = by k t w (subst (λ (x : ℕ). throughAt s k t x ≡ true) i p) (subst (λ (x : ℕ). throughAt s k x w ≡ true) i q)
-      go (yes i) (inl p) (inr q) r = by k t w (subst (λ (x : ℕ). throughAt s k t x ≡ true) i p) (q .1)
-      go (yes i) (inr p) (inl q) r = by k t w (p .0) (subst (λ (x : ℕ). throughAt s k x w ≡ true) i q)
-      go (yes i) (inr p) (inr q) r = by k t w (p .0) (q .1)
-      go (no n) (inl p) (inl q) r = let l : u < k = omega arith in on k t w (r l t w p q)
-      go (no n) (inl p) (inr q) r = let l : u < k = omega arith in by k t w (r l t k p (q .0)) (q .1)
-      go (no n) (inr p) (inl q) r = let l : u < k = omega arith in by k t w (p .0) (r l k w (p .1) q)
-      go (no n) (inr p) (inr q) r = by k t w (p .0) (q .1)
+      go (yes i) (inl p) (inl q) r = through-by k t w (subst (λ (x : ℕ). throughAt s k t x ≡ true) i p) (subst (λ (x : ℕ). throughAt s k x w ≡ true) i q)
+      go (yes i) (inl p) (inr q) r = through-by k t w (subst (λ (x : ℕ). throughAt s k t x ≡ true) i p) (q .1)
+      go (yes i) (inr p) (inl q) r = through-by k t w (p .0) (subst (λ (x : ℕ). throughAt s k x w ≡ true) i q)
+      go (yes i) (inr p) (inr q) r = through-by k t w (p .0) (q .1)
+      go (no n) (inl p) (inl q) r = let l : u < k = omega arith in through-more k t w (r l t w p q)
+      go (no n) (inl p) (inr q) r = let l : u < k = omega arith in through-by k t w (r l t k p (q .0)) (q .1)
+      go (no n) (inr p) (inl q) r = let l : u < k = omega arith in through-by k t w (p .0) (r l k w (p .1) q)
+      go (no n) (inr p) (inr q) r = through-by k t w (p .0) (q .1)
 
   -- ---- the least closed volume
 

@@ -19,7 +19,7 @@ use Rattle.rules.specs.Step.{Step, Reply, done, notReady, root, letter, 
 use Rattle.rules.specs.Refusals.{groupBits, named, acts, sends}
 use Rattle.rules.specs.Rules.{Effect, Result, noDependences, carried, informedBy, receiveBy, localBy, groupReady, checkpointAt, receiptRollsBack, seen, answer, opening, opened, applyRoot, applyLetter, applyReceive, applyNew, applySend, applyLocal, applyLose, applySign, apply}
 use Rattle.rules.specs.Internal.Well.{TransactorOk, StepOk, Alive, WellFormed}
-use Rattle.octets.proofs.Tests.{pick-view}
+use Rattle.octets.proofs.Tests.{pick-view, and-of}
 use Rattle.rules.proofs.Keep.Maps.{ok-none, known-none, ok-carried, known-carried, known-more}
 use Rattle.rules.proofs.Keep.State.{alive-more, well-withTransactor, well-opened, well-withMessage, well-withoutMessage, well-checkpointGroup}
 use Rattle.rules.proofs.Keep.Transactor.{TransactorWell, EffectOk, formed-alive, opening-ok, informed-well, checkpoint-ok, local-ok, receive-ok, grown-ok}
@@ -46,6 +46,10 @@ lowest k a b c d e = omega arith
 pub highest : (k : ℕ) → k ≤ sign → (k ≡ lose → ⊥) → (k ≡ sign → ⊥) → k ≤ fail
 highest k h a b = omega arith
 
+-- the kinds that act
+pub acts-between : (k : ℕ) → new ≤ k → k ≤ fail → acts k ≡ true
+acts-between k h g = and-of (leb new k) (leb k fail) (le-leb new k h) (le-leb k fail g)
+
 -- a take other than the next is set before or after the next is opened
 opened-set : (s : State) (t : ℕ) (x c : Transactor) → (t ≡ s .opened → ⊥) → withTransactor (opened s c) t x ≡ opened (withTransactor s t x) c
 unfolding opened withOpened withTransactor
@@ -60,6 +64,11 @@ unfolding opened withOpened withTransactor
 well-grown {y} {s} z w b t {x} {c} h g o =
     let u : WellFormed y (opened s c) = well-opened w z b (o .ok) (o .formed) in
     subst (WellFormed y) (opened-set s t x c (λ f. omega arith)) (well-withTransactor u t (omega (arith, w .limits .transactors-high)) (g .ok) (g .formed))
+
+-- the parcel that a receive or a lose names waits
+pub place-waits : (y : Layout) (s : State) (p : Step) → Accepted y (seen y s) p → eqb (p .kind) receive or eqb (p .kind) lose ≡ true → placeOf s (p .message) < length (s .messages)
+unfolding seen
+place-waits y s p a k = leb-false (length (s .messages)) (placeOf s (p .message)) (message-waits a k)
 
 module _ {y : Layout} {s : State} {p : Step} (z : Fitting y) (w : WellFormed y s) (q : StepOk p) (a : Accepted y (seen y s) p) where
   -- a take that was opened
@@ -155,17 +164,12 @@ module _ {y : Layout} {s : State} {p : Step} (z : Fitting y) (w : WellFormed y s
           let g : p .kind ≤ fail = leb-true (p .kind) fail (both (leb new (p .kind)) (leb (p .kind) fail) k .1) in
           pick-view (λ c. c ≡ true) (eqb (p .kind) fall) true (eqb (p .kind) fail) (λ e. refl) (λ e. let n : p .kind ≡ fall → ⊥ = eqb-false (p .kind) fall e in eq-eqb (p .kind) fail (omega arith))
 
-  -- the parcel that a receive or a lose names waits
-  place : eqb (p .kind) receive or eqb (p .kind) lose ≡ true → placeOf s (p .message) < length (s .messages)
-  unfolding seen
-  place k = leb-false (length (s .messages)) (placeOf s (p .message)) (message-waits a k)
-
   pub keeps-lose : eqb (p .kind) lose ≡ true → ResultOk y (applyLose s p)
   unfolding applyLose
   keeps-lose k =
       let e : p .kind ≡ lose = eqb-true (p .kind) lose k in
       record {
-        state = well-withoutMessage w (placeOf s (p .message)) (place (rw e));
+        state = well-withoutMessage w (placeOf s (p .message)) (place-waits y s p a (rw e));
         reply = reply-ok done 0 (p .message) 0 (omega arith) (omega arith) (q .message) (bound-pos 4);
       }
 
@@ -181,12 +185,12 @@ module _ {y : Layout} {s : State} {p : Step} (z : Fitting y) (w : WellFormed y s
     received = receiveBy y receiver (transactorAt s receiver) (messageAt s waits)
 
     receiver-opened : receiver < s .opened
-    receiver-opened = w .addressees waits (place (rw k))
+    receiver-opened = w .addressees waits (place-waits y s p a (rw k))
 
     received-ok : EffectOk y (s .limits .checkpoints) (s .opened) receiver received
     unfolding seen receiptRollsBack
     received-ok =
-        let b : waits < length (s .messages) = place (rw k) in
+        let b : waits < length (s .messages) = place-waits y s p a (rw k) in
         let h : receiver < s .opened = receiver-opened in
         let x : Transactor = transactorAt s receiver in
         let r : x .status ≡ ready = receiver-ready a k in
@@ -200,7 +204,7 @@ module _ {y : Layout} {s : State} {p : Step} (z : Fitting y) (w : WellFormed y s
     pub keeps-receive : ResultOk y (applyReceive y s p)
     unfolding applyReceive withTransactor
     keeps-receive = record {
-      state = well-withoutMessage well-received waits (place (rw k));
+      state = well-withoutMessage well-received waits (place-waits y s p a (rw k));
       reply = reply-ok _ receiver (p .message) _ (received-ok .outcome) (small receiver receiver-opened) (q .message) (received-ok .value);
     }
 

@@ -13,10 +13,10 @@ use Rattle.marks.specs.Packed.{Packable}
 use Rattle.marks.proofs.Histories.{newer-count, roomy-initial, roomy-stabilized, roomy-rolledBack, roomy-checkpointed}
 use Rattle.marks.proofs.Packed.{packable-initial, packable-stabilized, packable-rolledBack, packable-checkpointed}
 use Rattle.maps.specs.declared.DependenceMap.{DependenceMap}
-use Rattle.maps.specs.Map.{heldAt, historyAt, withEntry, joinedHeldAt}
+use Rattle.maps.specs.Map.{heldAt, historyAt, withEntry, joinedHeldAt, Joined}
 use Rattle.maps.specs.News.{informedOf}
 use Rattle.maps.specs.Internal.Fitting.{EntryOk}
-use Rattle.maps.proofs.Map.{Joined, held-empty, held-singleton, held-singleton-other, history-singleton, held-withEntry, history-withEntry, held-withEntry-other, sized-join, held-join, held-join-test, join-view}
+use Rattle.maps.proofs.Map.{held-empty, held-singleton, held-singleton-other, history-singleton, held-withEntry, history-withEntry, held-withEntry-other, sized-join, held-join, held-join-test, join-view}
 use Rattle.maps.proofs.News.{mapOk-informed, held-informed, own-informed, bounded-informed}
 use Rattle.maps.proofs.Packed.{mapOk-sized, mapOk-empty, mapOk-withEntry, mapOk-singleton, mapOk-join, bounded-at, bounded-empty, bounded-withEntry, bounded-singleton, bounded-join}
 use Rattle.rules.specs.Layout.{Layout, Fitting}

@@ -38,7 +38,7 @@ stepOk-at b o i = stepOk-unpack (part (stepBytes * i) stepBytes b) (octets-part 
 
 -- ---- one list after another
 
-after-zero : (y : Layout) (s : State) (b : List ℕ) → stateAfter y s b 0 ≡ s
+pub after-zero : (y : Layout) (s : State) (b : List ℕ) → stateAfter y s b 0 ≡ s
 unfolding stateAfter
 after-zero y s b = refl
 

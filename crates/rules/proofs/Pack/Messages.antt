@@ -10,7 +10,8 @@ use borrow.Author.Tests.{lt-ltb, le-ltb, eq-eqb, ne-eqb}
 use lib.ListN.{length, getD, set}
 use Rattle.octets.specs.Bytes.{put, part, zeros}
 use Rattle.octets.specs.Numbers.{be}
-use Rattle.octets.proofs.Numbers.{put-be-one}
+use Rattle.octets.proofs.Put.{length-put, part-put-before}
+use Rattle.octets.proofs.Numbers.{length-be, put-be-one}
 use Rattle.octets.proofs.Chunks.{cases, step}
 use Rattle.maps.specs.declared.DependenceMap.{DependenceMap}
 use Rattle.rules.specs.Layout.{Layout, dependencesAt, messageBytes, messageAddress, imageBytes}
@@ -65,6 +66,25 @@ module _ (y : Layout) (img : List ℕ) where
 
   module _ (whole : length img ≡ imageBytes y) (back : pack y (unpack y img) ≡ img) (n : ℕ) (waits : n ≡ waitingIn y img) where
     -- the fields of one more message, and the next number
+    -- what stands before the place, with the fields of the message stored
+    pub fields-before : (to v p : ℕ) (l : List ℕ) → n < y .messages → to < 16 → l ≡ put (messageAddress y n + 3) (be 4 v) (put (messageAddress y n + 1) (be 2 p) (set img (messageAddress y n) (128 + to)))
+        → (i k : ℕ) → i + k ≤ messageAddress y n → part i k l ≡ part i k img
+    fields-before to v p l room small e i k h =
+        let a : ℕ = messageAddress y n in
+        let fits : a + messageBytes y ≤ length img = omega (arith, step (messageBytes y) n (y .messages) room) in
+        let head : set img a (128 + to) ≡ put a (be 1 (128 + to)) img = sym (put-be-one a (128 + to) img (omega arith) (omega arith)) in
+        let l0 : List ℕ = put a (be 1 (128 + to)) img in
+        let l1 : List ℕ = put (a + 1) (be 2 p) l0 in
+        let n1 : length (be 1 (128 + to)) ≡ 1 = length-be 1 (128 + to) in
+        let n2 : length (be 2 p) ≡ 2 = length-be 2 p in
+        let n4 : length (be 4 v) ≡ 4 = length-be 4 v in
+        let k0 : length l0 ≡ length img = length-put a (be 1 (128 + to)) img (omega arith) in
+        let k1 : length l1 ≡ length l0 = length-put (a + 1) (be 2 p) l0 (omega arith) in
+        ap (part i k) (e ∙ ap (λ (z : List ℕ). put (a + 3) (be 4 v) (put (a + 1) (be 2 p) z)) head)
+        ∙ part-put-before (a + 3) (be 4 v) l1 (omega arith) i k (omega arith)
+        ∙ part-put-before (a + 1) (be 2 p) l0 (omega arith) i k (omega arith)
+        ∙ part-put-before a (be 1 (128 + to)) img (omega arith) i k h
+
     pub append-image : (to v p : ℕ) (m : DependenceMap) (l1 l2 l3 l4 : List ℕ) → n < y .messages → to < 16 → p ≡ unpack y img .next
         → l1 ≡ put (messageAddress y n + 1) (be 2 p) (set img (messageAddress y n) (128 + to))
         → l2 ≡ put (messageAddress y n + 3) (be 4 v) l1

@@ -3,17 +3,18 @@ use Prim.Native.Nat.{ℕ, _+_, _*_, _/_, _%_, _≤_, _<_, zero, suc, _-_}
 use mathlib.Core.Bool.{Bool, true, false, not}
 use mathlib.Core.Path.{_≡_, refl, sym, ap, _∙_}
 use mathlib.Core.List.{List, [], _∷_, _++_, append-assoc}
-use native.Mathlib.Nat.{add-zero, zero-add}
+use native.Mathlib.Nat.{add-zero}
 use native.Mathlib.Omega.{arith}
 use borrow.Author.Tests.{lt-ltb, le-ltb, eqb-true}
 use lib.ListN.{length, getD, length-append}
 use lib.Seq.{getD-set-same}
-use Rattle.octets.specs.Bytes.{pick, _or_, put, part, tabulate, zeros, chunks, Octets}
+use Rattle.octets.specs.Bytes.{pick, _or_, put, part, tabulate, zeros, Octets}
 use Rattle.octets.specs.Numbers.{be, ofBe, bound}
-use Rattle.octets.proofs.Put.{part-def, part-put, put-first, put-mid, put-last, put-whole, part-part, part-add, part-whole, length-part, getD-part, octets-part}
+use Rattle.octets.proofs.Put.{part-def, part-put, put-first, put-mid, put-last, put-whole, part-add, part-whole, length-part, getD-part, octets-part}
 use Rattle.octets.proofs.Numbers.{length-be, put-be-one, be-one, ofBe-be, be-byte, be-ofBe}
 use Rattle.octets.proofs.Zero.{getD-zeros, zeros-is, both}
-use Rattle.octets.proofs.Chunks.{step, tabulate-same, tabulate-getD, sides, chunks-same, chunks-parts}
+use Rattle.octets.proofs.Chunks.{step, tabulate-same, tabulate-getD, sides}
+use Rattle.octets.proofs.Runs.{joined, run-back}
 use Rattle.marks.specs.Packed.{bit}
 use Rattle.maps.specs.declared.DependenceMap.{DependenceMap}
 use Rattle.maps.specs.Packed.{unpackMap}
@@ -194,16 +195,6 @@ module _ (y : Layout) (s : State) where
         rw (limits-there, a, b, transactors-there, waiting-pack, messages-there)
 
 -- ---- packed again
-
--- ---- parts of b one after the other
-
-joined : (n m : ℕ) (b : List ℕ) → part 0 n b ++ part n m b ≡ part 0 (n + m) b
-joined n m b = sym (rw zero-add at (part-add 0 n m b))
-
-run-back : (at w n : ℕ) (f : ℕ → List ℕ) (b : List ℕ) → at + w * n ≤ length b → ((i : ℕ) → i < n → f i ≡ part (at + w * i) w b) → chunks n f ≡ part at (w * n) b
-run-back at w n f b h e =
-    chunks-same n f (λ i. part (w * i) w (part at (w * n) b)) (λ i p. e i p ∙ sym (part-part (w * i) w at (w * n) b (step w i n p)))
-    ∙ chunks-parts w n (part at (w * n) b) (length-part at (w * n) b h)
 
 module _ (y : Layout) (b : List ℕ) (o : Octets b) where
   number-back : (at w : ℕ) → at + w ≤ length b → be w (ofBe w (part at w b)) ≡ part at w b

@@ -31,10 +31,6 @@ pub largest-base : largest base ≡ 65535
 unfolding bound
 largest-base = refl
 
-pub largest-narrow : largest narrow ≡ 255
-unfolding bound
-largest-narrow = refl
-
 pub length-packHead : (s : State) → length (packHead s) ≡ headBytes
 unfolding packHead
 length-packHead s = simp (length-append, length-be)

@@ -18,8 +18,7 @@ use Rattle.marks.specs.declared.History.{History}
 use Rattle.marks.specs.Packed.{packHistory}
 use Rattle.marks.proofs.Packed.{length-packHistory}
 use Rattle.maps.specs.declared.DependenceMap.{DependenceMap}
-use Rattle.maps.specs.Map.{withEntry}
-use Rattle.maps.proofs.Map.{Sized}
+use Rattle.maps.specs.Map.{withEntry, Sized}
 use Rattle.maps.proofs.Packed.{length-packMap}
 use Rattle.maps.proofs.Placed.{put-entry}
 use Rattle.rules.specs.Layout.{Layout, Limits, historyBytes, mapBytes, valueAt, savedAt, stateAt, creationAt, behaviourAt, transactorBytes, dependencesAt, messageBytes, headBytes, limitsBytes, transactorAddress, messageAddress}

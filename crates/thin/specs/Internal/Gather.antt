@@ -10,7 +10,7 @@ use Rattle.rules.specs.Layout.{base}
 use Rattle.rules.specs.declared.Step.{Step}
 use Rattle.rules.specs.Step.{stepBytes, read}
 use Rattle.rules.specs.Calls.{stepsIn}
-use Rattle.rules.specs.Thin.{notRefused, touches, empties, kept, chosen, counted}
+use Rattle.thin.specs.Thin.{notRefused, touches, empties, kept, chosen, counted}
 
 -- ---- for each take, whether the next step that touches it empties its map
 

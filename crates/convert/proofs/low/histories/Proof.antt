@@ -5,8 +5,8 @@ use mathlib.Core.Path.{sym, ap, _∙_}
 use Rattle.octets.specs.Bytes.{part}
 use Rattle.octets.proofs.Zero.{Held, held-none, held-more, held-fails, held-all}
 use Rattle.rules.specs.Layout.{base}
-use Rattle.rules.specs.Convert.{largestNarrow}
-use Rattle.rules.specs.Internal.HighBytes.{entryWithin, entriesWithin}
+use Rattle.convert.specs.Convert.{largestNarrow}
+use Rattle.convert.specs.Internal.HighBytes.{entryWithin, entriesWithin}
 use borrow.Author.Needs.{needs}
 use Rattle.convert.proofs.low.histories.Statement.{statement}
 use Rattle.convert.proofs.low.histories.Tie as tie

@@ -4,8 +4,8 @@ use mathlib.Core.Bool.{not}
 use mathlib.Core.Path.{sym, ap, _∙_}
 use Rattle.octets.proofs.Zero.{Held, held-none, held-more, held-fails, held-all}
 use Rattle.rules.specs.Layout.{base, stateAt, transactorAddress}
-use Rattle.rules.specs.Convert.{largestNarrow}
-use Rattle.rules.specs.Internal.HighBytes.{entriesWithin}
+use Rattle.convert.specs.Convert.{largestNarrow}
+use Rattle.convert.specs.Internal.HighBytes.{entriesWithin}
 use borrow.Author.Needs.{needs}
 use Rattle.convert.proofs.low.transactors.Statement.{statement}
 use Rattle.convert.proofs.low.transactors.Tie as tie

@@ -4,6 +4,7 @@ use mathlib.Core.Path.{sym, ap, _∙_}
 use borrow.Author.Needs.{needs}
 use Rattle.octets.proofs.Tests.{passed, failed}
 use Rattle.rules.specs.Layout.{base}
+use Rattle.rules.proofs.Pack.Loads.{read-history}
 use Rattle.rules.proofs.Groups.Ready.{own-count}
 use Rattle.grounds.proofs.Blocking.{mark-absent, mark-dead, mark-member, mark-outside, mark-signed, mark-withdrawn}
 use Rattle.grounds.proofs.obstacle.mark.Statement.{statement}
@@ -11,9 +12,6 @@ use Rattle.grounds.proofs.obstacle.mark.Tie as tie
 
 same-as-requires : tie.Need-same-as-requires
 same-as-requires c κs = (search needs, own-count _ (search needs) _ (search needs) _ (c .own .ensures))
-
-checkpointed-by-requires : tie.Need-checkpointed-by-requires
-checkpointed-by-requires c κs = (search needs, own-count _ (search needs) _ (search needs) _ (c .before .before .own .ensures))
 
 returns-2 : tie.Need-returns-2
 returns-2 c =
@@ -42,7 +40,7 @@ returns-5 c =
     let l = o .before in
     let p = l .before .before in
     mark-signed base _ _ _ _ _ (ap not (sym (p .before .present .ensures)) ∙ p .if1 .left) (passed (l .before .is-live .ensures) (l .if2 .left)) _ (o .own .ensures)
-    (sym (c .before .before .before .same-as .ensures) ∙ c .before .before .if3 .left) (sym (c .before .checkpointed-by .ensures) ∙ c .if5 .taken)
+    (sym (c .before .before .before .same-as .ensures) ∙ c .before .before .if3 .left) _ (sym (read-history base _ _ (search needs) _ (search needs))) (sym (c .before .checkpointed-in .ensures) ∙ c .if5 .taken)
 
 returns-6 : tie.Need-returns-6
 returns-6 c =
@@ -50,7 +48,7 @@ returns-6 c =
     let l = o .before in
     let p = l .before .before in
     mark-withdrawn base _ _ _ _ _ (ap not (sym (p .before .present .ensures)) ∙ p .if1 .left) (passed (l .before .is-live .ensures) (l .if2 .left)) _ (o .own .ensures)
-    (sym (c .before .before .before .same-as .ensures) ∙ c .before .before .if3 .left) (sym (c .before .checkpointed-by .ensures) ∙ c .if5 .left)
+    (sym (c .before .before .before .same-as .ensures) ∙ c .before .before .if3 .left) _ (sym (read-history base _ _ (search needs) _ (search needs))) (sym (c .before .checkpointed-in .ensures) ∙ c .if5 .left)
 
 pub mark-spec : {M : Type 1} → statement M
 mark-spec =
@@ -69,7 +67,12 @@ mark-spec =
     (λ c. search needs)
     (λ c. search needs)
     returns-4
-    checkpointed-by-requires
+    (λ c. search needs)
+    (λ c. search needs)
+    (λ c. search needs)
+    (λ c. search needs)
+    (λ c. search needs)
+    (λ c κs. search needs)
     returns-5
     (λ c. search needs)
     (λ c. search needs)

@@ -4,10 +4,11 @@ use mathlib.Core.Path.{refl, sym, _∙_, subst}
 use mathlib.Core.Logic.{⊎-elim}
 use native.Mathlib.Omega.{arith}
 use Rattle.maps.specs.Packed.{entries}
-use Rattle.maps.proofs.Loops.{length-of-map, Joining, joining-none, joining-right, joining-left, joining-all}
+use Rattle.maps.proofs.Loops.{Joining, joining-none, joining-right, joining-left, joining-all}
 use borrow.Author.Needs.{needs}
 use Rattle.maps.proofs.DependenceMap.join.Statement.{statement}
 use Rattle.maps.proofs.DependenceMap.join.Tie as tie
+use Rattle.octets.proofs.Chunks.{length-of-map}
 
 abbrev Inv-loop : tie.InvT-loop
 Inv-loop self₀ other i₀ self i = (i ≤ entries) × Joining entries self₀ other i self

@@ -2,11 +2,11 @@
 use mathlib.Core.Path.{sym, _∙_}
 use Rattle.marks.specs.Packed.{places}
 use Rattle.maps.specs.Map.{withEntry}
-use Rattle.maps.proofs.Loops.{length-of-map}
 use Rattle.maps.proofs.Joins.{one-set, one-kept}
 use borrow.Author.Needs.{needs}
 use Rattle.maps.proofs.DependenceMap.join_entry.Statement.{statement}
 use Rattle.maps.proofs.DependenceMap.join_entry.Tie as tie
+use Rattle.octets.proofs.Chunks.{length-of-map}
 
 returns : tie.Need-returns
 unfolding withEntry

@@ -4,7 +4,8 @@ use native.Mathlib.Omega.{arith}
 use borrow.Author.Tests.{not-true, not-false}
 use Rattle.marks.specs.declared.History.{History}
 use Rattle.marks.specs.Packed.{width, places}
-use Rattle.maps.proofs.Informing.{loaded-count, informed-kept, informed-own, informed-set}
+use Rattle.marks.proofs.Packed.{loaded-count}
+use Rattle.maps.proofs.Informing.{informed-kept, informed-own, informed-set}
 use borrow.Author.Needs.{needs}
 use Rattle.maps.proofs.stability.inform_at.Statement.{statement}
 use Rattle.maps.proofs.stability.inform_at.Tie as tie

@@ -3,7 +3,8 @@ use mathlib.Core.Path.{sym, _∙_}
 use native.Mathlib.Omega.{arith}
 use borrow.Author.Tests.{not-true, not-false}
 use Rattle.marks.specs.Packed.{width, places}
-use Rattle.maps.proofs.Informing.{loaded-count, shown-off, shown-none, shown-both}
+use Rattle.marks.proofs.Packed.{loaded-count}
+use Rattle.maps.proofs.Informing.{shown-off, shown-none, shown-both}
 use borrow.Author.Needs.{needs}
 use Rattle.maps.proofs.stability.shows.Statement.{statement}
 use Rattle.maps.proofs.stability.shows.Tie as tie

@@ -3,7 +3,7 @@ use Prim.Native.Nat.{_-_}
 use borrow.Author.Needs.{needs}
 use Rattle.rules.specs.Refusals.{groupBits}
 use Rattle.octets.specs.Numbers.{bound}
-use Rattle.registers.proofs.Views.{length-of-map}
+use Rattle.octets.proofs.Chunks.{length-of-map}
 use Rattle.registers.proofs.Checkpointing.{Checkpointing, checkpointing-none, checkpointing-all, checkpointing-fits, checkpointing-more}
 use Rattle.registers.proofs.effects.checkpointed_group.Statement.{statement}
 use Rattle.registers.proofs.effects.checkpointed_group.Tie as tie

@@ -2,7 +2,7 @@
 use mathlib.Core.Path.{sym}
 use borrow.Author.Tests.{ne-eqb}
 use Rattle.octets.proofs.Tests.{or-none}
-use Rattle.rules.specs.Thin.{empties}
+use Rattle.thin.specs.Thin.{empties}
 use Rattle.thin.proofs.lookahead.empties.Statement.{statement}
 use Rattle.thin.proofs.lookahead.empties.Tie as tie
 

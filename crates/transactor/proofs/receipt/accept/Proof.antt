@@ -2,7 +2,6 @@
 use mathlib.Core.Path.{_∙_}
 use native.Mathlib.Omega.{arith}
 use borrow.Author.Needs.{needs}
-use Rattle.maps.proofs.Packed.{bounded-unpack, bounded-join}
 use Rattle.rules.specs.Layout.{base}
 use Rattle.transactor.specs.Internal.Effects.{rollbackOr28}
 use Rattle.rules.proofs.Pack.Loads.{waiting-few}
@@ -21,25 +20,21 @@ add-m c = omega (arith, waiting-few base (c .before .args .image .now))
 add-m-2 : tie.Need-add-m-2
 add-m-2 c = omega (arith, waiting-few base (c .before .args .image .now))
 
-compare-requires : tie.Need-compare-requires
-compare-requires c κs =
-    let j = c .before in
-    let few = waiting-few base (j .before .before .before .args .image .now) in
-    (omega (arith, few), rw (j .joined .ensures) (bounded-join _ _ _ _ (bounded-unpack _ _ _ _ (omega arith)) (bounded-unpack _ _ _ _ (omega arith))))
+compared-requires : tie.Need-compared-requires
+compared-requires c κs = (search needs, search needs, omega (arith, waiting-few base (c .before .before .args .image .now)))
 
 returns : tie.Need-returns
 returns c =
     let asked = c .before .before in
-    let j = asked .before .before in
-    let s = j .before .before .before in
+    let s = asked .before .before .before in
     acted-at _ _
-    (accepts-unrelated base _ _ (s .pre .1) _ (s .pre .2) _ (asked .compare .ensures .0 ∙ rw (j .joined .ensures)) (c .before .if1 .taken))
+    (accepts-unrelated base _ _ (s .pre .1) _ (s .pre .2) _ (asked .compared .ensures .0) (c .before .if1 .taken))
     (c .outcome-of .ensures) (kept-at _ (s .pre .0) _)
 
 take-in-requires : tie.Need-take-in-requires
 take-in-requires c κs =
     let h = c .before .before .before in
-    let s = h .before .before .before .before .before .before .before .before .before .before .before .before in
+    let s = h .before .before .before .before .before .before .before .before .before .before in
     (heard-good _ (s .pre .0) _ (s .pre .1) _ (s .pre .2) _ (h .hear .ensures), s .pre .1, heard-waits _ (s .pre .0) _ (s .pre .1) _ (s .pre .2) _ (h .hear .ensures))
 
 returns-2 : tie.Need-returns-2
@@ -49,15 +44,14 @@ returns-2 c =
     let told = h .before .before in
     let branch = told .before .before .before .before in
     let asked = branch .before in
-    let j = asked .before .before in
-    let s = j .before .before .before in
+    let s = asked .before .before .before in
     acted-at _ _
-    (accepts-done base _ _ (s .pre .1) _ (s .pre .2) _ (asked .compare .ensures .0 ∙ rw (j .joined .ensures)) (branch .if1 .left) _ (asked .compare .ensures .1 ∙ rw (j .joined .ensures)) (told .before .before .enum-told .given .1) _ (asked .compare .ensures .2 ∙ rw (j .joined .ensures)) (told .enum-told2 .given .1))
+    (accepts-done base _ _ (s .pre .1) _ (s .pre .2) _ (asked .compared .ensures .0) (branch .if1 .left) _ (asked .compared .ensures .1) (told .before .before .enum-told .given .1) _ (asked .compared .ensures .2) (told .enum-told2 .given .1))
     (c .outcome-of2 .ensures) (heard-taken _ (s .pre .0) _ (s .pre .1) _ (s .pre .2) _ (h .hear .ensures) _ (taken .take-in .ensures))
 
 roll-back-requires : tie.Need-roll-back-requires
 roll-back-requires c κs =
-    let s = c .before .before .before .before .before .before .before .before .before .before .before .before in
+    let s = c .before .before .before .before .before .before .before .before .before .before in
     (good-lent _ (s .pre .0) _ (s .pre .1), s .pre .1)
 
 returns-3 : tie.Need-returns-3
@@ -66,10 +60,9 @@ returns-3 c =
     let told = fell .before .before .before in
     let branch = told .before .before .before .before in
     let asked = branch .before in
-    let j = asked .before .before in
-    let s = j .before .before .before in
+    let s = asked .before .before .before in
     lent-at _ (s .pre .0) _ (s .pre .1) (rollbackOr28 base _)
-    (accepts-rollback base _ _ (s .pre .1) _ (s .pre .2) _ (asked .compare .ensures .0 ∙ rw (j .joined .ensures)) (branch .if1 .left) _ (asked .compare .ensures .1 ∙ rw (j .joined .ensures)) (told .before .before .enum-told .given .1) _ (asked .compare .ensures .2 ∙ rw (j .joined .ensures)) (told .receiver .given .1))
+    (accepts-rollback base _ _ (s .pre .1) _ (s .pre .2) _ (asked .compared .ensures .0) (branch .if1 .left) _ (asked .compared .ensures .1) (told .before .before .enum-told .given .1) _ (asked .compared .ensures .2) (told .receiver .given .1))
     (fell .roll-back .ensures)
 
 returns-4 : tie.Need-returns-4
@@ -77,10 +70,9 @@ returns-4 c =
     let told = c .before .before in
     let branch = told .before .before in
     let asked = branch .before in
-    let j = asked .before .before in
-    let s = j .before .before .before in
+    let s = asked .before .before .before in
     acted-at _ _
-    (accepts-dropped base _ _ (s .pre .1) _ (s .pre .2) _ (asked .compare .ensures .0 ∙ rw (j .joined .ensures)) (branch .if1 .left) _ (asked .compare .ensures .1 ∙ rw (j .joined .ensures)) (told .message .given .1))
+    (accepts-dropped base _ _ (s .pre .1) _ (s .pre .2) _ (asked .compared .ensures .0) (branch .if1 .left) _ (asked .compared .ensures .1) (told .message .given .1))
     (c .outcome-of3 .ensures) (kept-at _ (s .pre .0) _)
 
 pub accept-spec : {M : Type 1} → statement M
@@ -95,8 +87,7 @@ accept-spec =
     mul-m
     add-m
     add-m-2
-    (λ c κs. search needs)
-    compare-requires
+    compared-requires
     (λ c κs. search needs)
     (λ c. search needs)
     returns

@@ -1,7 +1,7 @@
 -- Refused, no read, or a read: by the table.
 use borrow.Author.Tests.{lt-ltb, le-ltb, ne-eqb}
 use borrow.Author.Needs.{needs}
-use Rattle.rules.specs.Thin.{notRefused}
+use Rattle.thin.specs.Thin.{notRefused}
 use Rattle.thin.specs.Internal.Gather.{keptBy}
 use Rattle.thin.proofs.lookahead.Lookahead.keeps.Statement.{statement}
 use Rattle.thin.proofs.lookahead.Lookahead.keeps.Tie as tie

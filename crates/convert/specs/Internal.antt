@@ -1,0 +1,4 @@
+-- What the code and its proofs cite, and no call.
+pub mod HighBytes
+pub mod Recast
+pub mod Widths

@@ -1,0 +1,4 @@
+mod Decoding
+mod Encoding
+pub mod Parts
+mod Stray

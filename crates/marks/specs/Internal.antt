@@ -1,0 +1,2 @@
+-- What the proofs of the code above cite, and no definition of document 01.
+pub mod Recast
