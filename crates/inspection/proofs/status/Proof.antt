@@ -1,0 +1,55 @@
+-- By the status.
+use Rattle.inspection.proofs.Inspecting.{status-vanished, status-idle, status-working}
+use mathlib.Core.List.{[]}
+use borrow.Author.Needs.{needs}
+use Rattle.inspection.proofs.status.Statement.{statement}
+use Rattle.inspection.proofs.status.Tie as tie
+
+slice-aggregate-word : tie.Need-slice-aggregate-word
+slice-aggregate-word c = search needs
+
+word-requires : tie.Need-word-requires
+word-requires c κs = search needs
+
+returns : tie.Need-returns
+returns c = status-vanished _ _ (c .before .before .before .before .pre .2) _ _ [] (c .before .before .if1 .taken) (c .word .ensures)
+
+slice-aggregate-word-2 : tie.Need-slice-aggregate-word-2
+slice-aggregate-word-2 c = search needs
+
+word-requires-2 : tie.Need-word-requires-2
+word-requires-2 c κs = search needs
+
+texts-requires : tie.Need-texts-requires
+texts-requires c κs = search needs
+
+returns-2 : tie.Need-returns-2
+returns-2 c = status-idle _ _ (c .before .before .before .before .before .before .pre .2) _ _ _ (c .before .before .before .before .if1 .left) (c .before .before .before .if2 .taken) (c .before .word2 .ensures) (c .texts .ensures)
+
+slice-aggregate-word-3 : tie.Need-slice-aggregate-word-3
+slice-aggregate-word-3 c = search needs
+
+word-requires-3 : tie.Need-word-requires-3
+word-requires-3 c κs = search needs
+
+texts-requires-2 : tie.Need-texts-requires-2
+texts-requires-2 c κs = search needs
+
+returns-3 : tie.Need-returns-3
+returns-3 c = status-working _ _ (c .before .before .before .before .before .before .pre .2) _ _ _ (c .before .before .before .before .if1 .left) (c .before .before .before .if2 .left) (c .before .word3 .ensures) (c .texts2 .ensures)
+
+pub status-spec : {M : Type 1} → statement M
+status-spec =
+    tie.close
+    (tie.spec
+    slice-aggregate-word
+    word-requires
+    returns
+    slice-aggregate-word-2
+    word-requires-2
+    texts-requires
+    returns-2
+    slice-aggregate-word-3
+    word-requires-3
+    texts-requires-2
+    returns-3)

@@ -1,0 +1,4 @@
+pub mod Scan
+pub mod Table
+pub mod Parsing
+pub mod Fields

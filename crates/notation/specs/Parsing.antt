@@ -1,0 +1,65 @@
+-- What parse answers, and what it writes.
+use Prim.Native.Nat.{ℕ}
+use mathlib.Core.List.{List, [], _∷_}
+use lib.ListN.{getD}
+use Rattle.octets.specs.Bytes.{put}
+use Rattle.rules.specs.Calls.{stepsIn}
+use Rattle.notation.specs.Notation.{bytes, takeField, otherField, parcelField, textField, volumeField, wordTo, wordText, wholeStep}
+use Rattle.notation.specs.Reading.{aKind, commaOrBrace, lineEnd, room, Read, steps, fault}
+pub use Rattle.notation.specs.declared.parse.Parsed.{Parsed}
+pub use Rattle.notation.specs.declared.parse.Parsed.the-variants.{Steps, Fault}
+pub use Rattle.notation.specs.declared.parse.Expected.{Expected}
+pub use Rattle.notation.specs.declared.parse.Expected.the-variants.{Transactor, Addressee, Message, Value, Group, WordTo, WordText, SixteenDigits, Kind, CommaOrBrace, LineEnd, Room}
+
+-- the number of what was expected
+abbrev pub numberOf : Expected → ℕ
+numberOf Transactor = takeField
+numberOf Addressee = otherField
+numberOf Message = parcelField
+numberOf Value = textField
+numberOf Group = volumeField
+numberOf WordTo = wordTo
+numberOf WordText = wordText
+numberOf SixteenDigits = wholeStep
+numberOf Kind = aKind
+numberOf CommaOrBrace = commaOrBrace
+numberOf LineEnd = lineEnd
+numberOf Room = room
+
+-- and back; no fault has a number of none
+unfoldable pub expectedOf : ℕ → Expected
+expectedOf n =
+    getD (Room ∷ Transactor ∷ Addressee ∷ Message ∷ Value ∷ Group ∷ WordTo ∷ WordText ∷ SixteenDigits ∷ Kind ∷ CommaOrBrace ∷ LineEnd ∷ []) n Room
+
+-- how many steps, or the fault
+abbrev pub answerOf : Read → Parsed
+answerOf (steps l) = Steps (stepsIn l)
+answerOf (fault n c e) = Fault n c (expectedOf e)
+
+-- the lent bytes: the steps at their start, or untouched
+abbrev pub writtenOf : Read → List ℕ → List ℕ
+writtenOf (steps l) out = put 0 l out
+writtenOf (fault n c e) out = out
+
+-- as many bytes as any list has
+abbrev pub longest : ℕ
+longest = 18446744073709551615
+
+-- in the documents' words
+abbrev pub expectedText : Expected → List ℕ
+expectedText Transactor = bytes "a take, 0 to 15"
+expectedText Addressee = bytes "an addressee, a take, 0 to 15"
+expectedText Message = bytes "a parcel, 0 to 65535"
+expectedText Value = bytes "a text, 0 to 4294967295"
+expectedText Group = bytes "a volume in braces"
+expectedText WordTo = bytes "the word to"
+expectedText WordText = bytes "the word text"
+expectedText SixteenDigits = bytes "16 hexadecimal digits"
+expectedText Kind = bytes "a kind of step"
+expectedText CommaOrBrace = bytes "a comma or a closing brace"
+expectedText LineEnd = bytes "the end of the line"
+expectedText Room = bytes "room for this step"
+
+-- the room that the longest needs
+abbrev pub expectedRoom : ℕ
+expectedRoom = 32

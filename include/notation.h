@@ -1,0 +1,84 @@
+/* Step lists, replies and images as text (docs/NOTATION.md). Numbers and packed forms are those of documents 01 and 02, and the text speaks
+ * the documents' words.
+ *
+ * The library is built by `rt staticlib notation_c` as target/staticlib/libnotation_c.a, for x86-64 Linux, and can be linked alone or beside
+ * the ledger's. It keeps nothing between calls, allocates nothing and needs only memcpy, memmove and memset.
+ *
+ * A buffer is a pointer and its length in bytes. The caller owes, for each call: pointers that are not null (also for a length of 0), as
+ * many bytes behind each as its length says, readable, and writable where the pointer is not to const; and that out overlaps no byte of the
+ * other buffers. Every other input is allowed. A refused call changes no byte of out. No text is ended by a zero byte. */
+#ifndef NOTATION_H
+#define NOTATION_H
+
+#include <stddef.h>
+#include <stdint.h>
+
+#ifdef __cplusplus
+extern "C" {
+#endif
+
+enum {
+    NOTATION_STEP = 45,    /* the longest line of a step, with its LF: 45 bytes a step are room for every text */
+    NOTATION_LINE = 256,   /* room for every line, reply and line of an image */
+    NOTATION_LINES = 1330  /* how many lines an image has, most of them empty */
+};
+
+/* Refusals. */
+enum {
+    NOTATION_WRONG_LENGTH = 16, /* image not 42,616 bytes */
+    NOTATION_WRONG_PART = 17,   /* list not a multiple of 8 bytes, or over 8,192 */
+    NOTATION_WRONG_ROOM = 18,   /* out has no room for the text */
+    NOTATION_ILL_FORMED = 19    /* image ill-formed */
+};
+
+/* What a text lacks where it has a fault. */
+enum notation_expected {
+    NOTATION_NOTHING = 0,
+    NOTATION_TAKE = 1,      /* a take, 0 to 15 */
+    NOTATION_ADDRESSEE = 2, /* a take, 0 to 15 */
+    NOTATION_PARCEL = 3,    /* a parcel, 0 to 65535 */
+    NOTATION_TEXT = 4,      /* a text, 0 to 4294967295 */
+    NOTATION_VOLUME = 5,    /* a volume in braces */
+    NOTATION_WORD_TO = 6,   /* the word `to` */
+    NOTATION_WORD_TEXT = 7, /* the word `text` */
+    NOTATION_DIGITS = 8,    /* sixteen hexadecimal digits */
+    NOTATION_KIND = 9,      /* a kind of step, or `raw` */
+    NOTATION_COMMA = 10,    /* a comma or a closing brace */
+    NOTATION_END = 11,      /* the end of the line */
+    NOTATION_ROOM = 12      /* room for this step in out */
+};
+
+/* How many bytes were written (notation_length: would be), and the refusal or 0; refused, the length is 0. */
+struct notation_given {
+    size_t length;
+    uint8_t refusal;
+};
+
+/* Writes the packed steps that the text says to the start of out and answers how many; *line, *column and *expected are 0. At a fault
+ * the answer is 0 and no byte of out is changed; *line and *column, from 1 and the column in bytes, are the first fault's place, *expected
+ * is what was expected there. */
+size_t notation_parse(const uint8_t *text, size_t text_length, uint8_t *out, size_t out_length,
+                      size_t *line, size_t *column, uint8_t *expected);
+
+/* How long the text of a list is. 17. */
+struct notation_given notation_length(const uint8_t *list, size_t list_length);
+
+/* Writes the canonical text of a list to the front of out: one step a line, each ended by LF. 17, 18. */
+struct notation_given notation_print(const uint8_t *list, size_t list_length, uint8_t *out, size_t out_length);
+
+/* Writes the line of step i, from 0 on, of a list of any length, with its LF; nothing past the last whole step. 18. */
+struct notation_given notation_step(const uint8_t *list, size_t list_length, size_t i, uint8_t *out, size_t out_length);
+
+/* Writes the reply to step i in words, without LF; nothing past the last step or reply. 18. */
+struct notation_given notation_reply(const uint8_t *list, size_t list_length, const uint8_t *replies, size_t replies_length, size_t i,
+                                     uint8_t *out, size_t out_length);
+
+/* Writes line n, from 0 on, of an image's text, with its LF. Every take and parcel has its lines at fixed numbers, so many are empty; past the
+ * last all are. 16, 19, 18. */
+struct notation_given notation_image(const uint8_t *image, size_t image_length, size_t n, uint8_t *out, size_t out_length);
+
+#ifdef __cplusplus
+}
+#endif
+
+#endif
