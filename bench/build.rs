@@ -1,4 +1,4 @@
-//! Links the static library of crate ledger_c, and with the feature `engine` that of engine_c, from target/staticlib or from the folder that
+//! Links the static library of crate ledger_c, and with the features `engine` and `text` those of engine_c and notation_c, from target/staticlib or from the folder that
 //! LEDGER_LIBRARY names.
 
 use std::env;
@@ -8,8 +8,10 @@ fn main() {
     let folder = env::var("LEDGER_LIBRARY").unwrap_or(format!("{here}/../target/staticlib"));
     println!("cargo:rustc-link-search=native={folder}");
     println!("cargo:rerun-if-env-changed=LEDGER_LIBRARY");
-    let engine = env::var("CARGO_FEATURE_ENGINE").is_ok();
-    for name in ["ledger_c", "engine_c"].iter().take(1 + engine as usize) {
+    let with = |feature: &str| env::var(feature).is_ok();
+    let libraries =
+        [("ledger_c", true), ("engine_c", with("CARGO_FEATURE_ENGINE")), ("notation_c", with("CARGO_FEATURE_TEXT"))];
+    for (name, _) in libraries.iter().filter(|l| l.1) {
         println!("cargo:rustc-link-lib=static={name}");
         println!("cargo:rerun-if-changed={folder}/lib{name}.a");
     }

@@ -139,7 +139,8 @@ fn number_of(r: &mut Random, image: &[u8], receivable: bool) -> usize {
     r.below(65_536)
 }
 
-fn volume(r: &mut Random, image: &[u8]) -> usize {
+/// A volume: mostly of frozen takes.
+pub fn volume(r: &mut Random, image: &[u8]) -> usize {
     let mut set = 0;
     for t in 0..opened(image) {
         set |= (frozen(image, t) as usize) << t;

@@ -151,6 +151,12 @@ impl Mark {
         self.count() == present.count() && self.rest() == present.rest()
     }
 
+    /// Both are present, and of one life.
+    #[inline(always)]
+    fn is_of(&self, present: &Mark) -> bool {
+        (self.head ^ present.head) & !FROZEN == 0 && self.head != 0 && self.rest() == present.rest()
+    }
+
     fn next(&self) -> Mark {
         let mut rest = self.rest;
         rest[0] = (self.n() + 1).to_be_bytes();
@@ -184,6 +190,8 @@ fn zero(part: &[u8]) -> bool {
     part.iter().fold(0, |a, b| a | b) == 0
 }
 
+// Not inlined, as measured: the test of a full image takes a sixth longer where it is.
+#[inline(never)]
 fn map_formed(map: &Map, opened: usize, signings: u8) -> bool {
     let (named, unnamed) = map.split_at(opened);
     zero(bytes(unnamed)) && named.iter().all(|m| m.formed(signings))
@@ -219,6 +227,11 @@ impl Image {
     fn of_mut(image: &mut [u8]) -> &mut Image {
         assert!(image.len() == IMAGE);
         unsafe { &mut *image.as_mut_ptr().cast() }
+    }
+
+    #[inline(always)]
+    fn opened(&self) -> usize {
+        (self.opened as usize).min(TAKES)
     }
 
     fn waiting(&self) -> usize {
@@ -421,7 +434,7 @@ struct Session<'a> {
 impl Session<'_> {
     #[inline(always)]
     fn opened(&self) -> usize {
-        (self.image.opened as usize).min(TAKES)
+        self.image.opened()
     }
 
     fn open(&mut self, text: u32) -> Option<usize> {
@@ -848,6 +861,125 @@ pub fn all_heard(image: &[u8], take: usize) -> Result<bool, u8> {
     let x = &asked(image, take)?.takes[take];
     let frozen = |map: &Map| map.iter().enumerate().all(|(u, m)| u == take || m.head & (PRESENT | FROZEN) != PRESENT);
     Ok(frozen(&x.state) && frozen(&x.creation))
+}
+
+/// What rests on a take's present life: volumes, and how many parcels.
+#[derive(Clone, Copy, Debug, Default, PartialEq)]
+#[repr(C)]
+pub struct Dependents {
+    /// The live takes with that life in state or creation.
+    pub resting: u16,
+    /// The take, with each take those that rest on its present life, and so on.
+    pub through: u16,
+    /// The takes at work with it in behaviour.
+    pub unfinished: u16,
+    /// How many waiting parcels have it.
+    pub carried: u16,
+}
+
+impl Image {
+    fn present(&self, t: usize) -> &Mark {
+        &self.takes[t].state[t]
+    }
+
+    /// The live takes that have this mark of take t in state or creation: a take that vanished, or is not opened, has none.
+    fn resting(&self, t: usize, present: &Mark) -> u16 {
+        let holds = |x: &Take| x.state[t].is_of(present) || x.creation[t].is_of(present);
+        self.takes.iter().enumerate().fold(0, |v, (u, x)| v | (holds(x) as u16) << u)
+    }
+}
+
+pub fn dependents(image: &[u8], take: usize) -> Result<Dependents, u8> {
+    let image = asked(image, take)?;
+    let present = image.present(take);
+    let resting = image.resting(take, present);
+    let live = image.takes.iter().enumerate().fold(0, |v, (u, x)| v | ((x.state[u].head != 0) as u16) << u);
+    let (mut through, mut added) = (resting, resting & !(1 << take));
+    while added != 0 && through != live {
+        let u = added.trailing_zeros() as usize;
+        added &= added - 1;
+        let more = image.resting(u, image.present(u)) & !through;
+        through |= more;
+        added |= more;
+    }
+    let works = |x: &Take| x.behaviour[take].is_of(present);
+    let unfinished = image.takes.iter().enumerate().fold(0, |v, (u, x)| v | (works(x) as u16) << u);
+    let carried = image.parcels[..image.waiting()].iter().filter(|p| p.map[take].is_of(present)).count() as u16;
+    Ok(Dependents { resting, through, unfinished, carried })
+}
+
+/// Why a volume is not ready, by a named take and the take on which it rests.
+#[derive(Clone, Copy, Debug, PartialEq)]
+pub enum Obstacle {
+    Nothing,
+    NotFrozen(u8),
+    Outside(u8, u8),
+    Withdrawn(u8, u8),
+}
+
+pub fn obstacle(image: &[u8], volume: u16) -> Result<Obstacle, u8> {
+    if image.len() != IMAGE {
+        return Err(16);
+    }
+    let image = Image::of(image);
+    if !image.formed() {
+        return Err(19);
+    }
+    if volume == 0 {
+        return Err(29);
+    }
+    if (volume as u32) >> image.opened != 0 {
+        return Err(21);
+    }
+    let (mut vanished, mut full, mut unfrozen) = (0, 0, 0);
+    for t in 0..image.opened as usize {
+        let head = image.present(t).head;
+        vanished |= ((head == 0) as u16) << t;
+        full |= ((head & COUNT >= image.limits.signings) as u16) << t;
+        unfrozen |= ((head & FROZEN == 0) as u16) << t;
+    }
+    if volume & vanished != 0 {
+        return Err(22);
+    }
+    if volume & full != 0 {
+        return Err(30);
+    }
+    if volume & unfrozen != 0 {
+        return Ok(Obstacle::NotFrozen((volume & unfrozen).trailing_zeros() as u8));
+    }
+    let mut left = volume;
+    while left != 0 {
+        let t = left.trailing_zeros() as usize;
+        left &= left - 1;
+        if let Some((u, present)) = image.blocking(volume, t) {
+            let (t, u) = (t as u8, u as u8);
+            return Ok(if present { Obstacle::Outside(t, u) } else { Obstacle::Withdrawn(t, u) });
+        }
+    }
+    Ok(Obstacle::Nothing)
+}
+
+impl Image {
+    /// The first mark of take t that is neither of a signed life nor of the present life of a named take: whose it is, and whether it is of
+    /// that take's present life.
+    #[inline(always)]
+    fn blocking(&self, volume: u16, t: usize) -> Option<(usize, bool)> {
+        let take = &self.takes[t];
+        for u in 0..self.opened() {
+            let own = self.present(u);
+            for m in [&take.state[u], &take.creation[u]] {
+                if m.head == 0 {
+                    continue;
+                }
+                let present = m.is_of(own);
+                let good = present && volume >> u & 1 == 1 || m.signed(own);
+                if !good {
+                    return Some((u, present));
+                }
+            }
+        }
+        None
+    }
 }
 
 /// The greatest number of outcomes 3 and 4 in a window, and the first place that has it.

@@ -5,3 +5,4 @@ pub mod engine;
 pub mod generate;
 pub mod ledger;
 pub mod library;
+pub mod reading;

@@ -1,6 +1,8 @@
 //! The proved library, as include/ledger.h and include/engine.h declare it, behind safe functions. No call of it has a precondition besides
 //! valid slices, so nothing is tested here before a call.
 
+use crate::ledger::{Dependents, Obstacle};
+
 /// The number that stands for "no parcel": a parcel's is at most 65,534.
 const NONE: u16 = 65_535;
 
@@ -14,6 +16,13 @@ struct Part {
 struct Worst {
     count: usize,
     place: usize,
+}
+
+#[repr(C)]
+struct Reason {
+    kind: u8,
+    take: u8,
+    ground: u8,
 }
 
 extern "C" {
@@ -31,6 +40,8 @@ extern "C" {
     fn ledger_offer(image: *const u8, image_length: usize, take: usize, refusal: *mut u8) -> u16;
     fn ledger_smallest_group(image: *const u8, image_length: usize, take: usize, refusal: *mut u8) -> u16;
     fn ledger_all_heard_stable(image: *const u8, image_length: usize, take: usize, refusal: *mut u8) -> u8;
+    fn ledger_dependents(image: *const u8, image_length: usize, take: usize, refusal: *mut u8) -> Dependents;
+    fn ledger_obstacle(image: *const u8, image_length: usize, volume: u16, refusal: *mut u8) -> Reason;
     fn ledger_ready_count(image: *const u8, image_length: usize, size: usize, refusal: *mut u8) -> usize;
     fn ledger_thin(
         image: *const u8,
@@ -45,7 +56,7 @@ extern "C" {
     ) -> usize;
     fn ledger_forward(source: *const u8, source_length: usize, target: *mut u8, target_length: usize) -> u8;
     fn ledger_back(source: *const u8, source_length: usize, target: *mut u8, target_length: usize) -> u8;
-    fn ledger_show(image: *const u8, image_length: usize, number: u16, refusal: *mut u8) -> Part;
+    fn ledger_show(image: *const u8, image_length: usize, number: usize, refusal: *mut u8) -> Part;
     fn ledger_worst_window(replies: *const u8, replies_length: usize, width: usize, refusal: *mut u8) -> Worst;
 }
 
@@ -103,6 +114,32 @@ pub fn all_heard(image: &[u8], take: usize) -> Result<bool, u8> {
     Ok(yes == 1)
 }
 
+pub fn dependents(image: &[u8], take: usize) -> Result<Dependents, u8> {
+    let mut refusal = 255;
+    let answer = unsafe { ledger_dependents(image.as_ptr(), image.len(), take, &mut refusal) };
+    if refusal != 0 {
+        assert_eq!(answer, Dependents::default(), "a refused query gives dependents");
+        return Err(refusal);
+    }
+    Ok(answer)
+}
+
+pub fn obstacle(image: &[u8], volume: u16) -> Result<Obstacle, u8> {
+    let mut refusal = 255;
+    let Reason { kind, take, ground } = unsafe { ledger_obstacle(image.as_ptr(), image.len(), volume, &mut refusal) };
+    if refusal != 0 {
+        assert_eq!((kind, take, ground), (0, 0, 0), "a refused query gives an obstacle");
+        return Err(refusal);
+    }
+    match (kind, take, ground) {
+        (0, 0, 0) => Ok(Obstacle::Nothing),
+        (1, t, 0) => Ok(Obstacle::NotFrozen(t)),
+        (2, t, u) => Ok(Obstacle::Outside(t, u)),
+        (3, t, u) => Ok(Obstacle::Withdrawn(t, u)),
+        other => panic!("no obstacle has the numbers {other:?}"),
+    }
+}
+
 pub fn ready_count(image: &[u8], size: usize) -> Result<usize, u8> {
     let mut refusal = 255;
     let count = unsafe { ledger_ready_count(image.as_ptr(), image.len(), size, &mut refusal) };
@@ -127,7 +164,7 @@ pub fn thin(image: &[u8], list: &[u8], start: usize, end: usize, out: &mut [u8])
 
 pub fn show(image: &[u8], number: u16) -> Result<&[u8], u8> {
     let mut refusal = 255;
-    let part = unsafe { ledger_show(image.as_ptr(), image.len(), number, &mut refusal) };
+    let part = unsafe { ledger_show(image.as_ptr(), image.len(), usize::from(number), &mut refusal) };
     if refusal != 0 {
         assert_eq!((part.offset, part.length), (0, 0), "a refused show gives a part that is not empty");
         return Err(refusal);

@@ -2,14 +2,13 @@
 //!
 //!     benchmark [REPETITIONS [ROW ..]]                every row, or some
 //!     benchmark profile library|rust ROW N            N passes of one row, for a profiler
-//!     benchmark kinds ..                              the same for steps of one kind
 //!     benchmark thin [REPETITIONS]                    a pass that thins a list against a run of it
 //!
 //! Before each pass, and outside the time measured, the image is set back and the replies are cleared.
 
 use bench::convert::{self, OLD_IMAGE};
 use bench::generate::{self, packed, Random, MAP, MARK, STATE};
-use bench::ledger::{self, IMAGE, PARCELS, SIGNINGS, STEP, TAKES};
+use bench::ledger::{self, Dependents, Obstacle, IMAGE, PARCELS, SIGNINGS, STEP, TAKES};
 use bench::library;
 use std::hint::black_box;
 use std::time::{Duration, Instant};
@@ -22,6 +21,8 @@ struct Calls {
     smallest: fn(&[u8], usize) -> Result<Option<u16>, u8>,
     ready_count: fn(&[u8], usize) -> Result<usize, u8>,
     all_heard: fn(&[u8], usize) -> Result<bool, u8>,
+    dependents: fn(&[u8], usize) -> Result<Dependents, u8>,
+    obstacle: fn(&[u8], u16) -> Result<Obstacle, u8>,
     thin: fn(&[u8], &[u8], usize, usize, &mut [u8]) -> Result<usize, u8>,
     show: for<'a> fn(&'a [u8], u16) -> Result<&'a [u8], u8>,
     forward: fn(&[u8], &mut [u8]) -> u8,
@@ -37,6 +38,8 @@ const LIBRARY: Calls = Calls {
     smallest: library::smallest,
     ready_count: library::ready_count,
     all_heard: library::all_heard,
+    dependents: library::dependents,
+    obstacle: library::obstacle,
     thin: library::thin,
     show: library::show,
     forward: library::forward,
@@ -51,6 +54,8 @@ const RUST: Calls = Calls {
     smallest: ledger::smallest,
     ready_count: ledger::ready_count,
     all_heard: ledger::all_heard,
+    dependents: ledger::dependents,
+    obstacle: ledger::obstacle,
     thin: ledger::thin,
     show: ledger::show,
     forward: convert::forward,
@@ -68,6 +73,8 @@ enum Call {
     Smallest(usize),
     ReadyCount(usize),
     AllHeard(usize),
+    Dependents(usize),
+    Obstacle(u16),
     Show(u16),
     /// Conversions: the image is the source, the replies are the destination.
     Forward,
@@ -111,6 +118,14 @@ impl Work {
                 Call::Smallest(t) => (by.smallest)(image, *t).unwrap().map_or(7, |v| v as u64),
                 Call::ReadyCount(n) => (by.ready_count)(image, *n).unwrap() as u64,
                 Call::AllHeard(t) => (by.all_heard)(image, *t).unwrap() as u64,
+                Call::Dependents(t) => {
+                    let d = (by.dependents)(image, *t).unwrap();
+                    (d.resting ^ d.through ^ d.unfinished ^ d.carried) as u64
+                }
+                Call::Obstacle(v) => match (by.obstacle)(image, *v).unwrap() {
+                    Obstacle::Nothing => 7,
+                    Obstacle::NotFrozen(t) | Obstacle::Outside(t, _) | Obstacle::Withdrawn(t, _) => t as u64,
+                },
                 Call::Show(n) => (by.show)(image, *n).unwrap()[0] as u64,
                 Call::Forward => (by.forward)(image, replies) as u64,
                 Call::Back => (by.back)(image, replies) as u64,
@@ -364,6 +379,18 @@ fn alone() -> Vec<u8> {
     image
 }
 
+/// A full image in which every map, of takes and parcels, holds the present lives of all.
+fn bound() -> Vec<u8> {
+    let mut image = generate::full_image(&mut Random(2));
+    for (i, at) in generate::marks().enumerate() {
+        let own = generate::take_at(i % 16) + STATE + MARK * (i % 16);
+        image.copy_within(own..own + MARK, at);
+    }
+    let all = Dependents { resting: 0xffff, through: 0xffff, unfinished: 0xffff, carried: 32 };
+    assert_eq!(ledger::dependents(&image, 0), Ok(all));
+    image
+}
+
 /// The last of sixteen takes on each other, with every mark frozen that it has heard of.
 fn heard() -> Vec<u8> {
     let mut image = frozen();
@@ -416,6 +443,8 @@ fn rows() -> Vec<Row> {
     apply(&mut pairs.clone(), &each_pair);
     let (session, _) = mixed(3, 512, 1);
     let waiting = generate::waiting(&session);
+    let first_live =
+        (0..TAKES).find(|t| ledger::obstacle(&session, 1 << t) == Ok(Obstacle::NotFrozen(*t as u8))).unwrap();
     let full = generate::full_image(&mut Random(2));
     // The same with every number in one byte, and in the old form.
     let lower = |image: &[u8]| {
@@ -456,6 +485,12 @@ fn rows() -> Vec<Row> {
         row("smallest volume, 16 takes in a chain", "call", many(&chain(), Call::Smallest(15))),
         row("ready volumes of 8 takes, all 65,535 ready", "call", few(&alone(), Call::ReadyCount(8))),
         row("all heard frozen, 16 takes on each other", "call", many(&heard(), Call::AllHeard(15))),
+        row("dependents, session", "call", many(&session, Call::Dependents(first_live))),
+        row("dependents, full image, all on each other", "call", many(&bound(), Call::Dependents(0))),
+        row("dependents, 16 takes in a chain", "call", many(&chain(), Call::Dependents(0))),
+        row("obstacle, session, not frozen", "call", many(&session, Call::Obstacle(1 << first_live))),
+        row("obstacle of 16 takes, full image, none", "call", many(&alone(), Call::Obstacle(0xffff))),
+        row("obstacle of 16 takes, the last mark", "call", many(&spoilt(&signing, 15), Call::Obstacle(0xffff))),
         row("forward, session", "call", many(&session_old, Call::Forward)),
         row("forward, full image", "call", many(&old, Call::Forward)),
         row("back, session", "call", many(&session, Call::Back)),
@@ -473,31 +508,69 @@ fn rows() -> Vec<Row> {
     ]
 }
 
-/// The same steps again and again, in runs of 1,024: what one kind costs, for the profile.
+/// Steps of one kind on a full image with one parcel fewer, so that no kind hides in the mix.
 fn kinds() -> Vec<Row> {
-    let image = ring();
-    let repeat = |steps: &[u64], image: &[u8]| {
-        let list: Vec<u64> = steps.iter().copied().cycle().take(1024 / steps.len() * steps.len()).collect();
-        Work { image: image.to_vec(), call: Call::Run(bytes(&list), 1024), times: 1 }
+    let mut image = bound();
+    let newest = generate::number(&image, 31) as usize;
+    apply(&mut image, &[packed(11, 0, 0, newest, 0)]);
+    let next = u16::from_be_bytes([image[1], image[2]]) as usize;
+    let own = |t: usize| image[generate::take_at(t) + STATE + MARK * t];
+    let loose = (0..TAKES).find(|t| own(*t) & 0x40 == 0 && own(*t) & 15 > 0).unwrap();
+    let still = (0..TAKES).find(|t| own(*t) & 0x40 != 0).unwrap();
+    let work = |list: &[u64]| Work { image: image.clone(), call: Call::Run(bytes(list), 1024), times: 1 };
+    let again = |step: u64| vec![work(&[step; 1024])];
+    // A parcel made, received or lost, and what follows.
+    let each =
+        |n: usize, make: &dyn Fn(usize) -> Vec<u64>| vec![work(&(next..next + n).flat_map(make).collect::<Vec<_>>())];
+    let lose = |m| packed(11, 0, 0, m, 0);
+    // Every waiting parcel, the newest first, to a take that is done with the one before.
+    let receipts: Vec<u64> = (0..31)
+        .rev()
+        .flat_map(|k| {
+            [
+                packed(8, generate::addressee(&image, k), 0, 0, 0),
+                packed(2, 0, 0, generate::number(&image, k) as usize, 0),
+            ]
+        })
+        .collect();
+    let short = |image: &[u8], list: &[u64]| {
+        let (image, list) = (image.to_vec(), bytes(list));
+        vec![Work { image, call: Call::Run(list, 1024), times: 1 }]
     };
-    let pairs = |make: fn(usize) -> u64, image: &[u8]| {
-        let next = u16::from_be_bytes([image[1], image[2]]) as usize;
-        let list: Vec<u64> = (0..512).flat_map(|i| [make(i), packed(11, 0, 0, next + i, 0)]).collect();
-        Work { image: image.to_vec(), call: Call::Run(bytes(&list), 1024), times: 1 }
-    };
-    let row = |name, work| Row { name, unit: "step", works: vec![work] };
-    let mut still = image.clone();
-    apply(&mut still, &[packed(7, 3, 0, 0, 0)]);
+    let each_alone: Vec<u64> = (0..16).map(|t| sign(1 << t)).collect();
+    let half = half();
+    let news: Vec<u64> = (0..8).map(|t| packed(3, t, 0, 0, 1)).collect();
+    let row = |name, works| Row { name, unit: "step", works };
     vec![
-        row("refused 20", repeat(&[u64::MAX], &image)),
-        row("letter, lose", pairs(|_| packed(1, 3, 0, 0, 5), &image)),
-        row("send, lose", pairs(|_| packed(4, 3, 4, 0, 5), &image)),
-        row("read", repeat(&[packed(5, 3, 0, 0, 0)], &image)),
-        row("write", repeat(&[packed(6, 3, 0, 0, 9)], &image)),
-        row("write, held", repeat(&[packed(6, 3, 0, 0, 9)], &still)),
-        row("freeze", repeat(&[packed(7, 3, 0, 0, 0)], &image)),
-        row("fail, held", repeat(&[packed(10, 3, 0, 0, 0)], &still)),
+        row("full: refused 20", again(u64::MAX)),
+        row("full: letter, lose", each(512, &|m| vec![packed(1, loose, 0, 0, 5), lose(m)])),
+        row(
+            "full: letter, receive, done",
+            each(256, &|m| vec![packed(8, loose, 0, 0, 0), packed(1, loose, 0, 0, 5), packed(2, 0, 0, m, 0)]),
+        ),
+        row("full: done, receive, newest first", short(&image, &receipts)),
+        row("full: send, lose", each(512, &|m| vec![packed(4, loose, still, 0, 5), lose(m)])),
+        row("full: read", again(packed(5, loose, 0, 0, 0))),
+        row("full: write", again(packed(6, loose, 0, 0, 9))),
+        row("full: write, held", again(packed(6, still, 0, 0, 9))),
+        row("full: freeze", again(packed(7, loose, 0, 0, 0))),
+        row("full: fail, falls back", again(packed(10, loose, 0, 0, 0))),
+        row("full: fail, held", again(packed(10, still, 0, 0, 0))),
+        row("full: sign of one take, 16 in a run", short(&alone(), &each_alone)),
+        row("half full: new, 8 in a run", short(&half, &news)),
     ]
+}
+
+/// Eight takes of sixteen, with every place of theirs taken.
+fn half() -> Vec<u8> {
+    let mut image = bound();
+    image[0] = 8;
+    image[generate::take_at(8)..generate::parcel_at(0)].fill(0);
+    for at in generate::marks().skip(8).step_by(16).flat_map(|at| (0..8).map(move |i| at + MARK * i)) {
+        image[at..at + MARK].fill(0);
+    }
+    (0..PARCELS).for_each(|k| image[generate::parcel_at(k)] &= 0x87);
+    image
 }
 
 /// A pass that thins a list against a run of the same list: how many runs it costs.
@@ -526,9 +599,7 @@ fn main() {
         let repetitions = args.get(1).map_or(31, |n| n.parse().expect("a number of repetitions"));
         return [LIBRARY, RUST].iter().for_each(|by| thin_cost(by, repetitions));
     }
-    let one_kind = args.first().map(String::as_str) == Some("kinds");
-    let rows = if one_kind { kinds() } else { rows() };
-    let args = &args[one_kind as usize..];
+    let rows: Vec<Row> = rows().into_iter().chain(kinds()).collect();
     if args.first().map(String::as_str) == Some("profile") {
         let by = if args[1] == LIBRARY.name { LIBRARY } else { RUST };
         let row = &rows[args[2].parse::<usize>().expect("a row")];
@@ -537,9 +608,7 @@ fn main() {
         return;
     }
     let repetitions = args.first().map_or(31, |n| n.parse().expect("a number of repetitions"));
-    if !one_kind {
-        println!("of a hundred mixed steps reply with {}", rows[0].outcomes());
-    }
+    println!("of a hundred mixed steps reply with {}", rows[0].outcomes());
     println!("nanoseconds and ratio, median of {repetitions} (quartiles)");
     println!("{:44} {:>5} {:>9} {:19} {:>9} {:19} {:>6}", "", "unit", "library", "", "Rust", "", "ratio");
     let wanted: Vec<usize> = args.iter().skip(1).map(|n| n.parse().expect("a row")).collect();

@@ -7,8 +7,8 @@
 //! Each round has a seed of its own; with ROUND that one alone is run.
 
 use bench::generate::{self, Random};
-use bench::ledger::{self, IMAGE, LONGEST, PARCELS, SIGNINGS, STEP, TAKES};
-use bench::library;
+use bench::ledger::{self, Dependents, Obstacle, IMAGE, LONGEST, PARCELS, SIGNINGS, STEP, TAKES};
+use bench::{library, reading};
 use std::process::exit;
 
 struct Test {
@@ -18,7 +18,7 @@ struct Test {
     /// The image as the Rust ledger leaves it, and as the library does: the same before and after each call.
     ours: Vec<u8>,
     theirs: Vec<u8>,
-    calls: [[u64; 36]; 9], // begin, run, offer, show, smallest, all heard, worst window, thin, ready by answer
+    calls: [[u64; 36]; 11], // those of CALLS, by answer
     steps: [[u64; 32]; 16], // by kind and outcome or refusal
     offered: u64,
     named: [u64; 17], // smallest volumes by size, 0 for none
@@ -26,7 +26,11 @@ struct Test {
     ready: [u64; 17], // queries by size that counted some volume, 0 for those that counted none
     signed_each: u64,
     counted: u64,
-    heard: [u64; 2],     // all heard frozen: no, yes
+    heard: [u64; 2],  // all heard frozen: no, yes
+    rested: [u64; 4], // dependents with others in resting, with more in through, with takes at work, with parcels
+    withdrawn: u64,
+    hindered: [u64; 4],  // obstacles: nothing, not frozen, outside, withdrawn
+    read: [u64; 2],      // of both, held to the plain reading
     exchanged: [u64; 4], // pairs by how many of the two steps are refused; refused calls
     left_out: [u64; 16], // by the kind that empties the map of a read; 0 for refused steps, 5 for reads that are kept
     damaged: u64,
@@ -37,7 +41,8 @@ struct Test {
     long: [[u64; 2]; 2],
 }
 
-const CALLS: [&str; 9] = ["begin", "run", "offer", "show", "smallest", "all heard", "window", "thin", "ready"];
+const CALLS: [&str; 11] =
+    ["begin", "run", "offer", "show", "smallest", "all heard", "window", "thin", "ready", "dependents", "obstacle"];
 
 impl Test {
     fn fail(&self, what: &str) -> ! {
@@ -233,6 +238,105 @@ impl Test {
         self.heard[yes as usize] += 1;
     }
 
+    /// Who rests on the take and on some others, and why some volumes are not ready.
+    fn grounds(&mut self, take: usize) {
+        self.dependents(take);
+        for _ in 0..4 {
+            let other = self.r.below(TAKES) % self.ours.first().map_or(16, |n| (*n as usize).clamp(1, TAKES));
+            self.dependents(other);
+            self.obstacle();
+        }
+    }
+
+    fn dependents(&mut self, take: usize) {
+        let before = self.ours.clone();
+        let (a, b) = (library::dependents(&self.theirs, take), ledger::dependents(&self.ours, take));
+        self.expect(a == b, &format!("dependents of {take}: {a:?}, and {b:?} in the Rust ledger"));
+        self.calls[9][a.err().unwrap_or(0) as usize] += 1;
+        self.expect(self.theirs == before, "a query changed the image");
+        let Ok(d) = a else { return };
+        let seen = [d.resting & !(1 << take) != 0, d.through != d.resting, d.unfinished != 0, d.carried != 0];
+        (0..4).for_each(|i| self.rested[i] += seen[i] as u64);
+        if self.r.one_in(20) {
+            self.read[0] += 1;
+            let plain = reading::dependents(&self.ours, take);
+            self.expect(d == plain, &format!("dependents of {take}: {d:?}, by the plain reading {plain:?}"));
+            self.withdraw(take, d);
+        }
+    }
+
+    /// The take falls, on a copy: the others of `through` are in no ready volume then, and everybody else's smallest is what it was.
+    fn withdraw(&mut self, take: usize, d: Dependents) {
+        let mut fallen = self.ours.clone();
+        if !matches!(ledger::step_unchecked(&mut fallen, generate::packed(10, take, 0, 0, 0)) >> 56, 3 | 4) {
+            return;
+        }
+        self.withdrawn += 1;
+        for u in (0..TAKES).filter(|u| *u != take) {
+            let (was, is) = (library::smallest(&self.ours, u), library::smallest(&fallen, u));
+            let lost = d.through >> u & 1 == 1;
+            let wanted = if lost { Ok(None) } else { was };
+            self.expect(
+                is == wanted,
+                &format!("take {take} fell, through {:b}: smallest of {u} was {was:?}, is {is:?}", d.through),
+            );
+        }
+    }
+
+    /// A volume that could be signed, one of frozen takes, or any.
+    fn volume(&mut self) -> u16 {
+        if self.ours.len() != IMAGE || self.r.one_in(8) {
+            return self.r.next() as u16;
+        }
+        let live = (0..generate::opened(&self.ours)).filter(|t| generate::status(&self.ours, *t) != 3);
+        let live: u16 = live.map(|t| 1 << t).sum();
+        match self.r.below(8) {
+            0 | 1 => ledger::smallest(&self.ours, self.r.below(TAKES)).ok().flatten().unwrap_or(live),
+            2 => live & self.r.next() as u16,
+            3 => live,
+            _ => generate::volume(&mut self.r, &self.ours) as u16,
+        }
+    }
+
+    fn obstacle(&mut self) {
+        let volume = self.volume();
+        let before = self.ours.clone();
+        let (a, b) = (library::obstacle(&self.theirs, volume), ledger::obstacle(&self.ours, volume));
+        self.expect(a == b, &format!("obstacle of {volume:b}: {a:?}, and {b:?} in the Rust ledger"));
+        self.calls[10][a.err().unwrap_or(0) as usize] += 1;
+        self.expect(self.theirs == before, "a query changed the image");
+        if let Ok(o) = a {
+            let kind = match o {
+                Obstacle::Nothing => 0,
+                Obstacle::NotFrozen(_) => 1,
+                Obstacle::Outside(..) => 2,
+                Obstacle::Withdrawn(..) => 3,
+            };
+            self.hindered[kind] += 1;
+        }
+        if !matches!(a, Err(16 | 19)) && self.r.one_in(20) {
+            self.sign_and_read(volume, a);
+        }
+    }
+
+    /// By the signing itself, on a copy, and by the plain reading.
+    fn sign_and_read(&mut self, volume: u16, answer: Result<Obstacle, u8>) {
+        self.read[1] += 1;
+        let reply = ledger::step_unchecked(&mut self.ours.clone(), 12 << 60 | (volume as u64) << 32) >> 56;
+        let wanted = match answer {
+            Err(refusal) => refusal as u64,
+            Ok(Obstacle::Nothing) => 0,
+            Ok(_) => 5,
+        };
+        self.expect(reply == wanted, &format!("obstacle of {volume:b}: {answer:?}, and its signing replies {reply}"));
+        let Ok(obstacle) = answer else { return };
+        let plain = reading::obstacle(&self.ours, volume);
+        self.expect(
+            obstacle == plain,
+            &format!("obstacle of {volume:b}: {obstacle:?}, by the plain reading {plain:?}"),
+        );
+    }
+
     /// The image, or a fresh one where it is ill-formed or of another length: what steps are drawn for.
     fn drawn_for(&self) -> Vec<u8> {
         let whole = self.ours.len() == IMAGE && ledger::offer(&self.ours, 0) != Err(19);
@@ -381,6 +485,7 @@ impl Test {
         self.smallest(take);
         self.ready();
         self.all_heard(take);
+        self.grounds(take);
     }
 
     /// Runs with a bad part, a wrong reply length, or both.
@@ -490,6 +595,7 @@ impl Test {
         self.smallest(take);
         self.ready();
         self.all_heard(take);
+        self.grounds(take);
         self.show(number);
         self.exchange();
         self.set(kept);
@@ -508,6 +614,7 @@ impl Test {
         let (list, start) = self.list(n);
         self.thin(&list, start, start + STEP * n, STEP * n);
         self.run(&list, start, start + STEP * n, STEP * n);
+        self.grounds(0);
         self.set(kept);
     }
 
@@ -524,6 +631,7 @@ impl Test {
         self.smallest(take);
         self.ready();
         self.all_heard(take);
+        self.grounds(take);
         self.show(number);
         if self.r.one_in(4) {
             self.bad_run();
@@ -569,6 +677,7 @@ impl Test {
                     self.offer(take);
                     self.smallest(take);
                     self.all_heard(take);
+                    self.grounds(take);
                 }
                 12 | 13 => {
                     let number = self.number();
@@ -640,6 +749,11 @@ impl Test {
             self.expect(n > 0, &format!("no count of ready volumes was of {what}"));
         }
         self.expect(self.heard[0] > 0 && self.heard[1] > 0, "all heard frozen was never yes, or never no");
+        self.expect(
+            self.rested.iter().all(|n| *n > 0) && self.withdrawn > 0,
+            "dependents of some sort were never seen",
+        );
+        self.expect(self.hindered.iter().all(|n| *n > 0), "no obstacle was of some sort");
         self.expect(self.exchanged.iter().all(|n| *n > 0), "no two edits of some sort were exchanged");
         self.thin_covered();
         let outcome = |n: usize| self.steps.iter().map(|kind| kind[n]).sum::<u64>();
@@ -651,8 +765,19 @@ impl Test {
         }
         let query: &[usize] = &[0, 16, 19, 21, 22];
         let run: &[usize] = &[0, 16, 17, 18, 19];
-        let answers: [&[usize]; 9] =
-            [&[0, 16, 33], run, query, &[0, 16, 19, 24], query, query, &[0, 17, 35], run, &[0, 16, 19, 34]];
+        let answers: [&[usize]; 11] = [
+            &[0, 16, 33],
+            run,
+            query,
+            &[0, 16, 19, 24],
+            query,
+            query,
+            &[0, 17, 35],
+            run,
+            &[0, 16, 19, 34],
+            query,
+            &[0, 16, 19, 21, 22, 29, 30],
+        ];
         for (call, wanted) in answers.iter().enumerate() {
             for n in *wanted {
                 self.expect(self.calls[call][*n] > 0, &format!("no {} answered {n}", CALLS[call]));
@@ -664,7 +789,7 @@ impl Test {
         let row = |name: &str, counts: &[u64]| {
             let seen: Vec<String> =
                 counts.iter().enumerate().filter(|c| *c.1 > 0).map(|(n, c)| format!("{n}: {c}")).collect();
-            println!("{name:9} {}", seen.join("  "));
+            println!("{name:10} {}", seen.join("  "));
         };
         for (name, counts) in CALLS.iter().zip(&self.calls) {
             row(name, counts);
@@ -678,6 +803,14 @@ impl Test {
             l[0], l[8], l[9], l[10], l[12], l[5]
         );
         println!("all heard frozen: no {}, yes {}", self.heard[0], self.heard[1]);
+        let [others, through, working, parcels] = self.rested;
+        println!("dependents: others resting {others}, more through others {through}, at work {working}, in parcels {parcels}");
+        println!(
+            "dependents read plainly {}, takes withdrawn {}; obstacles read plainly {}",
+            self.read[0], self.withdrawn, self.read[1]
+        );
+        let [nothing, unfrozen, outside, withdrawn] = self.hindered;
+        println!("obstacles: nothing {nothing}, not frozen {unfrozen}, outside {outside}, withdrawn {withdrawn}");
         let [none, one, both, calls] = self.exchanged;
         println!("edits exchanged: none refused {none}, one {one}, both {both}; in refused calls {calls}");
         println!(
@@ -708,7 +841,7 @@ fn main() {
         r: Random(0),
         ours: Vec::new(),
         theirs: Vec::new(),
-        calls: [[0; 36]; 9],
+        calls: [[0; 36]; 11],
         steps: [[0; 32]; 16],
         offered: 0,
         named: [0; 17],
@@ -717,6 +850,10 @@ fn main() {
         signed_each: 0,
         counted: 0,
         heard: [0; 2],
+        rested: [0; 4],
+        withdrawn: 0,
+        hindered: [0; 4],
+        read: [0; 2],
         exchanged: [0; 4],
         left_out: [0; 16],
         damaged: 0,

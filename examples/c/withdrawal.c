@@ -1,0 +1,81 @@
+/* Names, a page set from them, and a page set from that page: who rests on the names, and why the pages can't be signed. The answers are the
+ * ledger's; this program only puts them into words. */
+#include <stdio.h>
+#include <stdlib.h>
+#include "ledger.h"
+
+enum { NAMES, PAGE_1, PAGE_2, TAKES };
+
+enum { ROOT = 0, LETTER = 1, RECEIVE = 2, SEND = 4, WRITE = 6, FREEZE = 7, DONE = 8, FAIL = 10 };
+
+static const char *const word[TAKES] = {"names", "page 1", "page 2"};
+
+static uint8_t image[LEDGER_IMAGE];
+
+static void step(unsigned kind, unsigned take, unsigned other, unsigned parcel) {
+    const uint8_t packed[8] = {(uint8_t)(kind << 4 | take), (uint8_t)(other << 4), (uint8_t)(parcel >> 8), (uint8_t)parcel, 0, 0, 0, 0};
+    uint8_t reply[8];
+    if (ledger_run(image, sizeof image, packed, sizeof packed, 0, sizeof packed, reply, sizeof reply) != LEDGER_DONE || reply[0] >= 20) exit(1);
+}
+
+static void print_volume(unsigned volume) {
+    const char *between = "";
+    for (unsigned t = 0; t < TAKES; t++) {
+        if (volume >> t & 1) {
+            printf("%s%s", between, word[t]);
+            between = ", ";
+        }
+    }
+    printf("%s\n", volume == 0 ? "nobody" : "");
+}
+
+static void who_rests_on(unsigned take) {
+    uint8_t refusal;
+    struct ledger_dependents d = ledger_dependents(image, sizeof image, take, &refusal);
+    if (refusal != 0) {
+        printf("who rests on %s? refused with %d\n", word[take], refusal);
+        return;
+    }
+    printf("who rests on %s?\n  directly: ", word[take]);
+    print_volume(d.resting);
+    printf("  directly or through others: ");
+    print_volume(d.through);
+    printf("  at work with it: ");
+    print_volume(d.unfinished);
+    printf("  parcels that carry it: %d\n", d.carried);
+}
+
+static void why_not(unsigned volume) {
+    uint8_t refusal;
+    struct ledger_obstacle o = ledger_obstacle(image, sizeof image, (uint16_t)volume, &refusal);
+    printf("why not sign ");
+    print_volume(volume);
+    if (refusal != 0) printf("  refused with %d\n", refusal);
+    else if (o.kind == LEDGER_NOTHING) printf("  nothing stands against it\n");
+    else if (o.kind == LEDGER_UNSTABLE) printf("  %s: not frozen\n", word[o.transactor]);
+    else if (o.kind == LEDGER_OUTSIDE) printf("  %s rests on %s, outside the volume\n", word[o.transactor], word[o.ground]);
+    else printf("  %s rests on a withdrawn life of %s\n", word[o.transactor], word[o.ground]);
+}
+
+int main(void) {
+    if (ledger_begin(image, sizeof image, LEDGER_TRANSACTORS, LEDGER_MESSAGES, LEDGER_CHECKPOINTS) != LEDGER_DONE) return 1;
+    for (unsigned t = 0; t < TAKES; t++) step(ROOT, 0, 0, 0);
+    step(LETTER, NAMES, 0, 0), step(RECEIVE, 0, 0, 0);
+    step(SEND, NAMES, PAGE_1, 0), step(RECEIVE, 0, 0, 1), step(WRITE, PAGE_1, 0, 0), step(DONE, PAGE_1, 0, 0);
+    /* page 1 sends without reading again: the parcel holds its life and not the names' */
+    step(LETTER, PAGE_1, 0, 0), step(RECEIVE, 0, 0, 2);
+    step(SEND, PAGE_1, PAGE_2, 0), step(RECEIVE, 0, 0, 3), step(WRITE, PAGE_2, 0, 0);
+    for (unsigned t = 0; t < TAKES; t++) who_rests_on(t);
+    why_not(1 << PAGE_2);
+    puts("both pages freeze");
+    step(FREEZE, PAGE_1, 0, 0), step(FREEZE, PAGE_2, 0, 0);
+    why_not(1 << PAGE_2);
+    why_not(1 << PAGE_1 | 1 << PAGE_2);
+    why_not(1 << NAMES | 1 << PAGE_1 | 1 << PAGE_2);
+    puts("the names are withdrawn");
+    step(FAIL, NAMES, 0, 0);
+    why_not(1 << PAGE_1 | 1 << PAGE_2);
+    why_not(1 << NAMES | 1 << PAGE_1 | 1 << PAGE_2);
+    who_rests_on(NAMES);
+    return 0;
+}
