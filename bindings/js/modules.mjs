@@ -1,0 +1,35 @@
+// The library's modules: loaded once, and lent to one call after the other.
+import { Memory } from "./memory.mjs";
+import { Refusal } from "./refusals.mjs";
+
+/** @typedef {"ledger" | "engine" | "notation"} Name */
+
+/** @type {Map<string, Memory>} */
+const loaded = new Map();
+
+/**
+ * Loads the modules that bindings/js/build makes; needed once, before any call. A module that is not given can't be called.
+ * @param {Partial<Record<Name, Uint8Array>>} modules
+ */
+export async function load(modules) {
+  for (const [name, bytes] of Object.entries(modules)) if (bytes) loaded.set(name, await Memory.load(bytes));
+}
+
+/**
+ * The memory of a module, with all its room free.
+ * @param {Name} name
+ * @returns {Memory}
+ */
+export function memory(name) {
+  const found = loaded.get(name);
+  if (!found) throw new Error(`the module ${name} is not loaded: call load first`);
+  return found.clear();
+}
+
+/**
+ * Throws where a call was turned back.
+ * @param {number} number
+ */
+export function accepted(number) {
+  if ((number & 255) !== 0) throw new Refusal(number & 255);
+}

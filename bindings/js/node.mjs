@@ -1,0 +1,16 @@
+// For node: loads the modules from the folder in which bindings/js/build left them.
+import { readFileSync } from "node:fs";
+import { join } from "node:path";
+import { fileURLToPath } from "node:url";
+import { load } from "./ledger.mjs";
+
+export const FOLDER = fileURLToPath(new URL("../../target/wasm/", import.meta.url));
+
+/**
+ * Throws where bindings/js/build has not been run.
+ * @param {string} [folder]
+ */
+export async function loadFrom(folder = FOLDER) {
+  const [ledger, engine, notation] = ["ledger", "engine", "notation"].map(name => readFileSync(join(folder, `${name}.wasm`)));
+  await load({ ledger, engine, notation });
+}

@@ -1,0 +1,90 @@
+// Packed steps and replies, eight bytes each: the format alone.
+
+/** The kinds of step by their numbers. */
+export const KINDS = ["root", "letter", "receive", "new", "send", "read", "write", "freeze", "done", "fall", "fail", "lose", "sign"];
+
+/** @typedef {{kind: number, take: number, other: number, zero: number, parcel: number, text: number}} Step */
+/** @typedef {{outcome: number, take: number, parcel: number, text: number}} Reply */
+
+/**
+ * A step's eight bytes.
+ * @param {string} kind
+ * @param {{take?: number, other?: number, parcel?: number, text?: number}} [fields]
+ * @returns {Uint8Array}
+ */
+export function packStep(kind, fields = {}) {
+  const { take = 0, other = 0, parcel = 0, text = 0 } = fields;
+  const bytes = new Uint8Array(8), view = new DataView(bytes.buffer);
+  bytes[0] = (KINDS.indexOf(kind) << 4) | take;
+  bytes[1] = other << 4;
+  view.setUint16(2, parcel);
+  view.setUint32(4, text);
+  return bytes;
+}
+
+/**
+ * The step at place i of a list.
+ * @param {Uint8Array} list
+ * @param {number} i
+ * @returns {Step}
+ */
+export function readStep(list, i) {
+  const view = new DataView(list.buffer, list.byteOffset + 8 * i, 8), first = view.getUint8(0), second = view.getUint8(1);
+  return { kind: first >> 4, take: first & 15, other: second >> 4, zero: second & 15, parcel: view.getUint16(2), text: view.getUint32(4) };
+}
+
+/**
+ * The reply at place i of a list.
+ * @param {Uint8Array} replies
+ * @param {number} i
+ * @returns {Reply}
+ */
+export function readReply(replies, i) {
+  const view = new DataView(replies.buffer, replies.byteOffset + 8 * i, 8);
+  return { outcome: view.getUint8(0), take: view.getUint8(1), parcel: view.getUint16(2), text: view.getUint32(4) };
+}
+
+/**
+ * The lists one after the other.
+ * @param {Uint8Array[]} lists
+ * @returns {Uint8Array}
+ */
+export function joined(lists) {
+  const whole = new Uint8Array(lists.reduce((sum, l) => sum + l.length, 0));
+  let at = 0;
+  for (const l of lists) {
+    whole.set(l, at);
+    at += l.length;
+  }
+  return whole;
+}
+
+/**
+ * The takes of a volume, rising.
+ * @param {number} volume
+ * @returns {number[]}
+ */
+export function takesOf(volume) {
+  return Array.from({ length: 16 }, (_, t) => t).filter(t => (volume >> t) & 1);
+}
+
+/**
+ * The volume of these takes.
+ * @param {Iterable<number>} takes
+ * @returns {number}
+ */
+export function volumeOf(takes) {
+  let volume = 0;
+  for (const t of takes) volume |= 1 << t;
+  return volume;
+}
+
+/**
+ * Whether two lists have the same bytes.
+ * @param {Uint8Array} a
+ * @param {Uint8Array} b
+ * @returns {boolean}
+ */
+export function sameBytes(a, b) {
+  return a.length === b.length && a.every((byte, i) => byte === b[i]);
+}

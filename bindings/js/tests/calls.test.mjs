@@ -1,0 +1,190 @@
+// The questions, conversions and passes on small sessions; expected answers by hand.
+import { test } from "node:test";
+import assert from "node:assert/strict";
+import { loadFrom } from "../node.mjs";
+import { Session, forward, back, worstWindow, OLD_IMAGE } from "../ledger.mjs";
+import { packStep, joined } from "../packed.mjs";
+import { readImage, readMap, fieldAt, firstDifference, withLoneMark, readMark, life } from "../image.mjs";
+import { toSteps, toText, replyText, imageText } from "../notation.mjs";
+
+await loadFrom();
+const steps = text => toSteps(text).steps;
+
+// Names (0), a page set from them (1), a page set from that page (2), a page of its own (3).
+const GROUNDS = `root text 1
+root text 2
+root text 3
+root text 4
+letter to 0 text 5
+receive 0
+send 0 to 1 text 6
+receive 1
+write 1 text 7
+freeze 1
+done 1
+letter to 1 text 0
+receive 2
+send 1 to 2 text 8
+receive 3
+write 2 text 9
+freeze 2
+`;
+
+function grounds() {
+  const session = Session.begin();
+  session.run(steps(GROUNDS));
+  return session;
+}
+
+test("offer, show", () => {
+  const session = Session.begin();
+  session.run(steps("root text 1\nletter to 0 text 5\nreceive 0\nsend 0 to 0 text 6\nletter to 0 text 7\n"));
+  assert.equal(session.offer(0), 1);
+  assert.deepEqual(readMap(session.show(1)).map(m => m && life(m)), ["(empty; 0)", ...Array(15).fill(null)]);
+  assert.ok(session.show(2).every(b => b === 0));
+  session.run(steps("done 0\nreceive 1\n"));
+  assert.equal(session.offer(0), 2);
+  session.run(steps("lose 2\n"));
+  assert.equal(session.offer(0), null);
+});
+
+test("smallest volume, ready counts, obstacle, dependents", () => {
+  const session = grounds();
+  assert.equal(session.smallestVolume(2), null);
+  assert.deepEqual(session.obstacle(0b0100), { kind: "outside", take: 2, ground: 1 });
+  assert.deepEqual(session.obstacle(0b0110), { kind: "outside", take: 1, ground: 0 });
+  assert.deepEqual(session.obstacle(0b0111), { kind: "not frozen", take: 0, ground: 0 });
+  assert.deepEqual(session.dependents(0), { resting: 0b0011, through: 0b0111, unfinished: 0, carried: 0 });
+  session.run(steps("freeze 0\n"));
+  assert.equal(session.smallestVolume(2), 0b0111);
+  assert.deepEqual([1, 2, 3].map(size => session.readyCount(size)), [1, 1, 1]);
+  assert.equal(session.obstacle(0b0111).kind, "nothing");
+});
+
+test("why no volume exists: what is in the way, and the chain to it", () => {
+  const session = grounds();
+  assert.deepEqual(session.impediment(2), { kind: "not frozen", take: 0, ground: 0, next: 1 });
+  assert.deepEqual(session.impediment(1), { kind: "not frozen", take: 0, ground: 0, next: 0 });
+  session.run(steps("freeze 0\n"));
+  assert.deepEqual(session.impediment(2), { kind: "nothing", take: 0, ground: 0, next: 0 });
+  const fallen = grounds();
+  fallen.run(steps("fail 0\n"));
+  assert.deepEqual(fallen.impediment(2), { kind: "withdrawn", take: 1, ground: 0, next: 1 });
+  assert.deepEqual(fallen.impediment(1), { kind: "withdrawn", take: 1, ground: 0, next: 1 });
+});
+
+test("all signings used up", () => {
+  const session = Session.begin({ signings: 1 });
+  session.run(steps("root text 1\nletter to 0 text 1\nreceive 0\nfreeze 0\nsign {0}\n"));
+  assert.deepEqual(session.impediment(0), { kind: "all signed", take: 0, ground: 0, next: 0 });
+});
+
+test("withdrawn ground; all heard frozen", () => {
+  const session = grounds();
+  assert.equal(session.allHeardFrozen(1), false);
+  assert.equal(session.allHeardFrozen(3), true);
+  session.run(steps("fail 0\n"));
+  assert.deepEqual(session.obstacle(0b0010), { kind: "withdrawn", take: 1, ground: 0 });
+  assert.equal(session.smallestVolume(1), null);
+});
+
+test("a copy goes its own way", () => {
+  const session = grounds(), copy = session.copy();
+  copy.run(steps("fail 3\n"));
+  assert.notDeepEqual(copy.image, session.image);
+  assert.deepEqual(session.image, grounds().image);
+});
+
+test("thin: refused steps and unused reads go, the rest gives the same image", () => {
+  const list = steps("root text 1\nread 0\nletter to 0 text 5\nreceive 0\nread 0\ndone 0\nreceive 9\n"), session = Session.begin();
+  const short = session.thin(list);
+  assert.deepEqual(short, steps("root text 1\nletter to 0 text 5\nreceive 0\ndone 0\n"));
+  const whole = session.copy();
+  whole.run(list);
+  session.run(short);
+  assert.deepEqual(session.image, whole.image);
+});
+
+test("conversions: old form and back", () => {
+  const image = grounds().image, old = back(image);
+  assert.equal(old.length, OLD_IMAGE);
+  assert.deepEqual(forward(old), image);
+});
+
+test("worst window", () => {
+  const replies = joined([0, 3, 0, 4, 3, 0].map(outcome => Uint8Array.of(outcome, 0, 0, 0, 0, 0, 0, 0)));
+  assert.deepEqual(worstWindow(replies, 2), { count: 2, place: 3 });
+  assert.deepEqual(worstWindow(replies, 1), { count: 1, place: 1 });
+  assert.deepEqual(worstWindow(replies, 256), { count: 3, place: 0 });
+  assert.deepEqual(worstWindow(new Uint8Array(0), 5), { count: 0, place: 0 });
+});
+
+test("an image unpacked", () => {
+  const { opened, next, limits, takes, parcels } = readImage(grounds().image);
+  assert.deepEqual([opened, next, limits, parcels], [4, 4, { takes: 16, parcels: 32, signings: 15 }, []]);
+  const expected = [["at work", 1, 0, false], ["at work", 7, 0, true], ["at work", 9, 0, true], ["idle", 4, 0, false]];
+  assert.deepEqual(takes.map(t => [t.status, t.text, t.saved, t.mark.frozen]), expected);
+  assert.deepEqual(takes[2].state.map((m, u) => (m ? u : null)).filter(u => u !== null), [1, 2]);
+});
+
+test("the field of a byte, and the first difference", () => {
+  assert.equal(fieldAt(8 + 1593 * 3 + 9 + 33 * 5 + 2), "take 3, state map, mark of take 5, life number");
+  assert.equal(fieldAt(25496 + 535 + 4), "parcel place 2, text");
+  assert.equal(fieldAt(42615), "parcel place 32, map, mark of take 15, entry 15 of its list");
+  const a = grounds(), b = grounds();
+  assert.equal(firstDifference(a.image, b.image), null);
+  b.run(steps("freeze 0\n"));
+  const field = "take 0, state map, mark of take 0, presence, frozen flag and count of signings";
+  assert.deepEqual(firstDifference(a.image, b.image), { offset: 17, field, left: "(empty; 0)", right: "(empty; 0) frozen" });
+});
+
+test("a parcel's map with a lone mark", () => {
+  const session = grounds();
+  session.run(steps("letter to 3 text 1\nreceive 4\nsend 3 to 2 text 4\n"));
+  assert.ok(readMap(Session.fromImage(withLoneMark(session.image, 5, 0)).show(5)).every(m => m === null));
+  const own = readMark(session.image, 8 + 1593 * 3 + 9 + 33 * 3);
+  assert.deepEqual(readMap(Session.fromImage(withLoneMark(session.image, 5, 3)).show(5))[3], own);
+});
+
+test("text to steps and back", () => {
+  assert.deepEqual(steps("  sign { 1 , 0,1 } # both\r\n\n"), packStep("sign", { parcel: 3 }));
+  assert.equal(toText(steps(GROUNDS)), GROUNDS);
+  assert.equal(toText(Uint8Array.of(0xd0, 0, 0, 0, 0, 0, 0, 1)), "raw d000000000000001\n");
+  const fault = (text, line, column) => assert.deepEqual([toSteps(text).fault.line, toSteps(text).fault.column], [line, column], text);
+  fault("root text 7\nsign 3\n", 2, 6);
+  fault("read 16\n", 1, 6);
+  fault("\nopn 0", 2, 1);
+  fault("root text", 1, 10);
+  fault("read 0 1", 1, 8);
+});
+
+test("a list longer than one part, to text and back", () => {
+  const list = joined(Array.from({ length: 2500 }, (_, i) => packStep("write", { take: i % 16, text: i })));
+  assert.equal(toText(list).split("\n")[2499], "write 3 text 2499");
+  assert.deepEqual(steps(toText(list)), list);
+});
+
+test("replies in words", () => {
+  const list = steps("root text 7\nletter to 0 text 5\nreceive 0\nread 0\nsign {0}\nfreeze 0\nfail 0\nfail 1\nsign {}\n");
+  const replies = Session.begin().run(list), told = Array.from({ length: list.length / 8 }, (_, i) => replyText(list, replies, i));
+  assert.deepEqual(told.slice(0, 4), ["done take 0", "done take 0 parcel 0", "done take 0 parcel 0 text 5", "done take 0 text 7"]);
+  assert.deepEqual(told.slice(4, 7), ["not ready", "done take 0", "held take 0"]);
+  assert.match(told[7], /^refused 21: /);
+  assert.match(told[8], /^refused 29: /);
+  assert.equal(replyText(list, replies, 9), "");
+});
+
+test("an image in words", () => {
+  const session = Session.begin({ takes: 4, parcels: 8, signings: 2 });
+  session.run(steps("root text 7\nroot text 8\nletter to 0 text 5\nreceive 0\nsend 0 to 1 text 9\nfail 1\nfreeze 0\n"));
+  assert.equal(imageText(session.image), `limits: takes 4, parcels 8, signings 2
+opened 2, next parcel 2
+take 0: at work, text 7, saved 0
+  state: take 0 (empty; 0) frozen
+take 1: vanished
+parcel 1 to 1, text 9
+  map: take 0 (empty; 0)
+`);
+  assert.throws(() => imageText(new Uint8Array(8)), { number: 16 });
+  assert.throws(() => imageText(new Uint8Array(42616)), { number: 19 });
+});

@@ -1,0 +1,185 @@
+// The course: each lesson's replies and sentences, questions, faults at their places, keys and mouse, links, buttons.
+import assert from "node:assert/strict";
+import { readFileSync } from "node:fs";
+
+const WORDS = { 0: "done", 1: "held", 2: "dropped", 3: "fallen back", 4: "vanished", 5: "not ready" };
+
+// By hand, from the rules: what the page must say at a step of a lesson.
+const SENTENCES = [
+  ["00-a-first-session", 10, "Page 12 rests on the names: neither signed, nor in this volume, nor frozen."],
+  ["00-a-first-session", 10, "What would help: freeze the names, then sign {0,1} (the names and page 12)."],
+  ["10-frozen-is-not-signed", 18, "held. Frozen: page 12; no fall."],
+  ["10-frozen-is-not-signed", 19, "Page 12 rests on the names: neither signed, nor in this volume, nor frozen."],
+  ["10-frozen-is-not-signed", 25, "Page 12 rests on the names, withdrawn at step 21."],
+  ["10-frozen-is-not-signed", 25, "Page 12 must fall before it can be signed, and loses its text since its last signing."],
+  ["10-frozen-is-not-signed", 33, "{0,1}, the names and page 12, is the smallest volume with page 12 that can be signed now."],
+  ["10-frozen-is-not-signed", 26, "The mark of the names decided: the parcel carries (0; 1), page 12 has (0; 0) in its state map."],
+  ["20-what-a-withdrawal-reaches", 18, "Page 12 rests on it directly. Page 40 rests on it through others."],
+  ["20-what-a-withdrawal-reaches", 20, "Page 40 rests on page 12, which rests on the names, withdrawn at step 19."],
+  ["20-what-a-withdrawal-reaches", 20, "Page 12 and page 40 can never be signed: they vanish when they fall."],
+  ["20-what-a-withdrawal-reaches", 18, "If it falls, page 12 and page 40 can never be signed: they vanish when they fall."],
+  ["20-what-a-withdrawal-reaches", 21, "Page 12 rests on the names, withdrawn at step 19."],
+  ["30-the-count-restarts", 18, "The ledger says: done, and the mark is (0,2; 0)."],
+  ["30-the-count-restarts", 27, "The mark of the names decided: the parcel carries (0; 1), page 12 has (0,2; 0) in its state map."],
+  ["30-the-count-restarts", 27, "The parcel's life is the withdrawn one."],
+  ["50-not-mended-by-a-signing", 19, "Page 12 rests on the names, withdrawn at step 14."],
+  ["60-frozen-takes-fall-too", 18, "vanished. Page 12 vanished: parcel 4 shows that the ground was withdrawn"],
+  ["80-grounds-that-are-only-frozen", 11, "{0,1}, the names and page 12, is the smallest volume with page 12 that can be signed now."],
+  ["98-a-house", 22, "Appraisal, offer and mortgage rest on it directly."],
+  ["98-a-house", 24, "Offer rests on description, withdrawn at step 23."],
+];
+
+// A text, the place of its first fault, and a word of what was expected there.
+const FAULTS = [
+  ["root text 7\nsign 3\n", 2, 6, "volume"],
+  ["root text 7\nread 16", 2, 6, "a take, 0 to 15"],
+  ["\n# a\nopn 0", 3, 1, "a kind of step: root, letter, receive, new,"],
+  ["root text", 1, 10, "a text"],
+  ["root text 1\nread 0 1", 2, 8, "the end of the line"],
+  ["send 0 1 text 3", 1, 8, "to"],
+  ["raw 12", 1, 5, "hexadecimal"],
+];
+const LETTER = 7.83, LINE = 20, PAD = 6;
+
+export async function courseChecks(context) {
+  await lessons(context);
+  await questions(context);
+  await editing(context);
+  await choosing(context);
+  await links(context);
+}
+
+async function lessons({ browser, check, url, shots }) {
+  const outcomes = JSON.parse(readFileSync(new URL("outcomes.json", import.meta.url), "utf8"));
+  for (const [name, expected] of Object.entries(outcomes)) {
+    await check(`lesson ${name}: replies`, async () => {
+      await browser.go(`${url}#lesson=${name}&step=${expected.length}`);
+      assert.deepEqual(await browser.all("#course-rows .reply"), expected.map(n => WORDS[n]));
+      await browser.shot(`${shots}${name}.png`);
+    });
+    for (const [, step, words] of SENTENCES.filter(s => s[0] === name)) {
+      await check(`lesson ${name}, step ${step}: ${words}`, async () => {
+        await browser.eval(`location.hash = "#lesson=${name}&step=${step}"`);
+        await browser.until(`document.querySelector("#course-moment h2")?.textContent === "After step ${step}"`);
+        assert.ok((await browser.text("#course-moment")).includes(words), await browser.text("#course-moment"));
+      });
+    }
+  }
+  await check("every lesson has its outcomes, and every sentence its lesson", async () => {
+    const names = await browser.eval(`[...document.querySelectorAll("#lesson option")].map(o => o.value).filter(Boolean)`);
+    assert.deepEqual(names, Object.keys(outcomes));
+    assert.ok(SENTENCES.every(s => s[0] in outcomes));
+  });
+}
+
+async function questions({ browser, check, url, shots }) {
+  await check("a question hides the reply until it is answered; the ledger's reply decides", async () => {
+    await browser.go(`${url}#lesson=20-what-a-withdrawal-reaches`);
+    assert.match(await browser.text(".question"), /Before step 19/);
+    const replies = () => browser.all("#course-rows .reply");
+    assert.equal((await replies())[18], "?");
+    await browser.click("#course-rows li[data-i='21']");
+    assert.equal(await browser.text("#announcement"), "answer the question first");
+    await browser.press(".question", "show the ledger's reply");
+    assert.match(await browser.text(".answered"), /The ledger says: vanished\./);
+    assert.match(await browser.text(".question:not(.answered)"), /Page 40 never saw the names/);
+    assert.equal((await replies())[19], "?");
+    await browser.shot(`${shots}question.png`);
+    await browser.click(`.question [data-outcome="0"]`);
+    assert.match(await browser.text(".answered"), /Not so\. The ledger says: not ready\. It rests on page 12/);
+    assert.deepEqual((await replies()).slice(19, 21), ["not ready", "?"]);
+    assert.match(await browser.text("#course-moment"), /Why not ready[^]*withdrawn at step 19\.\s+Before step 21/);
+  });
+  await check("the next question is asked at the step before it, and a right answer is told so", async () => {
+    assert.match(await browser.text(".question:not(.answered)"), /Would it help/);
+    await browser.click(`.question [data-outcome="5"]`);
+    assert.match(await browser.text(".answered"), /Right\. The ledger says: not ready\./);
+    await browser.click("#reveal");
+    assert.ok(!(await browser.all("#course-rows .reply")).includes("?"));
+  });
+}
+
+async function editing({ browser, check, url, shots }) {
+  await browser.go(url);
+  for (const [text, line, column, words] of FAULTS) {
+    await check(`fault at line ${line}, column ${column}: ${words}`, async () => {
+      await browser.fill("#text", text);
+      const said = await browser.text("#fault");
+      assert.ok(said.startsWith(`line ${line}, column ${column}: expected`) && said.includes(words), said);
+      const mark = await browser.place(".wrong"), area = await browser.place("#text"), x = mark.x - area.x, y = mark.y - area.y;
+      assert.ok(Math.abs(y - PAD - LINE * (line - 1)) < 2 && mark.height > 0, `${y} down`);
+      assert.ok(Math.abs(x - PAD - LETTER * (column - 1)) < 3, `${x} across`);
+    });
+  }
+  await browser.shot(`${shots}fault.png`);
+  await check("buttons offer what the ledger accepts, and add lines", async () => {
+    await browser.click("#course-add summary");
+    await browser.fill("#text", "root text 7   # names\n");
+    const offered = () => browser.all("#course-steps button:not(:disabled)");
+    assert.deepEqual(await offered(), ["open a take", "start work", "fail", "letter"]);
+    await browser.click(`#course-steps [data-kind=letter]`);
+    await browser.click(`#course-steps [data-kind=receive]`);
+    assert.equal(await browser.eval(`document.querySelector("#text").value`), "root text 7   # names\nletter to 0 text 1\nreceive 0\n");
+    assert.deepEqual(await offered(), ["open a take", "write", "read", "freeze", "done", "new", "fall", "fail", "letter"]);
+    await browser.click(`#course-steps [data-kind=freeze]`);
+    await browser.eval(`document.querySelector("#course-steps [data-sign='0']").click()`);
+    await browser.click(`#course-steps [data-kind=sign]`);
+    assert.equal((await browser.all("#course-rows .reply")).at(-1), "done");
+  });
+  await check("limits are the session's", async () => {
+    await browser.fill("#limit-takes", "1");
+    await browser.fill("#text", "root text 7\nroot text 8\n");
+    assert.equal((await browser.all("#course-rows .reply")).at(-1), "25 all opened");
+    await browser.fill("#limit-takes", "17");
+    assert.match(await browser.text("#fault"), /33, out of range/);
+  });
+}
+
+async function choosing({ browser, check, url }) {
+  const chosen = () => browser.eval(`Number(document.querySelector("#course-rows [aria-selected=true]")?.dataset.i ?? 0)`);
+  await check("keys choose a step", async () => {
+    await browser.go(`${url}#lesson=10-frozen-is-not-signed&step=5`);
+    await browser.eval(`document.querySelector("#course-rows .rows").focus()`);
+    await browser.key("ArrowDown");
+    assert.equal(await chosen(), 6);
+    await browser.key("ArrowUp");
+    await browser.key("ArrowUp");
+    assert.equal(await chosen(), 4);
+    await browser.key("End");
+    assert.equal(await chosen(), 34);
+    await browser.key("Home");
+    assert.equal(await chosen(), 0);
+    assert.match(await browser.text("#course-moment"), /Before the first step/);
+  });
+  await check("the mouse chooses a step, in the rows and in the picture", async () => {
+    const row = await browser.place("#course-rows li[data-i='3']");
+    await browser.mouse(row.x + 60, row.y + 10);
+    assert.equal(await chosen(), 3);
+    const lanes = await browser.place("#course-rows .lanes");
+    await browser.mouse(lanes.x + 30, lanes.y + 26 * 7 + 10);
+    assert.equal(await chosen(), 8);
+  });
+  await check("what the step changed is marked", async () => {
+    await browser.eval(`location.hash = "#lesson=10-frozen-is-not-signed&step=16"`);
+    await browser.until(`document.querySelector("#course-moment h2")?.textContent === "After step 16"`);
+    assert.deepEqual(await browser.all("#course-moment .changed"), ["201 (changed)", "the names (0; 0) (changed)"]);
+  });
+}
+
+async function links({ browser, check, url }) {
+  const same = async button => {
+    await browser.go(`${url}#lesson=30-the-count-restarts&step=12`);
+    await browser.click("#course-bar details summary");
+    await browser.press("#course-bar", button);
+    const link = await browser.eval(`document.querySelector("#link").value`), replies = await browser.all("#course-rows .reply");
+    await browser.go(link);
+    assert.deepEqual(await browser.all("#course-rows .reply"), replies);
+    assert.match(await browser.text("#course-moment"), /After step 12/);
+  };
+  await check("a link holds the list as text", () => same("link with the text"));
+  await check("a link holds the list as packed bytes", () => same("link with packed steps"));
+  await check("a link that holds no list says so at its place", async () => {
+    await browser.go(`${url}#text=${encodeURIComponent("root text 1\nnonsense")}`);
+    assert.match(await browser.text("#fault"), /line 2, column 1/);
+  });
+}

@@ -1,0 +1,106 @@
+// Hostile names, a list of 1,024 steps with times, a phone's width, reading by roles, print, no request and no error in the console.
+import assert from "node:assert/strict";
+import { readFileSync } from "node:fs";
+
+const HOSTILE = `<img src=x onerror="window.hacked=1"><script>window.hacked=1</script>`;
+
+export async function mannersChecks(context) {
+  await hostile(context);
+  await long(context);
+  await reading(context);
+  await context.check("the policy allows nothing outside, and no script or style but the page's own", async () => {
+    const policy = await context.browser.eval(`document.querySelector("meta[http-equiv]").content`);
+    const own = "script-src 'sha256-X' 'wasm-unsafe-eval'; style-src 'sha256-X'";
+    assert.equal(policy.replace(/sha256-[^']+/g, "sha256-X"), `default-src 'none'; ${own}; base-uri 'none'; form-action 'none'`);
+  });
+  await context.check("console free of errors, and no request left the page", async () => assert.deepEqual(context.browser.troubles(), []));
+}
+
+async function hostile({ browser, check, url, shots }) {
+  await check("hostile names are shown as text", async () => {
+    await browser.go(`${url}#text=${encodeURIComponent(`root text 1 # ${HOSTILE}\nletter to 0 text 1\nreceive 0\nfail 0\n`)}&step=3`);
+    assert.ok((await browser.text("#course-moment")).includes(HOSTILE));
+    await browser.go(`${url}#view=desk`);
+    await browser.fill("#desk-name", HOSTILE);
+    await browser.fill("#desk-words", HOSTILE);
+    await browser.click("#desk-steps [data-kind=root]");
+    assert.ok((await browser.text("#desk-moment")).includes(HOSTILE));
+    await browser.go(`${url}#view=desk`);
+    await browser.shot(`${shots}hostile.png`);
+    assert.equal(await browser.eval(`window.hacked ?? 0`), 0);
+    assert.equal(await browser.eval(`document.querySelectorAll("img, main script").length`), 0);
+  });
+}
+
+async function long({ browser, check, url, root, shots }) {
+  const input = readFileSync(`${root}crates/compare/stdin`), list = input.subarray(8, 8200);
+  await check("1,024 steps are played and drawn in under 200 ms, a step chosen in under 50", async () => {
+    await browser.go(`${url}#list=${list.toString("base64url")}`);
+    assert.equal(await browser.eval(`document.querySelectorAll("#course-rows li").length`), 1024);
+    const drawn = await busy(browser, 7, () => `document.querySelector("#text").dispatchEvent(new Event("input"))`);
+    const chosen = await busy(browser, 20, i => `document.querySelector("#course-rows .rows").children[${(i * 613) % 1024}].click()`);
+    console.log(`   played and drawn in ${drawn.toFixed(0)} ms, a step chosen in ${chosen.toFixed(1)} ms`);
+    await browser.shot(`${shots}long.png`);
+    assert.ok(drawn < 200, `${drawn} ms`);
+    assert.ok(chosen < 50, `${chosen} ms`);
+  });
+}
+
+/**
+ * The median of the milliseconds for which the page's own thread computes, whatever else the machine does: scripts, styles and layout.
+ */
+async function busy(browser, times, act) {
+  const metrics = async () => (await browser.send("Performance.getMetrics")).metrics, found = [];
+  const parts = ["ScriptDuration", "RecalcStyleDuration", "LayoutDuration"];
+  const spent = async () => (await metrics()).filter(m => parts.includes(m.name)).reduce((sum, m) => sum + 1000 * m.value, 0);
+  await browser.send("Performance.enable", { timeDomain: "threadTicks" });
+  for (let i = 0; i < times; i++) {
+    const before = await spent();
+    await browser.eval(`${act(i)}, document.body.getBoundingClientRect(), new Promise(r => requestAnimationFrame(() => setTimeout(r, 0)))`);
+    found.push((await spent()) - before);
+  }
+  return found.sort((a, b) => a - b)[times >> 1];
+}
+
+async function reading({ browser, check, url, shots }) {
+  await check("roles and names for a screen reader", async () => {
+    await browser.go(`${url}#lesson=10-frozen-is-not-signed&step=19`);
+    const fields = `[...document.querySelectorAll("button, input, select, textarea")]`;
+    const said = `e.textContent.trim() || e.getAttribute("aria-label") || e.labels?.length`;
+    assert.deepEqual(await browser.eval(`${fields}.filter(e => !(${said})).map(e => e.outerHTML)`), []);
+    const active = await browser.eval(`document.querySelector("#course-rows [role=listbox]").getAttribute("aria-activedescendant")`);
+    assert.equal(await browser.eval(`document.querySelector("#course-rows [aria-selected=true]").id`), active);
+    assert.match(await browser.eval(`document.querySelector("#announcement").textContent`), /step 19, sign \{1\}: not ready/);
+    const ids = await browser.eval(`[...document.querySelectorAll("[id]")].map(e => e.id)`);
+    assert.deepEqual(ids.filter((id, i) => ids.indexOf(id) !== i), []);
+  });
+  await check("views by keys", async () => {
+    await browser.eval(`document.querySelector("#tab-course").focus()`);
+    await browser.key("ArrowRight");
+    assert.equal(await browser.eval(`document.activeElement.id`), "tab-desk");
+    assert.equal(await browser.eval(`document.querySelector("#desk").hidden`), false);
+    await browser.go(await browser.eval(`location.href`));
+    assert.equal(await browser.eval(`document.querySelector("#desk").hidden`), false);
+  });
+  for (const [view, name] of [["lesson=10-frozen-is-not-signed&step=26", "course"], ["view=desk", "desk"]]) {
+    await check(`a phone's width: ${name}`, async () => {
+      await browser.size(390, 844);
+      await browser.go(`${url}#${view}`);
+      const wide = await browser.eval(`document.documentElement.scrollWidth`);
+      assert.ok(wide <= 390, `${wide} wide`);
+      await browser.shot(`${shots}phone-${name}.png`);
+      await browser.size(1500, 950);
+    });
+  }
+  await check("print: the picture and the tables, without the buttons", async () => {
+    await browser.go(`${url}#lesson=10-frozen-is-not-signed&step=26`);
+    await browser.send("Emulation.setEmulatedMedia", { media: "print" });
+    const seen = async selector => (await browser.place(selector)).height > 0;
+    for (const selector of ["#editor", "#course-steps", "nav", ".bar"]) assert.equal(await seen(selector), false, selector);
+    for (const selector of ["#story h2", ".legend-entry", "#course-rows", "#course-moment"]) assert.equal(await seen(selector), true, selector);
+    await browser.size(800, 1130);
+    await browser.shot(`${shots}print.png`);
+    await browser.send("Emulation.setEmulatedMedia", { media: "" });
+    await browser.size(1500, 950);
+  });
+}

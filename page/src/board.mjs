@@ -1,0 +1,77 @@
+// The state of a hearing at its end: what can be signed now, what stands in the way of the rest, and what waits for whom.
+import { el, replace, button, heading } from "./dom.mjs";
+import { packStep, readStep } from "../../bindings/js/packed.mjs";
+import { readHeads } from "../../bindings/js/image.mjs";
+import { whyNot } from "./reasons.mjs";
+import { fates, waitingAt } from "./parcels.mjs";
+import { trial } from "./offered.mjs";
+import { braces, counted, capital } from "./names.mjs";
+import { effect, kindOf, takesIn, tone, WRONG_STATUS } from "./words.mjs";
+
+/** add(bytes) is told of a step that was chosen. */
+export function showBoard(host, record, names, add) {
+  const session = record.end, heads = readHeads(session.image), live = heads.map((_, t) => t).filter(t => heads[t].status !== "vanished");
+  const smallest = new Map(live.map(take => [take, session.smallestVolume(take)]));
+  replace(
+    host,
+    heading("Can be signed now"),
+    ready(session, smallest, names, add),
+    heading("What stands in the way"),
+    hindered(record, live.filter(t => !smallest.get(t) && !unchanged(record, t)), names),
+    heading("What is waiting for whom"),
+    waiting(record, names, add),
+  );
+}
+
+function ready(session, smallest, names, add) {
+  const volumes = [...new Set(smallest.values())].filter(Boolean);
+  if (!volumes.length) return el("p", { class: "soft" }, "No volume is ready.");
+  const sign = v => button(`sign ${braces(v)}`, () => add(packStep("sign", { parcel: v })), { "data-volume": v });
+  let all = 0;
+  for (let size = 1; size <= 16; size++) all += session.readyCount(size);
+  return [
+    el("ul", { class: "plain" }, volumes.map(v => el("li", {}, sign(v), ` ${names.volume(v)}`))),
+    el("p", { class: "soft" }, `${capital(counted(all, "volume is", "volumes are"))} ready in all; nothing is lost by waiting.`),
+  ];
+}
+
+const CHANGES = ["root", "new", "write", "freeze", "sign"];
+
+/** Whether the last thing that happened to the take's text was its signing. */
+function unchanged(record, take) {
+  const { steps, replies } = record, done = i => replies[i].outcome === 0 && CHANGES.includes(kindOf(steps[i]));
+  for (let i = record.length - 1; i >= 0; i--) {
+    const touched = done(i) || tone(replies[i]) === "fell";
+    if (touched && takesIn(steps[i], replies[i]).includes(take)) return kindOf(steps[i]) === "sign";
+  }
+  return false;
+}
+
+function hindered(record, takes, names) {
+  if (!takes.length) return el("p", { class: "soft" }, "Nothing.");
+  const said = ({ why, help }) => [...why, ...help].join(" ");
+  const why = t => el("td", {}, said(whyNot(record, record.length, 1 << t, names, true)));
+  return el("table", {}, el("tbody", {}, takes.map(t => el("tr", {}, el("th", { scope: "row" }, names.numbered(t)), why(t)))));
+}
+
+/** Each waiting parcel: from whom, for whom, and what its receipt would do now. */
+function waiting(record, names, add) {
+  const parcels = waitingAt(fates(record), record.length).sort((a, b) => a.to - b.to || a.number - b.number);
+  if (!parcels.length) return el("p", { class: "soft" }, "No parcel waits.");
+  const head = el("tr", {}, ["for", "parcel", "from", "text", "received now"].map(w => el("th", { scope: "col" }, w)));
+  const row = p => el("tr", {},
+    el("th", { scope: "row" }, names.numbered(p.to)),
+    el("td", {}, p.number),
+    el("td", {}, p.from === null ? "outside" : names.take(p.from)),
+    el("td", { class: "words" }, names.bare(p.text)),
+    receipt(record, p, names, add));
+  return el("table", {}, el("thead", {}, head), el("tbody", {}, parcels.map(row)));
+}
+
+function receipt(record, parcel, names, add) {
+  const bytes = packStep("receive", { parcel: parcel.number }), reply = trial(record.end, bytes), news = tone(reply);
+  const press = news === "refused" ? "" : [button("receive", () => add(bytes)), " "];
+  if (news === "done") return el("td", {}, press);
+  const busy = reply.outcome === WRONG_STATUS && `At work: ${names.take(parcel.to)}; press done first.`;
+  return el("td", { class: "trouble" }, press, busy || `then: ${effect(readStep(bytes, 0), reply, names)}.`);
+}

@@ -1,0 +1,185 @@
+// The desk: a hearing of one's own, kept by names and words, stepped by buttons.
+import { el, replace, byId, button, announce } from "./dom.mjs";
+import { play, GREATEST, LONGEST } from "../../bindings/js/ledger.mjs";
+import { joined, readReply, readStep, sameBytes } from "../../bindings/js/packed.mjs";
+import { toText } from "../../bindings/js/notation.mjs";
+import { Record } from "./record.mjs";
+import { Rows } from "./rows.mjs";
+import { Falls } from "./falls.mjs";
+import { Stepper } from "./stepper.mjs";
+import { showMoment } from "./moment.mjs";
+import { showBoard } from "./board.mjs";
+import { showBar } from "./deskbar.mjs";
+import { Names, counted } from "./names.mjs";
+import { readText, namesFrom } from "./listing.mjs";
+import { emptyHearing, begun, toFile, fromFile, textNumber, Unreadable } from "./hearing.mjs";
+import { keep, kept, putAside } from "./store.mjs";
+import { showAside, confirmFall, confirmEmpty, confirmName, confirmOpening, tell } from "./notices.mjs";
+import { recognize } from "./files.mjs";
+import { effect, verdict, kindOf, REFUSED } from "./words.mjs";
+
+function field(id, label, placeholder, list = null) {
+  return el("input", { type: "text", id, "aria-label": label, placeholder, list });
+}
+
+const NEW = { question: "Begin a new hearing? The present one is removed from this page.", yes: "begin" };
+
+// What the desk calls the two ways to withdraw a life.
+const LABELS = { fall: "give up this work\u2026", fail: "withdraw\u2026" };
+
+export class Desk {
+  constructor() {
+    this.rows = new Rows(byId("desk-rows"), count => this.choose(count));
+    this.falls = new Falls(byId("desk-falls"));
+    this.words = field("desk-words", "words of the text", "words", "desk-known");
+    this.takeName = field("desk-name", "name for a new take", "name for a new take");
+    this.stepper = new Stepper(byId("desk-steps"), {
+      textField: this.words,
+      textOf: () => textNumber(this.hearing, this.words.value, this.used()),
+      add: bytes => this.append(bytes),
+      confirm: (kind, fields, go) => this.confirm(kind, fields, go),
+      labels: LABELS,
+    });
+    this.stuck = null;
+    this.hearing = this.restored();
+    this.refresh(Infinity);
+    showAside(this.stuck === null ? [] : [kept()]);
+  }
+
+  /** The hearing that the browser kept; what can't be read again is put aside and shown. */
+  restored() {
+    const text = kept();
+    if (text === null) return emptyHearing();
+    try {
+      return fromFile(text);
+    } catch (e) {
+      if (!(e instanceof Unreadable)) throw e;
+      this.stuck = putAside(text) && "an earlier hearing, which can't be restored, fills the browser's room: this one is not kept";
+      return emptyHearing();
+    }
+  }
+
+  /** The numbers of texts that steps of this hearing use. */
+  used() {
+    return new Set(this.record.steps.map(s => s.text));
+  }
+
+  refresh(count) {
+    this.record = new Record(begun(this.hearing), this.hearing.list);
+    this.names = new Names(this.hearing.takes, this.hearing.texts);
+    this.lines = this.record.steps.map((step, i) => this.said(step, this.record.replies[i], i));
+    this.rows.show(this.record, this.lines, this.names, this.record.length);
+    this.rows.pick(Math.min(count, this.record.length));
+    this.stepper.show(this.record.end, this.names);
+    byId("desk-steps").prepend(el("p", { class: "fields" }, el("label", {}, "name ", this.takeName)), this.knownWords());
+    this.falls.show(this.record);
+    showBoard(byId("desk-board"), this.record, this.names, bytes => this.append(bytes));
+    showBar(this);
+    byId("desk-heading").textContent = this.hearing.title;
+    const trouble = this.stuck ?? keep(toFile(this.hearing));
+    if (trouble) tell(trouble);
+  }
+
+  knownWords() {
+    return el("datalist", { id: "desk-known" }, Object.values(this.hearing.texts).map(words => el("option", { value: words })));
+  }
+
+  /** A step in the desk's words: what it did, or its line where it was refused. */
+  said(step, reply, i) {
+    return reply.outcome >= REFUSED ? toText(this.hearing.list.subarray(8 * i, 8 * i + 8)).trim() : effect(step, reply, this.names);
+  }
+
+  choose(count) {
+    const line = count ? toText(this.hearing.list.subarray(8 * count - 8, 8 * count)).trim() : "";
+    showMoment(byId("desk-moment"), this.record, count, line, this.names);
+  }
+
+  /** What is asked before a step: what a withdrawal costs, words for a text, a name that no take has yet. */
+  confirm(kind, { take }, go) {
+    const name = this.takeName.value.trim(), known = name ? this.hearing.takes.indexOf(name) : -1;
+    if (kind === "fall" || kind === "fail") confirmFall(this, kind, take, go);
+    else if (kind === "write" && this.words.value.trim() === "") confirmEmpty(this, take, go);
+    else if (["root", "new"].includes(kind) && known >= 0) confirmName(name, known, go);
+    else go();
+  }
+
+  /** Adds a step, or several; the last one's reply is told. */
+  append(bytes) {
+    const last = bytes.length / 8 - 1, reply = readReply(this.record.end.copy().run(bytes), last), step = readStep(bytes, last);
+    if (["root", "new"].includes(kindOf(step)) && reply.outcome === 0) {
+      this.hearing.takes[reply.take] = this.takeName.value.trim();
+      this.takeName.value = "";
+    }
+    this.words.value = "";
+    this.hearing.list = joined([this.hearing.list, bytes]);
+    replace(byId("desk-confirm"));
+    this.refresh(Infinity);
+    announce(`${verdict(reply)}: ${effect(step, reply, this.names)}`);
+  }
+
+  undo() {
+    this.hearing.list = this.hearing.list.slice(0, -8);
+    this.refresh(Infinity);
+  }
+
+  entitle(title) {
+    this.hearing.title = title;
+    this.refresh(this.rows.count);
+  }
+
+  rename(take, name) {
+    this.hearing.takes[take] = name.trim();
+    this.refresh(this.rows.count);
+  }
+
+  /** Leaves out refused steps and unused reads, part by part; the image stays. */
+  thin() {
+    const { list } = this.hearing, parts = [];
+    for (let at = 0; at < list.length; at += LONGEST) {
+      parts.push(this.record.at(at / 8).thin(list, at, Math.min(at + LONGEST, list.length)));
+    }
+    const short = joined(parts), left = (list.length - short.length) / 8;
+    this.hearing.list = short;
+    this.refresh(Infinity);
+    tell(left ? `${counted(left, "step")} left out; the hearing stands as it did.` : "Nothing to leave out.");
+  }
+
+  /** Holds the replies to those of the engine without maps. */
+  hold() {
+    const { list, limits, image } = this.hearing;
+    if (image) return tell("The engine plays lists from a fresh session; this hearing starts from an image.");
+    if (list.length > LONGEST) return tell("The engine plays lists of at most 1,024 steps.");
+    const same = sameBytes(play(list, limits), this.record.packedReplies);
+    return tell(`The second engine, which keeps no maps, gives ${same ? "the same" : "other"} replies.`);
+  }
+
+  begin(limits) {
+    confirmOpening(this, { ...emptyHearing(limits) }, "a new hearing", NEW);
+  }
+
+  /** Opens whatever the file holds, after a question where a hearing would be replaced. */
+  openFile(name, bytes) {
+    const found = recognize(bytes, name);
+    try {
+      if (found.kind === "unknown") throw new Unreadable(found.reason);
+      confirmOpening(this, hearingFrom(found), name);
+    } catch (e) {
+      if (!(e instanceof Unreadable)) throw e;
+      tell(`${name} can't be opened: ${e.message}`);
+    }
+  }
+
+  take(hearing) {
+    begun(hearing);
+    this.hearing = hearing;
+    this.refresh(Infinity);
+  }
+}
+
+function hearingFrom(found) {
+  if (found.kind === "desk") return fromFile(found.text);
+  if (found.kind === "image") return { ...emptyHearing(), image: found.image };
+  const hearing = { ...emptyHearing(GREATEST), list: found.list };
+  if (found.kind === "text") hearing.takes = namesFrom(new Record(begun(hearing), found.list), readText(found.text).comments).takes;
+  return hearing;
+}

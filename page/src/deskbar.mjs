@@ -1,0 +1,83 @@
+// The desk's bar: title, names of takes, files, limits of a new hearing.
+import { el, replace, byId, button } from "./dom.mjs";
+import { back, GREATEST, Refusal } from "../../bindings/js/ledger.mjs";
+import { toText, imageText } from "../../bindings/js/notation.mjs";
+import { save, opener } from "./files.mjs";
+import { toFile } from "./hearing.mjs";
+import { namedText } from "./listing.mjs";
+import { tell } from "./notices.mjs";
+import { counted } from "./names.mjs";
+import { kindOf, REFUSED } from "./words.mjs";
+
+export function showBar(desk) {
+  const { hearing, record } = desk, open = Array.from(document.querySelectorAll("#desk-bar details[open]"), d => d.id);
+  const part = (id, title, ...children) => el("details", { id, open: open.includes(id) }, el("summary", {}, title), children);
+  const entitled = { value: hearing.title, onchange: () => desk.entitle(title.value) };
+  const title = el("input", { type: "text", id: "desk-title", placeholder: "title", ...entitled });
+  const undo = button("undo the last step", () => desk.undo(), { id: "desk-undo", disabled: !record.length });
+  const shorter = "Leaves out refused steps, and reads that nothing used; what the ledger holds stays as it is.";
+  const thin = button("leave out refused steps", () => desk.thin(), { id: "desk-thin", title: shorter, hidden: !mayThin(record) });
+  const [takes, parcels, signings] = record.at(0).image.subarray(4, 7);
+  const room = `room for ${counted(takes, "take")}, ${counted(parcels, "parcel")}, ${counted(signings, "signing")}`;
+  replace(
+    byId("desk-bar"),
+    el("p", {}, el("label", {}, "Hearing ", title)),
+    el("p", { class: "soft" }, `${counted(record.length, "step")}; ${room}`),
+    el("p", {}, undo, " ", thin),
+    part("desk-names", "names of takes", namesTable(desk)),
+    part("desk-files", "open and save", files(desk, part)),
+    part("desk-new", "new hearing", fresh(desk)),
+  );
+}
+
+/** Whether there is anything that could be left out. */
+function mayThin(record) {
+  return record.steps.some((step, i) => kindOf(step) === "read" || record.replies[i].outcome >= REFUSED);
+}
+
+function namesTable(desk) {
+  const heads = desk.record.heads.at(-1);
+  if (!heads.length) return el("p", { class: "soft" }, "No take is opened yet.");
+  const named = t => ({ value: desk.hearing.takes[t] ?? "", onchange: e => desk.rename(t, e.target.value) });
+  const field = t => el("input", { type: "text", "data-rename": t, ...named(t) });
+  return heads.map((_, t) => el("p", {}, el("label", {}, `${t} `, field(t))));
+}
+
+function files(desk, part) {
+  const { hearing, record } = desk, base = (hearing.title || "hearing").replace(/[^\w-]+/g, "-");
+  const lines = () => toText(hearing.list).split("\n").slice(0, -1), saved = el("p", { role: "status", class: "soft" });
+  const saver = (label, id, ending, content, type) => [button(label, () => {
+    save(`${base}.${ending}`, content(), type);
+    saved.textContent = `Saved as ${base}.${ending}.`;
+  }, { id }), " "];
+  return [
+    el("p", {}, opener("open a file", (name, bytes) => desk.openFile(name, bytes), "desk-open")),
+    el("p", {}, saver("save the hearing (steps, names, words)", "save-desk", "json", () => toFile(hearing), "application/json")),
+    part("desk-forms", "other forms", el("p", {},
+      saver("save the step list, without words", "save-text", "steps", () => namedText(lines(), record, desk.names), "text/plain"),
+      saver("save packed list", "save-list", "list", () => hearing.list),
+      saver("save image", "save-image", "image", () => record.end.image),
+      button("save old image", () => saveOld(base, record, saved), { id: "save-old" }), " ",
+      saver("save image in words", "save-words", "txt", () => imageText(record.end.image), "text/plain"))),
+    saved,
+    el("p", {}, button("check against the second engine", () => desk.hold(), { id: "desk-hold" }), " ", button("print", () => print())),
+  ];
+}
+
+function saveOld(base, record, saved) {
+  try {
+    save(`${base}.old-image`, back(record.end.image));
+    saved.textContent = `Saved as ${base}.old-image.`;
+  } catch (e) {
+    if (!(e instanceof Refusal)) throw e;
+    tell(e.message);
+  }
+}
+
+function fresh(desk) {
+  const field = name => el("input", { type: "number", min: 1, max: GREATEST[name], value: GREATEST[name], id: `new-${name}` });
+  const fields = Object.keys(GREATEST).map(name => [name, field(name)]);
+  const limits = () => Object.fromEntries(fields.map(([name, input]) => [name, Math.trunc(Number(input.value))]));
+  const labels = fields.map(([name, input]) => [el("label", {}, `${name} `, input), " "]);
+  return el("p", {}, labels, button("begin", () => desk.begin(limits()), { id: "desk-begin" }));
+}

@@ -1,0 +1,44 @@
+// Elements by hand. Whatever is shown goes in as text, never as markup.
+
+const SVG = "http://www.w3.org/2000/svg";
+
+function filled(element, attributes, children) {
+  for (const [name, value] of Object.entries(attributes)) {
+    if (name.startsWith("on")) element.addEventListener(name.slice(2), value);
+    else if (value === true) element.setAttribute(name, "");
+    else if (value !== false && value !== null && value !== undefined) element.setAttribute(name, value);
+  }
+  const given = children.flat(3).filter(c => c !== null && c !== undefined && c !== false);
+  element.append(...given.map(c => (c instanceof Node ? c : String(c))));
+  return element;
+}
+
+export function el(tag, attributes = {}, ...children) {
+  return filled(document.createElement(tag), attributes, children);
+}
+
+export function svg(tag, attributes = {}, ...children) {
+  return filled(document.createElementNS(SVG, tag), attributes, children);
+}
+
+export function replace(host, ...children) {
+  host.replaceChildren();
+  return filled(host, {}, children);
+}
+
+export function byId(id) {
+  return document.getElementById(id);
+}
+
+export function button(label, action, attributes = {}) {
+  return el("button", { type: "button", onclick: action, ...attributes }, label);
+}
+
+export function heading(text, level = 3) {
+  return el(`h${level}`, {}, text);
+}
+
+/** Says something to whoever listens rather than looks. */
+export function announce(text) {
+  byId("announcement").textContent = text;
+}

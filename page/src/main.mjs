@@ -1,0 +1,67 @@
+// Loads the library, and opens the view that the address asks for.
+import { load } from "../../bindings/js/ledger.mjs";
+import { byId } from "./dom.mjs";
+import { Course } from "./course.mjs";
+import { Desk } from "./desk.mjs";
+import { Compare } from "./compare.mjs";
+import { readAddress, fromBase64 } from "./address.mjs";
+import { toText } from "../../bindings/js/notation.mjs";
+
+const VIEWS = ["course", "desk", "compare", "words"];
+const views = {};
+
+/** Shows one of the views. */
+function show(name) {
+  for (const view of VIEWS) {
+    byId(view).hidden = view !== name;
+    byId(`tab-${view}`).setAttribute("aria-selected", String(view === name));
+    byId(`tab-${view}`).tabIndex = view === name ? 0 : -1;
+  }
+}
+
+/** Shows a view, and notes it in the address, so that a reload shows it again. */
+function turnTo(view) {
+  const rest = location.hash.slice(1).split("&").filter(part => part && !part.startsWith("view="));
+  show(view);
+  history.replaceState(null, "", `#${[`view=${view}`, ...rest].join("&")}`);
+}
+
+function tabs() {
+  for (const view of VIEWS) byId(`tab-${view}`).addEventListener("click", () => turnTo(view));
+  document.querySelector("[role=tablist]").addEventListener("keydown", e => {
+    const by = { ArrowRight: 1, ArrowLeft: -1 }[e.key];
+    if (!by) return;
+    const next = VIEWS[(VIEWS.findIndex(v => e.target.id === `tab-${v}`) + by + VIEWS.length) % VIEWS.length];
+    turnTo(next);
+    byId(`tab-${next}`).focus();
+  });
+}
+
+/** What the address after # asks for. */
+function follow() {
+  const asked = readAddress(location.hash), course = views.course;
+  show(VIEWS.includes(asked.view) ? asked.view : "course");
+  if (asked.text !== null) course.openText(asked.text, asked.step ?? Infinity, asked.limits);
+  else if (asked.list) course.openText(toText(asked.list), asked.step ?? Infinity, asked.limits);
+  else if (asked.lesson !== null || !course.record) course.openLesson(asked.lesson ?? course.lessons[0].name);
+  if (asked.lesson !== null && asked.step !== null) {
+    course.reveal();
+    course.rows.pick(asked.step);
+  }
+}
+
+/** bundled: the library's modules in base64, their sums, and the lessons. */
+export async function start(bundled) {
+  const modules = Object.fromEntries(Object.entries(bundled.modules).map(([name, word]) => [name, fromBase64(word)]));
+  await load(modules);
+  const sums = Object.entries(bundled.sums), short = sums.map(([name, sum]) => `${name} ${sum.slice(0, 12)}`).join(", ");
+  byId("library").textContent = `Every reply comes from the proved library, as WebAssembly (SHA-256 of ${short}).`;
+  byId("sums").textContent = sums.map(([name, sum]) => `${name} ${sum}`).join(", ");
+  views.course = new Course(bundled.lessons);
+  views.desk = new Desk();
+  views.compare = new Compare(() => views.desk.hearing);
+  tabs();
+  follow();
+  window.addEventListener("hashchange", follow);
+  document.body.dataset.ready = "true";
+}
