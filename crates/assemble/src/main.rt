@@ -6,10 +6,8 @@
 use libc::STDERR_FILENO;
 use libc::STDIN_FILENO;
 use libc::STDOUT_FILENO;
-use notation::expected;
-use notation::parse;
-use notation::parse::Expected;
-use notation::parse::Parsed;
+use notation::Expected;
+use notation::Parsed;
 
 // The longest text.
 const TEXT: usize = 262144;
@@ -33,8 +31,8 @@ fn tell(line: usize, column: usize, expected: Expected) {
     io::write_all(STDERR_FILENO, b":");
     io::print_decimal(STDERR_FILENO, column as u64);
     io::write_all(STDERR_FILENO, b": expected ");
-    let mut words = [0u8; expected::ROOM];
-    let n = expected::put_expected(expected, &mut words);
+    let mut words = [0u8; faults::ROOM];
+    let n = faults::put_expected(expected, &mut words);
     if n <= words.len() {
         io::write_all(STDERR_FILENO, &words[..n]);
     }
@@ -42,7 +40,7 @@ fn tell(line: usize, column: usize, expected: Expected) {
 }
 
 fn assemble(text: &[u8], list: &mut [u8]) {
-    let answer = parse::parse(text, list);
+    let answer = parser::parse(text, list);
     match answer {
         Parsed::Steps(n) => pack(list, n),
         Parsed::Fault {

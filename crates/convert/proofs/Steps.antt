@@ -60,13 +60,13 @@ module _ (y : Layout) (w : ℕ) (stored : Bool) (more : largest y ≤ largest (r
         let t : ℕ = p .transactor in
         let u : ℕ = v .addressee (p .message) in
         let a : Bool = eqb (p .kind) fall or eqb (p .kind) fail in
-        or-less (a and not (v .stable t) and atLast y v t) (eqb (p .kind) receive and v .falls (p .message) and atLast y v u)
-        (a and not (v .stable t) and atLast (resized y w stored) v t) (eqb (p .kind) receive and v .falls (p .message) and atLast (resized y w stored) v u)
+        or-less (a and not (v .stable t) and atLast y v t) (eqb (p .kind) receive and v .rolls (p .message) and atLast y v u)
+        (a and not (v .stable t) and atLast (resized y w stored) v t) (eqb (p .kind) receive and v .rolls (p .message) and atLast (resized y w stored) v u)
         e
         (λ f. and-less a (not (v .stable t) and atLast y v t) (not (v .stable t) and atLast (resized y w stored) v t) f
         (λ g. and-less (not (v .stable t)) (atLast y v t) (atLast (resized y w stored) v t) g (last-less t)))
-        (λ f. and-less (eqb (p .kind) receive) (v .falls (p .message) and atLast y v u) (v .falls (p .message) and atLast (resized y w stored) v u) f
-        (λ g. and-less (v .falls (p .message)) (atLast y v u) (atLast (resized y w stored) v u) g (last-less u)))
+        (λ f. and-less (eqb (p .kind) receive) (v .rolls (p .message) and atLast y v u) (v .rolls (p .message) and atLast (resized y w stored) v u) f
+        (λ g. and-less (v .rolls (p .message)) (atLast y v u) (atLast (resized y w stored) v u) g (last-less u)))
 
     last-one : (asked (lastRollsBack y v p) ≡ 28 → ⊥) → asked (lastRollsBack (resized y w stored) v p) ≡ asked (lastRollsBack y v p)
     last-one h = go (lastRollsBack y v p) refl h

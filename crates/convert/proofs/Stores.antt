@@ -1,16 +1,15 @@
 -- The loops over histories, transactors and messages: what they have put after i turns, and the whole image.
-use Prim.Native.Nat.{ℕ, zero, suc, _+_, _-_, _*_, _≤_, _<_}
-use mathlib.Core.Bool.{Bool, true, false}
-use mathlib.Core.Path.{_≡_, refl, ap, sym, _∙_, subst}
+use Prim.Native.Nat.{ℕ, _+_, _-_, _*_, _≤_, _<_}
+use mathlib.Core.Bool.{Bool, false}
+use mathlib.Core.Path.{_≡_, refl, ap, sym, _∙_}
 use mathlib.Core.List.{List, _++_, append-assoc, append-nil}
 use native.Mathlib.Nat.{zero-add}
 use native.Mathlib.Omega.{arith}
-use lib.ListN.{length, drop, replicate, length-append}
-use Rattle.octets.specs.Bytes.{put, part, chunks, allZero, zeros}
+use lib.ListN.{length, length-append}
+use Rattle.octets.specs.Bytes.{put, part, chunks}
 use Rattle.octets.proofs.Put.{put-behind, put-whole, part-part, length-part, length-put}
 use Rattle.octets.proofs.Chunks.{step, chunks-same, chunks-add}
-use Rattle.octets.proofs.Runs.{lengths, put-next, zero-behind}
-use Rattle.octets.proofs.Zero.{length-zeros, allZero-zeros}
+use Rattle.octets.proofs.Runs.{lengths, put-next}
 use Rattle.marks.specs.Packed.{historySize}
 use Rattle.maps.specs.Packed.{entryBytes}
 use Rattle.rules.specs.Layout.{Layout, widest, mapBytes, stateAt, creationAt, behaviourAt, dependencesAt, transactorBytes, messageBytes, headBytes, limitsBytes, transactorAddress, messageAddress, imageBytes}
@@ -25,27 +24,8 @@ use Rattle.rules.proofs.Pack.Loads.{length-transactorPart, length-messagePart}
 use Rattle.marks.proofs.Recast.{length-recast}
 use Rattle.convert.proofs.RecastParts.{length-recastTransactor, length-recastMessage}
 
--- the first i of n chunks are put into a list that is zero from there on
-pub zero-after : (at w n : ℕ) (f : ℕ → List ℕ) → ((i : ℕ) → i < n → length (f i) ≡ w) → (i : ℕ) → i ≤ n → (l l' : List ℕ) → l' ≡ put at (chunks i f) l → at + w * i ≤ length l → allZero (drop at l) ≡ true
-    → allZero (drop (at + w * i) l') ≡ true
-zero-after at w n f sized i k l l' e h z =
-    let m : length (chunks i f) ≡ w * i = lengths w i f (λ j p. sized j (omega arith)) in
-    subst (λ (j : ℕ). allZero (drop (at + j) l') ≡ true) m (rw e (zero-behind at l z (chunks i f) (omega arith)))
-
 pub put-end : (at i n : ℕ) (f : ℕ → List ℕ) (l l' : List ℕ) → l' ≡ put at (chunks i f) l → i ≡ n → l' ≡ put at (chunks n f) l
 put-end at i n f l l' e h = e ∙ ap (λ (k : ℕ). put at (chunks k f) l) h
-
--- a fresh buffer
-pub zero-buffer : (n : ℕ) → allZero (replicate n 0) ≡ true
-unfolding allZero
-zero-buffer zero = refl
-zero-buffer (suc n) = zero-buffer n
-
--- a buffer that is cleared
-pub cleared : (n : ℕ) (l l' : List ℕ) → length l ≡ n → l' ≡ put 0 (zeros n) l → (length l' ≡ n) × (allZero l' ≡ true)
-cleared n l l' e h =
-    let all : l' ≡ zeros n = h ∙ put-whole (zeros n) l (length-zeros n ∙ sym e) in
-    (ap length all ∙ length-zeros n, ap allZero all ∙ allZero-zeros n)
 
 -- what is put, by another name
 pub put-as : (at : ℕ) (a b l l' : List ℕ) → l' ≡ put at a l → a ≡ b → l' ≡ put at b l
@@ -68,12 +48,6 @@ module _ (at w n : ℕ) (f : ℕ → List ℕ) (sized : (i : ℕ) → i < n → 
   records-more r q =
       let both : r ≡ put (at + w * i) (f i) l' = put-both (at + w * i) k b c l' l'' r short (omega (arith, rest, long, step w i n h)) g q ∙ ap (λ (x : List ℕ). put (at + w * i) x l') (sym is) in
       put-next at w n f sized i h l l' r e both (omega (arith, step w i n h))
-
-  -- behind the front of a record all is zero still
-  pub records-zero : allZero (drop at l) ≡ true → allZero (drop (at + w * i + k) l'') ≡ true
-  records-zero z =
-      let a : allZero (drop (at + w * i) l') ≡ true = zero-after at w n f sized i (omega arith) l l' e (omega (arith, step w i n h)) z in
-      subst (λ (j : ℕ). allZero (drop (at + w * i + j) l'') ≡ true) short (rw g (zero-behind (at + w * i) l' a b (omega (arith, rest, long, step w i n h))))
 
 -- the k bytes from a on, as source[a..a + k] lends them
 lent : (a k : ℕ) (s : List ℕ) → part a (a + k - a) s ≡ part a k s
@@ -105,9 +79,6 @@ module _ (v w m from n : ℕ) (s : List ℕ) (fits : from + historySize v m * n 
 
     pub histories-all : i ≡ n → l' ≡ put to (recastMap v w m n (part from (historySize v m * n) s)) l
     histories-all h = e ∙ ap (λ (x : List ℕ). put to x l) (ap (λ (k : ℕ). chunks k entry) h ∙ sym entries-are)
-
-    pub histories-zero : i < n → to + historySize w m * n ≤ length l → allZero (drop to l) ≡ true → allZero (drop (to + historySize w m * i) l') ≡ true
-    histories-zero h k z = zero-after to (historySize w m) n entry entry-wide i (omega arith) l l' e (omega (arith, step (historySize w m) i n h)) z
 
 -- two runs, one behind the other
 entries-add : (v w m from a b : ℕ) (s : List ℕ) → from + historySize v m * (a + b) ≤ length s
@@ -158,9 +129,6 @@ module _ (v w m front many from n : ℕ) (s : List ℕ) (fits : from + recordSiz
 
     pub record-more : (r : List ℕ) → r ≡ put (to + recordSize w m front many * k + front) (marks k) l'' → r ≡ put to (chunks (k + 1) record') l
     record-more = records-more to (recordSize w m front many) n record' record-wide k front h (part (place k) front s) (marks k) is (record-front k h) l l' l'' room e front-there
-
-    pub record-zero : allZero (drop to l) ≡ true → allZero (drop (to + recordSize w m front many * k + front) l'') ≡ true
-    record-zero = records-zero to (recordSize w m front many) n record' record-wide k front h (part (place k) front s) (marks k) is (record-front k h) l l' l'' room e front-there
 
 -- ---- transactors and messages
 
@@ -250,18 +218,12 @@ module _ (y : Layout) (v w : ℕ) (old new : Bool) (img : List ℕ) (whole : len
   front-put l l1 l2 room e g = put-both 0 headBytes (part 0 headBytes img) (packLimits d (widest d)) l l1 l2 head-short (omega (arith, length-packLimits d (widest d))) e g
 
   module _ (l l1 : List ℕ) (room : length l ≡ imageBytes d) (e : l1 ≡ put 0 (recastFront d img) l) where
-    pub front-zero : allZero l ≡ true → allZero (drop first l1) ≡ true
-    front-zero z = subst (λ (j : ℕ). allZero (drop j l1) ≡ true) (zero-add (length (recastFront d img)) ∙ front-short) (rw e (zero-behind 0 l z (recastFront d img) (omega (arith, front-short))))
-
     run : length (chunks count (recastTransactorAt s w img)) ≡ transactorBytes d * count
     run = lengths (transactorBytes d) count (recastTransactorAt s w img) transactor-wide
 
     module _ (l2 : List ℕ) (g : l2 ≡ put first (chunks count (recastTransactorAt s w img)) l1) where
       long1 : length l1 ≡ length l
       long1 = ap length e ∙ length-put 0 (recastFront d img) l (omega (arith, front-short))
-
-      pub transactors-done : allZero l ≡ true → allZero (drop (transactorAddress d count) l2) ≡ true
-      transactors-done z = zero-after first (transactorBytes d) count (recastTransactorAt s w img) transactor-wide count (omega arith) l1 l2 g (omega (arith, long1)) (front-zero z)
 
       pub image-done : (r : List ℕ) → r ≡ put (transactorAddress d count) (chunks (y .messages) (recastMessageAt s w img)) l2 → r ≡ recast s d img
       unfolding recast

@@ -1,6 +1,5 @@
 // An image in the other form, well-formed or not: each number with its last byte in w bytes where it has v, all other bytes as they stand.
-// One of the two widths is 1, the other 2, so a number's other byte is a zero or is left out. The target is zero at first: a history of zero
-// bytes is passed over.
+// One of the two widths is 1, the other 2, so a number's other byte is a zero or is left out.
 use crate::old;
 use image::layout::DEPENDENCES;
 use image::layout::FIRST_MESSAGE;
@@ -12,10 +11,10 @@ use image::layout::TRANSACTORS;
 use image::limits;
 ghost use mathlib.Core.Path.{_≡_};
 ghost use Prim.Native.Nat.{_+_, _*_, _≤_};
-ghost use mathlib.Core.Bool.{true};
-ghost use lib.ListN.{length, drop};
-ghost use Rattle.octets.specs.Bytes.{put, part, chunks, allZero};
-ghost use Rattle.marks.specs.Packed.{historySize};
+ghost use lib.ListN.{length};
+ghost use Rattle.octets.specs.Bytes.{put, part, chunks, tabulate};
+ghost use Rattle.octets.specs.Numbers.{be, ofBe};
+ghost use Rattle.marks.specs.Packed.{historySize, packNumberAt, loadNumberAt};
 ghost use Rattle.marks.specs.Internal.Recast.{recastHistory};
 ghost use Rattle.maps.specs.Internal.Recast.{recastMap};
 ghost use Rattle.rules.specs.Layout.{narrow, base, imageBytes};
@@ -24,25 +23,76 @@ ghost use Rattle.convert.specs.Internal.Recast.{Widths, recordSize, reco
 // The histories (document 01: marks) of a transactor's three maps.
 const MARKS: usize = 3 * maps::ENTRIES;
 
-// A history: its flags and count, its incarnation number and its checkpoints.
-fn history(source: &[u8], from: usize, v: usize, target: &mut [u8], to: usize, w: usize)
-    requires { ⌜ Widths v w × (from + historySize v 15 ≤ length (now source)) × (to + historySize w 15 ≤ length (now target)) × (allZero (drop to (now target)) ≡ true) ⌝ }
-    ensures { λ _. ⌜ now (target .exit) ≡ put to (recastHistory v w 15 (part from (historySize v 15) (now (source .entry)))) (now (target .entry)) ⌝ }
+// A number of v bytes.
+fn number(s: &[u8], at: usize, v: usize) -> u16
+    requires { ⌜ (1 ≤ v) × (v ≤ 2) × (at + v ≤ length (now s)) ⌝ }
+    ensures { λ r. ⌜ r ≡ ofBe v (part at v (now (s .entry))) ⌝ }
 {
-    if octets::all_zero(source, from, 1 + v + v * marks::PLACES) {
-        return;
+    if v == 1 {
+        return s[at] as u16;
     }
-    target[to] = source[from];
+    octets::load16(s, at)
+}
+
+// The numbers of a history, one after the other.
+fn numbers(s: &[u8], at: usize, v: usize) -> [u16; 16]
+    requires { ⌜ (1 ≤ v) × (v ≤ 2) × (at + v * 16 ≤ length (now s)) ⌝ }
+    ensures { λ r. ⌜ r ≡ tabulate 16 (loadNumberAt v (now (s .entry)) at) ⌝ }
+{
+    let mut list = [0u16; 16];
     let mut i: usize = 0;
     while i < 1 + marks::PLACES {
-        target[to + w + w * i] = source[from + v + v * i];
+        let n = number(s, at + v * i, v);
+        list[i] = n;
+        i += 1;
+    }
+    list
+}
+
+// The last w bytes of a number.
+fn put_number(target: &mut [u8], at: usize, w: usize, n: u16)
+    requires { ⌜ (1 ≤ w) × (w ≤ 2) × (at + w ≤ length (now target)) ⌝ }
+    ensures { λ _. ⌜ now (target .exit) ≡ put at (be w n) (now (target .entry)) ⌝ }
+{
+    if w == 1 {
+        target[at] = (n % 256) as u8;
+        return;
+    }
+    octets::store16(target, at, n);
+}
+
+// The numbers of a history.
+fn put_numbers(target: &mut [u8], at: usize, w: usize, list: [u16; 16])
+    requires { ⌜ (1 ≤ w) × (w ≤ 2) × (at + w * 16 ≤ length (now target)) ⌝ }
+    ensures { λ _. ⌜ now (target .exit) ≡ put at (chunks 16 (packNumberAt w list)) (now (target .entry)) ⌝ }
+{
+    let mut i: usize = 0;
+    while i < 1 + marks::PLACES {
+        let n = list[i];
+        put_number(target, at + w * i, w, n);
         i += 1;
     }
 }
 
+// A history: its flags and count, its incarnation number and its checkpoints. The widths stand as numbers and the history by value, so that
+// the compiler turns all numbers at once.
+fn history(source: &[u8], from: usize, v: usize, target: &mut [u8], to: usize, w: usize)
+    requires { ⌜ Widths v w × (from + historySize v 15 ≤ length (now source)) × (to + historySize w 15 ≤ length (now target)) ⌝ }
+    ensures { λ _. ⌜ now (target .exit) ≡ put to (recastHistory v w 15 (part from (historySize v 15) (now (source .entry)))) (now (target .entry)) ⌝ }
+{
+    target[to] = source[from];
+    if v == 1 {
+        let list = numbers(source, from + 1, 1);
+        put_numbers(target, to + 1, 2, list);
+        return;
+    }
+    let list = numbers(source, from + 1, 2);
+    put_numbers(target, to + 1, 1, list);
+}
+
 // n histories, one after the other.
 fn histories(source: &[u8], from: usize, v: usize, target: &mut [u8], to: usize, w: usize, n: usize)
-    requires { ⌜ Widths v w × (from + historySize v 15 * n ≤ length (now source)) × (to + historySize w 15 * n ≤ length (now target)) × (allZero (drop to (now target)) ≡ true) ⌝ }
+    requires { ⌜ Widths v w × (from + historySize v 15 * n ≤ length (now source)) × (to + historySize w 15 * n ≤ length (now target)) ⌝ }
     ensures { λ _. ⌜ now (target .exit) ≡ put to (recastMap v w 15 n (part from (historySize v 15 * n) (now (source .entry)))) (now (target .entry)) ⌝ }
 {
     let a = 1 + v + v * marks::PLACES;
@@ -66,7 +116,7 @@ fn records(
     many: usize,
     n: usize,
 )
-    requires { ⌜ Widths v w × (front ≤ 9) × (many ≤ 48) × (from + recordSize v 15 front many * n ≤ length (now source)) × (to + recordSize w 15 front many * n ≤ length (now target)) × (allZero (drop to (now target)) ≡ true) ⌝ }
+    requires { ⌜ Widths v w × (front ≤ 9) × (many ≤ 48) × (from + recordSize v 15 front many * n ≤ length (now source)) × (to + recordSize w 15 front many * n ≤ length (now target)) ⌝ }
     ensures { λ _. ⌜ now (target .exit) ≡ put to (chunks n (recordAt v w 15 front many from (now (source .entry)))) (now (target .entry)) ⌝ }
 {
     let a = front + (1 + v + v * marks::PLACES) * many;
@@ -84,7 +134,7 @@ fn records(
 
 // An image of the old form in the new one: the greatest limits after the head.
 pub fn wider(source: &[u8], target: &mut [u8])
-    requires { ⌜ (length (now source) ≡ imageBytes narrow) × (length (now target) ≡ imageBytes base) × (allZero (now target) ≡ true) ⌝ }
+    requires { ⌜ (length (now source) ≡ imageBytes narrow) × (length (now target) ≡ imageBytes base) ⌝ }
     ensures { λ _. ⌜ now (target .exit) ≡ widened (now (source .entry)) ⌝ }
 {
     octets::write(target, 0, &source[..HEAD]);
@@ -123,7 +173,6 @@ pub fn narrower(source: &[u8], target: &mut [u8])
     requires { ⌜ (length (now source) ≡ imageBytes base) × (length (now target) ≡ imageBytes narrow) ⌝ }
     ensures { λ _. ⌜ now (target .exit) ≡ recast base narrow (now (source .entry)) ⌝ }
 {
-    octets::clear(target, 0, old::IMAGE);
     octets::write(target, 0, &source[..HEAD]);
     records(
         source,

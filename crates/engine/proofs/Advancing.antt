@@ -9,19 +9,19 @@ use Rattle.rules.specs.Layout.{base}
 use Rattle.rules.specs.declared.Step.{Step}
 use Rattle.rules.specs.Step.{receive}
 use Rattle.rules.specs.Refusals.{groupBits, named, anyNamed, sends, malformed}
-use Rattle.chains.specs.declared.rows.Row.{Row}
-use Rattle.chains.specs.declared.rows.Slot.{Slot}
-use Rattle.chains.specs.Internal.Tables.{play}
-use Rattle.chains.specs.Internal.Walk.{Walk}
-use Rattle.chains.specs.Internal.Engine.{allStable, receiptBack, receiptWalk, signWalk, readyIn}
-use Rattle.registers.specs.declared.register.Register.{Register}
-use Rattle.tables.specs.declared.Operands.{Operands}
-use Rattle.tables.specs.declared.Turn.{Turn}
-use Rattle.tables.specs.declared.GroupTurn.{GroupTurn}
-use Rattle.registers.specs.Internal.Register.{rowAt, viewOf}
-use Rattle.registers.specs.Internal.Guards.{rowBlocks, groupBlocked}
-use Rattle.tables.specs.Internal.Turns.{placeOf, Holds, Turns, Receives, Signs, Asked}
-use Rattle.tables.proofs.Outcomes.{receiver}
+use Rattle.engine_chains.specs.declared.rows.Row.{Row}
+use Rattle.engine_chains.specs.declared.rows.Slot.{Slot}
+use Rattle.engine_chains.specs.Internal.Tables.{play}
+use Rattle.engine_chains.specs.Internal.Walk.{Walk}
+use Rattle.engine_chains.specs.Internal.Engine.{allStable, receiptBack, receiptWalk, signWalk, readyIn}
+use Rattle.engine_tables.specs.declared.register.Register.{Register}
+use Rattle.engine_tables.specs.declared.turns.Operands.{Operands}
+use Rattle.engine_tables.specs.declared.turns.Turn.{Turn}
+use Rattle.engine_tables.specs.declared.turns.GroupTurn.{GroupTurn}
+use Rattle.engine_tables.specs.Internal.Register.{rowAt, viewOf}
+use Rattle.engine_tables.specs.Internal.Guards.{anyUnstable}
+use Rattle.engine_tables.specs.Internal.Turns.{placeOf, Holds, Turns, Receives, Signs, Asked}
+use Rattle.engine_tables.proofs.Outcomes.{receiver}
 use Rattle.engine.specs.Internal.Advance.{Advances, AdvancesGroup, Ahead}
 
 pub asked : {steps replies : List ℕ} {i : ℕ} {x : Operands} {p : Step} → Ahead steps replies i x p → malformed p ≡ false → (k : ℕ) → p .kind ≡ k → Asked k x p
@@ -72,11 +72,11 @@ not-any (suc n) f g = ap (λ (c : Bool). c and (not (f n) or g n)) (not-any n f 
     go false false c = refl
 
 module _ (steps replies : List ℕ) (i : ℕ) (x : Register) (rows : List Row) (p : Step) (u : GroupTurn) where
-  abbrev loose : Bool
-  loose = groupBlocked (rowAt rows) (x .checkpoints) (p .message) 5
+  abbrev unstable : Bool
+  unstable = anyUnstable (rowAt rows) (p .message)
 
-  stable-is : (F : ℕ → Slot) → allStable (viewOf x (rowAt rows) F) (p .message) ≡ not loose
-  unfolding allStable viewOf groupBlocked rowBlocks anyNamed
+  stable-is : (F : ℕ → Slot) → allStable (viewOf x (rowAt rows) F) (p .message) ≡ not unstable
+  unfolding allStable viewOf anyUnstable anyNamed
   stable-is F = not-any groupBits (named (p .message)) (λ t. rowAt rows t .stable)
 
   abbrev grounds : Bool
@@ -86,7 +86,7 @@ module _ (steps replies : List ℕ) (i : ℕ) (x : Register) (rows : List Row) (
   pub group-any : ((g : Bool) → Signs g x rows p u) → AdvancesGroup steps replies i x rows p u
   group-any s = record { plays = λ F. s _ .plays _ _ F; long = s false .long }
 
-  group-by : (g : Bool) → g ≡ not loose and grounds → Signs g x rows p u → AdvancesGroup steps replies i x rows p u
+  group-by : (g : Bool) → g ≡ not unstable and grounds → Signs g x rows p u → AdvancesGroup steps replies i x rows p u
   unfolding readyIn
   group-by g e s = record {
     plays = λ F.
@@ -97,9 +97,9 @@ module _ (steps replies : List ℕ) (i : ℕ) (x : Register) (rows : List Row) (
     long = s .long;
   }
 
-  module _ (b : Bool) (tested : b ≡ groupBlocked (rowAt rows) (x .checkpoints) (p .message) 5) where
-    pub group-loose : b ≡ true → Signs false x rows p u → AdvancesGroup steps replies i x rows p u
-    group-loose e s = group-by false (ap (λ (c : Bool). not c and grounds) (sym e ∙ tested)) s
+  module _ (b : Bool) (tested : b ≡ anyUnstable (rowAt rows) (p .message)) where
+    pub group-unstable : b ≡ true → Signs false x rows p u → AdvancesGroup steps replies i x rows p u
+    group-unstable e s = group-by false (ap (λ (c : Bool). not c and grounds) (sym e ∙ tested)) s
 
     pub group-stable : b ≡ false → (g : Bool)
         → g ≡ not (signWalk steps replies i (p .message) .rightSuperseded) and not (signWalk steps replies i (p .message) .unallowed)

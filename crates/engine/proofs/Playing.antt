@@ -26,19 +26,19 @@ use Rattle.rules.proofs.Keep.Run.{stepOk-at}
 use Rattle.rules.proofs.Keep.Step.{fitting-base}
 use Rattle.rules.proofs.Ranges.{in-range-exactly}
 use Rattle.session.proofs.Run.{length-packReply}
-use Rattle.chains.specs.declared.rows.Row.{Row}
-use Rattle.chains.specs.declared.rows.Slot.{Slot}
-use Rattle.chains.specs.Internal.Tables.{Tables, Played, emptyRow, emptySlot}
-use Rattle.chains.specs.Internal.Walk.{Walk}
-use Rattle.chains.specs.Internal.Engine.{Walkable, receiptBack, receiptWalk, playStep, engineAfter, engineReplies}
-use Rattle.chains.proofs.Engine.{letter-walks, engine-fresh}
-use Rattle.registers.specs.declared.register.Register.{Register}
-use Rattle.tables.specs.declared.Operands.{Operands}
-use Rattle.tables.specs.declared.Turn.{Turn}
-use Rattle.tables.specs.declared.GroupTurn.{GroupTurn}
-use Rattle.registers.specs.Internal.Register.{rowAt, viewOf, freshRegister}
-use Rattle.tables.specs.Internal.Turns.{placeOf, subjectOf, operandsOf, Holds, playedOf}
-use Rattle.registers.proofs.Views.{same-at}
+use Rattle.engine_chains.specs.declared.rows.Row.{Row}
+use Rattle.engine_chains.specs.declared.rows.Slot.{Slot}
+use Rattle.engine_chains.specs.Internal.Tables.{Tables, Played, emptyRow, emptySlot}
+use Rattle.engine_chains.specs.Internal.Walk.{Walk}
+use Rattle.engine_chains.specs.Internal.Engine.{Walkable, receiptBack, receiptWalk, playStep, engineAfter, engineReplies}
+use Rattle.engine_chains.proofs.Engine.{letter-walks, engine-fresh}
+use Rattle.engine_tables.specs.declared.register.Register.{Register}
+use Rattle.engine_tables.specs.declared.turns.Operands.{Operands}
+use Rattle.engine_tables.specs.declared.turns.Turn.{Turn}
+use Rattle.engine_tables.specs.declared.turns.GroupTurn.{GroupTurn}
+use Rattle.engine_tables.specs.Internal.Register.{rowAt, viewOf, freshRegister}
+use Rattle.engine_tables.specs.Internal.Turns.{placeOf, subjectOf, operandsOf, Holds, playedOf}
+use Rattle.engine_tables.proofs.Views.{same-at}
 use Rattle.engine.specs.Internal.Advance.{most, slotAt, placed, playAt, Advances, AdvancesGroup, Unstale, Ahead}
 use Rattle.engine.proofs.Ranges.{Ranged, waits-below}
 use Rattle.engine.proofs.Steps.{ranged, replies-long, walkable, receipt-same, step-same}

@@ -13,14 +13,14 @@ use Rattle.octets.proofs.Tables.{updated-view}
 use Rattle.rules.specs.Layout.{Layout, Limits}
 use Rattle.rules.specs.declared.Step.{Step}
 use Rattle.rules.specs.Step.{done, held, notReady, root, letter, receive, new, send, read, write, freeze, finish, fall, lose, sign}
-use Rattle.rules.specs.Status.{ready}
+use Rattle.rules.specs.Status.{idle}
 use Rattle.rules.specs.Refusals.{groupBits, named}
 use Rattle.rules.specs.Internal.Well.{StepOk}
 use Rattle.rules.proofs.Keep.Accepted.{Accepted, accepted, message-waits, one-unopened}
-use Rattle.chains.specs.declared.rows.Row.{Row}
-use Rattle.chains.specs.declared.rows.RowEffect.{RowEffect}
-use Rattle.chains.specs.declared.rows.Slot.{Slot}
-use Rattle.chains.specs.Internal.Tables.{Tables, rowStays, rowStatus, rollbackRow, writeRow, freezeRow, localRow, receiveRow, filledSlot, emptySlot, freshTables, withRow, openRow, withSlot, withoutSlot, checkpointRows, seenIn, Played, playReceive, playLocal, playApplied, playRefusal, play}
+use Rattle.engine_chains.specs.declared.rows.Row.{Row}
+use Rattle.engine_chains.specs.declared.rows.RowEffect.{RowEffect}
+use Rattle.engine_chains.specs.declared.rows.Slot.{Slot}
+use Rattle.engine_chains.specs.Internal.Tables.{Tables, rowStays, rowStatus, rollbackRow, writeRow, freezeRow, localRow, receiveRow, filledSlot, emptySlot, freshTables, withRow, openRow, withSlot, withoutSlot, checkpointRows, seenIn, Played, playReceive, playLocal, playApplied, playRefusal, play}
 
 -- after n steps from a fresh session with the limits m
 pub record Ranged (m : Limits) (n : ℕ) (T : Tables) : Type 0 where
@@ -64,8 +64,8 @@ module _ {n : ℕ} (x : Row) (few : x .incarnation ≤ n) where
       pick-view (Small n) (eqb k read) _ _ (λ e. record { outcome = omega arith; life = omega arith }) λ _.
       pick-view (Small n) (eqb k write) _ _ (λ e. held-small _ _ (record { outcome = omega arith; life = omega arith }) (record { outcome = omega arith; life = omega arith })) λ _.
       pick-view (Small n) (eqb k freeze) _ _ (λ e. record { outcome = omega arith; life = omega arith }) λ _.
-      pick-view (Small n) (eqb k finish) _ _ (λ e. stays-small done (omega arith) ready) λ _.
-      pick-view (Small n) (eqb k fall) _ _ (λ e. held-small _ _ (stays-small held (omega arith) ready) rollback-small)
+      pick-view (Small n) (eqb k finish) _ _ (λ e. stays-small done (omega arith) idle) λ _.
+      pick-view (Small n) (eqb k fall) _ _ (λ e. held-small _ _ (stays-small held (omega arith) idle) rollback-small)
       (λ e. held-small _ _ (record { outcome = omega arith; life = omega arith }) rollback-small)
 
   pub receive-small : (d f : Bool) (v : ℕ) → Small n (receiveRow d f v x)

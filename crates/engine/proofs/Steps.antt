@@ -18,13 +18,13 @@ use Rattle.rules.proofs.Keep.Run.{stepOk-at}
 use Rattle.rules.proofs.Keep.Step.{fitting-base}
 use Rattle.rules.proofs.Ranges.{in-range-exactly}
 use Rattle.session.proofs.Run.{length-packReply}
-use Rattle.chains.specs.declared.words.Told.{Told}
-use Rattle.chains.specs.Back.{told}
-use Rattle.chains.specs.Internal.Tables.{Tables, Played}
-use Rattle.chains.specs.Internal.Walk.{Walk, walkBack, receiptStart, signStart}
-use Rattle.chains.specs.Internal.Engine.{unpackTold, toldIn, Walkable, receiptWalk, signWalk, readyIn, playStep, Engine, engineAfter}
-use Rattle.chains.proofs.Walks.{walk-replies}
-use Rattle.chains.proofs.Engine.{told-packed, replies-fit-bytes}
+use Rattle.engine_chains.specs.declared.words.Told.{Told}
+use Rattle.engine_chains.specs.Back.{told}
+use Rattle.engine_chains.specs.Internal.Tables.{Tables, Played}
+use Rattle.engine_chains.specs.Internal.Walk.{Walk, walkBack, receiptStart, signStart}
+use Rattle.engine_chains.specs.Internal.Engine.{unpackTold, toldIn, Walkable, receiptWalk, signWalk, readyIn, playStep, Engine, engineAfter}
+use Rattle.engine_chains.proofs.Walks.{walk-replies}
+use Rattle.engine_chains.proofs.Engine.{told-packed, replies-fit-bytes}
 use Rattle.engine.specs.Internal.Advance.{most}
 use Rattle.engine.proofs.Ranges.{Ranged, Fine, ranged-fresh, ranged-step}
 

@@ -17,10 +17,10 @@ use Rattle.rules.specs.Step.{packReply, notReady, root, letter, receive, new, s
 use Rattle.rules.specs.Refusals.{Seen, sends, malformed, notWaiting, emptyGroup, unopened, isGone, wrongStatus, unrelatedReceipt, allOpened, allWaiting, allNumbered, allCheckpointed, atLast, lastRollsBack, refusalOf}
 use Rattle.rules.specs.Calls.{freshImage, stepsIn, ranReplies}
 use Rattle.rules.proofs.Keep.Step.{fitting-base}
-use Rattle.chains.specs.declared.words.Told.{Told}
-use Rattle.chains.specs.Internal.Tables.{Tables, seenIn, Played, playReceive, playLocal, playApplied, playRefusal, play}
-use Rattle.chains.specs.Internal.Engine.{toldIn, playStep, engineAfter, engineReplies}
-use Rattle.chains.proofs.Engine.{engine-fresh, replies-fit-bytes}
+use Rattle.engine_chains.specs.declared.words.Told.{Told}
+use Rattle.engine_chains.specs.Internal.Tables.{Tables, seenIn, Played, playReceive, playLocal, playApplied, playRefusal, play}
+use Rattle.engine_chains.specs.Internal.Engine.{toldIn, playStep, engineAfter, engineReplies}
+use Rattle.engine_chains.proofs.Engine.{engine-fresh, replies-fit-bytes}
 use Rattle.engine.specs.Internal.Advance.{most}
 use Rattle.engine.proofs.Ranges.{Ranged, local-small, receive-small}
 use Rattle.engine.proofs.Steps.{told-left, told-last, ranged, replies-long}
@@ -64,7 +64,7 @@ module _ {m : Limits} {n : ℕ} {T : Tables} (r : Ranged m n T) (y : Layout) (sh
   last-off : lastRollsBack y (seenIn T (not d and f)) p ≡ false
   unfolding lastRollsBack
   last-off = rw (early (p .transactor), early (v .addressee (p .message)))
-      (λ i. two-off (eqb (p .kind) fall or eqb (p .kind) fail) (not (v .stable (p .transactor))) i or two-off (eqb (p .kind) receive) (v .falls (p .message)) i)
+      (λ i. two-off (eqb (p .kind) fall or eqb (p .kind) fail) (not (v .stable (p .transactor))) i or two-off (eqb (p .kind) receive) (v .rolls (p .message)) i)
 
   refused-usual : Usual (playRefusal y T p d f)
   unfolding playRefusal allNumbered unrelatedReceipt seenIn

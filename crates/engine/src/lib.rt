@@ -1,20 +1,20 @@
 // The engine without maps (document 02, W11): the replies to a list of steps from a fresh session, by tables and by walks back over the
 // list.
-use chains::rows::Row;
-use chains::rows::Slot;
+use engine_chains::rows::Row;
+use engine_chains::rows::Slot;
+use engine_tables::effects;
+use engine_tables::guards;
+use engine_tables::register::Register;
+use engine_tables::turns::GroupTurn;
+use engine_tables::turns::Operands;
+use engine_tables::turns::Turn;
+use engine_walk::NUMBERS;
 use lists::STEP;
 use lists::fields;
 use lists::limits;
 use lists::packed;
-use registers::effects;
-use registers::guards;
-use registers::register::Register;
 use rules::Step;
 use rules::numbers;
-use tables::GroupTurn;
-use tables::Operands;
-use tables::Turn;
-use walks::NUMBERS;
 ghost use mathlib.Core.Path.{_≡_};
 ghost use mathlib.Core.Bool.{false};
 ghost use Rattle.octets.specs.Bytes.{pick};
@@ -22,8 +22,8 @@ ghost use Rattle.rules.specs.Layout.{base, limitsOf};
 ghost use Rattle.rules.specs.Step as kinds;
 ghost use Rattle.rules.specs.Refusals.{sends, malformed};
 ghost use Rattle.rules.specs.Calls.{freshImage, ranReplies};
-ghost use Rattle.chains.specs.Internal.Engine.{Walkable};
-ghost use Rattle.tables.specs.Internal.Turns.{subjectOf};
+ghost use Rattle.engine_chains.specs.Internal.Engine.{Walkable};
+ghost use Rattle.engine_tables.specs.Internal.Turns.{subjectOf};
 ghost use Rattle.engine.specs.Play.{playAnswer, playReplies};
 ghost use Rattle.engine.specs.Internal.Advance.{placed, Advances, AdvancesGroup, Ahead, Playable};
 
@@ -74,19 +74,19 @@ fn receive(list: &[u8], replies: &[u8], i: usize, x: Operands, p: Step) -> Turn
     let row = x.row;
     let r = guards::receipt(slot, row);
     if r != 0 {
-        return tables::answered(x, r);
+        return engine_tables::turns::answered(x, r);
     }
     if slot.letter {
-        return tables::receive(x, p, false, false);
+        return engine_tables::turns::receive(x, p, false, false);
     }
-    let c = walks::receipt(
+    let c = engine_walk::receipt(
         list,
         replies,
         i,
         p.message as usize,
         slot.addressee as usize,
     );
-    tables::receive(x, p, c.dropped, c.falls)
+    engine_tables::turns::receive(x, p, c.dropped, c.rolls)
 }
 
 // One step, of any kind but a signing.
@@ -95,17 +95,17 @@ fn advance(list: &[u8], replies: &[u8], i: usize, x: Operands, p: Step) -> Turn
     ensures { λ r. ⌜ Advances (now (list .entry)) (now (replies .entry)) i x p r ⌝ }
 {
     if fields::malformed(p) {
-        return tables::answered(x, numbers::MALFORMED);
+        return engine_tables::turns::answered(x, numbers::MALFORMED);
     }
     let kind = p.kind;
     match kind {
-        numbers::ROOT => tables::root(x, p),
-        numbers::LETTER => tables::letter(x, p),
+        numbers::ROOT => engine_tables::turns::root(x, p),
+        numbers::LETTER => engine_tables::turns::letter(x, p),
         numbers::RECEIVE => receive(list, replies, i, x, p),
-        numbers::NEW => tables::new(x, p),
-        numbers::SEND => tables::send(x, p),
-        numbers::LOSE => tables::lose(x, p),
-        _ => tables::local(x, p),
+        numbers::NEW => engine_tables::turns::new(x, p),
+        numbers::SEND => engine_tables::turns::send(x, p),
+        numbers::LOSE => engine_tables::turns::lose(x, p),
+        _ => engine_tables::turns::local(x, p),
     }
 }
 
@@ -115,17 +115,17 @@ fn sign(list: &[u8], replies: &[u8], i: usize, x: Register, rows: [Row; 16], p: 
     ensures { λ r. ⌜ AdvancesGroup (now (list .entry)) (now (replies .entry)) i x rows p r ⌝ }
 {
     if fields::malformed(p) {
-        return tables::group_answered(rows, numbers::MALFORMED);
+        return engine_tables::turns::group_answered(rows, numbers::MALFORMED);
     }
     let group = p.message;
     let r = guards::group(x, rows, group);
     if r != 0 {
-        return tables::group_answered(rows, r);
+        return engine_tables::turns::group_answered(rows, r);
     }
-    if guards::blocked(rows, x.checkpoints, group, numbers::NOT_READY) {
-        return tables::sign(x, rows, p, false);
+    if guards::unstable(rows, group) {
+        return engine_tables::turns::sign(x, rows, p, false);
     }
-    tables::sign(x, rows, p, walks::grounded(list, replies, i, group))
+    engine_tables::turns::sign(x, rows, p, engine_walk::grounded(list, replies, i, group))
 }
 
 // Plays a list of whole steps: the register by value, the rows and the slots in arrays of which a step looks at one place, but for a
@@ -137,7 +137,7 @@ fn play_steps(list: &[u8], transactors: u8, messages: u8, checkpoints: u8, repli
     let n = list.len() / STEP;
     let mut x = Register::fresh(transactors, messages, checkpoints);
     let mut rows = [effects::UNUSED; 16];
-    let mut slots = [tables::EMPTY; PLACES];
+    let mut slots = [engine_tables::turns::EMPTY; PLACES];
     let mut i: usize = 0;
     while i < n {
         let from = STEP * i;
@@ -174,10 +174,10 @@ fn play_steps(list: &[u8], transactors: u8, messages: u8, checkpoints: u8, repli
 // checkpoints a transactor so often: 0, or 17, 18, 33 with no byte changed.
 pub fn play(
     list: &[u8],
+    replies: &mut [u8],
     transactors: usize,
     messages: usize,
     checkpoints: usize,
-    replies: &mut [u8],
 ) -> u8
     ensures { λ r. ⌜ (r ≡ playAnswer base (limitsOf transactors messages checkpoints) (now (list .entry)) (now (replies .entry)))
         × (now (replies .exit) ≡ playReplies base (limitsOf transactors messages checkpoints) (now (list .entry)) (now (replies .entry))) ⌝ }

@@ -9,13 +9,13 @@ ghost use Rattle.engine.specs.Play.{playAnswer, playReplies};
 #[no_mangle]
 pub extern "C" fn engine_play(
     list: &[u8],
+    replies: &mut [u8],
     transactors: usize,
     messages: usize,
     checkpoints: usize,
-    replies: &mut [u8],
 ) -> u8
     ensures { λ r. ⌜ (r ≡ playAnswer base (limitsOf transactors messages checkpoints) (now (list .entry)) (now (replies .entry)))
         × (now (replies .exit) ≡ playReplies base (limitsOf transactors messages checkpoints) (now (list .entry)) (now (replies .entry))) ⌝ }
 {
-    engine::play(list, transactors, messages, checkpoints, replies)
+    engine::play(list, replies, transactors, messages, checkpoints)
 }

@@ -101,8 +101,8 @@ module _ (y : Layout) (img : List ℕ) (v t u at : ℕ) where
       same-to c e = ap (λ (z : History). sameIncarnation (incarnationOf h) (incarnationOf z)) (sym own) ∙ e
 
       -- the same history, read where it stands
-      signed-to : (g : History) → g ≡ ownHistory u x → (c : Bool) → checkpointedIn (incarnationOf h) (incarnationOf g) ≡ c → checkpointedIn (incarnationOf h) (incarnationOf (ownHistory u x)) ≡ c
-      signed-to g k c e = ap (λ (z : History). checkpointedIn (incarnationOf h) (incarnationOf z)) (sym k) ∙ e
+      checkpointed-to : (g : History) → g ≡ ownHistory u x → (c : Bool) → checkpointedIn (incarnationOf h) (incarnationOf g) ≡ c → checkpointedIn (incarnationOf h) (incarnationOf (ownHistory u x)) ≡ c
+      checkpointed-to g k c e = ap (λ (z : History). checkpointedIn (incarnationOf h) (incarnationOf z)) (sym k) ∙ e
 
       module _ (same : sameIncarnation (incarnationOf h) (incarnationOf o) ≡ true) where
         -- a present life is not signed
@@ -122,13 +122,13 @@ module _ (y : Layout) (img : List ℕ) (v t u at : ℕ) where
         mark-outside n = rw (there-is p, l, n, same-to true same, unsigned)
 
       module _ (other : sameIncarnation (incarnationOf h) (incarnationOf o) ≡ false) where
-        pub mark-signed : (g : History) → g ≡ ownHistory u x → checkpointedIn (incarnationOf h) (incarnationOf g) ≡ true → Nothing ≡ markObstacle y img v t u at
+        pub mark-checkpointed : (g : History) → g ≡ ownHistory u x → checkpointedIn (incarnationOf h) (incarnationOf g) ≡ true → Nothing ≡ markObstacle y img v t u at
         unfolding markObstacle entryReady
-        mark-signed g k e = rw (there-is p, l, signed-to g k true e)
+        mark-checkpointed g k e = rw (there-is p, l, checkpointed-to g k true e)
 
         pub mark-withdrawn : (g : History) → g ≡ ownHistory u x → checkpointedIn (incarnationOf h) (incarnationOf g) ≡ false → Superseded t u ≡ markObstacle y img v t u at
         unfolding markObstacle entryReady groundOf isPresent
-        mark-withdrawn g k e = rw (there-is p, l, signed-to g k false e, same-to false other) (go (named v u))
+        mark-withdrawn g k e = rw (there-is p, l, checkpointed-to g k false e, same-to false other) (go (named v u))
           where
             go : (c : Bool) → Superseded t u ≡ pick (not (c and false)) (Superseded t u) Nothing
             go true = refl

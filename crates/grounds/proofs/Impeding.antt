@@ -21,7 +21,7 @@ use Rattle.rules.specs.Pack.{unpack}
 use Rattle.rules.specs.Dependents.{throughAt}
 use Rattle.rules.specs.Obstacle.{blocksIn, groundOf}
 use Rattle.rules.specs.Impediment.{isWithdrawn, withdrawnIn, withdrawnBy, lostGround, impedesAt, lowestFor, nextAt, impedimentOf}
-use Rattle.rules.specs.Internal.Guards.{blocksAt}
+use Rattle.rules.specs.Internal.Guards.{isFull}
 use Rattle.rules.proofs.Groups.Dependents.{in-group}
 use Rattle.grounds.specs.Marks.{isNothing, markObstacle}
 use Rattle.grounds.specs.Ways.{Reached}
@@ -82,8 +82,8 @@ module _ (y : Layout) (s : State) (c : ℕ) where
   impedes-hopeless {kind} e q = rw (eq-eqb kind 1 e) (ap (λ (k : ℕ). ltb k (y .transactors)) q)
 
   module _ {kind : ℕ} (n1 : kind ≡ 1 → ⊥) where
-    pub impedes-exhausted : kind ≡ 2 → blocksAt s 30 c ≡ impedesAt y s kind c
-    unfolding impedesAt blocksAt
+    pub impedes-exhausted : kind ≡ 2 → isFull s c ≡ impedesAt y s kind c
+    unfolding impedesAt isFull
     impedes-exhausted e = rw (ne-eqb kind 1 n1, eq-eqb kind 2 e)
 
     pub impedes-unstable : (kind ≡ 2 → ⊥) → (h : History) → h ≡ ownHistory c (transactorAt s c) → not (h .stable) ≡ impedesAt y s kind c

@@ -1,4 +1,5 @@
 pub mod Words
+pub mod Rooms
 pub mod Blocking
 pub mod Reaching
 pub mod Impeding

@@ -7,11 +7,12 @@ use image::layout::STATE;
 use image::layout::TRANSACTOR;
 use image::layout::TRANSACTORS;
 use lists::groups::is_named;
-use marks::History;
-use marks::in_place;
+use packed_histories::in_place;
 use rules::Obstacle;
 ghost use mathlib.Core.Path.{_≡_};
 ghost use Prim.Native.Nat.{_+_, _≤_, _<_};
+ghost use Rattle.marks.specs.History.{Roomy};
+ghost use Rattle.marks.specs.Packed.{historyIn};
 ghost use Rattle.rules.specs.Layout.{base, historyBytes, imageBytes};
 ghost use Rattle.rules.specs.Pack.{unpack};
 ghost use Rattle.rules.specs.Obstacle.{firstOf, unstableAt, entryObstacle, mapObstacle, obstacleOf};
@@ -47,23 +48,23 @@ fn unstable(image: &[u8], group: u16, t: usize) -> Obstacle
 
 // What the history at at, if there is one, of transactor u in a map of transactor t keeps from being checkpointed.
 pub fn mark(image: &[u8], group: u16, t: usize, u: usize, at: usize) -> Obstacle
-    requires { ⌜ Good (now image) × (t < base .transactors) × (u < base .transactors) × (at + historyBytes base ≤ imageBytes base) ⌝ }
+    requires { ⌜ Good (now image) × (t < base .transactors) × (u < base .transactors) × (at + historyBytes base ≤ imageBytes base)
+        × Roomy (base .places) (historyIn (base .width) (base .places) (now image) at) ⌝ }
     ensures { λ r. ⌜ r ≡ markObstacle base (now (image .entry)) group t u at ⌝ }
 {
-    if !History::present(image, at) {
+    if !packed_histories::present(image, at) {
         return Obstacle::Nothing;
     }
     if !is_live(image, u) {
         return Obstacle::Superseded(t as u8, u as u8);
     }
-    let h = own(image, u);
-    if in_place::same_as(image, at, h) {
+    let present = FIRST_TRANSACTOR + TRANSACTOR * u + STATE + marks::SIZE * u;
+    if in_place::same_in(image, at, present) {
         if is_named(group, u) {
             return Obstacle::Nothing;
         }
         return Obstacle::Outside(t as u8, u as u8);
     }
-    let present = FIRST_TRANSACTOR + TRANSACTOR * u + STATE + marks::SIZE * u;
     if in_place::checkpointed_in(image, at, present) {
         return Obstacle::Nothing;
     }

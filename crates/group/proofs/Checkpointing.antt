@@ -22,29 +22,29 @@ use Rattle.rules.proofs.Pack.RoundTrip.{unpack-packTransactor, transactorPart-p
 use Rattle.transactor.proofs.Lent.{part-lent, part-back}
 
 -- the image before the turn of take t
-unfoldable pub signedTo : List ℕ → ℕ → ℕ → List ℕ
-signedTo img g t = pack base (upTo (unpack base img) (checkpointAt base (unpack base img) g) t)
+unfoldable pub checkpointedTo : List ℕ → ℕ → ℕ → List ℕ
+checkpointedTo img g t = pack base (upTo (unpack base img) (checkpointAt base (unpack base img) g) t)
 
 module _ (img : List ℕ) (good : Good img) (g : ℕ) where
   abbrev s : State
   s = unpack base img
 
-  pub signed-none : img ≡ signedTo img g 0
-  unfolding signedTo
-  signed-none = rw upTo-none (sym (good .back))
+  pub checkpointed-none : img ≡ checkpointedTo img g 0
+  unfolding checkpointedTo
+  checkpointed-none = rw upTo-none (sym (good .back))
 
-  module _ (t : ℕ) (l : List ℕ) (is : l ≡ signedTo img g t) where
-    pub signed-long : length l ≡ length img
-    unfolding signedTo
-    signed-long = ap length is ∙ length-pack base (upTo s (checkpointAt base s g) t) ∙ sym (good .long)
+  module _ (t : ℕ) (l : List ℕ) (is : l ≡ checkpointedTo img g t) where
+    pub checkpointed-long : length l ≡ length img
+    unfolding checkpointedTo
+    checkpointed-long = ap length is ∙ length-pack base (upTo s (checkpointAt base s g) t) ∙ sym (good .long)
 
-    pub signed-all : t ≡ base .transactors → l ≡ pack base (checkpointGroup base s g)
-    unfolding signedTo checkpointGroup
-    signed-all e = is ∙ ap (signedTo img g) e ∙ ap (pack base) (upTo-all base s (checkpointAt base s g) (unpack-many base img))
+    pub checkpointed-all : t ≡ base .transactors → l ≡ pack base (checkpointGroup base s g)
+    unfolding checkpointedTo checkpointGroup
+    checkpointed-all e = is ∙ ap (checkpointedTo img g) e ∙ ap (pack base) (upTo-all base s (checkpointAt base s g) (unpack-many base img))
 
-    pub signed-unnamed : (n : Bool) → n ≡ named g t → n ≡ false → l ≡ signedTo img g (t + 1)
-    unfolding signedTo checkpointAt
-    signed-unnamed n e o = is ∙ ap (pack base) (sym (upTo-kept s (checkpointAt base s g) t (rw (← e, o))))
+    pub checkpointed-unnamed : (n : Bool) → n ≡ named g t → n ≡ false → l ≡ checkpointedTo img g (t + 1)
+    unfolding checkpointedTo checkpointAt
+    checkpointed-unnamed n e o = is ∙ ap (pack base) (sym (upTo-kept s (checkpointAt base s g) t (rw (← e, o))))
 
     module _ (below : t < base .transactors) where
       abbrev at : ℕ
@@ -55,7 +55,7 @@ module _ (img : List ℕ) (good : Good img) (g : ℕ) where
       own = midOf at (at + transactorBytes base - at) l
 
       own-packed : own ≡ packTransactor base (transactorAt s t)
-      unfolding signedTo packTransactorAt transactorPart
+      unfolding checkpointedTo packTransactorAt transactorPart
       own-packed =
           part-lent at (transactorBytes base) l
           ∙ ap (λ (b : List ℕ). transactorPart base b t) is
@@ -68,21 +68,21 @@ module _ (img : List ℕ) (good : Good img) (g : ℕ) where
       own-unpacked : unpackTransactor base own ≡ transactorAt s t
       own-unpacked = ap (unpackTransactor base) own-packed ∙ unpack-packTransactor base (transactorAt s t) ok
 
-      pub signed-good : GoodPart own
-      signed-good = record {
+      pub checkpointed-good : GoodPart own
+      checkpointed-good = record {
         long = rw own-packed (length-packTransactor base (transactorAt s t));
         back = ap (packTransactor base) own-unpacked ∙ sym own-packed;
         ok = rw own-unpacked ok;
       }
 
       module _ (n : Bool) (name : n ≡ named g t) (on : n ≡ true) where
-        pub signed-room : Room s g → ownHistory t (unpackTransactor base own) .count < base .places
+        pub checkpointed-room : Room s g → ownHistory t (unpackTransactor base own) .count < base .places
         unfolding Room
-        signed-room r = rw own-unpacked (omega (arith, r t (sym name ∙ on), good .well .limits .checkpoints-high))
+        checkpointed-room r = rw own-unpacked (omega (arith, r t (sym name ∙ on), good .well .limits .checkpoints-high))
 
-        pub signed-named : (b : List ℕ) → b ≡ packTransactor base (checkpointBy base t (unpackTransactor base own)) → putMid at (at + transactorBytes base - at) l b ≡ signedTo img g (t + 1)
-        unfolding signedTo checkpointAt
-        signed-named b e =
+        pub checkpointed-named : (b : List ℕ) → b ≡ packTransactor base (checkpointBy base t (unpackTransactor base own)) → putMid at (at + transactorBytes base - at) l b ≡ checkpointedTo img g (t + 1)
+        unfolding checkpointedTo checkpointAt
+        checkpointed-named b e =
             let f : checkpointAt base s g t ≡ checkpointBy base t (transactorAt s t) = rw (← name, on) in
             let h : b ≡ packTransactor base (checkpointAt base s g t) = e ∙ ap (λ (x : Transactor). packTransactor base (checkpointBy base t x)) own-unpacked ∙ ap (packTransactor base) (sym f) in
             part-back at (transactorBytes base) l b (ap length h ∙ length-packTransactor base (checkpointAt base s g t))

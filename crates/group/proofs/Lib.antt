@@ -1,3 +1,4 @@
+mod Blocking
 mod Checkpointing
 mod Meeting
 mod Presenting

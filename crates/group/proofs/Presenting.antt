@@ -62,8 +62,8 @@ module _ {y : Layout} {s : State} {g : ℕ} where
       flag : (b : Bool) → h .stable ≡ b → named g t and ownHistory t (transactorAt s t) .stable ≡ b
       flag b f = rw (name, ← e, f)
 
-      pub presented-loose : h .stable ≡ false → Presented y s g (t + 1) (set l t h) v
-      presented-loose f = record { within = omega arith; long = length-set l t h ∙ p .long; own = kept; stable = names-off (p .stable) (flag false f) }
+      pub presented-unstable : h .stable ≡ false → Presented y s g (t + 1) (set l t h) v
+      presented-unstable f = record { within = omega arith; long = length-set l t h ∙ p .long; own = kept; stable = names-off (p .stable) (flag false f) }
 
       module _ (b : ℕ) (bit : b ≡ 2 ^ t) where
         pub presented-stable : h .stable ≡ true → Presented y s g (t + 1) (set l t h) (v + b)

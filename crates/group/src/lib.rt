@@ -9,59 +9,66 @@ use image::layout::TRANSACTOR;
 use image::layout::TRANSACTORS;
 use image::limits;
 use lists::groups::is_named;
-use lists::groups::names_from;
+use lists::refusals;
 use marks::History;
-use marks::in_place;
+use packed_histories::in_place;
 use rules::numbers;
 ghost use mathlib.Core.Path.{_≡_};
 ghost use Prim.Native.Nat.{_+_, _≤_, _<_};
-ghost use lib.Dec.{leb};
 ghost use Rattle.rules.specs.Layout.{base, historyBytes, imageBytes};
 ghost use Rattle.rules.specs.State.{live, ownHistory, transactorAt};
-ghost use Rattle.rules.specs.Refusals.{named, anyNamed};
 ghost use Rattle.rules.specs.Rules.{groupReady, checkpointGroup};
 ghost use Rattle.rules.specs.Pack.{pack, unpack};
 ghost use Rattle.rules.specs.Internal.Good.{Good};
-ghost use Rattle.rules.specs.Internal.Guards.{blocksAt, namedRefusal, groupRefusal, Room};
-ghost use Rattle.rules.specs.Internal.Closure.{pairReady, Presents, Kept, vouchedAt, checkpointedAt};
+ghost use Rattle.rules.specs.Internal.Guards.{isFull, namedIn, groupIn, Room};
+ghost use Rattle.rules.specs.Internal.Closure.{pairReady, Presents, Kept, inGroupAt, checkpointedAt};
 
 // The own history of transactor t.
 pub fn own(image: &[u8], t: usize) -> History
     requires { ⌜ Good (now image) × (t < base .transactors) ⌝ }
     ensures { λ r. ⌜ r ≡ ownHistory t (transactorAt (unpack base (now (image .entry))) t) ⌝ }
 {
-    History::load(
-        image,
-        FIRST_TRANSACTOR + TRANSACTOR * t + STATE + marks::SIZE * t,
-    )
+    let at = FIRST_TRANSACTOR + TRANSACTOR * t;
+    let end = at + TRANSACTOR;
+    transactor::own(&image[at..end], t)
 }
 
-// Whether transactor t has no room for one more checkpoint.
-pub fn is_full(image: &[u8], t: usize) -> bool
+// How many checkpoints transactor t has.
+fn count(image: &[u8], t: usize) -> u8
     requires { ⌜ Good (now image) × (t < base .transactors) ⌝ }
-    ensures { λ r. ⌜ r ≡ blocksAt (unpack base (now (image .entry))) 30 t ⌝ }
+    ensures { λ r. ⌜ r ≡ ownHistory t (transactorAt (unpack base (now (image .entry))) t) .count ⌝ }
 {
     let n = in_place::count(
         image,
         FIRST_TRANSACTOR + TRANSACTOR * t + STATE + marks::SIZE * t,
     );
-    (limits::checkpoints(image) as usize) <= n
+    n as u8
+}
+
+// Whether transactor t has no room for one more checkpoint.
+pub fn is_full(image: &[u8], t: usize) -> bool
+    requires { ⌜ Good (now image) × (t < base .transactors) ⌝ }
+    ensures { λ r. ⌜ r ≡ isFull (unpack base (now (image .entry))) t ⌝ }
+{
+    limits::checkpoints(image) <= count(image, t)
 }
 
 // Whether a named transactor is gone, 22, or else one has no room, 30; or 0.
 fn blocked(image: &[u8], group: u16) -> u8
     requires { ⌜ Good (now image) ⌝ }
-    ensures { λ r. ⌜ r ≡ namedRefusal (unpack base (now (image .entry))) group ⌝ }
+    ensures { λ r. ⌜ r ≡ namedIn (unpack base (now (image .entry))) group ⌝ }
 {
+    let most = limits::checkpoints(image);
     let mut number: u8 = 0;
     let mut t: usize = 0;
     while t < TRANSACTORS {
         if is_named(group, t) {
-            if head::status(image, t) == numbers::ANNIHILATED {
-                return numbers::GONE;
+            let r = refusals::member(most, head::status(image, t), count(image, t));
+            if r == numbers::GONE {
+                return r;
             }
-            if is_full(image, t) {
-                number = numbers::ALL_CHECKPOINTED;
+            if r != 0 {
+                number = r;
             }
         }
         t += 1;
@@ -72,24 +79,22 @@ fn blocked(image: &[u8], group: u16) -> u8
 // The refusals of a signing, 29, 21, 22 and 30, or 0.
 pub fn refusal(image: &[u8], group: u16) -> u8
     requires { ⌜ Good (now image) ⌝ }
-    ensures { λ r. ⌜ r ≡ groupRefusal (unpack base (now (image .entry))) group ⌝ }
+    ensures { λ r. ⌜ r ≡ groupIn (unpack base (now (image .entry))) group ⌝ }
 {
-    if group == 0 {
-        return numbers::EMPTY_GROUP;
-    }
-    if names_from(group, head::opened(image) as usize) {
-        return numbers::UNOPENED;
+    let r = refusals::group(head::opened(image), group);
+    if r != 0 {
+        return r;
     }
     blocked(image, group)
 }
 
-// Whether transactor u is ready or busy.
+// Whether transactor u is idle or busy.
 pub fn is_live(image: &[u8], u: usize) -> bool
     requires { ⌜ Good (now image) × (u < base .transactors) ⌝ }
     ensures { λ r. ⌜ r ≡ live (transactorAt (unpack base (now (image .entry))) u) ⌝ }
 {
     let status = head::status(image, u);
-    status == numbers::READY || status == numbers::BUSY
+    status == numbers::IDLE || status == numbers::BUSY
 }
 
 // ---- the test of a group, with what is kept of its members
@@ -125,11 +130,11 @@ fn presents(image: &[u8], group: u16) -> Present
 }
 
 // Whether there is no history at at, or one of the present incarnation of transactor u, a named one, of which h is kept.
-fn vouched(image: &[u8], group: u16, at: usize, u: usize, h: History) -> bool
+fn in_group(image: &[u8], group: u16, at: usize, u: usize, h: History) -> bool
     requires { ⌜ Good (now image) × (at + historyBytes base ≤ imageBytes base) × (u < base .transactors) × Kept (unpack base (now image)) group u h ⌝ }
-    ensures { λ r. ⌜ r ≡ vouchedAt base (now (image .entry)) group at u ⌝ }
+    ensures { λ r. ⌜ r ≡ inGroupAt base (now (image .entry)) group at u ⌝ }
 {
-    if !History::present(image, at) {
+    if !packed_histories::present(image, at) {
         return true;
     }
     if !is_named(group, u) {
@@ -139,7 +144,7 @@ fn vouched(image: &[u8], group: u16, at: usize, u: usize, h: History) -> bool
 }
 
 // Whether the history at at, of transactor u, is checkpointed.
-fn signed(image: &[u8], group: u16, at: usize, u: usize, h: History) -> bool
+fn checkpointed(image: &[u8], group: u16, at: usize, u: usize, h: History) -> bool
     requires { ⌜ Good (now image) × (at + historyBytes base ≤ imageBytes base) × (u < base .transactors) × Kept (unpack base (now image)) group u h ⌝ }
     ensures { λ r. ⌜ r ≡ checkpointedAt base (now (image .entry)) at u ⌝ }
 {
@@ -163,14 +168,14 @@ fn kept_ready(image: &[u8], group: u16, t: usize, u: usize, h: History) -> bool
 {
     let at = FIRST_TRANSACTOR + TRANSACTOR * t;
     let state = at + STATE + marks::SIZE * u;
-    if !vouched(image, group, state, u, h) {
-        if !signed(image, group, state, u, h) {
+    if !in_group(image, group, state, u, h) {
+        if !checkpointed(image, group, state, u, h) {
             return false;
         }
     }
     let creation = at + CREATION + marks::SIZE * u;
-    if !vouched(image, group, creation, u, h) {
-        return signed(image, group, creation, u, h);
+    if !in_group(image, group, creation, u, h) {
+        return checkpointed(image, group, creation, u, h);
     }
     true
 }

@@ -1,9 +1,9 @@
 // What each transactor needs of a group: worked out once, so that a group is then tested by a few words.
 use crate::Present;
+use crate::checkpointed;
+use crate::in_group;
 use crate::is_full;
 use crate::presents;
-use crate::signed;
-use crate::vouched;
 use image::layout::CREATION;
 use image::layout::FIRST_TRANSACTOR;
 use image::layout::STATE;
@@ -55,13 +55,13 @@ fn asked(image: &[u8], stable: u16, at: usize, u: usize, h: History) -> u8
     requires { ⌜ Good (now image) × (at + historyBytes base ≤ imageBytes base) × (u < base .transactors) × Kept (unpack base (now image)) stable u h ⌝ }
     ensures { λ r. ⌜ r ≡ askedAt base (now (image .entry)) stable at u ⌝ }
 {
-    if !History::present(image, at) {
+    if !packed_histories::present(image, at) {
         return NOTHING;
     }
-    if vouched(image, stable, at, u, h) {
+    if in_group(image, stable, at, u, h) {
         return MEMBER;
     }
-    if signed(image, stable, at, u, h) {
+    if checkpointed(image, stable, at, u, h) {
         return NOTHING;
     }
     MORE

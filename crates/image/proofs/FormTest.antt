@@ -21,11 +21,13 @@ use Rattle.octets.proofs.Zero.{both, allZero-at, allZero-part, every-at, every-
 use Rattle.maps.specs.Map.{heldAt}
 use Rattle.maps.specs.Packed.{formedMap}
 use Rattle.rules.specs.Layout.{Layout, base, limitsOf, inRange, mapBytes, stateAt, creationAt, behaviourAt, dependencesAt, transactorBytes, transactorAddress, messageAddress, imageBytes}
-use Rattle.rules.specs.Status.{unused, ready, annihilated}
+use Rattle.rules.specs.Status.{unused, idle, annihilated}
 use Rattle.rules.specs.State.{State, Transactor, transactorAt, messageAt, ownHistory}
 use Rattle.rules.specs.Pack.{packLimits, transactorPart, messagePart, waitingIn, unpack}
 use Rattle.rules.specs.Form.{mapFormed, limitsZero, wellFormed}
-use Rattle.rules.specs.Internal.Well.{Live, idle, working}
+use Rattle.rules.specs.Internal.Well.{Live, is-idle, is-busy}
+use Rattle.rules.specs.Internal.Guards.{imageRefusal}
+use Rattle.rules.proofs.Calls.Begin.{wrong-length, right-length}
 use Rattle.image.specs.Internal.Tests.{formedOwnAt, formedLiveAt, formedTransactorAt, leastAt, formedMessageAt, formedFront, formedImage}
 use Rattle.octets.proofs.Tests.{implied, implying, same-test}
 use Rattle.rules.proofs.Form.Clauses.{Below}
@@ -39,7 +41,7 @@ use Rattle.rules.proofs.Form.Image.{ImageForm, form-image, image-form}
 
 -- The test on the bytes b of transactor t, which is x: last, for a live one, and whole.
 abbrev testBehaviour : Layout → State → List ℕ → Transactor → Bool
-testBehaviour y s b x = pick (eqb (x .status) ready) (allZero (part (behaviourAt y) (mapBytes y) b)) (mapFormed y s (behaviourAt y) b)
+testBehaviour y s b x = pick (eqb (x .status) idle) (allZero (part (behaviourAt y) (mapBytes y) b)) (mapFormed y s (behaviourAt y) b)
 
 abbrev testOwn : ℕ → Transactor → Bool
 testOwn t x = heldAt (x .state) t and (not (eqb (ownHistory t x .count) 0) or eqb (x .saved) 0)
@@ -116,16 +118,16 @@ module _ (y : Layout) (s : State) (t : ℕ) (b : List ℕ) (x : Transactor) wher
       ) (last (x .status) refl (a .status))
     where
       last : (n : ℕ) → x .status ≡ n → Live n → testBehaviour y s b x ≡ true
-      last n u idle = rw u (a .behaves u)
-      last n u working = rw u (a .behaviour)
+      last n u is-idle = rw u (a .behaves u)
+      last n u is-busy = rw u (a .behaviour)
 
   live-form : length b ≡ transactorBytes y → getD b 0 0 % 64 ≡ 0 → Live (x .status) → testLive y s t b x ≡ true → AliveForm y s t b x
   live-form n d l e =
       let state = both (mapFormed y s stateAt b) _ e in
       let creation = both (mapFormed y s (creationAt y) b) _ (state .1) in
-      let signed = both (testOwn t x) _ (creation .1) in
-      let own = both (heldAt (x .state) t) _ (signed .0) in
-      let last = behaves (x .status) refl l (signed .1) in
+      let checkpointed = both (testOwn t x) _ (creation .1) in
+      let own = both (heldAt (x .state) t) _ (checkpointed .0) in
+      let last = behaves (x .status) refl l (checkpointed .1) in
       record {
         head = d;
         status = l;
@@ -138,11 +140,11 @@ module _ (y : Layout) (s : State) (t : ℕ) (b : List ℕ) (x : Transactor) wher
       }
     where
       behaves : (m : ℕ) → x .status ≡ m → Live m → testBehaviour y s b x ≡ true
-          → (mapFormed y s (behaviourAt y) b ≡ true) × (x .status ≡ ready → allZero (part (behaviourAt y) (mapBytes y) b) ≡ true)
-      behaves m u idle g =
+          → (mapFormed y s (behaviourAt y) b ≡ true) × (x .status ≡ idle → allZero (part (behaviourAt y) (mapBytes y) b) ≡ true)
+      behaves m u is-idle g =
           let z : allZero (part (behaviourAt y) (mapBytes y) b) ≡ true = rw u at g in
           (mapFormed-zeros y s (behaviourAt y) b (allZero-part (behaviourAt y) (mapBytes y) b (omega arith) z), λ r. z)
-      behaves m u working g = (rw u at g, λ r. absurd (omega arith))
+      behaves m u is-busy g = (rw u at g, λ r. absurd (omega arith))
 
   test-form : x .status ≡ getD b 0 0 / 64 → getD b 0 0 < 256 → length b ≡ transactorBytes y → testTransactor y s t b x ≡ true → TransactorForm y s t b x
   test-form f h n e = ⊎-elim used rest (sides t (s .opened))
@@ -374,3 +376,19 @@ module _ (y : Layout) (img : List ℕ) (long : length img ≡ imageBytes y) (byt
     pub all-formed : not (every (y .transactors) (formedTransactorAt y img)) ≡ false → every (y .messages) (formedMessageAt y img) ≡ wellFormed y img
     unfolding formedImage
     all-formed e = tested (rw (not-false (formedFront y img) front, not-false (every (y .transactors) (formedTransactorAt y img)) e))
+
+-- ---- 16, 19
+
+module _ (y : Layout) (img : List ℕ) where
+  pub image-16 : (length img ≡ imageBytes y → ⊥) → 16 ≡ imageRefusal y img
+  unfolding imageRefusal
+  image-16 n = rw (wrong-length y img n)
+
+  module _ (long : length img ≡ imageBytes y) where
+    pub image-19 : not (wellFormed y img) ≡ true → 19 ≡ imageRefusal y img
+    unfolding imageRefusal
+    image-19 e = rw (right-length y img long, e)
+
+    pub image-0 : not (wellFormed y img) ≡ false → 0 ≡ imageRefusal y img
+    unfolding imageRefusal
+    image-0 e = rw (right-length y img long, e)

@@ -6,6 +6,7 @@ use crate::layout::CREATION;
 use crate::layout::DEPENDENCES;
 use crate::layout::FIRST_MESSAGE;
 use crate::layout::FIRST_TRANSACTOR;
+use crate::layout::IMAGE;
 use crate::layout::LIMITS_BLANK;
 use crate::layout::MESSAGE;
 use crate::layout::MESSAGES;
@@ -16,17 +17,16 @@ use crate::layout::TRANSACTOR;
 use crate::layout::TRANSACTORS;
 use crate::limits;
 use crate::messages;
-use maps::DependenceMap;
-use marks::History;
 use rules::numbers;
 ghost use mathlib.Core.Path.{_≡_};
-ghost use Prim.Native.Nat.{_/_, _≤_, _<_};
+ghost use Prim.Native.Nat.{_/_, _<_};
 ghost use lib.ListN.{length, getD};
 ghost use Rattle.octets.specs.Bytes.{every};
 ghost use Rattle.rules.specs.Layout.{base, transactorAddress, imageBytes};
 ghost use Rattle.rules.specs.Pack.{waitingIn, unpack};
 ghost use Rattle.rules.specs.Form.{wellFormed};
-ghost use Rattle.image.specs.Internal.Tests.{formedOwnAt, formedLiveAt, formedTransactorAt, leastAt, formedMessageAt, formedFront};
+ghost use Rattle.rules.specs.Internal.Guards.{imageRefusal};
+ghost use Rattle.image.specs.Internal.Tests.{Headed, formedOwnAt, formedLiveAt, formedTransactorAt, leastAt, formedMessageAt, formedFront};
 
 // Its own history, and no saved value before a checkpoint.
 fn own_formed(s: &[u8], t: usize) -> bool
@@ -35,10 +35,10 @@ fn own_formed(s: &[u8], t: usize) -> bool
 {
     let at = FIRST_TRANSACTOR + TRANSACTOR * t;
     let there = at + STATE + marks::SIZE * t;
-    if !History::present(s, there) {
+    if !packed_histories::present(s, there) {
         return false;
     }
-    let own = History::load(s, there);
+    let own = packed_histories::load(s, there);
     if own.count != 0 {
         return true;
     }
@@ -47,28 +47,28 @@ fn own_formed(s: &[u8], t: usize) -> bool
 
 // A transactor, idle or at work.
 fn live_formed(s: &[u8], t: usize, status: u8, opened: usize, limit: u8) -> bool
-    requires { ⌜ (length (now s) ≡ imageBytes base) × (t < base .transactors) × (status ≡ getD (now s) (transactorAddress base t) 0 / 64) × (opened ≡ unpack base (now s) .opened) × (limit ≡ unpack base (now s) .limits .checkpoints) × (limit ≤ base .places) ⌝ }
+    requires { ⌜ Headed (now s) opened limit × (t < base .transactors) × (status ≡ getD (now s) (transactorAddress base t) 0 / 64) ⌝ }
     ensures { λ r. ⌜ r ≡ formedLiveAt base (now (s .entry)) t ⌝ }
 {
     let at = FIRST_TRANSACTOR + TRANSACTOR * t;
-    if !DependenceMap::formed(s, at + STATE, opened, limit) {
+    if !packed_maps::formed(s, at + STATE, opened, limit) {
         return false;
     }
-    if !DependenceMap::formed(s, at + CREATION, opened, limit) {
+    if !packed_maps::formed(s, at + CREATION, opened, limit) {
         return false;
     }
     if !own_formed(s, t) {
         return false;
     }
-    if status == numbers::READY {
+    if status == numbers::IDLE {
         return octets::all_zero(s, at + BEHAVIOUR, maps::SIZE);
     }
-    DependenceMap::formed(s, at + BEHAVIOUR, opened, limit)
+    packed_maps::formed(s, at + BEHAVIOUR, opened, limit)
 }
 
 // One transactor, where opened are opened and a list may have limit entries.
 fn transactor_formed(s: &[u8], t: usize, opened: usize, limit: u8) -> bool
-    requires { ⌜ (length (now s) ≡ imageBytes base) × (t < base .transactors) × (opened ≡ unpack base (now s) .opened) × (limit ≡ unpack base (now s) .limits .checkpoints) × (limit ≤ base .places) ⌝ }
+    requires { ⌜ Headed (now s) opened limit × (t < base .transactors) ⌝ }
     ensures { λ r. ⌜ r ≡ formedTransactorAt base (now (s .entry)) t ⌝ }
 {
     let at = FIRST_TRANSACTOR + TRANSACTOR * t;
@@ -103,7 +103,7 @@ fn least(s: &[u8], k: usize) -> usize
 
 // Place k, of which the first n wait.
 fn message_formed(s: &[u8], k: usize, n: usize, opened: usize, next: u16, limit: u8) -> bool
-    requires { ⌜ (length (now s) ≡ imageBytes base) × (k < base .messages) × (n ≡ waitingIn base (now s)) × (opened ≡ unpack base (now s) .opened) × (next ≡ unpack base (now s) .next) × (limit ≡ unpack base (now s) .limits .checkpoints) × (limit ≤ base .places) ⌝ }
+    requires { ⌜ Headed (now s) opened limit × (k < base .messages) × (n ≡ waitingIn base (now s)) × (next ≡ unpack base (now s) .next) ⌝ }
     ensures { λ r. ⌜ r ≡ formedMessageAt base (now (s .entry)) k ⌝ }
 {
     let at = FIRST_MESSAGE + MESSAGE * k;
@@ -125,11 +125,11 @@ fn message_formed(s: &[u8], k: usize, n: usize, opened: usize, next: u16, limit:
     if (number as usize) < least(s, k) {
         return false;
     }
-    DependenceMap::formed(s, at + DEPENDENCES, opened, limit)
+    packed_maps::formed(s, at + DEPENDENCES, opened, limit)
 }
 
 fn transactors_formed(s: &[u8], opened: usize, limit: u8) -> bool
-    requires { ⌜ (length (now s) ≡ imageBytes base) × (opened ≡ unpack base (now s) .opened) × (limit ≡ unpack base (now s) .limits .checkpoints) × (limit ≤ base .places) ⌝ }
+    requires { ⌜ Headed (now s) opened limit ⌝ }
     ensures { λ r. ⌜ r ≡ every (base .transactors) (formedTransactorAt base (now (s .entry))) ⌝ }
 {
     let mut t: usize = 0;
@@ -143,7 +143,7 @@ fn transactors_formed(s: &[u8], opened: usize, limit: u8) -> bool
 }
 
 fn messages_formed(s: &[u8], n: usize, opened: usize, next: u16, limit: u8) -> bool
-    requires { ⌜ (length (now s) ≡ imageBytes base) × (n ≡ waitingIn base (now s)) × (opened ≡ unpack base (now s) .opened) × (next ≡ unpack base (now s) .next) × (limit ≡ unpack base (now s) .limits .checkpoints) × (limit ≤ base .places) ⌝ }
+    requires { ⌜ Headed (now s) opened limit × (n ≡ waitingIn base (now s)) × (next ≡ unpack base (now s) .next) ⌝ }
     ensures { λ r. ⌜ r ≡ every (base .messages) (formedMessageAt base (now (s .entry))) ⌝ }
 {
     let mut k: usize = 0;
@@ -192,4 +192,17 @@ pub fn formed(s: &[u8]) -> bool
         return false;
     }
     messages_formed(s, n, opened, head::next(s), limit)
+}
+
+// What a call refuses any image for: 16, 19; or 0.
+pub fn image_refusal(s: &[u8]) -> u8
+    ensures { λ r. ⌜ r ≡ imageRefusal base (now (s .entry)) ⌝ }
+{
+    if s.len() != IMAGE {
+        return numbers::WRONG_LENGTH;
+    }
+    if !formed(s) {
+        return numbers::ILL_FORMED;
+    }
+    0
 }

@@ -12,7 +12,6 @@ use crate::layout::NEXT;
 use crate::layout::NUMBER;
 use crate::layout::STATE;
 use crate::layout::TRANSACTOR;
-use maps::DependenceMap;
 ghost use mathlib.Core.Path.{_≡_};
 ghost use Prim.Native.Nat.{_+_, _≤_, _<_};
 ghost use lib.ListN.{length, set};
@@ -115,7 +114,7 @@ pub fn append(image: &mut [u8], n: usize, to: u8, value: u32, t: usize)
     let creation = from + CREATION;
     let behaviour = from + BEHAVIOUR;
     let own = from + STATE + marks::SIZE * t;
-    DependenceMap::join_to(image, creation, behaviour, own, t, at + DEPENDENCES);
+    stored_maps::join_to(image, creation, behaviour, own, t, at + DEPENDENCES);
     octets::store16(image, NEXT, number + 1);
 }
 
@@ -127,7 +126,7 @@ pub fn append_empty(image: &mut [u8], n: usize, to: u8, value: u32)
     let number = head::next(image);
     let at = FIRST_MESSAGE + MESSAGE * n;
     store_fields(image, at, to, number, value);
-    DependenceMap::store_empty(image, at + DEPENDENCES);
+    stored_maps::store_empty(image, at + DEPENDENCES);
     octets::store16(image, NEXT, number + 1);
 }
 

@@ -2,7 +2,7 @@
 use image::layout::IMAGE;
 use inspection::LINES;
 use libc::STDIN_FILENO;
-use notation::write::Line;
+use lines::Line;
 
 // Line n, or why there is none; answers whether to go on.
 fn line(image: &[u8], n: usize) -> bool {

@@ -5,7 +5,7 @@ use mathlib.Core.Path.{_≡_, refl, sym, ap, _∙_, subst}
 use mathlib.Core.List.{List, [], _∷_, _++_, append-nil}
 use native.Mathlib.Numerals.{add-one}
 use native.Mathlib.Omega.{arith}
-use borrow.Author.Tests.{eqb-true, lt-ltb, le-ltb, le-leb, lt-leb, ne-eqb, eq-eqb}
+use borrow.Author.Tests.{lt-ltb, le-ltb, le-leb, lt-leb, ne-eqb, eq-eqb}
 use lib.Dec.{eqb, ltb, leb}
 use lib.ListN.{length, drop, getD, length-append, length-drop}
 use Rattle.octets.specs.Bytes.{pick, _or_, part, chunks}
@@ -16,17 +16,17 @@ use Rattle.marks.specs.declared.History.{History}
 use Rattle.marks.specs.Packed.{unpackHistory, presentIn}
 use Rattle.maps.specs.declared.DependenceMap.{DependenceMap}
 use Rattle.maps.specs.Map.{heldAt, historyAt}
-use Rattle.rules.specs.Layout.{base, historyBytes, mapBytes, transactorAddress, valueAt}
-use Rattle.rules.specs.State.{Transactor, Message, State, transactorAt, messageAt}
+use Rattle.rules.specs.Layout.{base, transactorAddress, valueAt}
+use Rattle.rules.specs.State.{Transactor, State, transactorAt, messageAt}
 use Rattle.rules.specs.Form.{wellFormed}
 use Rattle.rules.specs.Pack.{unpack, unpackDependences, unpackTransactor, unpackTransactorAt, waitingIn}
 use Rattle.rules.proofs.Pack.Loads.{held-at, history-at, part-transactor, read-transactor, read-saved, read-state, read-creation, read-behaviour, read-dependences, unpack-waiting}
 use Rattle.notation.specs.Notation.{bytes, decimal, places}
-use Rattle.notation.specs.declared.write.Line.{Line}
-use Rattle.notation.specs.Lines.{lineRoom, written, plus, Says}
-use Rattle.notation.proofs.Putting.{decimal-places}
-use Rattle.notation.proofs.Lining.{plus-none, plus-two, plus-three, plus-empty, said-length, says-short, written-empty}
-use Rattle.inspection.specs.Inspection.{piece, entriesText, listText, lifeText, markText, entryText, textsText, statusText, takeText, mapText, takeLine, parcelText, parcelLine, limitsText, countersText, lineText, inspectRefusal, ended, inspected}
+use Rattle.lines.specs.declared.Line.{Line}
+use Rattle.lines.specs.Lines.{lineRoom, written, plus, Says}
+use Rattle.lines.proofs.Putting.{decimal-places}
+use Rattle.lines.proofs.Lining.{plus-two, plus-three, plus-empty, said-length, says-short, written-empty}
+use Rattle.inspection.specs.Inspection.{piece, entriesText, listText, incarnationText, historyText, entryText, valuesText, statusText, transactorText, mapText, transactorLine, messageText, messageLine, limitsText, countersText, lineText, inspectRefusal, ended, inspected}
 
 -- ---- pieces
 
@@ -111,21 +111,21 @@ list-short h k = go (eqb (h .count) 0)
 -- ---- a mark
 
 module _ (h : History) where
-  pub life-said : (a b c d e : List ℕ) → b ≡ plus a (40 ∷ []) → c ≡ plus b (listText h) → d ≡ plus c (piece (bytes "; ") (h .incarnation)) → e ≡ plus d (41 ∷ []) → e ≡ plus a (lifeText h)
-  unfolding lifeText
-  life-said a b c d e p q r s = plus-two a d e ((40 ∷ []) ++ listText h ++ piece (bytes "; ") (h .incarnation)) (41 ∷ []) (plus-three a b c d (40 ∷ []) (listText h) (piece (bytes "; ") (h .incarnation)) p q r) s
+  pub incarnation-said : (a b c d e : List ℕ) → b ≡ plus a (40 ∷ []) → c ≡ plus b (listText h) → d ≡ plus c (piece (bytes "; ") (h .incarnation)) → e ≡ plus d (41 ∷ []) → e ≡ plus a (incarnationText h)
+  unfolding incarnationText
+  incarnation-said a b c d e p q r s = plus-two a d e ((40 ∷ []) ++ listText h ++ piece (bytes "; ") (h .incarnation)) (41 ∷ []) (plus-three a b c d (40 ∷ []) (listText h) (piece (bytes "; ") (h .incarnation)) p q r) s
 
-  pub mark-frozen : (a b c : List ℕ) → h .stable ≡ true → b ≡ plus a (lifeText h) → c ≡ plus b (bytes " frozen") → c ≡ plus a (markText h)
-  unfolding markText
-  mark-frozen a b c e p q = plus-two a b c (lifeText h) (bytes " frozen") p q ∙ ap (λ (t : Bool). plus a (lifeText h ++ pick t (bytes " frozen") [])) (sym e)
+  pub history-stable : (a b c : List ℕ) → h .stable ≡ true → b ≡ plus a (incarnationText h) → c ≡ plus b (bytes " frozen") → c ≡ plus a (historyText h)
+  unfolding historyText
+  history-stable a b c e p q = plus-two a b c (incarnationText h) (bytes " frozen") p q ∙ ap (λ (t : Bool). plus a (incarnationText h ++ pick t (bytes " frozen") [])) (sym e)
 
-  pub mark-loose : (a b : List ℕ) → h .stable ≡ false → b ≡ plus a (lifeText h) → b ≡ plus a (markText h)
-  unfolding markText
-  mark-loose a b e p = p ∙ ap (plus a) (sym (append-nil (lifeText h))) ∙ ap (λ (t : Bool). plus a (lifeText h ++ pick t (bytes " frozen") [])) (sym e)
+  pub history-loose : (a b : List ℕ) → h .stable ≡ false → b ≡ plus a (incarnationText h) → b ≡ plus a (historyText h)
+  unfolding historyText
+  history-loose a b e p = p ∙ ap (plus a) (sym (append-nil (incarnationText h))) ∙ ap (λ (t : Bool). plus a (incarnationText h ++ pick t (bytes " frozen") [])) (sym e)
 
-  mark-short : h .count ≤ 15 → length (markText h) ≤ 186
-  unfolding markText lifeText
-  mark-short k =
+  history-short : h .count ≤ 15 → length (historyText h) ≤ 186
+  unfolding historyText incarnationText
+  history-short k =
       let x : List ℕ = (40 ∷ []) ++ listText h in
       let y : List ℕ = piece (bytes "; ") (h .incarnation) in
       omega (arith, length-append (x ++ y ++ (41 ∷ [])) (pick (h .stable) (bytes " frozen") []), length-append (x ++ y) (41 ∷ []), length-append x y, length-append (40 ∷ []) (listText h), list-short h k, piece-short (bytes "; ") (h .incarnation), flag (h .stable))
@@ -149,15 +149,15 @@ module _ (name img : List ℕ) (at u : ℕ) (below : u < 16) where
       rw k (record { is = written-empty bs; len = refl })
 
   pub entry-some : (r : Bool) (h : History) (l : Line) (z a b c : List ℕ) → r ≡ presentIn (part (at + 33 * u) 33 img) → r ≡ true → h ≡ unpackHistory 2 15 (part (at + 33 * u) 33 img)
-      → z ≡ [] → a ≡ plus z (piece name u) → b ≡ plus a (32 ∷ []) → c ≡ plus b (markText h) → written l ≡ plus c (10 ∷ []) → length (l .bytes) ≡ lineRoom → length name ≤ 20
+      → z ≡ [] → a ≡ plus z (piece name u) → b ≡ plus a (32 ∷ []) → c ≡ plus b (historyText h) → written l ≡ plus c (10 ∷ []) → length (l .bytes) ≡ lineRoom → length name ≤ 20
       → Says l (entryText name u (unpackDependences base at img))
   unfolding entryText
   entry-some r h l z a b c e n f g p q s t sized short =
       let k : heldAt (unpackDependences base at img) u ≡ true = held-at base at img u below ∙ sym e ∙ n in
       let y : historyAt (unpackDependences base at img) u ≡ h = history-at base at img u below ∙ sym f in
-      let x : List ℕ = piece name u ++ (32 ∷ []) ++ markText h ++ (10 ∷ []) in
-      let w : written l ≡ plus z x = plus-two z c (written l) (piece name u ++ (32 ∷ []) ++ markText h) (10 ∷ []) (plus-three z a b c (piece name u) (32 ∷ []) (markText h) p q s) t in
-      let m : length x < lineRoom = omega (arith, length-append (piece name u ++ (32 ∷ []) ++ markText h) (10 ∷ []), length-append (piece name u ++ (32 ∷ [])) (markText h), length-append (piece name u) (32 ∷ []), piece-short name u, mark-short h (count-low (part (at + 33 * u) 33 img) h f)) in
+      let x : List ℕ = piece name u ++ (32 ∷ []) ++ historyText h ++ (10 ∷ []) in
+      let w : written l ≡ plus z x = plus-two z c (written l) (piece name u ++ (32 ∷ []) ++ historyText h) (10 ∷ []) (plus-three z a b c (piece name u) (32 ∷ []) (historyText h) p q s) t in
+      let m : length x < lineRoom = omega (arith, length-append (piece name u ++ (32 ∷ []) ++ historyText h) (10 ∷ []), length-append (piece name u ++ (32 ∷ [])) (historyText h), length-append (piece name u) (32 ∷ []), piece-short name u, history-short h (count-low (part (at + 33 * u) 33 img) h f)) in
       rw (k, y) (says-short l z x g w m sized)
 
 -- ---- a take
@@ -173,14 +173,14 @@ pub saved-loaded : (img : List ℕ) (t r : ℕ) → t < 16 → r ≡ ofBe 4 (par
 saved-loaded img t r h e = e ∙ sym (read-saved base img t h)
 
 module _ (x : Transactor) where
-  pub texts-said : (a b c d : List ℕ) (v w : ℕ) → v ≡ x .value → b ≡ plus a (decimal places v) → w ≡ x .saved → c ≡ plus b (piece (bytes ", saved ") w) → d ≡ plus c (10 ∷ []) → d ≡ plus a (textsText x)
-  unfolding textsText
-  texts-said a b c d v w e p f q r =
+  pub values-said : (a b c d : List ℕ) (v w : ℕ) → v ≡ x .value → b ≡ plus a (decimal places v) → w ≡ x .saved → c ≡ plus b (piece (bytes ", saved ") w) → d ≡ plus c (10 ∷ []) → d ≡ plus a (valuesText x)
+  unfolding valuesText
+  values-said a b c d v w e p f q r =
       plus-three a b c d (decimal places (x .value)) (piece (bytes ", saved ") (x .saved)) (10 ∷ []) (p ∙ ap (λ (n : ℕ). plus a (decimal places n)) e) (q ∙ ap (λ (n : ℕ). plus b (piece (bytes ", saved ") n)) f) r
 
   module _ (st : ℕ) (is : st ≡ x .status) (a b c : List ℕ) where
     abbrev live : Bool → List ℕ
-    live t = pick t (bytes ": idle, text ") (bytes ": at work, text ") ++ textsText x
+    live t = pick t (bytes ": idle, text ") (bytes ": at work, text ") ++ valuesText x
 
     pub status-vanished : st ≡ 3 → b ≡ plus a (bytes ": vanished\n") → b ≡ plus a (statusText x)
     unfolding statusText
@@ -192,32 +192,32 @@ module _ (x : Transactor) where
         p ∙ ap (λ (t : Bool). plus a (live t)) (sym e)
         ∙ ap (λ (t : Bool). plus a (pick t (bytes ": vanished\n") (live (eqb (x .status) 1)))) (sym (ne-eqb (x .status) 3 (λ (e : x .status ≡ 3). n (is ∙ e))))
 
-    pub status-idle : (st ≡ 3 → ⊥) → st ≡ 1 → b ≡ plus a (bytes ": idle, text ") → c ≡ plus b (textsText x) → c ≡ plus a (statusText x)
-    status-idle n h p q = living n true (eq-eqb (x .status) 1 (sym is ∙ h)) (plus-two a b c (bytes ": idle, text ") (textsText x) p q)
+    pub status-idle : (st ≡ 3 → ⊥) → st ≡ 1 → b ≡ plus a (bytes ": idle, text ") → c ≡ plus b (valuesText x) → c ≡ plus a (statusText x)
+    status-idle n h p q = living n true (eq-eqb (x .status) 1 (sym is ∙ h)) (plus-two a b c (bytes ": idle, text ") (valuesText x) p q)
 
-    pub status-working : (st ≡ 3 → ⊥) → (st ≡ 1 → ⊥) → b ≡ plus a (bytes ": at work, text ") → c ≡ plus b (textsText x) → c ≡ plus a (statusText x)
-    status-working n m p q = living n false (ne-eqb (x .status) 1 (λ (e : x .status ≡ 1). m (is ∙ e))) (plus-two a b c (bytes ": at work, text ") (textsText x) p q)
+    pub status-working : (st ≡ 3 → ⊥) → (st ≡ 1 → ⊥) → b ≡ plus a (bytes ": at work, text ") → c ≡ plus b (valuesText x) → c ≡ plus a (statusText x)
+    status-working n m p q = living n false (ne-eqb (x .status) 1 (λ (e : x .status ≡ 1). m (is ∙ e))) (plus-two a b c (bytes ": at work, text ") (valuesText x) p q)
 
-  texts-short : length (textsText x) ≤ 29
-  unfolding textsText
-  texts-short = omega (arith, length-append (decimal places (x .value) ++ piece (bytes ", saved ") (x .saved)) (10 ∷ []), length-append (decimal places (x .value)) (piece (bytes ", saved ") (x .saved)), decimal-places places (x .value), piece-short (bytes ", saved ") (x .saved))
+  values-short : length (valuesText x) ≤ 29
+  unfolding valuesText
+  values-short = omega (arith, length-append (decimal places (x .value) ++ piece (bytes ", saved ") (x .saved)) (10 ∷ []), length-append (decimal places (x .value)) (piece (bytes ", saved ") (x .saved)), decimal-places places (x .value), piece-short (bytes ", saved ") (x .saved))
 
   status-short : length (statusText x) ≤ 45
   unfolding statusText
   status-short = go (eqb (x .status) 3) (eqb (x .status) 1)
     where
-      go : (t u : Bool) → length (pick t (bytes ": vanished\n") (pick u (bytes ": idle, text ") (bytes ": at work, text ") ++ textsText x)) ≤ 45
+      go : (t u : Bool) → length (pick t (bytes ": vanished\n") (pick u (bytes ": idle, text ") (bytes ": at work, text ") ++ valuesText x)) ≤ 45
       go true u = omega arith
-      go false true = omega (arith, length-append (bytes ": idle, text ") (textsText x), texts-short)
-      go false false = omega (arith, length-append (bytes ": at work, text ") (textsText x), texts-short)
+      go false true = omega (arith, length-append (bytes ": idle, text ") (valuesText x), values-short)
+      go false false = omega (arith, length-append (bytes ": at work, text ") (valuesText x), values-short)
 
-  pub take-none : (bs : List ℕ) (t st : ℕ) → st ≡ x .status → st ≡ 0 → Says (record { bytes = bs; len = 0 }) (takeText t x)
-  unfolding takeText
-  take-none bs t st e h = says-left (record { bytes = bs; len = 0 }) (eqb (x .status) 0) [] (piece (bytes "take ") t ++ statusText x) (eq-eqb (x .status) 0 (sym e ∙ h)) (says-nothing bs)
+  pub transactor-none : (bs : List ℕ) (t st : ℕ) → st ≡ x .status → st ≡ 0 → Says (record { bytes = bs; len = 0 }) (transactorText t x)
+  unfolding transactorText
+  transactor-none bs t st e h = says-left (record { bytes = bs; len = 0 }) (eqb (x .status) 0) [] (piece (bytes "take ") t ++ statusText x) (eq-eqb (x .status) 0 (sym e ∙ h)) (says-nothing bs)
 
-  pub take-says : (l : Line) (z a : List ℕ) (t st : ℕ) → st ≡ x .status → (st ≡ 0 → ⊥) → z ≡ [] → a ≡ plus z (piece (bytes "take ") t) → written l ≡ plus a (statusText x) → length (l .bytes) ≡ lineRoom → Says l (takeText t x)
-  unfolding takeText
-  take-says l z a t st e n h p q sized =
+  pub transactor-says : (l : Line) (z a : List ℕ) (t st : ℕ) → st ≡ x .status → (st ≡ 0 → ⊥) → z ≡ [] → a ≡ plus z (piece (bytes "take ") t) → written l ≡ plus a (statusText x) → length (l .bytes) ≡ lineRoom → Says l (transactorText t x)
+  unfolding transactorText
+  transactor-says l z a t st e n h p q sized =
       says-right l (eqb (x .status) 0) [] (piece (bytes "take ") t ++ statusText x) (ne-eqb (x .status) 0 (λ (f : x .status ≡ 0). n (e ∙ f)))
       (says-short l z (piece (bytes "take ") t ++ statusText x) h (plus-two z a (written l) (piece (bytes "take ") t) (statusText x) p q) (omega (arith, length-append (piece (bytes "take ") t) (statusText x), piece-short (bytes "take ") t, status-short)) sized)
 
@@ -242,13 +242,13 @@ module _ (img : List ℕ) (t m u : ℕ) (l : Line) (h : t < 16) where
       (says-right l (eqb m 1) _ _ (ne-eqb m 1 k) (subst (λ (d : DependenceMap). Says l (entryText (bytes "  behaviour: take ") u d)) (sym (read-behaviour base img t h)) s))
 
 module _ (s : State) (t j : ℕ) (l : Line) where
-  pub take-first : j ≡ 0 → Says l (takeText t (transactorAt s t)) → Says l (takeLine s t j)
-  unfolding takeLine
-  take-first e k = says-left l (eqb j 0) _ _ (eq-eqb j 0 e) k
+  pub transactor-first : j ≡ 0 → Says l (transactorText t (transactorAt s t)) → Says l (transactorLine s t j)
+  unfolding transactorLine
+  transactor-first e k = says-left l (eqb j 0) _ _ (eq-eqb j 0 e) k
 
-  pub take-other : (j ≡ 0 → ⊥) → Says l (mapText (transactorAt s t) ((j - 1) / 16) ((j - 1) % 16)) → Says l (takeLine s t j)
-  unfolding takeLine
-  take-other n k = says-right l (eqb j 0) _ _ (ne-eqb j 0 n) k
+  pub transactor-other : (j ≡ 0 → ⊥) → Says l (mapText (transactorAt s t) ((j - 1) / 16) ((j - 1) % 16)) → Says l (transactorLine s t j)
+  unfolding transactorLine
+  transactor-other n k = says-right l (eqb j 0) _ _ (ne-eqb j 0 n) k
 
 -- ---- a parcel
 
@@ -256,18 +256,18 @@ module _ (img : List ℕ) (k j : ℕ) (w : ℕ) (is : w ≡ waitingIn base img) 
   waits : k < w → ltb k (length (unpack base img .messages)) ≡ true
   waits h = lt-ltb k (length (unpack base img .messages)) (omega (arith, unpack-waiting base img))
 
-  pub parcel-none : (bs : List ℕ) → w ≤ k → Says (record { bytes = bs; len = 0 }) (parcelLine (unpack base img) k j)
-  unfolding parcelLine
-  parcel-none bs h = says-right (record { bytes = bs; len = 0 }) (ltb k (length (unpack base img .messages))) _ _ (le-ltb k (length (unpack base img .messages)) (omega (arith, unpack-waiting base img))) (says-nothing bs)
+  pub message-none : (bs : List ℕ) → w ≤ k → Says (record { bytes = bs; len = 0 }) (messageLine (unpack base img) k j)
+  unfolding messageLine
+  message-none bs h = says-right (record { bytes = bs; len = 0 }) (ltb k (length (unpack base img .messages))) _ _ (le-ltb k (length (unpack base img .messages)) (omega (arith, unpack-waiting base img))) (says-nothing bs)
 
   module _ (l : Line) (h : k < w) where
-    pub parcel-first : j ≡ 0 → Says l (parcelText (messageAt (unpack base img) k)) → Says l (parcelLine (unpack base img) k j)
-    unfolding parcelLine
-    parcel-first e s = says-left l (ltb k (length (unpack base img .messages))) _ _ (waits h) (says-left l (eqb j 0) _ _ (eq-eqb j 0 e) s)
+    pub message-first : j ≡ 0 → Says l (messageText (messageAt (unpack base img) k)) → Says l (messageLine (unpack base img) k j)
+    unfolding messageLine
+    message-first e s = says-left l (ltb k (length (unpack base img .messages))) _ _ (waits h) (says-left l (eqb j 0) _ _ (eq-eqb j 0 e) s)
 
-    pub parcel-entry : (j ≡ 0 → ⊥) → Says l (entryText (bytes "  map: take ") (j - 1) (unpackDependences base (25496 + 535 * k + 7) img)) → Says l (parcelLine (unpack base img) k j)
-    unfolding parcelLine
-    parcel-entry n s =
+    pub message-entry : (j ≡ 0 → ⊥) → Says l (entryText (bytes "  map: take ") (j - 1) (unpackDependences base (25496 + 535 * k + 7) img)) → Says l (messageLine (unpack base img) k j)
+    unfolding messageLine
+    message-entry n s =
         says-left l (ltb k (length (unpack base img .messages))) _ _ (waits h)
         (says-right l (eqb j 0) _ _ (ne-eqb j 0 n) (subst (λ (d : DependenceMap). Says l (entryText (bytes "  map: take ") (j - 1) d)) (sym (read-dependences base img k (omega arith))) s))
 
@@ -282,13 +282,13 @@ module _ (s : State) (n : ℕ) (l : Line) where
   unfolding lineText
   line-counters a e k = says-right l (eqb n 0) _ _ (ne-eqb n 0 a) (says-left l (eqb n 1) _ _ (eq-eqb n 1 e) k)
 
-  pub line-take : (n ≡ 0 → ⊥) → (n ≡ 1 → ⊥) → n < 786 → Says l (takeLine s ((n - 2) / 49) ((n - 2) % 49)) → Says l (lineText s n)
+  pub line-transactor : (n ≡ 0 → ⊥) → (n ≡ 1 → ⊥) → n < 786 → Says l (transactorLine s ((n - 2) / 49) ((n - 2) % 49)) → Says l (lineText s n)
   unfolding lineText
-  line-take a b h k = says-right l (eqb n 0) _ _ (ne-eqb n 0 a) (says-right l (eqb n 1) _ _ (ne-eqb n 1 b) (says-left l (ltb n 786) _ _ (lt-ltb n 786 h) k))
+  line-transactor a b h k = says-right l (eqb n 0) _ _ (ne-eqb n 0 a) (says-right l (eqb n 1) _ _ (ne-eqb n 1 b) (says-left l (ltb n 786) _ _ (lt-ltb n 786 h) k))
 
-  pub line-parcel : (n ≡ 0 → ⊥) → (n ≡ 1 → ⊥) → 786 ≤ n → Says l (parcelLine s ((n - 786) / 17) ((n - 786) % 17)) → Says l (lineText s n)
+  pub line-message : (n ≡ 0 → ⊥) → (n ≡ 1 → ⊥) → 786 ≤ n → Says l (messageLine s ((n - 786) / 17) ((n - 786) % 17)) → Says l (lineText s n)
   unfolding lineText
-  line-parcel a b h k = says-right l (eqb n 0) _ _ (ne-eqb n 0 a) (says-right l (eqb n 1) _ _ (ne-eqb n 1 b) (says-right l (ltb n 786) _ _ (le-ltb n 786 h) k))
+  line-message a b h k = says-right l (eqb n 0) _ _ (ne-eqb n 0 a) (says-right l (eqb n 1) _ _ (ne-eqb n 1 b) (says-right l (ltb n 786) _ _ (le-ltb n 786 h) k))
 
 -- ---- the call
 

@@ -9,7 +9,8 @@ use Rattle.marks.specs.declared.History.{History}
 use Rattle.maps.specs.declared.DependenceMap.{DependenceMap}
 use Rattle.maps.specs.Map.{heldAt, historyAt}
 use Rattle.rules.specs.Layout.{base}
-use Rattle.rules.specs.State.{Transactor, Message, State, transactorAt, messageAt, unused, ready, annihilated}
+use Rattle.rules.specs.State.{Transactor, Message, State, transactorAt, messageAt}
+use Rattle.rules.specs.Status.{unused, idle, annihilated}
 use Rattle.rules.specs.Pack.{unpack}
 use Rattle.rules.specs.Form.{wellFormed}
 use Rattle.rules.specs.Calls.{wrongLength}
@@ -28,31 +29,31 @@ entriesText h = chunks (h .count) (λ i. 44 ∷ decimal places (getD (h .checkpo
 unfoldable pub listText : History → List ℕ
 listText h = pick (eqb (h .count) 0) (bytes "empty") (drop 1 (entriesText h))
 
-unfoldable pub lifeText : History → List ℕ
-lifeText h = (40 ∷ []) ++ listText h ++ piece (bytes "; ") (h .incarnation) ++ (41 ∷ [])
+unfoldable pub incarnationText : History → List ℕ
+incarnationText h = (40 ∷ []) ++ listText h ++ piece (bytes "; ") (h .incarnation) ++ (41 ∷ [])
 
-unfoldable pub markText : History → List ℕ
-markText h = lifeText h ++ pick (h .stable) (bytes " frozen") []
+unfoldable pub historyText : History → List ℕ
+historyText h = incarnationText h ++ pick (h .stable) (bytes " frozen") []
 
 -- ---- the mark of take u in a map, behind the map's name; nothing where there is none
 
 unfoldable pub entryText : List ℕ → ℕ → DependenceMap → List ℕ
-entryText name u m = pick (heldAt m u) (piece name u ++ (32 ∷ []) ++ markText (historyAt m u) ++ (10 ∷ [])) []
+entryText name u m = pick (heldAt m u) (piece name u ++ (32 ∷ []) ++ historyText (historyAt m u) ++ (10 ∷ [])) []
 
 -- ---- a take: its first line, then sixteen lines for each of its maps
 
 -- at work or idle: text and saved text
-unfoldable pub textsText : Transactor → List ℕ
-textsText x = decimal places (x .value) ++ piece (bytes ", saved ") (x .saved) ++ (10 ∷ [])
+unfoldable pub valuesText : Transactor → List ℕ
+valuesText x = decimal places (x .value) ++ piece (bytes ", saved ") (x .saved) ++ (10 ∷ [])
 
 unfoldable pub statusText : Transactor → List ℕ
 statusText x =
     pick (eqb (x .status) annihilated) (bytes ": vanished\n")
-    (pick (eqb (x .status) ready) (bytes ": idle, text ") (bytes ": at work, text ") ++ textsText x)
+    (pick (eqb (x .status) idle) (bytes ": idle, text ") (bytes ": at work, text ") ++ valuesText x)
 
 -- nothing for a take that is not opened
-unfoldable pub takeText : ℕ → Transactor → List ℕ
-takeText t x = pick (eqb (x .status) unused) [] (piece (bytes "take ") t ++ statusText x)
+unfoldable pub transactorText : ℕ → Transactor → List ℕ
+transactorText t x = pick (eqb (x .status) unused) [] (piece (bytes "take ") t ++ statusText x)
 
 unfoldable pub mapText : Transactor → ℕ → ℕ → List ℕ
 mapText x m u =
@@ -60,24 +61,24 @@ mapText x m u =
     (pick (eqb m 1) (entryText (bytes "  creation: take ") u (x .creation))
     (entryText (bytes "  behaviour: take ") u (x .behaviour)))
 
-abbrev pub takeLines : ℕ
-takeLines = 49
+abbrev pub transactorLines : ℕ
+transactorLines = 49
 
-unfoldable pub takeLine : State → ℕ → ℕ → List ℕ
-takeLine s t j = pick (eqb j 0) (takeText t (transactorAt s t)) (mapText (transactorAt s t) ((j - 1) / 16) ((j - 1) % 16))
+unfoldable pub transactorLine : State → ℕ → ℕ → List ℕ
+transactorLine s t j = pick (eqb j 0) (transactorText t (transactorAt s t)) (mapText (transactorAt s t) ((j - 1) / 16) ((j - 1) % 16))
 
 -- ---- a parcel that waits: its first line, then sixteen lines for its map
 
-unfoldable pub parcelText : Message → List ℕ
-parcelText m = piece (bytes "parcel ") (m .number) ++ piece (bytes " to ") (m .addressee) ++ piece (bytes ", text ") (m .value) ++ (10 ∷ [])
+unfoldable pub messageText : Message → List ℕ
+messageText m = piece (bytes "parcel ") (m .number) ++ piece (bytes " to ") (m .addressee) ++ piece (bytes ", text ") (m .value) ++ (10 ∷ [])
 
-abbrev pub parcelLines : ℕ
-parcelLines = 17
+abbrev pub messageLines : ℕ
+messageLines = 17
 
-unfoldable pub parcelLine : State → ℕ → ℕ → List ℕ
-parcelLine s k j =
+unfoldable pub messageLine : State → ℕ → ℕ → List ℕ
+messageLine s k j =
     pick (ltb k (length (s .messages)))
-    (pick (eqb j 0) (parcelText (messageAt s k)) (entryText (bytes "  map: take ") (j - 1) (messageAt s k .dependences)))
+    (pick (eqb j 0) (messageText (messageAt s k)) (entryText (bytes "  map: take ") (j - 1) (messageAt s k .dependences)))
     []
 
 -- ---- the session
@@ -93,21 +94,21 @@ countersText s = piece (bytes "opened ") (s .opened) ++ piece (bytes ", next par
 -- ---- line n: the limits, the counters, 16 takes, 32 places of parcels
 
 -- the first lines of takes and of parcels, and how many lines there are
-abbrev pub firstTake : ℕ
-firstTake = 2
+abbrev pub firstTransactor : ℕ
+firstTransactor = 2
 
-abbrev pub firstParcel : ℕ
-firstParcel = firstTake + takeLines * 16
+abbrev pub firstMessage : ℕ
+firstMessage = firstTransactor + transactorLines * 16
 
 abbrev pub imageLines : ℕ
-imageLines = firstParcel + parcelLines * 32
+imageLines = firstMessage + messageLines * 32
 
 unfoldable pub lineText : State → ℕ → List ℕ
 lineText s n =
     pick (eqb n 0) (limitsText s)
     (pick (eqb n 1) (countersText s)
-    (pick (ltb n firstParcel) (takeLine s ((n - firstTake) / takeLines) ((n - firstTake) % takeLines))
-    (parcelLine s ((n - firstParcel) / parcelLines) ((n - firstParcel) % parcelLines))))
+    (pick (ltb n firstMessage) (transactorLine s ((n - firstTransactor) / transactorLines) ((n - firstTransactor) % transactorLines))
+    (messageLine s ((n - firstMessage) / messageLines) ((n - firstMessage) % messageLines))))
 
 -- ---- the call
 

@@ -14,8 +14,8 @@ use image::layout::TRANSACTOR;
 use image::layout::VALUE;
 use image::limits;
 use image::messages;
+use lines::Line;
 use marks::History;
-use notation::write::Line;
 use rules::numbers;
 ghost use mathlib.Core.Path.{_≡_};
 ghost use Prim.Native.Nat.{_+_, _≤_, _<_};
@@ -23,19 +23,19 @@ ghost use lib.ListN.{length};
 ghost use Rattle.rules.specs.Layout.{base, imageBytes, mapBytes};
 ghost use Rattle.rules.specs.State.{transactorAt, messageAt};
 ghost use Rattle.rules.specs.Pack.{unpack, unpackDependences, waitingIn};
-ghost use Rattle.notation.specs.Lines.{written, plus, Says};
-ghost use Rattle.inspection.specs.Inspection.{piece, entriesText, listText, lifeText, markText, entryText, textsText, statusText, takeText, mapText, takeLine, parcelText, parcelLine, limitsText, countersText, lineText, inspectRefusal, ended, inspected, imageLines, parcelLines};
+ghost use Rattle.lines.specs.Lines.{written, plus, Says};
+ghost use Rattle.inspection.specs.Inspection.{piece, entriesText, listText, incarnationText, historyText, entryText, valuesText, statusText, transactorText, mapText, transactorLine, messageText, messageLine, limitsText, countersText, lineText, inspectRefusal, ended, inspected, imageLines, messageLines};
 
 // Lines of a take, of a parcel, and of an image; where those of takes and of parcels begin.
-const TAKE: usize = 49;
+const TRANSACTOR_LINES: usize = 49;
 
-const PARCEL: usize = 17;
+const MESSAGE_LINES: usize = 17;
 
-const FIRST_TAKE: usize = 2;
+const FIRST_TRANSACTOR_LINE: usize = 2;
 
-const FIRST_PARCEL: usize = FIRST_TAKE + TAKE * 16;
+const FIRST_MESSAGE_LINE: usize = FIRST_TRANSACTOR_LINE + TRANSACTOR_LINES * 16;
 
-pub const LINES: usize = FIRST_PARCEL + PARCEL * 32;
+pub const LINES: usize = FIRST_MESSAGE_LINE + MESSAGE_LINES * 32;
 
 // What a call answers: the refusal or 0, whether there are no more lines, and the line, which is empty where nothing is to be said.
 pub struct Inspected {
@@ -80,19 +80,19 @@ fn list(l: Line, h: History) -> Line
 }
 
 // A mark without its frozen flag.
-fn life(l: Line, h: History) -> Line
+fn put_incarnation(l: Line, h: History) -> Line
     requires { ⌜ h .count ≤ 15 ⌝ }
-    ensures { λ r. ⌜ written r ≡ plus (written l) (lifeText h) ⌝ }
+    ensures { λ r. ⌜ written r ≡ plus (written l) (incarnationText h) ⌝ }
 {
     let listed = list(l.byte(b'('), h);
     put(listed, b"; ", h.incarnation as u32).byte(b')')
 }
 
-fn mark(l: Line, h: History) -> Line
+fn put_history(l: Line, h: History) -> Line
     requires { ⌜ h .count ≤ 15 ⌝ }
-    ensures { λ r. ⌜ written r ≡ plus (written l) (markText h) ⌝ }
+    ensures { λ r. ⌜ written r ≡ plus (written l) (historyText h) ⌝ }
 {
-    let lived = life(l, h);
+    let lived = put_incarnation(l, h);
     if h.stable {
         return lived.word(b" frozen");
     }
@@ -105,12 +105,12 @@ fn entry(image: &[u8], at: usize, name: &[u8], u: usize) -> Line
     ensures { λ r. ⌜ Says r (entryText (now (name .entry)) u (unpackDependences base at (now (image .entry)))) ⌝ }
 {
     let from = at + marks::SIZE * u;
-    if !History::present(image, from) {
+    if !packed_histories::present(image, from) {
         return Line::EMPTY;
     }
-    let h = History::load(image, from);
+    let h = packed_histories::load(image, from);
     let named = put(Line::EMPTY, name, u as u32);
-    mark(named.byte(b' '), h).byte(b'\n')
+    put_history(named.byte(b' '), h).byte(b'\n')
 }
 
 // ---- takes
@@ -131,9 +131,9 @@ fn saved_of(image: &[u8], t: usize) -> u32
     octets::load32(image, FIRST_TRANSACTOR + TRANSACTOR * t + SAVED)
 }
 
-fn texts(l: Line, image: &[u8], t: usize) -> Line
+fn put_values(l: Line, image: &[u8], t: usize) -> Line
     requires { ⌜ (length (now image) ≡ imageBytes base) × (t < base .transactors) ⌝ }
-    ensures { λ r. ⌜ written r ≡ plus (written l) (textsText (transactorAt (unpack base (now (image .entry))) t)) ⌝ }
+    ensures { λ r. ⌜ written r ≡ plus (written l) (valuesText (transactorAt (unpack base (now (image .entry))) t)) ⌝ }
 {
     let saved = saved_of(image, t);
     put(l.number(value_of(image, t)), b", saved ", saved).byte(b'\n')
@@ -146,16 +146,16 @@ fn status(l: Line, image: &[u8], t: usize, status: u8) -> Line
     if status == numbers::ANNIHILATED {
         return l.word(b": vanished\n");
     }
-    if status == numbers::READY {
-        return texts(l.word(b": idle, text "), image, t);
+    if status == numbers::IDLE {
+        return put_values(l.word(b": idle, text "), image, t);
     }
-    texts(l.word(b": at work, text "), image, t)
+    put_values(l.word(b": at work, text "), image, t)
 }
 
 // The first line of take t.
-fn take(image: &[u8], t: usize) -> Line
+fn transactor_head(image: &[u8], t: usize) -> Line
     requires { ⌜ (length (now image) ≡ imageBytes base) × (t < base .transactors) ⌝ }
-    ensures { λ r. ⌜ Says r (takeText t (transactorAt (unpack base (now (image .entry))) t)) ⌝ }
+    ensures { λ r. ⌜ Says r (transactorText t (transactorAt (unpack base (now (image .entry))) t)) ⌝ }
 {
     let is = head::status(image, t);
     if is == numbers::UNUSED {
@@ -165,7 +165,7 @@ fn take(image: &[u8], t: usize) -> Line
 }
 
 // The mark of take u in map m of take t: 0 state, 1 creation, 2 behaviour.
-fn take_map(image: &[u8], t: usize, m: usize, u: usize) -> Line
+fn transactor_map(image: &[u8], t: usize, m: usize, u: usize) -> Line
     requires { ⌜ (length (now image) ≡ imageBytes base) × (t < base .transactors) × (u < base .transactors) ⌝ }
     ensures { λ r. ⌜ Says r (mapText (transactorAt (unpack base (now (image .entry))) t) m u) ⌝ }
 {
@@ -179,23 +179,23 @@ fn take_map(image: &[u8], t: usize, m: usize, u: usize) -> Line
     entry(image, at + BEHAVIOUR, b"  behaviour: take ", u)
 }
 
-fn take_line(image: &[u8], t: usize, j: usize) -> Line
+fn transactor_line(image: &[u8], t: usize, j: usize) -> Line
     requires { ⌜ (length (now image) ≡ imageBytes base) × (t < base .transactors) ⌝ }
-    ensures { λ r. ⌜ Says r (takeLine (unpack base (now (image .entry))) t j) ⌝ }
+    ensures { λ r. ⌜ Says r (transactorLine (unpack base (now (image .entry))) t j) ⌝ }
 {
     if j == 0 {
-        return take(image, t);
+        return transactor_head(image, t);
     }
     let i = j - 1;
-    take_map(image, t, i / 16, i % 16)
+    transactor_map(image, t, i / 16, i % 16)
 }
 
 // ---- parcels
 
 // The first line of the parcel in place k.
-fn parcel(image: &[u8], k: usize) -> Line
+fn message_head(image: &[u8], k: usize) -> Line
     requires { ⌜ (length (now image) ≡ imageBytes base) × (k < waitingIn base (now image)) ⌝ }
-    ensures { λ r. ⌜ Says r (parcelText (messageAt (unpack base (now (image .entry))) k)) ⌝ }
+    ensures { λ r. ⌜ Says r (messageText (messageAt (unpack base (now (image .entry))) k)) ⌝ }
 {
     let number = messages::number_of(image, k) as u32;
     let to = messages::addressee(image, k) as u32;
@@ -204,15 +204,15 @@ fn parcel(image: &[u8], k: usize) -> Line
     put(sent, b", text ", text).byte(b'\n')
 }
 
-fn parcel_line(image: &[u8], k: usize, j: usize) -> Line
-    requires { ⌜ (length (now image) ≡ imageBytes base) × (j < parcelLines) ⌝ }
-    ensures { λ r. ⌜ Says r (parcelLine (unpack base (now (image .entry))) k j) ⌝ }
+fn message_line(image: &[u8], k: usize, j: usize) -> Line
+    requires { ⌜ (length (now image) ≡ imageBytes base) × (j < messageLines) ⌝ }
+    ensures { λ r. ⌜ Says r (messageLine (unpack base (now (image .entry))) k j) ⌝ }
 {
     if messages::waiting(image) <= k {
         return Line::EMPTY;
     }
     if j == 0 {
-        return parcel(image, k);
+        return message_head(image, k);
     }
     let at = FIRST_MESSAGE + MESSAGE * k + DEPENDENCES;
     entry(image, at, b"  map: take ", j - 1)
@@ -224,15 +224,15 @@ fn session_limits(image: &[u8]) -> Line
     requires { ⌜ length (now image) ≡ imageBytes base ⌝ }
     ensures { λ r. ⌜ Says r (limitsText (unpack base (now (image .entry)))) ⌝ }
 {
-    let takes = limits::transactors(image) as u32;
-    let parcels = limits::messages(image) as u32;
-    let signings = limits::checkpoints(image) as u32;
+    let transactors = limits::transactors(image) as u32;
+    let messages = limits::messages(image) as u32;
+    let checkpoints = limits::checkpoints(image) as u32;
     let said = put(
-        put(Line::EMPTY, b"limits: takes ", takes),
+        put(Line::EMPTY, b"limits: takes ", transactors),
         b", parcels ",
-        parcels,
+        messages,
     );
-    put(said, b", signings ", signings).byte(b'\n')
+    put(said, b", signings ", checkpoints).byte(b'\n')
 }
 
 fn counters(image: &[u8]) -> Line
@@ -258,12 +258,12 @@ fn line_of(image: &[u8], n: usize) -> Line
     if n == 1 {
         return counters(image);
     }
-    if n < FIRST_PARCEL {
-        let i = n - FIRST_TAKE;
-        return take_line(image, i / TAKE, i % TAKE);
+    if n < FIRST_MESSAGE_LINE {
+        let i = n - FIRST_TRANSACTOR_LINE;
+        return transactor_line(image, i / TRANSACTOR_LINES, i % TRANSACTOR_LINES);
     }
-    let i = n - FIRST_PARCEL;
-    parcel_line(image, i / PARCEL, i % PARCEL)
+    let i = n - FIRST_MESSAGE_LINE;
+    message_line(image, i / MESSAGE_LINES, i % MESSAGE_LINES)
 }
 
 // Line n of the image's text, with its LF, n from 0 on; empty where there is nothing to be said. The refusal, 16 or 19, or 0; refused or

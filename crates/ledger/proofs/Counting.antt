@@ -18,7 +18,7 @@ use Rattle.rules.specs.Refusals.{groupBits, named}
 use Rattle.rules.specs.ReadyGroups.{howMany, sizeOf}
 use Rattle.rules.specs.Internal.Closure.{inside, meets, metCount}
 use Rattle.rules.proofs.Bits.{named-same, named-and, inside-and}
-use Rattle.rules.proofs.Groups.Counting.{many-on, many-off, many-le, takes-ones}
+use Rattle.rules.proofs.Groups.Counting.{many-on, many-off, many-le, size-ones}
 
 -- ---- the volumes inside v, from one down to the next
 
@@ -108,7 +108,7 @@ module _ {l : List ℕ} {v size g n : ℕ} (counted : Counted l v size g n) wher
   pub counted-end : g ≡ 0 → 0 < size → n ≡ metCount l v size
   unfolding counts howMany
   counted-end e h =
-      let z : sizeOf 0 ≡ 0 = sym (takes-ones 0 (omega arith)) ∙ omega (arith, ones-le 0 0 (omega arith)) in
+      let z : sizeOf 0 ≡ 0 = sym (size-ones 0 (omega arith)) ∙ omega (arith, ones-le 0 0 (omega arith)) in
       let off : counts l v size 0 ≡ false = rw (ne-eqb (sizeOf 0) size (λ q. omega (arith, z, q))) in
       let none : 0 ≡ howMany 1 (counts l v size) = many-off (counts l v size) 0 0 refl off in
       let one : howMany (g + 1) (counts l v size) ≡ howMany 1 (counts l v size) = ap (λ (k : ℕ). howMany (k + 1) (counts l v size)) e in
@@ -135,12 +135,12 @@ module _ {l : List ℕ} {v size g n : ℕ} (counted : Counted l v size g n) wher
 
     pub counted-other : (ones g ≡ size → ⊥) → Counted l v size (bitAnd (g - 1) v) n
     unfolding counts
-    counted-other o = next false (rw (ne-eqb (sizeOf g) size (λ e. o (takes-ones g fits ∙ e)))) refl
+    counted-other o = next false (rw (ne-eqb (sizeOf g) size (λ e. o (size-ones g fits ∙ e)))) refl
 
-    module _ (takes : ones g ≡ size) where
+    module _ (sized : ones g ≡ size) where
       tested : (b : Bool) → meets l v g ≡ b → counts l v size g ≡ b
       unfolding counts
-      tested b e = rw (eq-eqb (sizeOf g) size (sym (takes-ones g fits) ∙ takes)) e
+      tested b e = rw (eq-eqb (sizeOf g) size (sym (size-ones g fits) ∙ sized)) e
 
       pub counted-on : meets l v g ≡ true → Counted l v size (bitAnd (g - 1) v) (n + 1)
       counted-on e = next-one true (tested true e) refl

@@ -3,3 +3,4 @@ mod Impeding
 mod Refreshing
 mod Running
 mod Showing
+mod Unsound

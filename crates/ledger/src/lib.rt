@@ -23,7 +23,6 @@ use image::messages;
 use lists::STEP;
 use lists::groups;
 use lists::packed;
-use maps::stability;
 use rules::Dependents;
 use rules::Grouped;
 use rules::Impediment;
@@ -118,11 +117,9 @@ pub fn run(image: &mut [u8], list: &[u8], start: usize, end: usize, replies: &mu
 fn query_refusal(image: &[u8], transactor: usize) -> u8
     ensures { λ r. ⌜ r ≡ queryRefusal base (now (image .entry)) transactor ⌝ }
 {
-    if image.len() != IMAGE {
-        return numbers::WRONG_LENGTH;
-    }
-    if !form::formed(image) {
-        return numbers::ILL_FORMED;
+    let r = form::image_refusal(image);
+    if r != 0 {
+        return r;
     }
     head::refusal(image, transactor)
 }
@@ -167,12 +164,9 @@ pub fn smallest_group(image: &[u8], transactor: usize, refusal: &mut u8) -> Grou
 pub fn ready_count(image: &[u8], size: usize, refusal: &mut u8) -> usize
     ensures { λ r. ⌜ CountPromise base (now (image .entry)) size (now (refusal .exit)) r ⌝ }
 {
-    if image.len() != IMAGE {
-        *refusal = numbers::WRONG_LENGTH;
-        return 0;
-    }
-    if !form::formed(image) {
-        *refusal = numbers::ILL_FORMED;
+    let r = form::image_refusal(image);
+    if r != 0 {
+        *refusal = r;
         return 0;
     }
     if size < 1 {
@@ -223,25 +217,30 @@ pub fn dependents(image: &[u8], transactor: usize, refusal: &mut u8) -> Dependen
     dependents_of(image, transactor, through)
 }
 
+// So many groups are there: a number from here on names a transactor that no session opens.
+const GROUPS: usize = 65536;
+
 // Why the group can't be checkpointed now; nothing exactly if it can. The lent number takes the refusal, 16, 19, or what the signing would get,
 // 29, 21, 22 or 30, or 0; refused, nothing.
-pub fn obstacle(image: &[u8], members: u16, refusal: &mut u8) -> Obstacle
+pub fn obstacle(image: &[u8], members: usize, refusal: &mut u8) -> Obstacle
     ensures { λ r. ⌜ ObstaclePromise base (now (image .entry)) members (now (refusal .exit)) r ⌝ }
 {
-    if image.len() != IMAGE {
-        *refusal = numbers::WRONG_LENGTH;
+    let r = form::image_refusal(image);
+    if r != 0 {
+        *refusal = r;
         return Obstacle::Nothing;
     }
-    if !form::formed(image) {
-        *refusal = numbers::ILL_FORMED;
+    if GROUPS <= members {
+        *refusal = numbers::UNOPENED;
         return Obstacle::Nothing;
     }
-    let number = group::refusal(image, members);
+    let group = members as u16;
+    let number = group::refusal(image, group);
     *refusal = number;
     if number != 0 {
         return Obstacle::Nothing;
     }
-    obstacle_of(image, members)
+    obstacle_of(image, group)
 }
 
 // Why no group with the transactor could be checkpointed now, and the next transactor on a chain to the one that is in the way; nothing exactly
@@ -264,12 +263,9 @@ pub fn impediment(image: &[u8], transactor: usize, refusal: &mut u8) -> Impedime
 pub fn show<'a>(image: &'a [u8], number: usize, refusal: &mut u8) -> &'a [u8]
     ensures { λ r. ⌜ ShowPromise base (now (image .entry)) number (now (refusal .exit)) (now r) ⌝ }
 {
-    if image.len() != IMAGE {
-        *refusal = numbers::WRONG_LENGTH;
-        return &image[..0];
-    }
-    if !form::formed(image) {
-        *refusal = numbers::ILL_FORMED;
+    let r = form::image_refusal(image);
+    if r != 0 {
+        *refusal = r;
         return &image[..0];
     }
     let n = messages::waiting(image);

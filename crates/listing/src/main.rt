@@ -2,11 +2,9 @@
 // bytes is ignored.
 use image::layout::IMAGE;
 use libc::STDIN_FILENO;
+use lines::Line;
+use lines::ROOM;
 use lists::LONGEST;
-use notation::print;
-use notation::replies;
-use notation::write::Line;
-use notation::write::ROOM;
 ghost use mathlib.Core.Path.{_≡_};
 ghost use lib.ListN.{length};
 
@@ -39,7 +37,7 @@ fn append(a: Line, b: Line) -> Line {
 
 // Step i and its reply.
 fn listed(list: &[u8], replied: &[u8], i: usize) -> bool {
-    let step = cut(print::step_line(list, i));
+    let step = cut(printer::step_line(list, i));
     let reply = replies::reply_line(list, replied, i);
     writing::show(append(step.word(b" # "), reply).byte(b'\n'))
 }

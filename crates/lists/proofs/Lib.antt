@@ -1,4 +1,5 @@
 mod Decoding
 mod Encoding
 pub mod Parts
+mod Refusing
 mod Stray

@@ -3,6 +3,7 @@ pub mod fields;
 pub mod groups;
 pub mod limits;
 pub mod packed;
+pub mod refusals;
 
 ghost use mathlib.Core.Path.{_≡_};
 ghost use Rattle.rules.specs.Calls.{wrongPart};

@@ -15,7 +15,7 @@ use Rattle.maps.specs.declared.DependenceMap.{DependenceMap}
 use Rattle.maps.specs.Map.{heldAt, historyAt, withEntry, singleton, joinedHistory, choosesRight, joinedHeldAt, joinedHistoryAt, joinOf, Sized}
 use Rattle.maps.specs.Packed.{mapSize, packEntry, packEntryAt, packMap, entryBytes, mapIn}
 use Rattle.maps.specs.Internal.Fitting.{ExactEntry, Exact, joinedBytes}
-use Rattle.maps.proofs.Map.{Entry, same-map, sized-withEntry, held-withEntry, history-withEntry, held-withEntry-other, history-withEntry-other, held-singleton, history-singleton, held-singleton-other, joined-pick, joined-pick-held, choosesRightAt, sized-join, held-join, history-join, held-chosen, history-chosen, held-join-off, history-join-off}
+use Rattle.maps.proofs.Map.{Entry, same-map, sized-withEntry, held-withEntry, history-withEntry, held-withEntry-other, history-withEntry-other, held-singleton, history-singleton, held-singleton-other, joined-pick-held, choosesRightAt, sized-join, held-join, history-join, held-chosen, history-chosen, held-join-off, history-join-off}
 use Rattle.maps.proofs.Packed.{length-packMap, entry-packMap}
 use Rattle.maps.proofs.Placed.{put-map-more, put-map-all, entry-here, held-in, history-in}
 
@@ -62,21 +62,21 @@ entry-in w l n s at i below e f = record { held = e ∙ sym (held-in w l n at s 
 module _ (w l : ℕ) (p : Bool) (h : History) (b : List ℕ) where
   module _ (exact : ExactEntry w l b) where
     pub bytes-absent : p ≡ false → joinedBytes w l p h b ≡ b
-    unfolding joinedBytes ExactEntry joinedHistory packEntry
+    unfolding joinedBytes ExactEntry joinedHistory choosesRight packEntry
     bytes-absent e = rw e (go (presentIn b) exact)
       where
-        go : (q : Bool) → packEntry w l q (unpackHistory w l b) ≡ b → packEntry w l q (pick q (unpackHistory w l b) h) ≡ b
+        go : (q : Bool) → packEntry w l q (unpackHistory w l b) ≡ b → packEntry w l q (pick (pick q true false) (unpackHistory w l b) h) ≡ b
         go true z = z
         go false z = z
 
     pub bytes-right : choosesRight p h (presentIn b) (unpackHistory w l b) ≡ true → joinedBytes w l p h b ≡ b
-    unfolding joinedBytes ExactEntry
+    unfolding joinedBytes joinedHistory ExactEntry
     bytes-right e =
-        rw (joined-pick-held p h (presentIn b) (unpackHistory w l b), joined-pick p h (presentIn b) (unpackHistory w l b), e) exact
+        rw (joined-pick-held p h (presentIn b) (unpackHistory w l b), e) exact
 
   pub bytes-left : p ≡ true → choosesRight p h (presentIn b) (unpackHistory w l b) ≡ false → joinedBytes w l p h b ≡ packHistory w l h
-  unfolding joinedBytes packEntry
-  bytes-left k e = rw (joined-pick-held p h (presentIn b) (unpackHistory w l b), joined-pick p h (presentIn b) (unpackHistory w l b), e, k)
+  unfolding joinedBytes joinedHistory packEntry
+  bytes-left k e = rw (joined-pick-held p h (presentIn b) (unpackHistory w l b), e, k)
 
 -- in the buffer that holds the entry from at on
 module _ (w l : ℕ) (p : Bool) (h : History) (s : List ℕ) (at : ℕ) (fits : at + historySize w l ≤ length s) (exact : ExactEntry w l (part at (historySize w l) s)) where

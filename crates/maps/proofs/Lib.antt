@@ -1,10 +1,10 @@
-mod Carrying
-mod Compared
+pub mod Carrying
+pub mod Compared
 pub mod Heard
 pub mod Informing
-mod Joins
-mod Loads
-mod Loops
+pub mod Joins
+pub mod Loads
+pub mod Loops
 pub mod Map
 pub mod News
 pub mod Packed

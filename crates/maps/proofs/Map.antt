@@ -13,8 +13,8 @@ use Rattle.octets.proofs.Tests.{or-none}
 use Rattle.octets.proofs.Chunks.{sides, length-tabulate, getD-tabulate, tabulate-same, tabulate-getD}
 use Rattle.octets.proofs.Zero.{every-all, every-at}
 use Rattle.marks.specs.declared.History.{History}
-use Rattle.marks.specs.History.{initialHistory, isOlder, Newer}
-use Rattle.marks.proofs.Histories.{newer-view, newer-idem, newer-older}
+use Rattle.marks.specs.History.{initialHistory, newerOf, isOlder, Newer}
+use Rattle.marks.proofs.Histories.{newer-view, newer-idem}
 use Rattle.maps.specs.declared.DependenceMap.{DependenceMap}
 use Rattle.maps.specs.Map.{heldAt, historyAt, emptyMap, withEntry, singleton, isEmpty, joinedHistory, choosesRight, joinedHeldAt, joinedHistoryAt, joinOf, Sized, Joined, both, left, right, neither}
 
@@ -111,11 +111,11 @@ module _ (l n i : ℕ) (h : History) where
 
 module _ (p : Bool) (x : History) (q : Bool) (y : History) where
   pub joined-left : q ≡ false → joinedHistory p x q y ≡ x
-  unfolding joinedHistory
+  unfolding joinedHistory choosesRight
   joined-left e = rw e
 
   pub joined-right : p ≡ false → q ≡ true → joinedHistory p x q y ≡ y
-  unfolding joinedHistory
+  unfolding joinedHistory choosesRight
   joined-right e f = rw (e, f)
 
   pub chooses-newer : p ≡ true → q ≡ true → choosesRight p x q y ≡ isOlder x y
@@ -129,12 +129,6 @@ module _ (p : Bool) (x : History) (q : Bool) (y : History) where
   pub chooses-left : q ≡ false → choosesRight p x q y ≡ false
   unfolding choosesRight
   chooses-left e = rw e
-
-pub joined-pick : (p : Bool) (x : History) (q : Bool) (y : History) → joinedHistory p x q y ≡ pick (choosesRight p x q y) y x
-unfolding joinedHistory choosesRight
-joined-pick true x true y = newer-older x y
-joined-pick false x true y = refl
-joined-pick p x false y = refl
 
 pub joined-pick-held : (p : Bool) (x : History) (q : Bool) (y : History) → p or q ≡ pick (choosesRight p x q y) q p
 unfolding choosesRight
@@ -156,11 +150,11 @@ module _ (a b : DependenceMap) (i : ℕ) (t : Bool) (e : choosesRightAt a b i �
   held-picked = sym (joined-pick-held (heldAt a i) (historyAt a i) (heldAt b i) (historyAt b i) ∙ ap (λ (s : Bool). pick s (heldAt b i) (heldAt a i)) e)
 
   pub history-picked : pick t (historyAt b i) (historyAt a i) ≡ joinedHistoryAt a b i
-  unfolding joinedHistoryAt
-  history-picked = sym (joined-pick (heldAt a i) (historyAt a i) (heldAt b i) (historyAt b i) ∙ ap (λ (s : Bool). pick s (historyAt b i) (historyAt a i)) e)
+  unfolding joinedHistoryAt joinedHistory
+  history-picked = sym (ap (λ (s : Bool). pick s (historyAt b i) (historyAt a i)) e)
 
 joined-view : (p : Bool) (x : History) (q : Bool) (y : History) → Joined p x q y (p or q) (joinedHistory p x q y)
-unfolding joinedHistory
+unfolding joinedHistory choosesRight newerOf
 joined-view true x true y = both refl refl (newer-view x y)
 joined-view true x false y = left refl refl
 joined-view false x true y = right refl refl
@@ -221,7 +215,7 @@ held-join-test n a b i h = (λ e. to e (join-view n a b i h), λ e. of e (join-v
 
 -- a map joined with itself is the same
 pub join-idem : {n : ℕ} {a : DependenceMap} → Sized n a → joinOf n a a ≡ a
-unfolding joinedHistory joinedHeldAt joinedHistoryAt
+unfolding joinedHistory choosesRight newerOf joinedHeldAt joinedHistoryAt
 join-idem {n} {a} s = same-map (sized-join n a a) s
     (λ i h. held-join n a a i h ∙ held (heldAt a i))
     (λ i h. history-join n a a i h ∙ history (heldAt a i) (historyAt a i))

@@ -1,12 +1,11 @@
 -- Laws of comparing: whether some take has unrelated marks in two maps, and what else one comparison of two marks says.
-use Prim.Native.Nat.{ℕ, zero, suc, _+_, _-_, _≤_, _<_}
+use Prim.Native.Nat.{ℕ, suc, _+_, _-_, _≤_, _<_}
 use mathlib.Core.Bool.{Bool, true, false}
 use mathlib.Core.Path.{_≡_, refl, sym, ap, _∙_, subst}
 use mathlib.Core.Logic.{⊎-elim, _↔_}
 use native.Mathlib.Omega.{arith}
-use Rattle.octets.specs.Bytes.{pick, _and_, _or_}
-use Rattle.octets.proofs.Tests.{or-off}
-use Rattle.octets.proofs.Chunks.{sides}
+use Rattle.octets.specs.Bytes.{pick, _and_, _or_, any}
+use Rattle.octets.proofs.Zero.{any-at, any-off, any-same, any-first}
 use Rattle.marks.specs.declared.History.{History}
 use Rattle.marks.specs.declared.Relation.{Relation}
 use Rattle.marks.specs.declared.Relation.the-variants.{Same}
@@ -15,7 +14,7 @@ use Rattle.marks.specs.Relation.{turned, relationOf, isLeftSuperseded, isUnrela
 use Rattle.marks.proofs.Histories.{newer-which}
 use Rattle.marks.proofs.Related.{superseded-reads, relation-turned}
 use Rattle.maps.specs.declared.DependenceMap.{DependenceMap}
-use Rattle.maps.specs.Map.{heldAt, historyAt, joinOf, supersededEntry, unrelatedEntry, unrelatedAt, anyFrom, anyUnrelated, relationEntry, Joined, both, left, right, neither}
+use Rattle.maps.specs.Map.{heldAt, historyAt, joinOf, supersededEntry, unrelatedEntry, unrelatedAt, anyUnrelated, relationEntry, Joined, both, left, right, neither}
 use Rattle.maps.proofs.Map.{join-view}
 
 -- ---- one entry: each test is a reading of one comparison
@@ -78,48 +77,34 @@ related-join n m a b i h e f = go (heldAt m i) (historyAt m i) e f (join-view n 
 
 -- ---- some take: there is one exactly if the answer is yes
 
-from : (f : ℕ → Bool) (k n : ℕ) → f k ≡ false → ((j : ℕ) → suc k ≤ j → j < suc k + n → f j ≡ false) → (j : ℕ) → k ≤ j → j < k + suc n → f j ≡ false
-from f k n e g j h l = ⊎-elim
-    (λ (p : k < j). g j (omega arith) (omega arith))
-    (λ (p : j ≤ k). let q : k ≡ j = omega arith in subst (λ (x : ℕ). f x ≡ false) q e)
-    (sides k j)
-
-any-none : (f : ℕ → Bool) (k n : ℕ) → anyFrom f k n ≡ false → (j : ℕ) → k ≤ j → j < k + n → f j ≡ false
-unfolding anyFrom
-any-none f k zero e j h l = absurd (omega arith)
-any-none f k (suc n) e j h l =
-    let p = or-off (f k) (anyFrom f (suc k) n) e in
-    from f k n (p .0) (any-none f (suc k) n (p .1)) j h l
-
-none-any : (f : ℕ → Bool) (k n : ℕ) → ((j : ℕ) → k ≤ j → j < k + n → f j ≡ false) → anyFrom f k n ≡ false
-unfolding anyFrom
-none-any f k zero g = refl
-none-any f k (suc n) g = rw (g k (omega arith) (omega arith)) (none-any f (suc k) n (λ j h l. g j (omega arith) (omega arith)))
-
 module _ (n : ℕ) (a b : DependenceMap) where
   pub unrelated-none : (anyUnrelated n a b ≡ false) ↔ ((i : ℕ) → i < n → unrelatedAt a b i ≡ false)
   unfolding anyUnrelated
-  unrelated-none = (λ e i h. any-none (unrelatedAt a b) 0 n e i (omega arith) (omega arith), λ g. none-any (unrelatedAt a b) 0 n (λ j h l. g j (omega arith)))
+  unrelated-none = (λ e i h. any-at (unrelatedAt a b) n i e h, any-off (unrelatedAt a b) n)
 
 -- ---- entry by entry, from the last to the first: the answer for those from i on
 
 unfoldable pub anyRest : ℕ → DependenceMap → DependenceMap → ℕ → Bool
-anyRest n a b i = anyFrom (unrelatedAt a b) i (n - i)
+anyRest n a b i = any (n - i) (λ j. unrelatedAt a b (i + j))
 
 module _ (n : ℕ) (a b : DependenceMap) where
   pub any-all : anyUnrelated n a b ≡ anyRest n a b 0
   unfolding anyRest anyUnrelated
-  any-all = let e : n - 0 ≡ n = omega arith in rw e
+  any-all =
+      let e : n - 0 ≡ n = omega arith in
+      rw e (any-same (unrelatedAt a b) (λ j. unrelatedAt a b (0 + j)) n (λ i h. let z : i ≡ 0 + i = omega arith in ap (unrelatedAt a b) z))
 
   -- the answer r from j on, and r' from the entry before it on
   pub any-back : (i j : ℕ) → i + 1 ≡ j → j ≤ n → (t : Bool) → unrelatedAt a b i ≡ t → (r r' : Bool)
       → r ≡ anyRest n a b j → r' ≡ t or r → r' ≡ anyRest n a b i
-  unfolding anyRest anyFrom
+  unfolding anyRest
   any-back i j e h t f r r' k z =
       let p : n - i ≡ suc (n - j) = omega arith in
-      let q : j ≡ suc i = omega arith in
-      z ∙ ap (λ (x : Bool). t or x) k ∙ rw (p, f, q)
+      let here : i + 0 ≡ i = omega arith in
+      z ∙ ap (λ (x : Bool). t or x) k
+      ∙ sym (rw p (any-first (λ m. unrelatedAt a b (i + m)) (n - j)
+      ∙ rw (here, f) (ap (λ (x : Bool). t or x) (any-same (λ m. unrelatedAt a b (i + suc m)) (λ m. unrelatedAt a b (j + m)) (n - j) (λ m l. let w : i + suc m ≡ j + m = omega arith in ap (unrelatedAt a b) w)))))
 
   pub any-end : (i : ℕ) → i ≡ n → anyRest n a b i ≡ false
-  unfolding anyRest anyFrom
+  unfolding anyRest any
   any-end i h = let k : n - i ≡ 0 = omega arith in rw k

@@ -12,10 +12,10 @@ use Rattle.octets.specs.Bytes.{pick, _or_}
 use Rattle.octets.proofs.Chunks.{sides}
 use Rattle.marks.specs.declared.History.{History}
 use Rattle.marks.specs.Incarnation.{Superseded}
-use Rattle.marks.specs.History.{Roomy, HistoryView, viewOf}
+use Rattle.marks.specs.History.{Roomy, HistoryView, viewOf, newerOf}
 use Rattle.marks.proofs.Histories.{roomy-initial, roomy-newer, view-newer}
 use Rattle.maps.specs.declared.DependenceMap.{DependenceMap}
-use Rattle.maps.specs.Map.{heldAt, historyAt, emptyMap, withEntry, singleton, joinedHistory, joinedHeldAt, joinedHistoryAt, joinOf, supersededAt, firstSuperseded, Sized, Joined, both, left, right, neither, Within}
+use Rattle.maps.specs.Map.{heldAt, historyAt, emptyMap, withEntry, singleton, choosesRight, joinedHistory, joinedHeldAt, joinedHistoryAt, joinOf, supersededAt, firstSuperseded, Sized, Joined, both, left, right, neither, Within}
 use Rattle.octets.specs.Table.{updated}
 use Rattle.maps.specs.Internal.Fitting.{EntryOk, present, absent, MapOk}
 use Rattle.maps.specs.Internal.View.{MapView, mapView, singletonView, joinEntry, joinView, SupersededView, superseded-entry}
@@ -119,7 +119,7 @@ view-singleton l n t h below u =
 
 module _ {l n : ℕ} {a b : DependenceMap} (p : Within l n a) (q : Within l n b) where
   joined : (u : ℕ) → u < n → mapView (joinOf n a b) u ≡ joinEntry (mapView a u) (mapView b u)
-  unfolding mapView joinEntry joinedHeldAt joinedHistoryAt joinedHistory
+  unfolding mapView joinEntry joinedHeldAt joinedHistoryAt joinedHistory choosesRight newerOf
   joined u h = rw (held-join n a b u h, history-join n a b u h) (go (heldAt a u) refl (heldAt b u) refl)
     where
       go : (c : Bool) → heldAt a u ≡ c → (d : Bool) → heldAt b u ≡ d

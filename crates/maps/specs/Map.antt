@@ -5,9 +5,9 @@ use mathlib.Core.List.{List, []}
 use mathlib.Core.Option.{Option, none, some}
 use mathlib.Core.Path.{_≡_}
 use lib.ListN.{getD, set, replicate, length}
-use Rattle.octets.specs.Bytes.{pick, _and_, _or_, tabulate, every}
+use Rattle.octets.specs.Bytes.{pick, _and_, _or_, tabulate, every, any}
 use Rattle.marks.specs.declared.History.{History}
-use Rattle.marks.specs.History.{incarnationOf, initialHistory, newerOf, isOlder, Roomy, Newer}
+use Rattle.marks.specs.History.{incarnationOf, initialHistory, isOlder, Roomy, Newer}
 use Rattle.marks.specs.Incarnation.{supersededBy}
 use Rattle.marks.specs.declared.Relation.{Relation}
 use Rattle.marks.specs.declared.Relation.the-variants.{Same}
@@ -45,12 +45,12 @@ isEmpty n m = every n (λ i. not (heldAt m i))
 
 -- ---- Joining takes the newer mark where both have one.
 
-unfoldable pub joinedHistory : Bool → History → Bool → History → History
-joinedHistory p x q y = pick q (pick p (newerOf x y) y) x
-
--- whether that is the right entry
+-- whether the joined entry is the right one
 unfoldable pub choosesRight : Bool → History → Bool → History → Bool
 choosesRight p x q y = pick q (pick p (isOlder x y) true) false
+
+unfoldable pub joinedHistory : Bool → History → Bool → History → History
+joinedHistory p x q y = pick (choosesRight p x q y) y x
 
 unfoldable pub joinedHeldAt : DependenceMap → DependenceMap → ℕ → Bool
 joinedHeldAt a b i = heldAt a i or heldAt b i
@@ -95,14 +95,9 @@ unrelatedEntry p x q y = p and q and isUnrelated (relationOf (incarnationOf x) (
 unfoldable pub unrelatedAt : DependenceMap → DependenceMap → ℕ → Bool
 unrelatedAt a b i = unrelatedEntry (heldAt a i) (historyAt a i) (heldAt b i) (historyAt b i)
 
--- f holds at one of the n numbers from k on
-unfoldable pub anyFrom : (ℕ → Bool) → ℕ → ℕ → Bool
-anyFrom f k zero = false
-anyFrom f k (suc n) = f k or anyFrom f (suc k) n
-
 -- some take has unrelated marks in a and in b
 unfoldable pub anyUnrelated : ℕ → DependenceMap → DependenceMap → Bool
-anyUnrelated n a b = anyFrom (unrelatedAt a b) 0 n
+anyUnrelated n a b = any n (unrelatedAt a b)
 
 -- what the comparison of two entries says: the same where one is not held
 unfoldable pub relationEntry : Bool → History → Bool → History → Relation

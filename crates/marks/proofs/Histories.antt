@@ -10,6 +10,7 @@ use lib.ListN.{length, length-set}
 use lib.Seq.{take-all, length-take-le, take-suc-set, getD-set-other}
 use borrow.Author.Tests.{ltb-true, ltb-false, lt-ltb, le-ltb}
 use Rattle.octets.specs.Bytes.{pick}
+use Rattle.octets.proofs.Tests.{pick-view}
 use Rattle.octets.proofs.Chunks.{sides}
 use Rattle.octets.proofs.Zero.{length-zeros, getD-zeros}
 use Rattle.marks.specs.declared.History.{History}
@@ -53,28 +54,27 @@ roomy-checkpointed {l} {h} r k = record {
 
 -- ---- the newer of two
 
-pick-view : (P : History → Type 0) (t : Bool) (x y : History) → (t ≡ true → P x) → (t ≡ false → P y) → P (pick t x y)
-pick-view P true x y f g = f refl
-pick-view P false x y f g = g refl
-
 pub newer-view : (a b : History) → Newer a b (newerOf a b)
-unfolding newerOf
+unfolding newerOf isOlder
 newer-view a b =
-    pick-view (Newer a b) (ltb (a .count) (b .count)) b _ (λ e. right-longer (ltb-true (a .count) (b .count) e)) λ e1.
-    pick-view (Newer a b) (ltb (b .count) (a .count)) a _ (λ e. left-longer (ltb-true (b .count) (a .count) e)) λ e2.
+    pick-view chosen (ltb (a .count) (b .count)) true _ (λ e. right-longer (ltb-true (a .count) (b .count) e)) λ e1.
+    pick-view chosen (ltb (b .count) (a .count)) false _ (λ e. left-longer (ltb-true (b .count) (a .count) e)) λ e2.
     let l : a .count ≡ b .count = omega (arith, ltb-false (a .count) (b .count) e1, ltb-false (b .count) (a .count) e2) in
-    pick-view (Newer a b) (ltb (a .incarnation) (b .incarnation)) b _ (λ e. right-number l (ltb-true (a .incarnation) (b .incarnation) e)) λ e3.
-    pick-view (Newer a b) (ltb (b .incarnation) (a .incarnation)) a _ (λ e. left-number l (ltb-true (b .incarnation) (a .incarnation) e)) λ e4.
+    pick-view chosen (ltb (a .incarnation) (b .incarnation)) true _ (λ e. right-number l (ltb-true (a .incarnation) (b .incarnation) e)) λ e3.
+    pick-view chosen (ltb (b .incarnation) (a .incarnation)) false _ (λ e. left-number l (ltb-true (b .incarnation) (a .incarnation) e)) λ e4.
     let n : a .incarnation ≡ b .incarnation = omega (arith, ltb-false (a .incarnation) (b .incarnation) e3, ltb-false (b .incarnation) (a .incarnation) e4) in
-    pick-view (Newer a b) (a .stable) a _ (λ e. left-stable l n e) λ e5.
+    pick-view chosen (a .stable) false (b .stable) (λ e. left-stable l n e) λ e5.
     pick-view (Newer a b) (b .stable) b a (λ e. right-stable l n e5 e) (λ e. left-same l n e5 e)
+  where
+    chosen : Bool → Type 0
+    chosen t = Newer a b (pick t b a)
 
 -- equal numbers are not in order
 level : (n m : ℕ) → n ≡ m → ltb n m ≡ false
 level n m e = le-ltb n m (omega arith)
 
 newer-is : {a b m : History} → Newer a b m → m ≡ newerOf a b
-unfolding newerOf
+unfolding newerOf isOlder
 newer-is (right-longer l) = simp (lt-ltb _ _ l)
 newer-is {a} {b} (left-longer l) = simp (le-ltb (a .count) (b .count) (omega arith), lt-ltb _ _ l)
 newer-is (right-number e l) = simp (level _ _ e, level _ _ (sym e), lt-ltb _ _ l)
@@ -82,18 +82,6 @@ newer-is {a} {b} (left-number e l) = simp (level _ _ e, level _ _ (sym e), le-lt
 newer-is (left-stable e n p) = simp (level _ _ e, level _ _ (sym e), level _ _ n, level _ _ (sym n), p)
 newer-is (right-stable e n p q) = simp (level _ _ e, level _ _ (sym e), level _ _ n, level _ _ (sym n), p, q)
 newer-is (left-same e n p q) = simp (level _ _ e, level _ _ (sym e), level _ _ n, level _ _ (sym n), p, q)
-
-pub newer-older : (a b : History) → newerOf a b ≡ pick (isOlder a b) b a
-unfolding newerOf isOlder
-newer-older a b = go (ltb (a .count) (b .count)) (ltb (b .count) (a .count)) (ltb (a .incarnation) (b .incarnation)) (ltb (b .incarnation) (a .incarnation)) (a .stable) (b .stable)
-  where
-    go : (s t u v w x : Bool) → pick s b (pick t a (pick u b (pick v a (pick w a (pick x b a))))) ≡ pick (pick s true (pick t false (pick u true (pick v false (pick w false x))))) b a
-    go true t u v w x = refl
-    go false true u v w x = refl
-    go false false true v w x = refl
-    go false false false true w x = refl
-    go false false false false true x = refl
-    go false false false false false x = refl
 
 -- what the code compares
 module _ (a b : History) where

@@ -8,8 +8,9 @@ pub mod Histories
 pub mod Packed
 pub mod Recast
 pub mod Within
-mod Masked
-mod Placed
-mod Unpacked
+pub mod Masked
+pub mod Placed
+pub mod Unpacked
+pub mod Wide
 pub mod Starred
 pub mod News

@@ -54,9 +54,9 @@ module _ (a : Incarnation) (p : HistoryView) where
       go true u e = refl
       go false u e = sym e
 
-  pub shows-loose : checkpointedIn a (p .incarnation) ≡ false → p .stable ≡ false → false ≡ showsStable a p
+  pub shows-unstable : checkpointedIn a (p .incarnation) ≡ false → p .stable ≡ false → false ≡ showsStable a p
   unfolding showsStable
-  shows-loose e f = go (sameIncarnation a (p .incarnation)) (p .stable) (checkpointedIn a (p .incarnation)) f e
+  shows-unstable e f = go (sameIncarnation a (p .incarnation)) (p .stable) (checkpointedIn a (p .incarnation)) f e
     where
       go : (t u v : Bool) → u ≡ false → v ≡ false → false ≡ (t and u) or v
       go true u v e f = rw (e, f)
@@ -83,7 +83,7 @@ may-none l p x true y lx ly cx cy e = go p (x .stable) (y .stable) refl (ltb (x 
     go true false true f t g z = absurd (false≢true (sym z))
     go true false false f true g z = absurd (false≢true (sym z))
     go true false false f false g z =
-        shows-loose (incarnationOf x) (viewOf y) (sym (checkpointed-short l x y lx ly cx cy (ltb-false (x .count) (y .count) g))) f
+        shows-unstable (incarnationOf x) (viewOf y) (sym (checkpointed-short l x y lx ly cx cy (ltb-false (x .count) (y .count) g))) f
 may-none l p x false y lx ly cx cy e = refl
 
 -- and else
@@ -162,7 +162,7 @@ shown a stable b = showsStable a (record { stable = stable; incarnation = b })
 pub record Examples : Type 0 where
   -- a frozen mark of the same life; an unfrozen one; a frozen one of the life before it, and of the next
   same-incarnation : shown (inc (2 ∷ []) 1) true (inc (2 ∷ []) 1) ≡ true
-  loose : shown (inc (2 ∷ []) 1) false (inc (2 ∷ []) 1) ≡ false
+  unstable : shown (inc (2 ∷ []) 1) false (inc (2 ∷ []) 1) ≡ false
   before : shown (inc (2 ∷ []) 1) true (inc (2 ∷ []) 0) ≡ false
   after : shown (inc (2 ∷ []) 1) true (inc (2 ∷ []) 2) ≡ false
   -- a longer list whose next entry is n, whatever follows and frozen or not; a prefix alone is not enough
@@ -174,4 +174,4 @@ pub record Examples : Type 0 where
 
 pub examples : Examples
 unfolding showsStable sameIncarnation checkpointedIn beginsWith sameList
-examples = record { same-incarnation = refl; loose = refl; before = refl; after = refl; longer = refl; much-longer = refl; prefix = refl; shorter = refl }
+examples = record { same-incarnation = refl; unstable = refl; before = refl; after = refl; longer = refl; much-longer = refl; prefix = refl; shorter = refl }

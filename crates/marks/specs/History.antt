@@ -28,17 +28,7 @@ rolledBack h = record { stable = false; incarnation = h .incarnation + 1; count 
 abbrev pub checkpointed : History → History
 checkpointed h = record { stable = false; incarnation = 0; count = h .count + 1; checkpoints = set (h .checkpoints) (h .count) (h .incarnation) }
 
--- The newer of two marks: longer list; then greater n; then frozen; else the left one.
-unfoldable pub newerOf : History → History → History
-newerOf a b =
-    pick (ltb (a .count) (b .count)) b
-    (pick (ltb (b .count) (a .count)) a
-    (pick (ltb (a .incarnation) (b .incarnation)) b
-    (pick (ltb (b .incarnation) (a .incarnation)) a
-    (pick (a .stable) a
-    (pick (b .stable) b a)))))
-
--- Whether the newer of two marks is the right one.
+-- Whether the newer of two marks is the right one: longer list; then greater n; then frozen; else the left one.
 unfoldable pub isOlder : History → History → Bool
 isOlder a b =
     pick (ltb (a .count) (b .count)) true
@@ -46,6 +36,10 @@ isOlder a b =
     (pick (ltb (a .incarnation) (b .incarnation)) true
     (pick (ltb (b .incarnation) (a .incarnation)) false
     (pick (a .stable) false (b .stable)))))
+
+-- The newer of two marks.
+unfoldable pub newerOf : History → History → History
+newerOf a b = pick (isOlder a b) b a
 
 -- A mark with room for l signings: the list has l places, the count uses no more, and those past it are zero.
 pub record Roomy (l : ℕ) (h : History) : Type 0 where

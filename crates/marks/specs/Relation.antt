@@ -1,7 +1,7 @@
 -- Document 02, W3, "Marks from two different books": the comparison of two lives, over lists of any length and numbers of any
 -- width. "It says: same life, earlier one signed, earlier one withdrawn, or unrelated; of the middle two, also which mark is earlier."
 use Prim.Native.Nat.{ℕ}
-use mathlib.Core.Bool.{Bool, true, false}
+use mathlib.Core.Bool.{Bool}
 use mathlib.Core.Path.{_≡_}
 use lib.ListN.{length, getD}
 use lib.Dec.{eqb, ltb}
@@ -53,38 +53,18 @@ relationNumber Unrelated = 5
 
 -- same life
 abbrev pub isSame : Relation → Bool
-isSame Same = true
-isSame LeftCheckpointed = false
-isSame RightCheckpointed = false
-isSame LeftSuperseded = false
-isSame RightSuperseded = false
-isSame Unrelated = false
+isSame r = eqb (relationNumber r) 0
 
 -- the left mark is the earlier one, and signed
 abbrev pub isLeftCheckpointed : Relation → Bool
-isLeftCheckpointed Same = false
-isLeftCheckpointed LeftCheckpointed = true
-isLeftCheckpointed RightCheckpointed = false
-isLeftCheckpointed LeftSuperseded = false
-isLeftCheckpointed RightSuperseded = false
-isLeftCheckpointed Unrelated = false
+isLeftCheckpointed r = eqb (relationNumber r) 1
 
 -- the left mark is the earlier one, and withdrawn: "exactly if it is stale by the other"
 abbrev pub isLeftSuperseded : Relation → Bool
-isLeftSuperseded Same = false
-isLeftSuperseded LeftCheckpointed = false
-isLeftSuperseded RightCheckpointed = false
-isLeftSuperseded LeftSuperseded = true
-isLeftSuperseded RightSuperseded = false
-isLeftSuperseded Unrelated = false
+isLeftSuperseded r = eqb (relationNumber r) 3
 
 abbrev pub isUnrelated : Relation → Bool
-isUnrelated Same = false
-isUnrelated LeftCheckpointed = false
-isUnrelated RightCheckpointed = false
-isUnrelated LeftSuperseded = false
-isUnrelated RightSuperseded = false
-isUnrelated Unrelated = true
+isUnrelated r = eqb (relationNumber r) 5
 
 -- ---- for theorems: what each answer means
 

@@ -8,7 +8,6 @@ use native.Mathlib.Omega.{arith}
 use borrow.Author.Tests.{lt-ltb, le-ltb, le-leb, ne-eqb}
 use lib.Dec.{eqb, leb}
 use lib.ListN.{length, drop, getD, length-append, length-drop}
-use Rattle.octets.specs.Bytes.{_and_}
 use Rattle.octets.proofs.Zero.{both}
 use Rattle.marks.specs.Incarnation.{sameList}
 use Rattle.rules.specs.declared.Step.{Step}
@@ -22,7 +21,7 @@ use Rattle.notation.proofs.Rows.{row}
 
 -- ---- blanks, digits
 
-blank-outside : (c : ℕ) → blank c ≡ true → inWord c ≡ false
+pub blank-outside : (c : ℕ) → blank c ≡ true → inWord c ≡ false
 unfolding inWord
 blank-outside c e = rw e
 

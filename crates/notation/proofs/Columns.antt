@@ -16,21 +16,35 @@ use Rattle.rules.specs.Step.{unpackStep}
 use Rattle.notation.specs.Notation.{bytes, parcelField, volumeField, nameOf, templateOf}
 use Rattle.notation.specs.Reading.{Reader, blank, inWord, all, next, wordAt, isDigit, isHex, isNumber, ofDecimal, ofHex, mostOf, fits, withField, withMember, good, reached, wordItem, memberAt, commaNext, moreMembers, closed, membersAt, volumeAt, item as itemOf, items, ended, rowNamed, emptyStep, lineAt}
 use Rattle.notation.specs.Grammar.{Blanks, Digits, More, close, comma, Volume, empty, takes, Item, field, volume, to, text, whole, brace, blanks, Items, none, item, Says, line}
+use Rattle.notation.specs.Faults.{Next, lastOr}
 use Rattle.notation.proofs.Words.{stops}
+use Rattle.notation.proofs.Parting.{space-out, comma-out, open-out, close-out, last-blanks, last-out, parted-last, parted-head}
 use Rattle.notation.proofs.Within.{next-within, word-within, byte-within, member-within, item-within, items-within}
 use Rattle.notation.proofs.Volumes.{idle}
 use Rattle.notation.proofs.Items.{Item as ItemKind, isItem, item-view, isTake, isOther, isParcel, isText, isVolume, isWordTo, isWordText, isWhole}
 use Rattle.notation.proofs.Rows.{row}
 use Rattle.notation.proofs.Sound.{gap, gap-blank, gap-cut, word-cut, word-stops, byte-cut, member-sound, item-sound, items-sound, volumeLast, rows-last, name-of-row, one-comma, more-suc, more-zero, volume-apart}
 
--- the text u goes on to a line that says a step
-pub record Next (u : List ℕ) : Type 0 where
-  pub rest : List ℕ
-  pub step : Step
-  pub says : Says (u ++ rest) step
+-- the text u goes on, its last word perhaps too
+record Goes (u : List ℕ) : Type 0 where
+  rest : List ℕ
+  step : Step
+  says : Says (u ++ rest) step
 
-shorter : (u v : List ℕ) → Next (u ++ v) → Next u
+shorter : (u v : List ℕ) → Goes (u ++ v) → Goes u
 shorter u v n = record { rest = v ++ n .rest; step = n .step; says = subst (λ (l : List ℕ). Says l (n .step)) (append-assoc u v (n .rest)) (n .says) }
+
+-- its last word is whole where what goes on begins with no byte of a word, or where it ends with none
+cut-head : (u : List ℕ) (c : ℕ) (v : List ℕ) → inWord c ≡ false → Goes (u ++ (c ∷ v)) → Next u
+unfolding shorter
+cut-head u c v e n =
+    let k = shorter u (c ∷ v) n in
+    record { rest = k .rest; step = k .step; says = k .says; whole = parted-head u c (v ++ n .rest) e }
+
+cut-last : (u v : List ℕ) → inWord (lastOr 32 u) ≡ false → Goes (u ++ v) → Next u
+cut-last u v e n =
+    let k = shorter u v n in
+    record { rest = k .rest; step = k .step; says = k .says; whole = parted-last u (k .rest) e }
 
 no-blank : Blanks []
 unfolding all
@@ -93,20 +107,20 @@ plains q (c ∷ cs) a =
 
 module _ (s : List ℕ) where
   -- what is cut off the rest joins the front
-  front : (a b : ℕ) (u : List ℕ) → drop a s ≡ u ++ drop b s → a ≤ length s → b ≤ length s → take b s ≡ take a s ++ u
+  pub front : (a b : ℕ) (u : List ℕ) → drop a s ≡ u ++ drop b s → a ≤ length s → b ≤ length s → take b s ≡ take a s ++ u
   front a b u e h k =
       let l : length s - a ≡ length u + (length s - b) = sym (length-drop a s) ∙ ap length e ∙ length-append u (drop b s) ∙ ap (λ (n : ℕ). length u + n) (length-drop b s) in
       let m : length (take a s ++ u) ≡ b = length-append (take a s) u ∙ ap (λ (n : ℕ). n + length u) (length-take-le a s h) ∙ omega arith in
       let f : s ≡ (take a s ++ u) ++ drop b s = sym (take-append-drop a s) ∙ ap (λ (x : List ℕ). take a s ++ x) e ∙ sym (append-assoc (take a s) u (drop b s)) in
       ap (take b) f ∙ take-at (take a s ++ u) (drop b s) b m
 
-  gap-front : (at : ℕ) → at ≤ length s → take (next s at) s ≡ take at s ++ gap s at
+  pub gap-front : (at : ℕ) → at ≤ length s → take (next s at) s ≡ take at s ++ gap s at
   gap-front at h = front at (next s at) (gap s at) (gap-cut s at) h (next-within s at h)
 
   -- ---- volumes
 
   abbrev Rest : Reader → Type 0
-  Rest r = (v : List ℕ) (h : ℕ) → More (r .step .message) v h → Next (take (r .at) s ++ v)
+  Rest r = (v : List ℕ) (h : ℕ) → More (r .step .message) v h → Goes (take (r .at) s ++ v)
 
   abbrev pub Faulty : Reader → Type 0
   Faulty x = x .expected ≡ 0 → ⊥
@@ -119,8 +133,8 @@ module _ (s : List ℕ) where
       (λ e n. absurd (n refl))
       (λ e n.
       let b : List ℕ = gap s (r .at) in
-      shorter (take (next s (r .at)) s) (125 ∷ [])
-      (subst Next (sym (append-assoc (take (r .at) s) b (125 ∷ [])) ∙ ap (λ (u : List ℕ). u ++ (125 ∷ [])) (sym (gap-front (r .at) h)))
+      cut-head (take (next s (r .at)) s) 125 [] close-out
+      (subst Goes (sym (append-assoc (take (r .at) s) b (125 ∷ [])) ∙ ap (λ (u : List ℕ). u ++ (125 ∷ [])) (sym (gap-front (r .at) h)))
       (k (b ++ (125 ∷ [])) (r .step .message) (close (r .step .message) (b ++ (125 ∷ [])) b refl (gap-blank s (r .at)))))))
       (λ g n. absurd (n z))
 
@@ -166,7 +180,10 @@ module _ (s : List ℕ) where
       let e : take (r .at) s ++ v ≡ take (next s (next s (r .at) + 1)) s ++ l =
       ap (λ (x : List ℕ). take (r .at) s ++ x) (sym (append-assoc b (44 ∷ d) l)) ∙ sym (append-assoc (take (r .at) s) (b ++ (44 ∷ d)) l)
       ∙ ap (λ (x : List ℕ). x ++ l) (sym (comma-front r h c .1)) in
-      shorter (take (next s (next s (r .at) + 1)) s) l (subst Next e (k v (withMember g 0) u))
+      let f : take (next s (next s (r .at) + 1)) s ≡ (take (r .at) s ++ b) ++ (44 ∷ d) = comma-front r h c .1 ∙ sym (append-assoc (take (r .at) s) b (44 ∷ d)) in
+      cut-last (take (next s (next s (r .at) + 1)) s) l
+      (subst (λ (x : List ℕ). inWord (lastOr 32 x) ≡ false) (sym f) (last-out (take (r .at) s ++ b) 44 d comma-out (gap-blank s (next s (r .at) + 1))))
+      (subst Goes e (k v (withMember g 0) u))
 
   -- after a comma and a take
   comma-rest : (r : Reader) → r .at ≤ length s → commaNext s r ≡ true → Rest r
@@ -187,7 +204,7 @@ module _ (s : List ℕ) where
       let e : take (r .at) s ++ l ≡ take (m .at) s ++ v =
       ap (λ (y : List ℕ). take (r .at) s ++ y) (sym (append-assoc b (44 ∷ d) (w ++ v))) ∙ sym (append-assoc (take (r .at) s) (b ++ (44 ∷ d)) (w ++ v))
       ∙ ap (λ (y : List ℕ). y ++ (w ++ v)) (sym (comma-front r h c .1)) ∙ sym (append-assoc (take n s) w v) ∙ ap (λ (y : List ℕ). y ++ v) (sym f) in
-      subst Next e (k l g o)
+      subst Goes e (k l g o)
 
   more-goes : (f : ℕ) (r : Reader) → r .at ≤ length s → r .expected ≡ 0 → Rest r → Faulty (closed s (moreMembers f s r)) → Next (take (closed s (moreMembers f s r) .at) s)
   more-goes zero r h z k n =
@@ -218,11 +235,11 @@ module _ (s : List ℕ) where
 
   -- after the opening brace
   abbrev Opened : ℕ → Type 0
-  Opened at = (w : List ℕ) (g : ℕ) → ((b : List ℕ) → Blanks b → Volume (123 ∷ (b ++ w)) g) → Next (take at s ++ w)
+  Opened at = (w : List ℕ) (g : ℕ) → ((b : List ℕ) → Blanks b → Volume (123 ∷ (b ++ w)) g) → Goes (take at s ++ w)
 
-  members-goes : (at : ℕ) (p : Step) → p .message ≡ 0 → at ≤ length s → Opened at → Faulty (membersAt s at p) → Next (take (membersAt s at p .at) s)
+  members-goes : (at : ℕ) (p : Step) → p .message ≡ 0 → at ≤ length s → inWord (lastOr 32 (take at s)) ≡ false → Opened at → Faulty (membersAt s at p) → Next (take (membersAt s at p .at) s)
   unfolding membersAt withField
-  members-goes at p z h k =
+  members-goes at p z h o k =
       pick-view (λ (y : Reader). Faulty y → Next (take (y .at) s)) (eqb (getD s at 0) 125) _ _
       (λ e n. absurd (n refl))
       (λ e n. go (eqb (memberAt s at p .expected) 0) refl n)
@@ -238,17 +255,17 @@ module _ (s : List ℕ) where
           let a : take (f .at) s ≡ take at s ++ w = ap (λ (y : Reader). take (y .at) s) (m .is) ∙ front at (at + length w) w (word-cut s at) h (word-within s at h) in
           let i : f .step .message ≡ withMember 0 (m .take) = ap (λ (y : Reader). y .step .message) (m .is) ∙ ap (λ (j : ℕ). withMember j (m .take)) z in
           more-goes (length s) f (member-within s at p h) c
-          (λ v g u. subst Next (sym (append-assoc (take at s) w v) ∙ ap (λ (y : List ℕ). y ++ v) (sym a))
+          (λ v g u. subst Goes (sym (append-assoc (take at s) w v) ∙ ap (λ (y : List ℕ). y ++ v) (sym a))
           (k (w ++ v) g (λ b x. takes g (m .take) (123 ∷ (b ++ (w ++ v))) b w v refl x (m .digits) (m .most) (subst (λ (j : ℕ). More j v g) i u)))) n
       go false e n =
           let a : Faulty f = eqb-false (f .expected) 0 e in
           let q : closed s (moreMembers (length s) s f) ≡ f = ap (closed s) (more-stays (length s) f a) ∙ closed-stays f a in
           let u : closed s (moreMembers (length s) s f) .at ≡ at = ap (λ (x : Reader). x .at) q ∙ member-fault at p a in
           subst (λ (x : ℕ). Next (take x s)) (sym u)
-          (shorter (take at s) (48 ∷ 125 ∷ [])
+          (cut-last (take at s) (48 ∷ 125 ∷ []) o
           (k (48 ∷ 125 ∷ []) (withMember 0 0) (λ b x. takes (withMember 0 0) 0 (123 ∷ (b ++ (48 ∷ 125 ∷ []))) b (48 ∷ []) (125 ∷ []) refl x zero-digits (omega arith) (close (withMember 0 0) (125 ∷ []) [] refl no-blank))))
 
-  volume-goes : (at : ℕ) (p : Step) → at ≤ length s → ((w : List ℕ) (g : ℕ) → Volume w g → Next (take at s ++ w)) → Faulty (volumeAt s at p) → Next (take (volumeAt s at p .at) s)
+  volume-goes : (at : ℕ) (p : Step) → at ≤ length s → ((w : List ℕ) (g : ℕ) → Volume w g → Goes (take at s ++ w)) → Faulty (volumeAt s at p) → Next (take (volumeAt s at p .at) s)
   unfolding volumeAt withField
   volume-goes at p h k =
       pick-view (λ (y : Reader). Faulty y → Next (take (y .at) s)) (eqb (getD s at 0) 123) _ _
@@ -258,14 +275,14 @@ module _ (s : List ℕ) where
       let i : ℕ = next s (at + 1) in
       let c : i ≤ length s = next-within s (at + 1) (omega arith) in
       let f : take i s ≡ take at s ++ (123 ∷ b) = front at i (123 ∷ b) (byte-cut s at 123 (omega arith) e ∙ ap (λ (l : List ℕ). 123 ∷ l) (gap-cut s (at + 1))) h c in
-      members-goes i (withField parcelField 0 p) refl c
-      (λ w g u. subst Next (sym (append-assoc (take at s) (123 ∷ b) w) ∙ ap (λ (y : List ℕ). y ++ w) (sym f)) (k (123 ∷ (b ++ w)) g (u b (gap-blank s (at + 1))))) n)
-      (λ e n. shorter (take at s) (123 ∷ 125 ∷ []) (k (123 ∷ 125 ∷ []) 0 (empty (123 ∷ 125 ∷ []) [] refl no-blank)))
+      members-goes i (withField parcelField 0 p) refl c (subst (λ (x : List ℕ). inWord (lastOr 32 x) ≡ false) (sym f) (last-out (take at s) 123 b open-out (gap-blank s (at + 1))))
+      (λ w g u. subst Goes (sym (append-assoc (take at s) (123 ∷ b) w) ∙ ap (λ (y : List ℕ). y ++ w) (sym f)) (k (123 ∷ (b ++ w)) g (u b (gap-blank s (at + 1))))) n)
+      (λ e n. cut-head (take at s) 123 (125 ∷ []) open-out (k (123 ∷ 125 ∷ []) 0 (empty (123 ∷ 125 ∷ []) [] refl no-blank)))
 
   -- ---- items
 
   abbrev Left : Reader → List ℕ → Type 0
-  Left r cs = (w : List ℕ) (p : Step) → Items (r .step) cs w p → Next (take (r .at) s ++ w)
+  Left r cs = (w : List ℕ) (p : Step) → Items (r .step) cs w p → Goes (take (r .at) s ++ w)
 
   module _ (r : Reader) (c : ℕ) (cs : List ℕ) (i : isItem c ≡ true) (a : all isItem cs ≡ true) (h : r .at ≤ length s) (z : r .expected ≡ 0) (k : Left r (c ∷ cs)) where
     -- the item's own place
@@ -276,11 +293,11 @@ module _ (s : List ℕ) where
         let l = plains (q .step) cs a in
         let x : List ℕ = nought c ++ l .words in
         let v = plains-first (r .step) c cs b (gap-blank s (r .at)) q l in
-        shorter (take (next s (r .at)) s) (32 ∷ x)
-        (subst Next (ap (λ (y : List ℕ). take (r .at) s ++ y) (append-assoc b (32 ∷ []) x) ∙ sym (append-assoc (take (r .at) s) b (32 ∷ x)) ∙ ap (λ (y : List ℕ). y ++ (32 ∷ x)) (sym (gap-front (r .at) h)))
+        cut-head (take (next s (r .at)) s) 32 x space-out
+        (subst Goes (ap (λ (y : List ℕ). take (r .at) s ++ y) (append-assoc b (32 ∷ []) x) ∙ sym (append-assoc (take (r .at) s) b (32 ∷ x)) ∙ ap (λ (y : List ℕ). y ++ (32 ∷ x)) (sym (gap-front (r .at) h)))
         (k ((b ++ (32 ∷ [])) ++ x) (l .step) v))
 
-    group-goes : c ≡ volumeField → (w : List ℕ) (g : ℕ) → Volume w g → Next (take (next s (r .at)) s ++ w)
+    group-goes : c ≡ volumeField → (w : List ℕ) (g : ℕ) → Volume w g → Goes (take (next s (r .at)) s ++ w)
     group-goes e w g u =
         let b : List ℕ = gap s (r .at) in
         let q : Step = withField parcelField g (r .step) in
@@ -289,7 +306,7 @@ module _ (s : List ℕ) where
         let v : Items (r .step) (c ∷ cs) x (l .step) =
         item (r .step) q (l .step) c cs x b w (l .words) refl (gap-blank s (r .at)) (volume-apart b w g u) (subst (λ (j : ℕ). Item (r .step) j w q) (sym e) (volume g w q u refl)) (l .are) in
         shorter (take (next s (r .at)) s ++ w) (l .words)
-        (subst Next (sym (append-assoc (take (r .at) s) b (w ++ l .words)) ∙ ap (λ (y : List ℕ). y ++ (w ++ l .words)) (sym (gap-front (r .at) h)) ∙ sym (append-assoc (take (next s (r .at)) s) w (l .words)))
+        (subst Goes (sym (append-assoc (take (r .at) s) b (w ++ l .words)) ∙ ap (λ (y : List ℕ). y ++ (w ++ l .words)) (sym (gap-front (r .at) h)) ∙ sym (append-assoc (take (next s (r .at)) s) w (l .words)))
         (k x (l .step) v))
 
     word-goes : Faulty (wordItem c s (next s (r .at)) (r .step)) → Next (take (wordItem c s (next s (r .at)) (r .step) .at) s)
@@ -319,7 +336,7 @@ module _ (s : List ℕ) where
       front (r .at) (itemOf s r c .at) (q .gaps ++ q .words) (q .place ∙ sym (append-assoc (q .gaps) (q .words) (drop (itemOf s r c .at) s))) h (item-within s r c h) in
       let d : take (r .at) s ++ x ≡ take (itemOf s r c .at) s ++ w =
       ap (λ (y : List ℕ). take (r .at) s ++ y) (sym (append-assoc (q .gaps) (q .words) w)) ∙ sym (append-assoc (take (r .at) s) (q .gaps ++ q .words) w) ∙ ap (λ (y : List ℕ). y ++ w) (sym f) in
-      subst Next d (k x p (item (r .step) (itemOf s r c .step) p c cs x (q .gaps) (q .words) w refl (q .blank) (q .apart) (q .item) u))
+      subst Goes d (k x p (item (r .step) (itemOf s r c .step) p c cs x (q .gaps) (q .words) w refl (q .blank) (q .apart) (q .item) u))
 
   items-goes : (cs : List ℕ) (r : Reader) → all isItem cs ≡ true → volumeLast cs ≡ true → r .at ≤ length s → stops inWord (drop (r .at) s) ≡ true → r .expected ≡ 0 → Left r cs
       → Faulty (items s cs r) → Next (take (items s cs r .at) s)
@@ -357,13 +374,16 @@ module _ (s : List ℕ) where
         step = l .step;
         says = subst (λ (y : List ℕ). Says (y ++ (nameOf 0 ++ (l .words ++ []))) (l .step)) (sym f)
             (line 0 (b ++ (nameOf 0 ++ (l .words ++ []))) b (l .words) [] (l .step) (omega arith) refl (gap-blank s 0) (l .are) no-blank);
+        whole = parted-last (take (next s 0) s) (nameOf 0 ++ (l .words ++ [])) (subst (λ (y : List ℕ). inWord (lastOr 32 y) ≡ false) (sym f) (last-blanks 32 b space-out (gap-blank s 0)));
       }
 
-  ended-goes : (r : Reader) → r .at ≤ length s → r .expected ≡ 0 → ((e : List ℕ) → Blanks e → Next (take (r .at) s ++ e)) → Faulty (ended s r) → Next (take (ended s r .at) s)
+  ended-goes : (r : Reader) → r .at ≤ length s → r .expected ≡ 0 → ((e : List ℕ) → Blanks e → Goes (take (r .at) s ++ e)) → Faulty (ended s r) → Next (take (ended s r .at) s)
   unfolding ended
   ended-goes r h z k =
       pick-view (λ (y : Reader). Faulty y → Next (take (y .at) s)) (good r and ltb (next s (r .at)) (length s)) _ _
-      (λ g n. subst Next (sym (gap-front (r .at) h)) (k (gap s (r .at)) (gap-blank s (r .at))))
+      (λ g n. cut-head (take (next s (r .at)) s) 32 [] space-out
+      (subst Goes (sym (append-assoc (take (r .at) s) (gap s (r .at)) (32 ∷ [])) ∙ ap (λ (y : List ℕ). y ++ (32 ∷ [])) (sym (gap-front (r .at) h)))
+      (k (gap s (r .at) ++ (32 ∷ [])) (blanks-more (gap s (r .at)) (32 ∷ []) (gap-blank s (r .at)) space-blank))))
       (λ g n. absurd (n z))
 
   pub ended-stays : (r : Reader) → Faulty r → ended s r ≡ r
@@ -387,7 +407,7 @@ module _ (s : List ℕ) where
         ∙ ap (λ (y : List ℕ). y ++ wordAt s (next s 0)) (gap-front 0 (omega arith)) ∙ ap (λ (y : List ℕ). gap s 0 ++ y) (sym (name-of-row (wordAt s (next s 0)) b))
 
     -- items and blanks after it
-    line-left : (w e : List ℕ) (p : Step) → Items (emptyStep k) (templateOf k) w p → Blanks e → Next (take (r .at) s ++ (w ++ e))
+    line-left : (w e : List ℕ) (p : Step) → Items (emptyStep k) (templateOf k) w p → Blanks e → Goes (take (r .at) s ++ (w ++ e))
     line-left w e p u a =
         record {
           rest = [];
@@ -419,12 +439,12 @@ module _ (s : List ℕ) where
             let w : x .at ≤ length s = items-within s (templateOf k) r start in
             let f : take (x .at) s ≡ take (r .at) s ++ i .words = front (r .at) (x .at) (i .words) (i .place) start w in
             ended-goes x w z
-            (λ c a. subst Next (sym (append-assoc (take (r .at) s) (i .words) c) ∙ ap (λ (y : List ℕ). y ++ c) (sym f)) (line-left (i .words) c (x .step) (i .items) a)) n
+            (λ c a. subst Goes (sym (append-assoc (take (r .at) s) (i .words) c) ∙ ap (λ (y : List ℕ). y ++ c) (sym f)) (line-left (i .words) c (x .step) (i .items) a)) n
         go false e =
             let z : Faulty x = eqb-false (x .expected) 0 e in
             subst (λ (y : Reader). Next (take (y .at) s)) (sym (ended-stays x z))
             (items-goes (templateOf k) r line-fields line-last start (word-stops s (next s 0)) refl
-            (λ w p u. subst Next (ap (λ (y : List ℕ). take (r .at) s ++ y) (append-nil w)) (line-left w [] p u no-blank)) z)
+            (λ w p u. subst Goes (ap (λ (y : List ℕ). take (r .at) s ++ y) (append-nil w)) (line-left w [] p u no-blank)) z)
 
   -- What stands before a fault goes on to a line that says a step.
   pub line-goes : Faulty (lineAt s (next s 0)) → Next (take (lineAt s (next s 0) .at) s)

@@ -13,7 +13,7 @@ use Rattle.octets.proofs.Zero.{both, every-at}
 use Rattle.rules.specs.declared.Step.{Step}
 use Rattle.rules.specs.Step.{stepBytes}
 use Rattle.notation.specs.Notation.{takeField, parcelField, volumeField, templateOf}
-use Rattle.notation.specs.Reading.{Reader, next, wordAt, isNumber, mostOf, fits, withField, good, nothing, reached, wordItem, memberAt, commaNext, oneMore, moreMembers, closed, membersAt, volumeAt, item, items, ended, rowNamed, emptyStep, lineAt, all, linesOf, said, Progress, withStep, lineRead, linesRead, start, progress, steps, fault, outcome, read}
+use Rattle.notation.specs.Reading.{Reader, room, next, wordAt, isNumber, mostOf, fits, withField, good, nothing, reached, wordItem, memberAt, commaNext, oneMore, moreMembers, closed, membersAt, volumeAt, item, items, ended, rowNamed, emptyStep, lineAt, all, linesOf, said, Progress, withStep, lineRead, linesRead, start, progress, steps, fault, outcome, read}
 use Rattle.notation.specs.Parsing.{Expected, Transactor, Addressee, Message, Value, Group, WordTo, WordText, SixteenDigits, Kind, CommaOrBrace, LineEnd, Room, numberOf, expectedOf}
 use Rattle.notation.proofs.Items.{isItem}
 use Rattle.notation.proofs.Rows.{row}
@@ -76,6 +76,9 @@ module _ (s : List ℕ) where
       (λ e. ended-known (items s (templateOf (rowNamed (wordAt s at))) (reached (at + length (wordAt s at)) (emptyStep (rowNamed (wordAt s at)))))
       (items-known (templateOf (rowNamed (wordAt s at))) (reached (at + length (wordAt s at)) (emptyStep (rowNamed (wordAt s at)))) (row (rowNamed (wordAt s at)) (ltb-true (rowNamed (wordAt s at)) 14 e) .fields) (omega arith)))
       (λ e. omega arith)
+
+  pub line-roomy : (at : ℕ) → lineAt s at .expected ≡ room → ⊥
+  line-roomy at e = omega (arith, line-known at)
 
 -- ---- nor does a text lack anything else
 

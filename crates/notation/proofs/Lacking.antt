@@ -4,8 +4,8 @@ use mathlib.Core.Bool.{Bool, true, false}
 use mathlib.Core.Path.{_≡_, refl, sym, ap, _∙_, subst}
 use mathlib.Core.List.{List, [], _∷_}
 use native.Mathlib.Omega.{arith}
-use borrow.Author.Tests.{ltb-true, ltb-false, le-leb, eqb-true, eqb-false, eq-eqb}
-use lib.Dec.{eqb, ltb}
+use borrow.Author.Tests.{ltb-true, ltb-false, leb-true, le-leb, eqb-true, eqb-false, eq-eqb}
+use lib.Dec.{eqb, ltb, leb}
 use lib.ListN.{length, getD, List·getD-eq-default}
 use Rattle.octets.specs.Bytes.{_and_}
 use Rattle.octets.proofs.Tests.{pick-view, never, and-off}
@@ -13,22 +13,16 @@ use Rattle.octets.proofs.Zero.{both}
 use Rattle.marks.specs.Incarnation.{sameList}
 use Rattle.rules.specs.declared.Step.{Step}
 use Rattle.notation.specs.Notation.{takeField, parcelField, volumeField, nameOf, templateOf}
-use Rattle.notation.specs.Reading.{Reader, aKind, commaOrBrace, lineEnd, next, wordAt, isNumber, mostOf, fits, withField, good, reached, wordItem, memberAt, commaNext, moreMembers, closed, membersAt, volumeAt, item as itemOf, items, ended, rowNamed, emptyStep, lineAt}
+use Rattle.notation.specs.Reading.{Reader, next, wordAt, isNumber, mostOf, fits, withField, good, reached, wordItem, memberAt, commaNext, moreMembers, closed, membersAt, volumeAt, item as itemOf, items, all, ended, rowNamed, emptyStep, lineAt}
 use Rattle.notation.specs.Grammar.{Item, field, volume, to, text, whole}
+use Rattle.notation.specs.Faults.{Lacking, noItem, noVolume, noComma, noKind, noEnd}
 use Rattle.notation.proofs.Within.{next-from}
 use Rattle.notation.proofs.Volumes.{idle}
+use Rattle.notation.proofs.Items.{isItem}
 use Rattle.notation.proofs.Rows.{row}
 use Rattle.notation.proofs.Accepted.{digits-number}
 use Rattle.notation.proofs.Sound.{member-sound, one-comma, more-suc, more-zero}
 use Rattle.notation.proofs.Columns.{Faulty, closed-stays, more-stays, items-stays, ended-stays}
-
--- at place at of the line s there is no e
-pub data Lacking (s : List ℕ) (at : ℕ) : ℕ → Type 0 where
-  noItem : (c : ℕ) → ((q r : Step) → Item q c (wordAt s at) r → ⊥) → Lacking s at c
-  noVolume : (getD s at 0 ≡ 123 → ⊥) → Lacking s at volumeField
-  noComma : (getD s at 0 ≡ 44 → ⊥) → (getD s at 0 ≡ 125 → ⊥) → Lacking s at commaOrBrace
-  noKind : ((k : ℕ) → k < 14 → nameOf k ≡ wordAt s at → ⊥) → Lacking s at aKind
-  noEnd : at < length s → Lacking s at lineEnd
 
 -- a word that is an item fits it
 item-fits : (q r : Step) (c : ℕ) (w : List ℕ) → Item q c w r → (c ≡ volumeField → ⊥) → fits c w ≡ true
@@ -39,26 +33,27 @@ item-fits q r c w (to _ f) v = rw f
 item-fits q r c w (text _ f) v = rw f
 item-fits q r c w (whole _ _ l x f) v = rw (l, x)
 
-no-item : (s : List ℕ) (at c : ℕ) → (c ≡ volumeField → ⊥) → fits c (wordAt s at) ≡ false → Lacking s at c
-no-item s at c v f = noItem c (λ q r i. never (sym (item-fits q r c (wordAt s at) i v) ∙ f))
+no-item : (s : List ℕ) (at c : ℕ) → isItem c ≡ true → (c ≡ volumeField → ⊥) → fits c (wordAt s at) ≡ false → Lacking s at c
+unfolding isItem
+no-item s at c k v f = let b = both (leb 1 c) (leb c 8) k in noItem c (leb-true 1 c (b .0)) (leb-true c 8 (b .1)) v (λ q r i. never (sym (item-fits q r c (wordAt s at) i v) ∙ f))
 
 module _ (s : List ℕ) where
   abbrev Lacks : Reader → Type 0
   Lacks y = Faulty s y → Lacking s (y .at) (y .expected)
 
-  word-lacks : (c at : ℕ) (p : Step) → (c ≡ volumeField → ⊥) → Lacks (wordItem c s at p)
+  word-lacks : (c at : ℕ) (p : Step) → isItem c ≡ true → (c ≡ volumeField → ⊥) → Lacks (wordItem c s at p)
   unfolding wordItem
-  word-lacks c at p v = pick-view Lacks (fits c (wordAt s at)) _ _ (λ e n. absurd (n refl)) (λ e n. no-item s at c v e)
+  word-lacks c at p k v = pick-view Lacks (fits c (wordAt s at)) _ _ (λ e n. absurd (n refl)) (λ e n. no-item s at c k v e)
 
   fits-take : (w : List ℕ) → fits takeField w ≡ isNumber (mostOf takeField) w
   unfolding fits
   fits-take w = refl
 
   member-lacks : (at : ℕ) (p : Step) → Lacks (memberAt s at p)
-  unfolding memberAt
+  unfolding memberAt isItem
   member-lacks at p =
       pick-view Lacks (isNumber (mostOf takeField) (wordAt s at)) _ _ (λ e n. absurd (n refl))
-      (λ e n. no-item s at takeField (λ (q : takeField ≡ volumeField). omega arith) (fits-take (wordAt s at) ∙ e))
+      (λ e n. no-item s at takeField refl (λ (q : takeField ≡ volumeField). omega arith) (fits-take (wordAt s at) ∙ e))
 
   closed-lacks : (r : Reader) → r .expected ≡ 0 → (getD s (next s (r .at)) 0 ≡ 44 → ⊥) → Lacks (closed s r)
   unfolding closed
@@ -116,21 +111,21 @@ module _ (s : List ℕ) where
   unfolding volumeAt
   volume-lacks at p = pick-view Lacks (eqb (getD s at 0) 123) _ _ (λ e. members-lacks (next s (at + 1)) (withField parcelField 0 p)) (λ e n. noVolume (eqb-false (getD s at 0) 123 e))
 
-  item-lacks : (r : Reader) (c : ℕ) → r .expected ≡ 0 → Lacks (itemOf s r c)
+  item-lacks : (r : Reader) (c : ℕ) → isItem c ≡ true → r .expected ≡ 0 → Lacks (itemOf s r c)
   unfolding itemOf
-  item-lacks r c z =
+  item-lacks r c k z =
       pick-view Lacks (good r) _ _
-      (λ g. pick-view Lacks (eqb c volumeField) _ _ (λ e. volume-lacks (next s (r .at)) (r .step)) (λ e. word-lacks c (next s (r .at)) (r .step) (eqb-false c volumeField e)))
+      (λ g. pick-view Lacks (eqb c volumeField) _ _ (λ e. volume-lacks (next s (r .at)) (r .step)) (λ e. word-lacks c (next s (r .at)) (r .step) k (eqb-false c volumeField e)))
       (λ g n. absurd (n z))
 
-  items-lacks : (cs : List ℕ) (r : Reader) → r .expected ≡ 0 → Lacks (items s cs r)
-  unfolding items
-  items-lacks [] r z n = absurd (n z)
-  items-lacks (c ∷ cs) r z n = go (eqb (itemOf s r c .expected) 0) refl (items-lacks cs) n
+  items-lacks : (cs : List ℕ) (r : Reader) → all isItem cs ≡ true → r .expected ≡ 0 → Lacks (items s cs r)
+  unfolding items all
+  items-lacks [] r k z n = absurd (n z)
+  items-lacks (c ∷ cs) r k z n = let h = both (isItem c) (all isItem cs) k in go (h .0) (eqb (itemOf s r c .expected) 0) refl (λ x. items-lacks cs x (h .1)) n
     where
-      go : (b : Bool) → eqb (itemOf s r c .expected) 0 ≡ b → ((r : Reader) → r .expected ≡ 0 → Lacks (items s cs r)) → Lacks (items s cs (itemOf s r c))
-      go true e ih = ih (itemOf s r c) (eqb-true (itemOf s r c .expected) 0 e)
-      go false e ih = subst Lacks (sym (items-stays s cs (itemOf s r c) (eqb-false (itemOf s r c .expected) 0 e))) (item-lacks r c z)
+      go : isItem c ≡ true → (b : Bool) → eqb (itemOf s r c .expected) 0 ≡ b → ((r : Reader) → r .expected ≡ 0 → Lacks (items s cs r)) → Lacks (items s cs (itemOf s r c))
+      go k true e ih = ih (itemOf s r c) (eqb-true (itemOf s r c .expected) 0 e)
+      go k false e ih = subst Lacks (sym (items-stays s cs (itemOf s r c) (eqb-false (itemOf s r c .expected) 0 e))) (item-lacks r c k z)
 
   ended-lacks : (r : Reader) → r .expected ≡ 0 → Lacks (ended s r)
   unfolding ended
@@ -144,7 +139,7 @@ module _ (s : List ℕ) where
   unfolding lineAt
   line-lacks at =
       pick-view Lacks (ltb (rowNamed (wordAt s at)) 14) _ _
-      (λ e. go (eqb (x .expected) 0) refl)
+      (λ e. go (row (rowNamed (wordAt s at)) (ltb-true (rowNamed (wordAt s at)) 14 e) .fields) (eqb (x .expected) 0) refl)
       (λ e n. noKind (λ (k : ℕ) (b : k < 14) (q : nameOf k ≡ wordAt s at).
       let f : rowNamed (wordAt s at) ≡ k = ap rowNamed (sym q) ∙ row k b .found in
       omega (arith, ltb-false (rowNamed (wordAt s at)) 14 e)))
@@ -152,6 +147,6 @@ module _ (s : List ℕ) where
       x : Reader
       x = items s (templateOf (rowNamed (wordAt s at))) (reached (at + length (wordAt s at)) (emptyStep (rowNamed (wordAt s at))))
 
-      go : (b : Bool) → eqb (x .expected) 0 ≡ b → Lacks (ended s x)
-      go true e = ended-lacks x (eqb-true (x .expected) 0 e)
-      go false e = subst Lacks (sym (ended-stays s x (eqb-false (x .expected) 0 e))) (items-lacks (templateOf (rowNamed (wordAt s at))) (reached (at + length (wordAt s at)) (emptyStep (rowNamed (wordAt s at)))) refl)
+      go : all isItem (templateOf (rowNamed (wordAt s at))) ≡ true → (b : Bool) → eqb (x .expected) 0 ≡ b → Lacks (ended s x)
+      go k true e = ended-lacks x (eqb-true (x .expected) 0 e)
+      go k false e = subst Lacks (sym (ended-stays s x (eqb-false (x .expected) 0 e))) (items-lacks (templateOf (rowNamed (wordAt s at))) (reached (at + length (wordAt s at)) (emptyStep (rowNamed (wordAt s at)))) k refl)

@@ -1,30 +1,25 @@
 pub mod Examples
 mod Words
-mod Numerals
+pub mod Numerals
 pub mod Packing
-mod Volumes
+pub mod Volumes
 mod Items
-mod Rows
-mod Lines
+pub mod Rows
+pub mod Lines
 pub mod RoundTrip
 pub mod Sizes
-mod Walking
-pub mod Putting
-mod Within
+pub mod Within
 pub mod Faults
-mod Cutting
-pub mod Lining
-mod Tables
-mod Picks
-mod Loops
-mod PrinterTables
-mod Printer
-mod Sayings
 pub mod Accepted
 pub mod Sound
+mod Parting
 pub mod Columns
 pub mod Lacking
+pub mod LackNumbers
 pub mod Expecting
+pub mod Stopping
+mod Starting
+pub mod Alone
 pub mod Texts
 pub mod Numbered
-mod Replying
+pub mod Firstly

@@ -7,7 +7,7 @@ use native.Mathlib.Omega.{arith}
 use borrow.Author.Tests.{eqb-true}
 use lib.Dec.{eqb}
 use lib.ListN.{length, take, getD, length-append, length-take}
-use Rattle.octets.specs.Bytes.{pick, _and_, _or_, chunks, tabulate}
+use Rattle.octets.specs.Bytes.{pick, _or_, chunks, tabulate}
 use Rattle.octets.proofs.Chunks.{length-tabulate, getD-tabulate}
 use Rattle.octets.proofs.Tests.{pick-view}
 use Rattle.rules.specs.declared.Step.{Step}
@@ -16,15 +16,16 @@ use Rattle.rules.specs.Calls.{stepsIn}
 use Rattle.rules.specs.Refusals.{named}
 use Rattle.rules.specs.Internal.Well.{StepOk}
 use Rattle.rules.proofs.Bits.{named-add}
-use Rattle.notation.specs.Notation.{names, packStep, lineText, stepText, text}
+use Rattle.notation.specs.Notation.{packStep, lineText, stepText, text}
 use Rattle.notation.specs.Reading.{Reader, notLF, next, reached, withMember, lineAt, startLine, linesOf, said, fault, read}
 use Rattle.notation.specs.Grammar.{Says, Lines, none, skip, step}
+use Rattle.notation.specs.Faults.{Stop, unsaid, filled}
 use Rattle.notation.proofs.Packing.{length-packStep}
 use Rattle.notation.proofs.Rows.{line-back, line-first}
 use Rattle.notation.proofs.Lines.{first-line}
 use Rattle.notation.proofs.Accepted.{accepted}
 use Rattle.notation.proofs.Sound.{sound}
-use Rattle.notation.proofs.Texts.{Stop, unsaid, filled, fault-first}
+use Rattle.notation.proofs.Texts.{fault-first}
 
 -- ---- lines and steps
 
@@ -88,9 +89,9 @@ said-short ls m (step l ls' p n _ c d e) = omega (arith, ap length e, length-app
 pub text-room : (t m : List ℕ) → Lines (linesOf t) m → length m ≤ 8 * length t
 text-room t m d = omega (arith, said-short (linesOf t) m d, lines-short t)
 
-roomy : (most : ℕ) (s : List ℕ) (long e : ℕ) → Stop most s long e → long + 8 ≤ most → (p : Step) → Says s p → ⊥
-roomy most s long e (unsaid a b) h p d = b p d
-roomy most s long e (filled q c l f) h p d = omega arith
+roomy : (most : ℕ) (l : List ℕ) (long at e : ℕ) → Stop most l long at e → long + 8 ≤ most → (p : Step) → Says (said l) p → ⊥
+roomy most l long at e (unsaid a b r c) h p d = b p d
+roomy most l long at e (filled q c k f g) h p d = omega arith
 
 -- With eight bytes of room for each byte of the text, every fault is at a line that says no step: steps_said never answers for want of room
 -- where the text is shorter than 2 ^ 61 bytes.
@@ -100,7 +101,7 @@ roomy-fault most t n c e h f =
     let a = said-short (take (n - 1) (linesOf t)) (k .list) (k .before) in
     let b = length-take (n - 1) (linesOf t) in
     let d = lines-short t in
-    roomy most (said (getD (linesOf t) (n - 1) [])) (length (k .list)) e (k .here) (omega (arith, k .from, k .upTo))
+    roomy most (getD (linesOf t) (n - 1) []) (length (k .list)) (c - 1) e (k .here) (omega (arith, k .from, k .upTo))
 
 -- ---- a line and its step
 

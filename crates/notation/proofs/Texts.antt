@@ -14,39 +14,48 @@ use Rattle.octets.proofs.Tests.{pick-view}
 use Rattle.rules.specs.declared.Step.{Step}
 use Rattle.rules.specs.Step.{stepBytes}
 use Rattle.notation.specs.Notation.{packStep}
-use Rattle.notation.specs.Reading.{blank, run, all, next, nothing, room, good, lineAt, linesOf, said, Progress, withStep, lineRead, linesRead, start, progress, steps, fault, outcome, read}
+use Rattle.notation.specs.Reading.{blank, run, next, nothing, room, good, lineAt, linesOf, said, Progress, withStep, lineRead, linesRead, start, progress, steps, fault, outcome, read}
 use Rattle.notation.specs.Grammar.{Blanks, Says, Lines, none, skip, step}
+use Rattle.notation.specs.Faults.{Next, Lacking, FirstByte, Stop, unsaid, filled, First}
 use Rattle.notation.proofs.Words.{stops, run-append}
+use Rattle.notation.proofs.Within.{line-within}
 use Rattle.notation.proofs.Packing.{length-packStep}
 use Rattle.notation.proofs.Lines.{reading}
 use Rattle.notation.proofs.Faults.{stays, goes-on}
 use Rattle.notation.proofs.Accepted.{accepted}
 use Rattle.notation.proofs.Sound.{sound, tail-blank}
-use Rattle.notation.proofs.Columns.{Next, kind-goes, line-goes}
-use Rattle.notation.proofs.Lacking.{Lacking, line-lacks}
+use Rattle.notation.proofs.Columns.{kind-goes, line-goes}
+use Rattle.notation.proofs.Lacking.{line-lacks}
+use Rattle.notation.proofs.Expecting.{line-roomy}
+use Rattle.notation.proofs.Starting.{Split, line-split}
+use Rattle.notation.proofs.Stopping.{Stops, line-stops, line-column, line-first, first-byte}
 
 -- ---- one line
 
 -- a line of blanks is passed to its end
-blank-end : (s : List ℕ) → Blanks s → next s 0 ≡ length s
+pub blank-end : (s : List ℕ) → Blanks s → next s 0 ≡ length s
 unfolding next stops
 blank-end s a =
     let e : run blank s ≡ length s = ap (run blank) (sym (append-nil s)) ∙ run-append blank s [] a refl in
     omega arith
 
--- column c of the line s, from 1: what stands before it goes on to a line that says a step, and what stands there is no e
-pub record Before (s : List ℕ) (c e : ℕ) : Type 0 where
-  pub at : ℕ
-  pub is : c ≡ suc at
-  pub goes : Next (take at s)
-  pub lacks : (e ≡ room → ⊥) → Lacking s at e
+-- column c of the line s without comment, from 1: where it goes on no more, or its first byte if there is no room
+record Before (s : List ℕ) (c e : ℕ) : Type 0 where
+  at : ℕ
+  is : c ≡ suc at
+  within : at ≤ length s
+  whole : (e ≡ room → ⊥) → Split s at
+  goes : Next (take at s)
+  lacks : (e ≡ room → ⊥) → Lacking s at e
+  stops : (e ≡ room → ⊥) → Stops s at e
+  first : e ≡ room → FirstByte s at
 
 -- what a line without comment does: nothing, one step more, or a fault at it
 data Result (most : ℕ) (s : List ℕ) (x y : Progress) : Type 0 where
   blankLine : Blanks s → y ≡ reading (x .list) (suc (x .line)) → Result most s x y
   stepLine : (p : Step) → Says s p → length (x .list) + stepBytes ≤ most → y ≡ reading (x .list ++ packStep p) (suc (x .line)) → Result most s x y
   fullLine : (p : Step) → Says s p → most < length (x .list) + stepBytes → y .list ≡ x .list → y .line ≡ x .line → y .expected ≡ room → Before s (y .column) (y .expected) → Result most s x y
-  badLine : (Blanks s → ⊥) → ((p : Step) → Says s p → ⊥) → y .list ≡ x .list → y .line ≡ x .line → (y .expected ≡ 0 → ⊥) → Before s (y .column) (y .expected) → Result most s x y
+  badLine : (Blanks s → ⊥) → ((p : Step) → Says s p → ⊥) → y .list ≡ x .list → y .line ≡ x .line → (y .expected ≡ 0 → ⊥) → (y .expected ≡ room → ⊥) → Before s (y .column) (y .expected) → Result most s x y
 
 module _ (most : ℕ) (s : List ℕ) (x : Progress) where
   not-blank : next s 0 < length s → Blanks s → ⊥
@@ -63,9 +72,18 @@ module _ (most : ℕ) (s : List ℕ) (x : Progress) where
       let d = sound s (eqb-true (lineAt s (next s 0) .expected) 0 g) in
       pick-view (Result most s x) (leb (length (x .list) + stepBytes) most) _ _
       (λ e. stepLine (lineAt s (next s 0) .step) d (leb-true (length (x .list) + stepBytes) most e) refl)
-      (λ e. fullLine (lineAt s (next s 0) .step) d (leb-false (length (x .list) + stepBytes) most e) refl refl refl (record { at = next s 0; is = refl; goes = kind-goes s; lacks = λ n. absurd (n refl) })))
-      (λ g. badLine (not-blank h) (not-said (eqb-false (lineAt s (next s 0) .expected) 0 g)) refl refl (eqb-false (lineAt s (next s 0) .expected) 0 g)
-      (record { at = lineAt s (next s 0) .at; is = refl; goes = line-goes s (eqb-false (lineAt s (next s 0) .expected) 0 g); lacks = λ n. line-lacks s (next s 0) (eqb-false (lineAt s (next s 0) .expected) 0 g) }))
+      (λ e. fullLine (lineAt s (next s 0) .step) d (leb-false (length (x .list) + stepBytes) most e) refl refl refl (record { at = next s 0; is = refl; within = omega arith; whole = λ n. absurd (n refl); goes = kind-goes s; lacks = λ n. absurd (n refl); stops = λ n. absurd (n refl); first = λ q. first-byte s h })))
+      (λ g. badLine (not-blank h) (not-said (eqb-false (lineAt s (next s 0) .expected) 0 g)) refl refl (eqb-false (lineAt s (next s 0) .expected) 0 g) (line-roomy s (next s 0))
+      (record {
+        at = lineAt s (next s 0) .at;
+        is = refl;
+        within = line-within s (next s 0) (omega arith);
+        whole = λ n. line-split s;
+        goes = line-goes s (eqb-false (lineAt s (next s 0) .expected) 0 g);
+        lacks = λ n. line-lacks s (next s 0) (eqb-false (lineAt s (next s 0) .expected) 0 g);
+        stops = λ n. line-stops s (eqb-false (lineAt s (next s 0) .expected) 0 g);
+        first = λ q. absurd (line-roomy s (next s 0) q);
+      }))
 
   line-view : Result most s x (lineRead most s x)
   unfolding lineRead
@@ -110,15 +128,15 @@ module _ (most : ℕ) where
 data Outcome (most : ℕ) (ls : List (List ℕ)) (acc : List ℕ) (k : ℕ) (y : Progress) : Type 0 where
   whole : (m : List ℕ) → Lines ls m → length acc + length m ≤ most → y ≡ reading (acc ++ m) (k + length ls) → Outcome most ls acc k y
   full : (i : ℕ) (m : List ℕ) (p : Step) → i < length ls → Lines (take i ls) m → y .list ≡ acc ++ m → y .line ≡ k + i → Says (said (getD ls i [])) p
-      → most < length acc + length m + stepBytes → y .expected ≡ room → Before (said (getD ls i [])) (y .column) (y .expected) → Outcome most ls acc k y
+      → most < length acc + length m + stepBytes → y .expected ≡ room → Before (said (getD ls i [])) (y .column) (y .expected) → length acc + length m ≤ most → Outcome most ls acc k y
   bad : (i : ℕ) (m : List ℕ) → i < length ls → Lines (take i ls) m → y .list ≡ acc ++ m → y .line ≡ k + i → (Blanks (said (getD ls i [])) → ⊥)
-      → ((p : Step) → Says (said (getD ls i [])) p → ⊥) → (y .expected ≡ 0 → ⊥) → Before (said (getD ls i [])) (y .column) (y .expected) → Outcome most ls acc k y
+      → ((p : Step) → Says (said (getD ls i [])) p → ⊥) → (y .expected ≡ 0 → ⊥) → (y .expected ≡ room → ⊥) → Before (said (getD ls i [])) (y .column) (y .expected) → length acc + length m ≤ most → Outcome most ls acc k y
 
 module _ (most : ℕ) (l : List ℕ) (ls : List (List ℕ)) (acc : List ℕ) (k : ℕ) (y : Progress) where
   later-skip : Blanks (said l) → Outcome most ls acc (suc k) y → Outcome most (l ∷ ls) acc k y
   later-skip a (whole m d h e) = let z : suc k + length ls ≡ k + suc (length ls) = omega arith in whole m (skip l ls m a d) h (e ∙ (λ i. reading (acc ++ m) (z i)))
-  later-skip a (full i m p b d e f c h g o) = full (suc i) m p (omega arith) (skip l (take i ls) m a d) e (omega arith) c h g o
-  later-skip a (bad i m b d e f g c h o) = bad (suc i) m (omega arith) (skip l (take i ls) m a d) e (omega arith) g c h o
+  later-skip a (full i m p b d e f c h g o w) = full (suc i) m p (omega arith) (skip l (take i ls) m a d) e (omega arith) c h g o w
+  later-skip a (bad i m b d e f g c h r o w) = bad (suc i) m (omega arith) (skip l (take i ls) m a d) e (omega arith) g c h r o w
 
   later-step : (p : Step) → Says (said l) p → Outcome most ls (acc ++ packStep p) (suc k) y → Outcome most (l ∷ ls) acc k y
   later-step p u (whole m d h e) =
@@ -126,11 +144,11 @@ module _ (most : ℕ) (l : List ℕ) (ls : List (List ℕ)) (acc : List ℕ) (k 
       whole (packStep p ++ m) (step l ls p m (packStep p ++ m) u d refl)
       (omega (arith, length-append (packStep p) m, length-append acc (packStep p)))
       (e ∙ (λ i. reading (append-assoc acc (packStep p) m i) (z i)))
-  later-step p u (full i m q b d e f c h g o) =
+  later-step p u (full i m q b d e f c h g o w) =
       full (suc i) (packStep p ++ m) q (omega arith) (step l (take i ls) p m (packStep p ++ m) u d refl) (e ∙ append-assoc acc (packStep p) m) (omega arith) c
-      (omega (arith, length-append (packStep p) m, length-append acc (packStep p))) g o
-  later-step p u (bad i m b d e f g c h o) =
-      bad (suc i) (packStep p ++ m) (omega arith) (step l (take i ls) p m (packStep p ++ m) u d refl) (e ∙ append-assoc acc (packStep p) m) (omega arith) g c h o
+      (omega (arith, length-append (packStep p) m, length-append acc (packStep p))) g o (omega (arith, length-append (packStep p) m, length-append acc (packStep p)))
+  later-step p u (bad i m b d e f g c h r o w) =
+      bad (suc i) (packStep p ++ m) (omega arith) (step l (take i ls) p m (packStep p ++ m) u d refl) (e ∙ append-assoc acc (packStep p) m) (omega arith) g c h r o (omega (arith, length-append (packStep p) m, length-append acc (packStep p)))
 
 module _ (most : ℕ) where
   first-here : (l : List ℕ) (ls : List (List ℕ)) (acc : List ℕ) (k : ℕ) (y : Progress) → Result most (said l) (reading acc k) y
@@ -142,10 +160,10 @@ module _ (most : ℕ) where
       (later-step most l ls acc k (linesRead most ls (reading (acc ++ packStep p) (suc k))) p u (ih (acc ++ packStep p) (omega (arith, length-append acc (packStep p), length-packStep p))))
   first-here l ls acc k y (fullLine p u h d f e o) ih b =
       subst (Outcome most (l ∷ ls) acc k) (sym (stays most ls y (omega arith)))
-      (full 0 [] p (omega arith) none (d ∙ sym (append-nil acc)) (omega arith) u (omega arith) e o)
-  first-here l ls acc k y (badLine a u d f n o) ih b =
+      (full 0 [] p (omega arith) none (d ∙ sym (append-nil acc)) (omega arith) u (omega arith) e o (omega arith))
+  first-here l ls acc k y (badLine a u d f n r o) ih b =
       subst (Outcome most (l ∷ ls) acc k) (sym (stays most ls y (let c : y .expected ≡ 0 → ⊥ = n in omega arith)))
-      (bad 0 [] (omega arith) none (d ∙ sym (append-nil acc)) (omega arith) a u n o)
+      (bad 0 [] (omega arith) none (d ∙ sym (append-nil acc)) (omega arith) a u n r o (omega arith))
 
   lines-outcome : (ls : List (List ℕ)) (acc : List ℕ) (k : ℕ) → length acc ≤ most → Outcome most ls acc k (linesRead most ls (reading acc k))
   unfolding linesRead
@@ -155,21 +173,6 @@ module _ (most : ℕ) where
       (first-here l ls acc k (lineRead most (said l) (reading acc k)) (line-view most (said l) (reading acc k)) (λ a h. lines-outcome ls a (suc k) h) b)
 
 -- ---- the theorems
-
--- why reading stops at the line s, after a list of so many bytes
-pub data Stop (most : ℕ) (s : List ℕ) (long e : ℕ) : Type 0 where
-  unsaid : (Blanks s → ⊥) → ((p : Step) → Says s p → ⊥) → Stop most s long e
-  filled : (p : Step) → Says s p → most < long + stepBytes → e ≡ room → Stop most s long e
-
--- the first line that says no step, or for whose step there is no room: line n, column c of the text t, from 1
-pub record First (most : ℕ) (t : List ℕ) (n c e : ℕ) : Type 0 where
-  pub from : 1 ≤ n
-  pub upTo : n ≤ length (linesOf t)
-  -- what the lines before it say
-  pub list : List ℕ
-  pub before : Lines (take (n - 1) (linesOf t)) list
-  pub here : Stop most (said (getD (linesOf t) (n - 1) [])) (length list) e
-  pub column : Before (said (getD (linesOf t) (n - 1) [])) c e
 
 module _ (most : ℕ) (t : List ℕ) where
   all-lines : Outcome most (linesOf t) [] 1 (progress most t)
@@ -196,8 +199,8 @@ module _ (most : ℕ) (t : List ℕ) where
   said-of l y (whole m d h e) z q =
       let f : m ≡ l = ap (λ (v : Progress). v .list) (sym e) ∙ q in
       (subst (Lines (linesOf t)) f d, subst (λ (v : List ℕ). length v ≤ most) f (omega arith))
-  said-of l y (full i m p b d e f c h g o) z q = absurd (omega arith)
-  said-of l y (bad i m b d e f g c n o) z q = absurd (n z)
+  said-of l y (full i m p b d e f c h g o w) z q = absurd (omega arith)
+  said-of l y (bad i m b d e f g c n r o w) z q = absurd (n z)
 
   -- A text gives a list exactly where its lines say it, and it fits.
   pub text-says : (l : List ℕ) → (read most t ≡ steps l) ↔ (Lines (linesOf t) l × (length l ≤ most))
@@ -210,37 +213,42 @@ module _ (most : ℕ) (t : List ℕ) where
       back : Lines (linesOf t) l × (length l ≤ most) → outcome (linesRead most (linesOf t) start) ≡ steps l
       back d = ap outcome (lines-said most (linesOf t) l [] 1 (d .0) (omega (arith, d .1)))
 
-  column-of : (n v e : ℕ) (y : Progress) (i : ℕ) → i ≡ n - 1 → y .column ≡ v → y .expected ≡ e → Before (said (getD (linesOf t) i [])) (y .column) (y .expected)
-      → Before (said (getD (linesOf t) (n - 1) [])) v e
-  column-of n v e y i j w b o =
-      subst (λ (k : ℕ). Before (said (getD (linesOf t) k [])) v e) j
-      (subst (λ (k : ℕ). Before (said (getD (linesOf t) i [])) k e) w (subst (Before (said (getD (linesOf t) i [])) (y .column)) b o))
+  -- of a whole line
+  stop-bad : (l : List ℕ) (long c e : ℕ) → (Blanks (said l) → ⊥) → ((p : Step) → Says (said l) p → ⊥) → (e ≡ room → ⊥) → Before (said l) c e → Stop most l long (c - 1) e
+  stop-bad l long c e a u r o =
+      let q : o .at ≡ c - 1 = omega (arith, o .is) in
+      subst (λ (k : ℕ). Stop most l long k e) q (unsaid a u r (line-column l (o .at) (o .within) e (o .whole r) (o .goes) (o .stops r) (o .lacks r)))
 
-  first-of : (n v e : ℕ) (y : Progress) → Outcome most (linesOf t) [] 1 y → (y .expected ≡ 0 → ⊥) → y .line ≡ n → y .column ≡ v → y .expected ≡ e → First most t n v e
-  first-of n v e y (whole m d h q) z a w b = absurd (z (ap (λ (v : Progress). v .expected) q))
-  first-of n v e y (full i m p u d q f c h g o) z a w b =
+  stop-full : (l : List ℕ) (long c e : ℕ) (p : Step) → Says (said l) p → most < long + stepBytes → e ≡ room → Before (said l) c e → Stop most l long (c - 1) e
+  stop-full l long c e p u h r o =
+      let q : o .at ≡ c - 1 = omega (arith, o .is) in
+      subst (λ (k : ℕ). Stop most l long k e) q (filled p u h r (line-first l (o .at) (o .within) (o .first r)))
+
+  first-here-is : (n c e : ℕ) (y : Progress) (i : ℕ) (m : List ℕ) → i < length (linesOf t) → y .line ≡ 1 + i → Lines (take i (linesOf t)) m → y .line ≡ n → y .column ≡ c → y .expected ≡ e
+      → 1 ≤ y .column → length m ≤ most → Stop most (getD (linesOf t) i []) (length m) (y .column - 1) (y .expected) → First most t n c e
+  first-here-is n c e y i m u f d a w b g v k =
       let j : i ≡ n - 1 = omega arith in
       record {
         from = omega arith;
         upTo = omega arith;
+        column = omega arith;
         list = m;
         before = subst (λ (v : ℕ). Lines (take v (linesOf t)) m) j d;
-        here = filled p (subst (λ (v : ℕ). Says (said (getD (linesOf t) v [])) p) j c) (omega arith) (sym b ∙ g);
-        column = column-of n v e y i j w b o;
-      }
-  first-of n v e y (bad i m u d q f g c x o) z a w b =
-      let j : i ≡ n - 1 = omega arith in
-      record {
-        from = omega arith;
-        upTo = omega arith;
-        list = m;
-        before = subst (λ (v : ℕ). Lines (take v (linesOf t)) m) j d;
-        here = unsaid (subst (λ (v : ℕ). Blanks (said (getD (linesOf t) v [])) → ⊥) j g) (subst (λ (v : ℕ). (p : Step) → Says (said (getD (linesOf t) v [])) p → ⊥) j c);
-        column = column-of n v e y i j w b o;
+        fits = v;
+        here = subst (λ (v : ℕ). Stop most (getD (linesOf t) v []) (length m) (c - 1) e) j
+            (subst (λ (v : ℕ). Stop most (getD (linesOf t) i []) (length m) (c - 1) v) b
+            (subst (λ (v : ℕ). Stop most (getD (linesOf t) i []) (length m) (v - 1) (y .expected)) w k));
       }
 
-  -- A fault is at the first line that says neither a step nor nothing, or for whose step there is no room, and what stands
-  -- before its column goes on to a line that says a step; what stands there is not what was expected.
+  first-of : (n c e : ℕ) (y : Progress) → Outcome most (linesOf t) [] 1 y → (y .expected ≡ 0 → ⊥) → y .line ≡ n → y .column ≡ c → y .expected ≡ e → First most t n c e
+  first-of n c e y (whole m d h q) z a w b = absurd (z (ap (λ (v : Progress). v .expected) q))
+  first-of n c e y (full i m p u d q f k h g o v) z a w b =
+      first-here-is n c e y i m u f d a w b (omega (arith, o .is)) (omega arith) (stop-full (getD (linesOf t) i []) (length m) (y .column) (y .expected) p k (omega arith) g o)
+  first-of n c e y (bad i m u d q f g k x r o v) z a w b =
+      first-here-is n c e y i m u f d a w b (omega (arith, o .is)) (omega arith) (stop-bad (getD (linesOf t) i []) (length m) (y .column) (y .expected) g k r o)
+
+  -- A fault is at the first line that says neither a step nor nothing, or for whose step there is no room, and its column where that line
+  -- goes on no more to one that says a step, or its first byte.
   pub fault-first : (n c e : ℕ) → read most t ≡ fault n c e → First most t n c e
   unfolding read progress
   fault-first n c e f =

@@ -6,10 +6,10 @@ use Rattle.octets.specs.Bytes.{put}
 use Rattle.rules.specs.Calls.{stepsIn}
 use Rattle.notation.specs.Notation.{bytes, takeField, otherField, parcelField, textField, volumeField, wordTo, wordText, wholeStep}
 use Rattle.notation.specs.Reading.{aKind, commaOrBrace, lineEnd, room, Read, steps, fault}
-pub use Rattle.notation.specs.declared.parse.Parsed.{Parsed}
-pub use Rattle.notation.specs.declared.parse.Parsed.the-variants.{Steps, Fault}
-pub use Rattle.notation.specs.declared.parse.Expected.{Expected}
-pub use Rattle.notation.specs.declared.parse.Expected.the-variants.{Transactor, Addressee, Message, Value, Group, WordTo, WordText, SixteenDigits, Kind, CommaOrBrace, LineEnd, Room}
+pub use Rattle.notation.specs.declared.Parsed.{Parsed}
+pub use Rattle.notation.specs.declared.Parsed.the-variants.{Steps, Fault}
+pub use Rattle.notation.specs.declared.Expected.{Expected}
+pub use Rattle.notation.specs.declared.Expected.the-variants.{Transactor, Addressee, Message, Value, Group, WordTo, WordText, SixteenDigits, Kind, CommaOrBrace, LineEnd, Room}
 
 -- the number of what was expected
 abbrev pub numberOf : Expected → ℕ

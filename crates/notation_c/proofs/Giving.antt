@@ -1,16 +1,16 @@
 -- Lines for other languages.
-use Prim.Native.Nat.{ℕ, _+_, _≤_, _<_}
+use Prim.Native.Nat.{ℕ, _≤_, _<_}
 use mathlib.Core.Bool.{Bool, true, false}
-use mathlib.Core.Path.{_≡_, refl, sym, ap, _∙_, subst}
-use mathlib.Core.List.{List, []}
+use mathlib.Core.Path.{_≡_, sym, ap, _∙_, subst}
+use mathlib.Core.List.{List}
 use native.Mathlib.Omega.{arith}
 use borrow.Author.Tests.{lt-ltb, le-ltb, eq-eqb, ne-eqb}
-use lib.Dec.{eqb, ltb, leb}
+use lib.Dec.{eqb, ltb}
 use lib.ListN.{length, take, length-take}
 use Rattle.octets.specs.Bytes.{pick, put}
 use Rattle.octets.proofs.Put.{put-nil}
-use Rattle.notation.specs.declared.write.Line.{Line}
-use Rattle.notation.specs.Lines.{written, Says}
+use Rattle.lines.specs.declared.Line.{Line}
+use Rattle.lines.specs.Lines.{written, Says}
 use Rattle.inspection.specs.Inspection.{inspectRefusal, ended, inspected}
 use Rattle.notation_c.specs.declared.Given.{Given}
 use Rattle.notation_c.specs.Interface.{none, givenFor, givenOut, imageGiven}

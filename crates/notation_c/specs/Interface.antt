@@ -4,11 +4,11 @@ use mathlib.Core.List.{List}
 use lib.Dec.{eqb, ltb}
 use lib.ListN.{length}
 use Rattle.octets.specs.Bytes.{pick, put}
-use Rattle.notation.specs.declared.print.Printed.{Printed}
-use Rattle.notation.specs.declared.parse.Parsed.{Parsed}
-use Rattle.notation.specs.declared.parse.Parsed.the-variants.{Steps, Fault}
+use Rattle.printer.specs.declared.Printed.{Printed}
+use Rattle.notation.specs.declared.Parsed.{Parsed}
+use Rattle.notation.specs.declared.Parsed.the-variants.{Steps, Fault}
 use Rattle.notation.specs.Parsing.{numberOf}
-use Rattle.notation.specs.Printing.{lengthIn, refusalIn}
+use Rattle.printer.specs.Printing.{lengthIn, refusalIn}
 use Rattle.inspection.specs.Inspection.{inspectRefusal, inspected}
 use Rattle.notation_c.specs.declared.Given.{Given}
 

@@ -1,11 +1,8 @@
 // Lists, replies and images as text for programs in other languages, as include/notation.h declares them: a slice is a pointer and a
-// length. None has a precondition, and each promises what the function of crate notation, or inspection, promises.
-use notation::parse;
-use notation::parse::Parsed;
-use notation::print;
-use notation::print::Printed;
-use notation::replies;
-use notation::write::Line;
+// length. None has a precondition, and each promises what the function of crate parser, printer, replies or inspection promises.
+use lines::Line;
+use notation::Parsed;
+use printer::Printed;
 use rules::numbers;
 ghost use mathlib.Core.Path.{_≡_};
 ghost use mathlib.Core.List.{[]};
@@ -15,11 +12,11 @@ ghost use Rattle.octets.specs.Bytes.{pick};
 ghost use Rattle.rules.specs.Step.{stepAt};
 ghost use Rattle.rules.specs.Calls.{stepsIn};
 ghost use Rattle.notation.specs.Notation.{stepText};
-ghost use Rattle.notation.specs.Lines.{written};
+ghost use Rattle.lines.specs.Lines.{written};
 ghost use Rattle.notation.specs.Reading.{read};
 ghost use Rattle.notation.specs.Parsing.{answerOf, writtenOf};
-ghost use Rattle.notation.specs.Printing.{lengthAnswer, printAnswer, printedOut};
-ghost use Rattle.notation.specs.Replies.{replyTextAt};
+ghost use Rattle.printer.specs.Printing.{lengthAnswer, printAnswer, printedOut};
+ghost use Rattle.replies.specs.Replies.{replyTextAt};
 ghost use Rattle.inspection.specs.Inspection.{inspected};
 ghost use Rattle.notation_c.specs.Interface.{givenBy, givenFor, givenOut, imageGiven, stepsFor, lineFor, columnFor, expectedFor};
 
@@ -70,7 +67,7 @@ fn give(l: Line, out: &mut [u8]) -> Given
 pub extern "C" fn notation_length(list: &[u8]) -> Given
     ensures { λ r. ⌜ r ≡ givenBy (lengthAnswer (now (list .entry))) ⌝ }
 {
-    told(print::text_length(list))
+    told(printer::text_length(list))
 }
 
 // Writes the list's text to the front of out: 17, 18 with no byte changed.
@@ -78,7 +75,7 @@ pub extern "C" fn notation_length(list: &[u8]) -> Given
 pub extern "C" fn notation_print(list: &[u8], out: &mut [u8]) -> Given
     ensures { λ r. ⌜ (r ≡ givenBy (printAnswer (now (list .entry)) (now (out .entry)))) × (now (out .exit) ≡ printedOut (now (list .entry)) (now (out .entry))) ⌝ }
 {
-    told(print::print(list, out))
+    told(printer::print(list, out))
 }
 
 // Writes the line of step i of the list, with its LF; nothing past the last step. 18 with no byte changed.
@@ -87,7 +84,7 @@ pub extern "C" fn notation_step(list: &[u8], i: usize, out: &mut [u8]) -> Given
     ensures { λ r. ⌜ (r ≡ givenFor (pick (ltb i (stepsIn (now (list .entry)))) (stepText (stepAt (now (list .entry)) i)) []) (now (out .entry)))
         × (now (out .exit) ≡ givenOut (pick (ltb i (stepsIn (now (list .entry)))) (stepText (stepAt (now (list .entry)) i)) []) (now (out .entry))) ⌝ }
 {
-    give(print::step_line(list, i), out)
+    give(printer::step_line(list, i), out)
 }
 
 // Writes the reply to step i of the list in words; nothing past the last step or reply. 18 with no byte changed.
@@ -129,7 +126,7 @@ pub extern "C" fn notation_parse(
         × (now (expected .exit) ≡ expectedFor (answerOf (read (length (now (out .entry))) (now (text .entry)))))
         × (now (out .exit) ≡ writtenOf (read (length (now (out .entry))) (now (text .entry))) (now (out .entry))) ⌝ }
 {
-    match parse::parse(text, out) {
+    match parser::parse(text, out) {
         Parsed::Steps(n) => {
             *line = 0;
             *column = 0;
@@ -143,7 +140,7 @@ pub extern "C" fn notation_parse(
         } => {
             *line = l;
             *column = c;
-            *expected = parse::number_of(e);
+            *expected = faults::number_of(e);
             0
         }
     }

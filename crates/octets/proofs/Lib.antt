@@ -1,3 +1,4 @@
+pub mod Alike
 pub mod Chunks
 mod Move
 pub mod Numbers

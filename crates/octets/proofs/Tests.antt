@@ -57,6 +57,10 @@ pub or-none : (c : Bool) → c or false ≡ c
 or-none true = refl
 or-none false = refl
 
+pub or-assoc : (a b c : Bool) → (a or b) or c ≡ a or (b or c)
+or-assoc true b c = refl
+or-assoc false b c = refl
+
 pub or-off : (a b : Bool) → a or b ≡ false → (a ≡ false) × (b ≡ false)
 or-off true b e = never e
 or-off false b e = (refl, e)

@@ -14,7 +14,7 @@ use Rattle.octets.proofs.Chunks.{cases}
 use lib.Seq.{take-at, drop-at, drop-drop}
 use borrow.Author.Tests.{eq-eqb, ne-eqb, eqb-true, eqb-false, not-true, not-false}
 use Rattle.octets.specs.Bytes.{pick, _and_, _or_, part, zeros, allZero, every, any, chunks, tabulate, Octets}
-use Rattle.octets.proofs.Tests.{and-true, never, or-to}
+use Rattle.octets.proofs.Tests.{and-true, never, or-to, or-none, or-assoc}
 use Rattle.octets.proofs.Put.{part-def, part-suc, length-part}
 
 pub both : (t u : Bool) → t and u ≡ true → (t ≡ true) × (u ≡ true)
@@ -232,3 +232,14 @@ pub any-some : (f : ℕ → Bool) (n : ℕ) → any n f ≡ true → (i : ℕ) �
 unfolding any
 any-some f zero e = never (sym e)
 any-some f (suc n) e = ⊎-elim (λ p. any-some f n p) (λ p. (n, p)) (or-to (any n f) (f n) e)
+
+pub any-same : (f g : ℕ → Bool) (n : ℕ) → ((i : ℕ) → i < n → f i ≡ g i) → any n f ≡ any n g
+unfolding any
+any-same f g zero h = refl
+any-same f g (suc n) h = rw (any-same f g n (λ i p. h i (omega arith)), h n (omega arith))
+
+-- by the first of the n + 1
+pub any-first : (f : ℕ → Bool) (n : ℕ) → any (suc n) f ≡ f 0 or any n (λ i. f (suc i))
+unfolding any
+any-first f zero = sym (or-none (f 0))
+any-first f (suc n) = rw (any-first f n) (or-assoc (f 0) (any n (λ i. f (suc i))) (f (suc n)))

@@ -55,6 +55,10 @@ unfoldable pub any : ℕ → (ℕ → Bool) → Bool
 any zero f = false
 any (suc n) f = any n f or f n
 
+-- the n elements of l from place a on are those from place b on
+unfoldable pub alike : List ℕ → ℕ → ℕ → ℕ → Bool
+alike l a b n = every n (λ i. eqb (getD l (a + i) 0) (getD l (b + i) 0))
+
 -- every element is a byte
 unfoldable pub Octets : List ℕ → Type 0
 Octets l = (i : ℕ) → getD l i 0 < 256

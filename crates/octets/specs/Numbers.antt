@@ -17,3 +17,7 @@ ofBe (suc w) b = ofBe w b * 256 + getD b w 0
 unfoldable pub bound : ℕ → ℕ
 bound zero = 1
 bound (suc w) = bound w * 256
+
+-- the number that the 4 bytes of b from place at on give, least significant first
+unfoldable pub turned4 : List ℕ → ℕ → ℕ
+turned4 b at = ((getD b (at + 3) 0 * 256 + getD b (at + 2) 0) * 256 + getD b (at + 1) 0) * 256 + getD b at 0

@@ -3,8 +3,8 @@ ghost use mathlib.Core.Path.{_≡_};
 ghost use Prim.Native.Nat.{_+_, _*_, _<_, _≤_};
 ghost use mathlib.Core.List.{_++_};
 ghost use lib.ListN.{length, getD};
-ghost use Rattle.octets.specs.Bytes.{put, part, zeros, allZero};
-ghost use Rattle.octets.specs.Numbers.{be, ofBe};
+ghost use Rattle.octets.specs.Bytes.{put, part, zeros, allZero, alike};
+ghost use Rattle.octets.specs.Numbers.{be, ofBe, turned4};
 
 // Writes all of src from at on.
 pub fn write(image: &mut [u8], at: usize, src: &[u8])
@@ -99,6 +99,41 @@ pub fn load16(s: &[u8], at: usize) -> u16
 {
     let x = little16(s, at);
     x % 256 * 256 + x / 256
+}
+
+// The 4 bytes from at on, likewise.
+fn little32(s: &[u8], at: usize) -> u32
+    requires { ⌜ at + 4 ≤ length (now s) ⌝ }
+    ensures { λ r. ⌜ r ≡ turned4 (now (s .entry)) at ⌝ }
+{
+    ((wide(s[at + 3]) * 256 + wide(s[at + 2])) * 256 + wide(s[at + 1])) * 256 + wide(s[at])
+}
+
+// The 8 bytes from at on, likewise.
+fn little64(s: &[u8], at: usize) -> u64
+    requires { ⌜ at + 8 ≤ length (now s) ⌝ }
+    ensures { λ r. ⌜ r ≡ turned4 (now (s .entry)) (at + 4) * 4294967296 + turned4 (now (s .entry)) at ⌝ }
+{
+    (little32(s, at + 4) as u64) * 4294967296 + (little32(s, at) as u64)
+}
+
+// Whether the 8 bytes from a on are those from b on: two reads, and no loop, so that it costs little wherever it is put.
+fn same8(s: &[u8], a: usize, b: usize) -> bool
+    requires { ⌜ (a + 8 ≤ length (now s)) × (b + 8 ≤ length (now s)) ⌝ }
+    ensures { λ r. ⌜ r ≡ alike (now (s .entry)) a b 8 ⌝ }
+{
+    little64(s, a) == little64(s, b)
+}
+
+// Whether the 16 bytes from a on are those from b on.
+pub fn same16(s: &[u8], a: usize, b: usize) -> bool
+    requires { ⌜ (a + 16 ≤ length (now s)) × (b + 16 ≤ length (now s)) ⌝ }
+    ensures { λ r. ⌜ r ≡ alike (now (s .entry)) a b 16 ⌝ }
+{
+    if !same8(s, a, b) {
+        return false;
+    }
+    same8(s, a + 8, b + 8)
 }
 
 // The number in the 4 bytes from at on.

@@ -13,17 +13,17 @@ use Rattle.octets.proofs.Put.{octets-append}
 use Rattle.octets.proofs.Numbers.{octets-be}
 use Rattle.marks.specs.Incarnation.{sameList, beginsWith, strictPrefix, supersededBy}
 use Rattle.marks.specs.Relation.{byNumbers, byNextEntry, relationOf}
-use Rattle.marks.specs.History.{newerOf}
+use Rattle.marks.specs.History.{newerOf, isOlder}
 use Rattle.marks.specs.News.{showsStable, informed}
 use Rattle.marks.specs.Packed.{packNumberAt, packHistory, loadNumberAt, unpackHistory, presentIn, formedHistory}
-use Rattle.maps.specs.Map.{emptyMap, withEntry, singleton, joinedHistory, joinedHeldAt, joinedHistoryAt, joinOf, supersededEntry, supersededAt, firstFrom, firstSuperseded, unrelatedEntry, unrelatedAt, anyFrom, anyUnrelated}
+use Rattle.maps.specs.Map.{emptyMap, withEntry, singleton, choosesRight, joinedHistory, joinedHeldAt, joinedHistoryAt, joinOf, supersededEntry, supersededAt, firstFrom, firstSuperseded, unrelatedEntry, unrelatedAt, anyUnrelated}
 use Rattle.maps.specs.News.{informedHistory, informedHistoryAt, informedOf}
 use Rattle.maps.specs.Packed.{packEntry, packEntryAt, packMap, entryBytes, unpackHeldAt, unpackHistoryAt, unpackMap, formedEntry, formedEntryAt, formedMap}
 use Rattle.rules.specs.Layout.{Layout, Limits, inRange, imageBytes}
 use Rattle.rules.specs.State.{transactorAt, messageAt, withTransactor, withOpened, withMessage, withoutMessage, placeFrom, numbered, placeOf}
 use Rattle.rules.specs.Step.{unpackStep, stepAt, packReply}
 use Rattle.rules.specs.Pack.{packTransactor, packMessage, packTransactorAt, packMessageAt, packHead, packLimits, packFront, pack, unpackTransactor, unpackMessage, transactorPart, messagePart, unpackTransactorAt, unpackMessageAt, vacantAt, waitingIn, unpackLimits, unpack}
-use Rattle.rules.specs.Form.{limitsZero, mapFormed, transactorZeros, messageZeros, statusRight, ownHeld, savedRight, readyRight, annihilatedRight, noGap, inOrder, numberRight, addresseeRight, wellFormed}
+use Rattle.rules.specs.Form.{limitsZero, mapFormed, transactorZeros, messageZeros, statusRight, ownHeld, savedRight, idleRight, annihilatedRight, noGap, inOrder, numberRight, addresseeRight, wellFormed}
 use Rattle.rules.specs.Refusals.{named, anyNamed, malformed, notWaiting, emptyGroup, unopened, isGone, wrongStatus, unrelatedReceipt, allOpened, allWaiting, allNumbered, allCheckpointed, atLast, lastRollsBack, refusalOf}
 use Rattle.rules.specs.Rules.{messageUnrelated, receiptUnrelated, rollback, readBy, writeBy, freezeBy, finishBy, fallBy, failBy, localBy, messageSuperseded, receiverSuperseded, receiveBy, receiptRollsBack, seen, refusal, opened, applyRoot, applyLetter, applyReceive, applyLocal, applyLose, apply, stepOf}
 use Rattle.rules.specs.Calls.{stateAfter, replyAt, beginAnswer, freshImage, beginImage, wrongPart, runAnswer, ranImage, ranReplies, runImage, runReplies, stepsIn, queryRefusal, WaitsFor, Offers, waiting}
@@ -109,7 +109,7 @@ record Computed : Type 0 where
   received4 : refusal small (stateAfter small (unpack small image3) (part 8 8 second) 0) (stepAt (part 8 8 second) 0) ≡ 0
 
 computed : Computed
-unfolding byNumbers byNextEntry relationOf showsStable informed unrelatedEntry unrelatedAt anyFrom anyUnrelated informedHistory informedHistoryAt informedOf messageUnrelated receiptUnrelated put part chunks tabulate zeros allZero every be ofBe sameList beginsWith strictPrefix supersededBy newerOf packNumberAt packHistory loadNumberAt unpackHistory presentIn formedHistory emptyMap withEntry singleton joinedHistory joinedHeldAt joinedHistoryAt joinOf supersededEntry supersededAt firstFrom firstSuperseded packEntry packEntryAt packMap entryBytes unpackHeldAt unpackHistoryAt unpackMap formedEntry formedEntryAt formedMap transactorAt messageAt withTransactor withOpened withMessage withoutMessage placeFrom numbered placeOf unpackStep stepAt packReply packTransactor packMessage packTransactorAt packMessageAt packHead packLimits packFront pack unpackTransactor unpackMessage transactorPart messagePart unpackTransactorAt unpackMessageAt vacantAt waitingIn unpackLimits unpack inRange limitsZero mapFormed transactorZeros messageZeros statusRight ownHeld savedRight readyRight annihilatedRight noGap inOrder numberRight addresseeRight wellFormed any named anyNamed malformed notWaiting emptyGroup unopened isGone wrongStatus unrelatedReceipt allOpened allWaiting allNumbered allCheckpointed atLast lastRollsBack refusalOf rollback readBy writeBy freezeBy finishBy fallBy failBy localBy messageSuperseded receiverSuperseded receiveBy receiptRollsBack seen refusal opened applyRoot applyLetter applyReceive applyLocal applyLose apply stepOf stateAfter replyAt beginAnswer freshImage beginImage wrongPart runAnswer ranImage ranReplies runImage runReplies queryRefusal image0 image1 image2 image3 image4
+unfolding byNumbers byNextEntry relationOf showsStable informed unrelatedEntry unrelatedAt anyUnrelated informedHistory informedHistoryAt informedOf messageUnrelated receiptUnrelated put part chunks tabulate zeros allZero every be ofBe sameList beginsWith strictPrefix supersededBy newerOf isOlder packNumberAt packHistory loadNumberAt unpackHistory presentIn formedHistory emptyMap withEntry singleton choosesRight joinedHistory joinedHeldAt joinedHistoryAt joinOf supersededEntry supersededAt firstFrom firstSuperseded packEntry packEntryAt packMap entryBytes unpackHeldAt unpackHistoryAt unpackMap formedEntry formedEntryAt formedMap transactorAt messageAt withTransactor withOpened withMessage withoutMessage placeFrom numbered placeOf unpackStep stepAt packReply packTransactor packMessage packTransactorAt packMessageAt packHead packLimits packFront pack unpackTransactor unpackMessage transactorPart messagePart unpackTransactorAt unpackMessageAt vacantAt waitingIn unpackLimits unpack inRange limitsZero mapFormed transactorZeros messageZeros statusRight ownHeld savedRight idleRight annihilatedRight noGap inOrder numberRight addresseeRight wellFormed any named anyNamed malformed notWaiting emptyGroup unopened isGone wrongStatus unrelatedReceipt allOpened allWaiting allNumbered allCheckpointed atLast lastRollsBack refusalOf rollback readBy writeBy freezeBy finishBy fallBy failBy localBy messageSuperseded receiverSuperseded receiveBy receiptRollsBack seen refusal opened applyRoot applyLetter applyReceive applyLocal applyLose apply stepOf stateAfter replyAt beginAnswer freshImage beginImage wrongPart runAnswer ranImage ranReplies runImage runReplies queryRefusal image0 image1 image2 image3 image4
 computed = record {
   offer0 = refl;
   waiting0 = refl;

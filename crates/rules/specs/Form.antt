@@ -8,7 +8,7 @@ use Rattle.octets.specs.Bytes.{pick, _and_, _or_, part, every, allZero}
 use Rattle.maps.specs.Map.{heldAt}
 use Rattle.maps.specs.Packed.{formedMap}
 use Rattle.rules.specs.Layout.{Layout, inRange, mapBytes, stateAt, creationAt, behaviourAt, dependencesAt}
-use Rattle.rules.specs.Status.{unused, ready, annihilated}
+use Rattle.rules.specs.Status.{unused, idle, annihilated}
 use Rattle.rules.specs.State.{State, transactorAt, messageAt, ownHistory, live}
 use Rattle.rules.specs.Pack.{transactorPart, messagePart, vacantAt, unpack}
 
@@ -48,9 +48,9 @@ savedRight s t =
     or eqb (transactorAt s t .saved) 0
 
 -- an idle take with a behaviour map
-unfoldable pub readyRight : Layout → List ℕ → ℕ → Bool
-readyRight y img t =
-    not (eqb (transactorAt (unpack y img) t .status) ready)
+unfoldable pub idleRight : Layout → List ℕ → ℕ → Bool
+idleRight y img t =
+    not (eqb (transactorAt (unpack y img) t .status) idle)
     or allZero (part (behaviourAt y) (mapBytes y) (transactorPart y img t))
 
 -- a vanished take with more than its status
@@ -91,7 +91,7 @@ wellFormed y img =
     and every (y .transactors) (statusRight (unpack y img))
     and every (y .transactors) (ownHeld (unpack y img))
     and every (y .transactors) (savedRight (unpack y img))
-    and every (y .transactors) (readyRight y img)
+    and every (y .transactors) (idleRight y img)
     and every (y .transactors) (annihilatedRight y img)
     and every (y .messages) (noGap y img)
     and every (y .messages) (inOrder (unpack y img))

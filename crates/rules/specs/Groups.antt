@@ -1,16 +1,18 @@
 -- Document 02, W1: which takes to put in the volume.
-use Prim.Native.Nat.{ℕ, _<_}
+use Prim.Native.Nat.{ℕ, _^_, _<_}
 use mathlib.Core.Bool.{true}
 use mathlib.Core.Path.{_≡_}
 use mathlib.Core.List.{List}
 use mathlib.Core.Option.{Option, none, some}
+use lib.Dec.{leb}
+use Rattle.octets.specs.Bytes.{pick}
 use Rattle.octets.specs.Numbers.{bound}
 use Rattle.rules.specs.declared.Grouped.{Grouped}
 use Rattle.rules.specs.declared.Grouped.the-variants.{Group, NoGroup}
 use Rattle.rules.specs.Layout.{Layout}
 use Rattle.rules.specs.State.{State, transactorAt, ownHistory}
 use Rattle.rules.specs.Step.{Step, sign, done}
-use Rattle.rules.specs.Refusals.{named}
+use Rattle.rules.specs.Refusals.{groupBits, named}
 use Rattle.rules.specs.Rules.{groupReady, stepOf}
 use Rattle.rules.specs.Pack.{unpack}
 use Rattle.rules.specs.Calls.{queryRefusal}
@@ -18,6 +20,11 @@ use Rattle.rules.specs.Calls.{queryRefusal}
 -- the step that signs volume v
 abbrev pub signing : ℕ → Step
 signing v = record { kind = sign; transactor = 0; other = 0; zero = 0; message = v; value = 0 }
+
+-- What the signing of volume v is refused with, if f gives what a step is. A number past the field's 16 bits names a take from 16 on, which no
+-- session opens: 21.
+unfoldable pub signingRefusal : (Step → ℕ) → ℕ → ℕ
+signingRefusal f v = pick (leb (2 ^ groupBits) v) 21 (f (signing v))
 
 -- volume v contains take t and could be signed now: its signing would reply 0
 pub record Checkpointable (y : Layout) (s : State) (t v : ℕ) : Type 0 where

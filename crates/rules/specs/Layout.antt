@@ -49,7 +49,7 @@ pub record Limits : Type 0 where
 
 -- the three numbers in their order
 abbrev pub limitsOf : ℕ → ℕ → ℕ → Limits
-limitsOf takes parcels signings = record { transactors = takes; messages = parcels; checkpoints = signings }
+limitsOf t m c = record { transactors = t; messages = m; checkpoints = c }
 
 -- the widest that a layout has room for: 16, 32 and 15
 abbrev pub widest : Layout → Limits

@@ -19,7 +19,7 @@ use Rattle.rules.specs.Rules.{entryReady, groupReady, refusal}
 use Rattle.rules.specs.Pack.{unpack}
 use Rattle.rules.specs.Form.{wellFormed}
 use Rattle.rules.specs.Calls.{wrongLength}
-use Rattle.rules.specs.Groups.{signing}
+use Rattle.rules.specs.Groups.{signingRefusal}
 
 -- ---- the numbers of each answer
 
@@ -87,7 +87,7 @@ obstacleOf y s v = orElse (firstOf (unstableAt s v) 0 (y .transactors)) (firstOf
 unfoldable pub obstacleRefusal : Layout → List ℕ → ℕ → ℕ
 obstacleRefusal y img v =
     pick (wrongLength y img) 16
-    (pick (not (wellFormed y img)) 19 (refusal y (unpack y img) (signing v)))
+    (pick (not (wellFormed y img)) 19 (signingRefusal (refusal y (unpack y img)) v))
 
 -- refused: nothing
 unfoldable pub obstacleAnswer : Layout → List ℕ → ℕ → Obstacle

@@ -5,7 +5,7 @@ use mathlib.Core.Bool.{Bool, not}
 use lib.Dec.{eqb, ltb, leb}
 use Rattle.octets.specs.Bytes.{pick, _and_, _or_, any}
 use Rattle.rules.specs.Layout.{Layout, Limits, largest, lastNumber}
-use Rattle.rules.specs.Status.{ready, busy, annihilated}
+use Rattle.rules.specs.Status.{idle, busy, annihilated}
 use Rattle.rules.specs.Step.{Step, root, letter, receive, new, send, write, fall, fail, lose, sign}
 
 -- What the table looks at.
@@ -24,7 +24,7 @@ pub record Seen : Type 0 where
   -- of a parcel number: not waiting, its addressee, and whether its receipt would make the addressee fall
   pub missing : ℕ → Bool
   pub addressee : ℕ → ℕ
-  pub falls : ℕ → Bool
+  pub rolls : ℕ → Bool
   -- and whether some take has unrelated marks in the parcel and in what the addressee holds in state and creation
   pub unrelated : ℕ → Bool
 
@@ -93,7 +93,7 @@ isGone v p =
 -- 23: receive when not idle; kinds 3 to 9 when not at work
 unfoldable pub wrongStatus : Seen → Step → Bool
 wrongStatus v p =
-    (eqb (p .kind) receive and not (eqb (v .status (v .addressee (p .message))) ready))
+    (eqb (p .kind) receive and not (eqb (v .status (v .addressee (p .message))) idle))
     or ((leb new (p .kind) and leb (p .kind) fall) and not (eqb (v .status (p .transactor)) busy))
 
 -- 31 (document 02, W3): "a receipt where some take has unrelated marks in the parcel and in the receiver's joined state and
@@ -125,7 +125,7 @@ atLast y v t = ltb 0 (v .checkpoints t) and leb (largest y) (v .incarnation t)
 unfoldable pub lastRollsBack : Layout → Seen → Step → Bool
 lastRollsBack y v p =
     ((eqb (p .kind) fall or eqb (p .kind) fail) and not (v .stable (p .transactor)) and atLast y v (p .transactor))
-    or (eqb (p .kind) receive and v .falls (p .message) and atLast y v (v .addressee (p .message)))
+    or (eqb (p .kind) receive and v .rolls (p .message) and atLast y v (v .addressee (p .message)))
 
 -- The first condition that holds, in the table's order, or 0. Of the layout it looks at the largest life number alone.
 unfoldable pub refusalOf : Layout → Seen → Step → ℕ

@@ -12,7 +12,7 @@ use Rattle.maps.specs.declared.DependenceMap.{DependenceMap}
 use Rattle.maps.specs.Map.{heldAt, historyAt, emptyMap, withEntry, singleton, joinOf, firstSuperseded, anyUnrelated}
 use Rattle.maps.specs.News.{informedOf}
 use Rattle.rules.specs.Layout.{Layout}
-use Rattle.rules.specs.Status.{ready, busy, annihilated}
+use Rattle.rules.specs.Status.{idle, busy, annihilated}
 use Rattle.rules.specs.State.{Transactor, Message, State, bare, transactorAt, messageAt, ownHistory, live, withStatus, withValue, withState, withBehaviour, withTransactor, withOpened, withMessage, withoutMessage, placeOf}
 use Rattle.rules.specs.Refusals.{Seen, named, refusalOf}
 use Rattle.rules.specs.Step.{Step, Reply, done, held, dropped, fallenBack, vanished, notReady, root, letter, receive, new, send, read, write, freeze, finish, fall, lose, sign}
@@ -47,7 +47,7 @@ pub record Effect : Type 0 where
 -- idle, state map the mark h alone, other maps empty
 abbrev pub renewed : Layout → ℕ → History → ℕ → ℕ → Transactor
 renewed y t h v saved = record {
-  status = ready;
+  status = idle;
   value = v;
   saved = saved;
   state = only y t h;
@@ -83,15 +83,15 @@ unfoldable pub freezeBy : ℕ → Transactor → Effect
 freezeBy t x = unchanged done (withState x (withEntry (x .state) t (stabilized (ownHistory t x))))
 
 -- idle, behaviour map emptied
-abbrev pub madeReady : Layout → Transactor → Transactor
-madeReady y x = withBehaviour (withStatus x ready) (noDependences y)
+abbrev pub madeIdle : Layout → Transactor → Transactor
+madeIdle y x = withBehaviour (withStatus x idle) (noDependences y)
 
 unfoldable pub finishBy : Layout → Transactor → Effect
-finishBy y x = unchanged done (madeReady y x)
+finishBy y x = unchanged done (madeIdle y x)
 
 -- frozen: held, and idle with behaviour map emptied; else falls
 unfoldable pub fallBy : Layout → ℕ → Transactor → Effect
-fallBy y t x = pick (ownHistory t x .stable) (unchanged held (madeReady y x)) (rollback y t x)
+fallBy y t x = pick (ownHistory t x .stable) (unchanged held (madeIdle y x)) (rollback y t x)
 
 -- frozen: held, no change; else falls
 unfoldable pub failBy : Layout → ℕ → Transactor → Effect
@@ -210,7 +210,7 @@ seen y s = record {
   incarnation = λ t. ownHistory t (transactorAt s t) .incarnation;
   missing = λ n. leb (length (s .messages)) (placeOf s n);
   addressee = λ n. messageAt s (placeOf s n) .addressee;
-  falls = receiptRollsBack y s;
+  rolls = receiptRollsBack y s;
   unrelated = receiptUnrelated y s;
 }
 
@@ -229,7 +229,7 @@ answer outcome t k v = record { outcome = outcome; transactor = t; message = k; 
 -- a take as root opens it: idle, opening mark, saved text 0; its creation map is given
 abbrev pub opening : Layout → ℕ → ℕ → DependenceMap → Transactor
 opening y t v creation = record {
-  status = ready;
+  status = idle;
   value = v;
   saved = 0;
   state = only y t (initialHistory (y .places));

@@ -9,20 +9,7 @@ use Rattle.marks.specs.declared.History.{History}
 use Rattle.maps.specs.declared.DependenceMap.{DependenceMap}
 use Rattle.maps.specs.Map.{historyAt, emptyMap}
 use Rattle.rules.specs.Layout.{Layout, Limits}
-use Rattle.rules.specs.Status as status
-
--- The statuses also under the state's name, for other crates, which no `pub use` reaches.
-abbrev pub unused : ℕ
-unused = status.unused
-
-abbrev pub ready : ℕ
-ready = status.ready
-
-abbrev pub busy : ℕ
-busy = status.busy
-
-abbrev pub annihilated : ℕ
-annihilated = status.annihilated
+use Rattle.rules.specs.Status.{unused, idle, busy}
 
 -- A take: status, text, saved text, and three maps.
 pub record Transactor : Type 0 where
@@ -85,7 +72,7 @@ ownHistory t x = historyAt (x .state) t
 
 -- idle or at work
 abbrev pub live : Transactor → Bool
-live x = eqb (x .status) ready or eqb (x .status) busy
+live x = eqb (x .status) idle or eqb (x .status) busy
 
 -- ---- one field changed
 

@@ -5,9 +5,8 @@ use Prim.Native.Nat.{ℕ}
 abbrev pub unused : ℕ
 unused = 0
 
--- idle
-abbrev pub ready : ℕ
-ready = 1
+abbrev pub idle : ℕ
+idle = 1
 
 -- at work
 abbrev pub busy : ℕ

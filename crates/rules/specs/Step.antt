@@ -1,6 +1,8 @@
 -- Document 01, "Packed forms": steps and replies.
 use Prim.Native.Nat.{ℕ, _*_, _/_, _%_}
 use mathlib.Core.List.{List, _++_}
+use mathlib.Core.Bool.{Bool}
+use lib.Dec.{leb}
 use lib.ListN.{getD}
 use Rattle.octets.specs.Bytes.{part}
 use Rattle.octets.specs.Numbers.{be, ofBe}
@@ -47,6 +49,10 @@ vanished = 4
 
 abbrev pub notReady : ℕ
 notReady = 5
+
+-- A reply that is no outcome, but a refusal: "20 or more".
+abbrev pub isRefusal : ℕ → Bool
+isRefusal outcome = leb 20 outcome
 
 -- Kinds.
 abbrev pub root : ℕ

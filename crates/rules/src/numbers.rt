@@ -5,8 +5,7 @@
 // not opened
 pub const UNUSED: u8 = 0;
 
-// idle
-pub const READY: u8 = 1;
+pub const IDLE: u8 = 1;
 
 // at work
 pub const BUSY: u8 = 2;

@@ -12,10 +12,10 @@ use Rattle.octets.proofs.Chunks.{sides}
 use Rattle.rules.specs.Layout.{Layout}
 use Rattle.rules.specs.declared.Step.{Step}
 use Rattle.rules.specs.Step.{letter, receive, sign}
-use Rattle.rules.specs.State as state
+use Rattle.rules.specs.Status as number
 use Rattle.rules.specs.Refusals.{groupBits, named, acts}
-use Rattle.rules.proofs.Keep.Accepted.{Accepted, accepted, transactor-opened, transactor-there, receiver-ready, named-opened, named-there}
-use Rattle.session.specs.Provenance.{Status, unused, ready, busy, annihilated, statusNumber, Live, idle, working, Provenance, find}
+use Rattle.rules.proofs.Keep.Accepted.{Accepted, accepted, transactor-opened, transactor-there, receiver-idle, named-opened, named-there}
+use Rattle.session.specs.Provenance.{Status, unused, idle, busy, annihilated, statusNumber, Live, is-idle, is-busy, Provenance, find}
 use Rattle.session.specs.Steps.{provenanceSeen, provenanceRefusal}
 use Rattle.session.proofs.Model.{Ledger}
 use Rattle.session.proofs.Tables.{or-of}
@@ -41,15 +41,15 @@ named-below g t h k = named-within groupBits g t h k
 
 -- ---- the book's takes
 
-there-live : (s : Status) → eqb (statusNumber s) state.annihilated ≡ false → (s ≡ unused → ⊥) → Live s
+there-live : (s : Status) → eqb (statusNumber s) number.annihilated ≡ false → (s ≡ unused → ⊥) → Live s
 there-live unused e n = absurd (n refl)
-there-live ready e n = idle
-there-live busy e n = working
+there-live idle e n = is-idle
+there-live busy e n = is-busy
 there-live annihilated e n = absurd (true≢false e)
 
-idle-live : (s : Status) → statusNumber s ≡ state.ready → Live s
+idle-live : (s : Status) → statusNumber s ≡ number.idle → Live s
 idle-live unused e = absurd (omega arith)
-idle-live ready e = idle
+idle-live idle e = is-idle
 idle-live busy e = absurd (omega arith)
 idle-live annihilated e = absurd (omega arith)
 
@@ -65,7 +65,7 @@ module _ (l : Ledger) (b : Provenance) (r : Rel l b) (y : Layout) (p : Step) (ze
 
   pub receiving-live : p .kind ≡ receive → Live (b .holders (find (p .message) (b .messages) .addressee) .status)
   unfolding provenanceSeen
-  receiving-live k = idle-live (b .holders (find (p .message) (b .messages) .addressee) .status) (receiver-ready provenance-accepted (eq-eqb (p .kind) receive k))
+  receiving-live k = idle-live (b .holders (find (p .message) (b .messages) .addressee) .status) (receiver-idle provenance-accepted (eq-eqb (p .kind) receive k))
 
   pub named-live : p .kind ≡ sign → p .message < bound 2 → (t : ℕ) → named (p .message) t ≡ true → Live (b .holders t .status)
   unfolding provenanceSeen

@@ -1,5 +1,5 @@
 -- One call: the book's refusal, what the book makes of it, and the relation after it.
-use Prim.Native.Nat.{ℕ, _-_}
+use Prim.Native.Nat.{ℕ, _-_, _^_}
 use mathlib.Core.Bool.{Bool, true, false, not}
 use mathlib.Core.Path.{_≡_, refl, ap, sym, _∙_, subst}
 use mathlib.Core.List.{List}
@@ -18,7 +18,8 @@ use Rattle.rules.specs.Form.{wellFormed}
 use Rattle.rules.specs.Internal.Well.{WellFormed}
 use Rattle.rules.specs.Calls.{wrongLength, beginAnswer, freshImage, beginImage, stateAfter, stepsIn, runAnswer, replyAt, ranImage, ranReplies, runImage, runReplies, queryRefusal, showRefusal}
 use Rattle.rules.specs.ReadyGroups.{readyRefusal}
-use Rattle.rules.specs.Groups.{signing}
+use Rattle.rules.specs.Refusals.{groupBits}
+use Rattle.rules.specs.Groups.{signing, signingRefusal}
 use Rattle.rules.specs.Obstacle.{obstacleRefusal}
 use Rattle.rules.proofs.Pack.Sizes.{length-pack}
 use Rattle.rules.proofs.Pack.RoundTrip.{unpack-pack}
@@ -83,8 +84,8 @@ module _ {y : Layout} {img : List ℕ} {b : Provenance} (h : Holds y img b) wher
   counts-same n = rw (right-length, right-form)
 
   hinders-same : (v : ℕ) → obstacleRefusal y img v ≡ callRefusal y b (hinders v)
-  unfolding obstacleRefusal
-  hinders-same v = rw (right-length, right-form) (same-refusal (h .well) (h .rel) (signing v))
+  unfolding obstacleRefusal signingRefusal
+  hinders-same v = rw (right-length, right-form) (ap (pick (leb (2 ^ groupBits) v) 21) (same-refusal (h .well) (h .rel) (signing v)))
 
   show-same : (n : ℕ) → showRefusal y img n ≡ callRefusal y b (show n)
   unfolding showRefusal

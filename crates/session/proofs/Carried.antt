@@ -13,14 +13,14 @@ use Rattle.marks.specs.Incarnation.{Incarnation, Checkpointed}
 use Rattle.marks.specs.History.{HistoryView}
 use Rattle.marks.proofs.Order.{checkpointed-up, checkpointed-irrefl}
 use Rattle.rules.specs.Layout.{Layout}
-use Rattle.rules.specs.State as state
+use Rattle.rules.specs.Status as number
 use Rattle.rules.specs.declared.Step.{Step}
 use Rattle.rules.specs.Step.{sign}
 use Rattle.rules.specs.Refusals.{named, anyNamed}
 use Rattle.rules.specs.Groups as groups
 use Rattle.rules.proofs.Bits.{named-at, unnamed-all}
 use Rattle.rules.proofs.ByKind.Applied.{applies}
-use Rattle.session.specs.Provenance.{Status, Live, idle, working, statusNumber, Provenance, find}
+use Rattle.session.specs.Provenance.{Status, Live, is-idle, is-busy, statusNumber, Provenance, find}
 use Rattle.session.specs.Grounds.{from-start, from-noted, from-list, Ground, in-state, in-creation, RestsOn, CheckpointedNow, StablePresent, Equal}
 use Rattle.session.specs.Steps.{isRolledBack, provenanceSeen, provenanceRefusal, ProvenanceStep, refuses, signing, not-ready}
 use Rattle.session.specs.Steps as book
@@ -37,8 +37,8 @@ use Rattle.session.proofs.Stands.{stands-book}
 
 module _ (b c : Provenance) (g : ℕ) (lives : (t : ℕ) → named g t ≡ true → Live (b .holders t .status)) (o : Onward (named g) (b .holders) (c .holders))
     (noted : (t : ℕ) (a : Incarnation) (u : ℕ) (d : Incarnation) → (c .noted t a u d → b .noted t a u d) × (b .noted t a u d → c .noted t a u d)) where
-  signed-on : (u : ℕ) (a : Incarnation) → CheckpointedNow b u a → CheckpointedNow c u a
-  signed-on u a s = go (live-or-not (c .holders u .status))
+  checkpointed-on : (u : ℕ) (a : Incarnation) → CheckpointedNow b u a → CheckpointedNow c u a
+  checkpointed-on u a s = go (live-or-not (c .holders u .status))
     where
       k : Checkpointed a (present (c .holders) u .incarnation)
       k = checkpointed-up (checkpointedNow-to b s) (o .grow u .incarnation)
@@ -77,16 +77,16 @@ module _ (b c : Provenance) (g : ℕ) (lives : (t : ℕ) → named g t ≡ true 
 
   pub equal-on : Equal b g → Equal c g
   equal-on same u a = (
-    λ z. stable-of u a (same u a .0 (record { by = z .by; named = z .named; rests = rests-to (z .by) (z .named) u a (z .rests); uncheckpointed = λ s. z .uncheckpointed (signed-on u a s) })),
+    λ z. stable-of u a (same u a .0 (record { by = z .by; named = z .named; rests = rests-to (z .by) (z .named) u a (z .rests); uncheckpointed = λ s. z .uncheckpointed (checkpointed-on u a s) })),
     λ f. let z = same u a .1 (stable-to u a f) in
         record { by = z .by; named = z .named; rests = rests-of (z .by) (z .named) u a (z .rests); uncheckpointed = λ s. checkpointed-irrefl (rw (f .present .is) at (s .is)) },
   )
 
 -- ---- the refusals of a signing
 
-there : {s : Status} → Live s → eqb (statusNumber s) state.annihilated ≡ false
-there idle = refl
-there working = refl
+there : {s : Status} → Live s → eqb (statusNumber s) number.annihilated ≡ false
+there is-idle = refl
+there is-busy = refl
 
 -- where the named takes are live and keep their marks, under the same limits, no refusal of their signing arises
 pub signing-on : (y : Layout) (b c : Provenance) (k : Ledger) → Rel k c → (v : ℕ) → c .limits ≡ b .limits → ((t : ℕ) → named v t ≡ true → Stays (b .holders t) (c .holders t))
@@ -96,12 +96,12 @@ signing-on y b c k r v limits same e =
     let count : Provenance → ℕ → ℕ = λ d t. length (d .holders t .history .incarnation .checkpoints) in
     let e0 = pick-zero (eqb v 0) 29 _ (omega arith) (sym (signing-refusal y (provenanceSeen b) v) ∙ e) in
     let e1 = pick-zero (anyNamed v (λ t. leb (b .opened) t)) 21 _ (omega arith) (e0 .1) in
-    let e2 = pick-zero (anyNamed v (λ t. eqb (statusNumber (b .holders t .status)) state.annihilated)) 22 _ (omega arith) (e1 .1) in
+    let e2 = pick-zero (anyNamed v (λ t. eqb (statusNumber (b .holders t .status)) number.annihilated)) 22 _ (omega arith) (e1 .1) in
     let e3 = pick-zero (anyNamed v (λ t. leb (b .limits .checkpoints) (count b t))) 30 0 (omega arith) (e2 .1) in
     signing-refusal y (provenanceSeen c) v ∙ rw (
       e0 .0,
       unnamed-all v (λ t. leb (c .opened) t) (λ t h n. lt-leb (c .opened) t (live-opened k c r t (same t n .live))),
-      unnamed-all v (λ t. eqb (statusNumber (c .holders t .status)) state.annihilated) (λ t h n. there (same t n .live)),
+      unnamed-all v (λ t. eqb (statusNumber (c .holders t .status)) number.annihilated) (λ t h n. there (same t n .live)),
       limits,
       unnamed-all v (λ t. leb (b .limits .checkpoints) (count c t)) (λ t h n.
           ap (λ (x : HistoryView). leb (b .limits .checkpoints) (length (x .incarnation .checkpoints))) (same t n .history) ∙ named-at v (λ t. leb (b .limits .checkpoints) (count b t)) t (e3 .0) h n),

@@ -111,8 +111,8 @@ module _ (y : Layout) (z : Fitting y) where
   signs-exactly k = signs-taken z (step-taken z k)
 
   -- live takes and their own marks are the book's
-  pub takes-match : {img : List ℕ} {τ : Trace y img} {s : State} {b : Provenance} → Point y img τ s b → Matches s b
-  takes-match k = let h = point-beside z k in matches-rel (h .well) (h .rel)
+  pub transactors-match : {img : List ℕ} {τ : Trace y img} {s : State} {b : Provenance} → Point y img τ s b → Matches s b
+  transactors-match k = let h = point-beside z k in matches-rel (h .well) (h .rel)
 
   -- no signed text rests on a withdrawn life
   pub never-withdrawn : {img : List ℕ} {τ : Trace y img} {s : State} {b : Provenance} → Point y img τ s b → Sound b
@@ -166,7 +166,7 @@ module _ (y : Layout) (z : Fitting y) where
         call-refused = call-refused;
         step-refused = step-refused;
         signs-exactly = signs-exactly;
-        takes-match = takes-match;
+        transactors-match = transactors-match;
         never-withdrawn = never-withdrawn;
         every-step = every-step;
       }

@@ -19,7 +19,7 @@ use Rattle.octets.specs.Table.{updated}
 use Rattle.octets.proofs.Tables.{updated-view, updated-other}
 use Rattle.rules.specs.Layout.{Layout}
 use Rattle.rules.specs.State.{Transactor, Message, State, transactorAt, messageAt, ownHistory, withTransactor, withoutMessage, placeOf}
-use Rattle.rules.specs.State as state
+use Rattle.rules.specs.Status as number
 use Rattle.rules.specs.declared.Step.{Step}
 use Rattle.rules.specs.Step.{root, letter, receive, new, send, read, write, freeze, finish, fall, fail, lose, sign}
 use Rattle.rules.specs.Refusals.{named, acts}
@@ -29,10 +29,10 @@ use Rattle.rules.proofs.Pack.Stores.{withTransactor-here}
 use Rattle.rules.proofs.ByKind.Outcomes.{Judged, refused, applied, judged}
 use Rattle.rules.proofs.Keep.Accepted.{accepted}
 use Rattle.rules.proofs.Keep.Step.{applied-same}
-use Rattle.session.specs.Provenance.{ready, annihilated, Live, idle, Holder, Provenance, find}
+use Rattle.session.specs.Provenance.{idle, annihilated, Live, is-idle, Holder, Provenance, find}
 use Rattle.session.specs.Steps.{anew, opensRoot, opensChild, receives, checkpointedAt, provenanceRefusal, ProvenanceStep, refuses, signing, not-ready}
 use Rattle.session.specs.Steps as book
-use Rattle.session.specs.Withdrawal.{Withdraws, falls-back, vanishes}
+use Rattle.session.specs.Withdrawal.{Withdraws, rolls-back, vanishes}
 use Rattle.session.proofs.Model.{Ledger, Node, MessageView, own, anewNode, statusOf, viewNode, view}
 use Rattle.session.proofs.Tables.{pick-view, and-of}
 use Rattle.session.proofs.Sets.{only-same}
@@ -85,28 +85,28 @@ module _ {y : Layout} {s : State} (well : WellFormed y s) {b : Provenance} (r : 
     unfolding transactorAt withoutMessage withTransactor
     there t x k h = here t x h
 
-    abbrev FellTo : Result → Type 0
-    FellTo q = 3 ≤ q .reply .outcome → q .reply .outcome ≤ 4 → Live (b .holders (q .reply .transactor) .status) × Rolled y s (q .reply .transactor) (q .state)
+    abbrev RolledTo : Result → Type 0
+    RolledTo q = 3 ≤ q .reply .outcome → q .reply .outcome ≤ 4 → Live (b .holders (q .reply .transactor) .status) × Rolled y s (q .reply .transactor) (q .state)
 
-    applied-fell : FellTo (apply y s p)
+    applied-rolled : RolledTo (apply y s p)
     unfolding apply applyRoot applyLetter applyReceive applyNew applySend applyLose applySign applyLocal refusal
-    applied-fell =
+    applied-rolled =
         let k : ℕ = p .kind in
         let z : provenanceRefusal y b p ≡ 0 = sym (same-refusal well r p) ∙ zero in
         let ok = accepted y (seen y s) p zero in
         let a = applicable well bits ok in
         let m : ℕ = placeOf s (p .message) in
         let q : Message = messageAt s m in
-        pick-view FellTo (eqb k root) _ _ (λ e h g. absurd (omega arith)) λ e0.
-        pick-view FellTo (eqb k letter) _ _ (λ e h g. absurd (omega arith)) λ e1.
-        pick-view FellTo (eqb k receive) _ _ (λ e h g. (
+        pick-view RolledTo (eqb k root) _ _ (λ e h g. absurd (omega arith)) λ e0.
+        pick-view RolledTo (eqb k letter) _ _ (λ e h g. absurd (omega arith)) λ e1.
+        pick-view RolledTo (eqb k receive) _ _ (λ e h g. (
           receiver (eqb-true k receive e) z,
           record { below = omega (arith, well .opened, well .limits .transactors-high, well .addressees m (a .waits e)); is = there (q .addressee) _ m (omega (arith, well .opened, well .limits .transactors-high, well .addressees m (a .waits e))) ∙ receive-fall y (q .addressee) (transactorAt s (q .addressee)) q h },
         )) λ e2.
-        pick-view FellTo (eqb k new) _ _ (λ e h g. absurd (omega arith)) λ e3.
-        pick-view FellTo (eqb k send) _ _ (λ e h g. absurd (omega arith)) λ e4.
-        pick-view FellTo (eqb k lose) _ _ (λ e h g. absurd (omega arith)) λ e5.
-        pick-view FellTo (eqb k sign) _ _ (λ e. pick-view FellTo (groupReady y s (p .message)) _ _ (λ f h g. absurd (omega arith)) (λ f h g. absurd (omega arith))) λ e6.
+        pick-view RolledTo (eqb k new) _ _ (λ e h g. absurd (omega arith)) λ e3.
+        pick-view RolledTo (eqb k send) _ _ (λ e h g. absurd (omega arith)) λ e4.
+        pick-view RolledTo (eqb k lose) _ _ (λ e h g. absurd (omega arith)) λ e5.
+        pick-view RolledTo (eqb k sign) _ _ (λ e. pick-view RolledTo (groupReady y s (p .message)) _ _ (λ f h g. absurd (omega arith)) (λ f h g. absurd (omega arith))) λ e6.
         λ h g.
         let low : new ≤ k = omega (arith, eqb-false k root e0, eqb-false k letter e1, eqb-false k receive e2) in
         let high : k ≤ fail = omega (arith, a .kind, eqb-false k lose e5, eqb-false k sign e6) in
@@ -121,18 +121,18 @@ module _ {y : Layout} {s : State} (well : WellFormed y s) {b : Provenance} (r : 
             subst (λ (t : ℕ). Live (b .holders t .status)) (sym q) (receiving-live (view s) b r y p z e)
 
   -- a step that makes take t fall: it was live, and is rolled back
-  pub fell : {t : ℕ} → Withdraws y s p t → Live (b .holders t .status) × Rolled y s t (stepOf y s p .state)
-  fell {t} w = go (judged y s p)
+  pub rolled : {t : ℕ} → Withdraws y s p t → Live (b .holders t .status) × Rolled y s t (stepOf y s p .state)
+  rolled {t} w = go (judged y s p)
     where
       low : Withdraws y s p t → (3 ≤ stepOf y s p .reply .outcome) × (stepOf y s p .reply .outcome ≤ 4) × (stepOf y s p .reply .transactor ≡ t)
-      low (falls-back e q) = (omega arith, omega arith, q)
+      low (rolls-back e q) = (omega arith, omega arith, q)
       low (vanishes e q) = (omega arith, omega arith, q)
 
       go : Judged y s p → Live (b .holders t .status) × Rolled y s t (stepOf y s p .state)
       go (refused h e) = let k = low w .1 in absurd (omega arith)
       go (applied zero h) =
           let k = low w in
-          let f = subst (FellTo zero) (sym (applied-same y s p zero)) (applied-fell zero) (k .0) (k .1) in
+          let f = subst (RolledTo zero) (sym (applied-same y s p zero)) (applied-rolled zero) (k .0) (k .1) in
           subst (λ (u : ℕ). Live (b .holders u .status) × Rolled y s u (stepOf y s p .state)) (k .2) f
 
 -- ---- beside the book: the life that it had is past
@@ -149,20 +149,20 @@ module _ {y : Layout} {s after : State} (well : WellFormed y s) (well2 : WellFor
   unfolding view
   node-after = ap viewNode (sym (k .is))
 
-  pub fell-past : Past (c .holders t) life
+  pub rolled-past : Past (c .holders t) life
   unfolding rollback statusOf
-  fell-past = pick-view (λ (e : Effect). viewNode (e .transactor) ≡ view after .nodes t → Past (c .holders t) life) (eqb (ownHistory t (transactorAt s t) .count) 0) _ _
+  rolled-past = pick-view (λ (e : Effect). viewNode (e .transactor) ≡ view after .nodes t → Past (c .holders t) life) (eqb (ownHistory t (transactorAt s t) .count) 0) _ _
       (λ e q. vanished (sym (r2 .holders t .status) ∙ ap (λ (n : Node). n .status) (sym q) ∙ gone-is))
       (λ e q.
       let n : view after .nodes t ≡ anewNode t (viewOf (rolledBack (ownHistory t (transactorAt s t)))) = sym q ∙ view-anew y t (transactorAt s t .saved) (transactorAt s t .saved) (rolledBack (ownHistory t (transactorAt s t))) (k .below) in
-      let status : c .holders t .status ≡ ready = sym (r2 .holders t .status) ∙ ap (λ (n : Node). n .status) n in
+      let status : c .holders t .status ≡ idle = sym (r2 .holders t .status) ∙ ap (λ (n : Node). n .status) n in
       let mark : c .holders t .history ≡ rolledBackView (b .holders t .history) =
       sym (own-history (r2 .holders t)) ∙ ap (own t) n ∙ ap (λ (o : Option HistoryView). Option·getD o initialView) (only-same t (viewOf (rolledBack (ownHistory t (transactorAt s t)))))
       ∙ view-rolledBack (ownHistory t (transactorAt s t)) ∙ ap rolledBackView mark-before in
-      passed (subst Live (sym status) idle) (subst (λ (m : HistoryView). Superseded life (m .incarnation)) (sym mark) (superseded-next life)))
+      passed (subst Live (sym status) is-idle) (subst (λ (m : HistoryView). Superseded life (m .incarnation)) (sym mark) (superseded-next life)))
       node-after
     where
-      gone-is : statusOf state.annihilated ≡ annihilated
+      gone-is : statusOf number.annihilated ≡ annihilated
       gone-is = refl
 
 -- ---- the book: no other take is changed
@@ -220,16 +220,16 @@ module _ (l : Ledger) (b : Provenance) (r : Rel l b) (y : Layout) (p : Step) (t 
       opener : {A : Type 0} (f : Holder → A) {h : Holder} → f h ≡ f (H (p .transactor)) → f (updated H (p .transactor) h t) ≡ f (H t)
       opener f {h} e = updated-view (λ (u : ℕ) (k : Holder). f k ≡ f (H u)) H (p .transactor) h e (λ u n. refl) t
 
-  pub signed-others : (g : ℕ) → Past (checkpointedAt b g t) (H t .history .incarnation) → ⊥
+  pub checkpointed-others : (g : ℕ) → Past (checkpointedAt b g t) (H t .history .incarnation) → ⊥
   unfolding checkpointedAt
-  signed-others g = pick-view (λ (h : Holder). Past h (H t .history .incarnation) → ⊥) (named g t) _ _ (λ e. new-mark) (λ e. present-not-past live)
+  checkpointed-others g = pick-view (λ (h : Holder). Past h (H t .history .incarnation) → ⊥) (named g t) _ _ (λ e. new-mark) (λ e. present-not-past live)
     where
       new-mark : Past (anew t (checkpointedView (H t .history))) (H t .history .incarnation) → ⊥
       new-mark (passed w s) = superseded-not-checkpointed s (checkpointed-checkpoint (H t .history .incarnation))
-      new-mark (vanished e) = dead-live e idle
+      new-mark (vanished e) = dead-live e is-idle
 
   pub alone : {c : Provenance} → ProvenanceStep y b p c → Past (c .holders t) (b .holders t .history .incarnation) → Alone b c t
   alone (refuses z) q = absurd (present-not-past live q)
   alone (book.applies z n) q = record { others = applied-others q; noted = notes b p }
-  alone (signing z k e) q = absurd (signed-others (p .message) q)
+  alone (signing z k e) q = absurd (checkpointed-others (p .message) q)
   alone (not-ready z k e) q = absurd (present-not-past live q)

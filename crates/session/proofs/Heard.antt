@@ -6,9 +6,9 @@ use Rattle.octets.specs.Bytes.{part, tabulate, every, any}
 use Rattle.octets.specs.Numbers.{be, ofBe}
 use Rattle.marks.specs.Incarnation.{sameList, beginsWith, strictPrefix, supersededBy, checkpointedIn, sameIncarnation}
 use Rattle.marks.specs.Relation.{byNumbers, byNextEntry, relationOf}
-use Rattle.marks.specs.History.{initialView, stabilizedView, newerOf}
+use Rattle.marks.specs.History.{initialView, stabilizedView, newerOf, isOlder}
 use Rattle.marks.specs.News.{showsStable, informed}
-use Rattle.maps.specs.Map.{emptyMap, withEntry, singleton, joinedHistory, joinedHeldAt, joinedHistoryAt, joinOf, supersededEntry, supersededAt, firstFrom, firstSuperseded, unrelatedEntry, unrelatedAt, anyFrom, anyUnrelated}
+use Rattle.maps.specs.Map.{emptyMap, withEntry, singleton, choosesRight, joinedHistory, joinedHeldAt, joinedHistoryAt, joinOf, supersededEntry, supersededAt, firstFrom, firstSuperseded, unrelatedEntry, unrelatedAt, anyUnrelated}
 use Rattle.maps.specs.View.{mapView}
 use Rattle.maps.specs.News.{informedHistory, informedHistoryAt, informedOf}
 use Rattle.rules.specs.Layout.{base, widest}
@@ -23,5 +23,5 @@ use Rattle.session.specs.Sessions.{newsHeard}
 -- In this session take 1 has heard that take 0 is frozen, and without the news it has not: its mark of take 0 is the opening one, frozen or not.
 pub maps-differ : (mapView (transactorAt (stateAfter base (fresh base (widest base)) newsHeard 11) 1 .state) 0 ≡ some (stabilizedView initialView))
     × (mapView (transactorAt (silentAfter base (fresh base (widest base)) newsHeard 11) 1 .state) 0 ≡ some initialView)
-unfolding mapView silentAfter stepSilently applySilently receiveSilently stateAfter stepAt unpackStep part be ofBe fresh entryReady mapReady transactorReady groupReady checkpointBy checkpointAt checkpointGroup checkpointedIn sameIncarnation sameList beginsWith strictPrefix supersededBy byNumbers byNextEntry relationOf newerOf showsStable informed informedHistory informedHistoryAt informedOf emptyMap withEntry singleton joinedHistory joinedHeldAt joinedHistoryAt joinOf supersededEntry supersededAt firstFrom firstSuperseded unrelatedEntry unrelatedAt anyFrom anyUnrelated tabulate every transactorAt messageAt withTransactor withOpened withMessage withoutMessage placeFrom numbered placeOf any named anyNamed malformed notWaiting emptyGroup unopened isGone wrongStatus unrelatedReceipt allOpened allWaiting allNumbered allCheckpointed atLast lastRollsBack refusalOf rollback readBy writeBy freezeBy finishBy fallBy failBy localBy messageSuperseded receiverSuperseded messageUnrelated receiveBy receiptRollsBack receiptUnrelated seen refusal opened carried applyRoot applyLetter applyReceive applyNew applySend applyLocal applyLose applySign apply stepOf
+unfolding mapView silentAfter stepSilently applySilently receiveSilently stateAfter stepAt unpackStep part be ofBe fresh entryReady mapReady transactorReady groupReady checkpointBy checkpointAt checkpointGroup checkpointedIn sameIncarnation sameList beginsWith strictPrefix supersededBy byNumbers byNextEntry relationOf newerOf isOlder showsStable informed informedHistory informedHistoryAt informedOf emptyMap withEntry singleton choosesRight joinedHistory joinedHeldAt joinedHistoryAt joinOf supersededEntry supersededAt firstFrom firstSuperseded unrelatedEntry unrelatedAt anyUnrelated tabulate every transactorAt messageAt withTransactor withOpened withMessage withoutMessage placeFrom numbered placeOf any named anyNamed malformed notWaiting emptyGroup unopened isGone wrongStatus unrelatedReceipt allOpened allWaiting allNumbered allCheckpointed atLast lastRollsBack refusalOf rollback readBy writeBy freezeBy finishBy fallBy failBy localBy messageSuperseded receiverSuperseded messageUnrelated receiveBy receiptRollsBack receiptUnrelated seen refusal opened carried applyRoot applyLetter applyReceive applyNew applySend applyLocal applyLose applySign apply stepOf
 maps-differ = (refl, refl)

@@ -8,8 +8,6 @@ use mathlib.Core.Logic.{_⊎_, inl, inr, ⊎-elim, _↔_}
 use native.Mathlib.Omega.{arith}
 use lib.ListN.{length}
 use borrow.Author.Tests.{eq-eqb}
-use Rattle.octets.specs.Bytes.{_or_}
-use Rattle.octets.proofs.Zero.{both}
 use Rattle.marks.specs.declared.History.{History}
 use Rattle.marks.specs.Incarnation.{Incarnation, Superseded, Checkpointed}
 use Rattle.marks.specs.History.{HistoryView, incarnationOf, viewOf}
@@ -26,7 +24,7 @@ use Rattle.rules.specs.State.{State, transactorAt, ownHistory, live}
 use Rattle.rules.specs.Refusals.{named}
 use Rattle.rules.specs.Pack.{unpack}
 use Rattle.rules.specs.Calls.{queryRefusal}
-use Rattle.rules.specs.Dependents.{holdsPresent, restsAt, throughAt}
+use Rattle.rules.specs.Dependents.{restsAt, throughAt}
 use Rattle.rules.specs.Obstacle.{StandsIn, WithdrawnMark}
 use Rattle.rules.specs.Obstacle as obstacle
 use Rattle.rules.specs.Impediment.{withdrawnBy, nextAt, impedimentOf, impedimentAnswer, Follows, arrived, link, Leads, Impedes, is-nothing, is-hopeless, is-exhausted, is-unstable}
@@ -49,7 +47,7 @@ use Rattle.session.proofs.Relation as relation
 use Rattle.session.proofs.Sign.{checkpointed-stands, present-stands}
 use Rattle.session.proofs.ViewState.{own-view}
 use Rattle.session.proofs.ViewSeen.{seen-checkpoints}
-use Rattle.session.proofs.Resting.{ground-live, rests-ground, rests-exactly, through-live, through-to, live-below}
+use Rattle.session.proofs.Resting.{rests-below, ground-live, rests-ground, rests-exactly, through-live, through-to, live-below}
 use Rattle.session.proofs.Reached.{related, well}
 use Rattle.session.proofs.Obstacles.{life-is, live-to, live-of, stands-rests, withdrawn-mark}
 use Rattle.session.proofs.Withdrawal.{held-opened, spoilt-doomed, query-live}
@@ -69,7 +67,7 @@ module _ {y : Layout} {s : State} (w : WellFormed y s) {b : Provenance} (r : Rel
     held = seen .0;
     withdrawn = record {
       not-present = λ l e. above l (is ∙ e ∙ life-is w r u) below;
-      not-checkpointed = λ l e. signed l (under-checkpointed below (subst (λ (x : Incarnation). Checkpointed x (b .holders u .history .incarnation)) (sym is) (subst (Checkpointed (incarnationOf (historyAt m u))) (life-is w r u) e)));
+      not-checkpointed = λ l e. checkpointed l (under-checkpointed below (subst (λ (x : Incarnation). Checkpointed x (b .holders u .history .incarnation)) (sym is) (subst (Checkpointed (incarnationOf (historyAt m u))) (life-is w r u) e)));
     };
   }
     where
@@ -85,13 +83,13 @@ module _ {y : Layout} {s : State} (w : WellFormed y s) {b : Provenance} (r : Rel
       below : Under a (top .0 .incarnation)
       below = ⊎-elim (λ q. q) (λ q. absurd (free (top .0 .incarnation) (top .2 .has) q)) (precedes-split (top .2 .top a i))
 
-      signed : live (transactorAt s u) ≡ true → Checkpointed a (b .holders u .history .incarnation) → ⊥
-      signed l c = checkpointed-stands b (record { live = live-to w r u l; is = c }) wd
+      checkpointed : live (transactorAt s u) ≡ true → Checkpointed a (b .holders u .history .incarnation) → ⊥
+      checkpointed l c = checkpointed-stands b (record { live = live-to w r u l; is = c }) wd
 
       above : live (transactorAt s u) ≡ true → top .0 .incarnation ≡ b .holders u .history .incarnation → Under a (top .0 .incarnation) → ⊥
       above l e q = ⊎-elim
           (λ (c : a ≡ b .holders u .history .incarnation). present-stands b (record { live = live-to w r u l; is = c }) wd)
-          (λ c. signed l c) (under-split (subst (Under a) e q))
+          (λ c. checkpointed l c) (under-split (subst (Under a) e q))
 
   -- a take that rests on a withdrawn life has a mark of one
   record Mark (x u : ℕ) : Type 0 where
@@ -166,13 +164,9 @@ module _ {y : Layout} {s : State} (w : WellFormed y s) {b : Provenance} (r : Rel
 
   -- ---- chains
 
-  below-rests : (c v : ℕ) → restsAt s c v ≡ true → v < y .transactors
-  unfolding restsAt
-  below-rests c v e = live-low w v (both (live (transactorAt s v)) (holdsPresent s c (transactorAt s v .state) or holdsPresent s c (transactorAt s v .creation)) e .0)
-
   chain-below : {c x : ℕ} → live (transactorAt s c) ≡ true → Follows y s c x → x < y .transactors
   chain-below {c} l arrived = live-low w c l
-  chain-below {c} l (link {t} q f) = below-rests (nextAt s (y .transactors) c t) t q
+  chain-below {c} l (link {t} q f) = rests-below w (nextAt s (y .transactors) c t) t q
 
   along : {c x : ℕ} → live (transactorAt s c) ≡ true → Follows y s c x → throughAt s (y .transactors) c x ≡ true
   along {c} l arrived = through-self s (y .transactors) c

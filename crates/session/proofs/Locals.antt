@@ -16,7 +16,7 @@ use Rattle.marks.proofs.Histories.{_⊑_, ⊑-refl, ⊑-stabilized, ⊑-rolledB
 use Rattle.octets.specs.Table.{updated}
 use Rattle.octets.proofs.Tables.{updated-same, updated-view}
 use Rattle.rules.specs.Step.{read, write, freeze, finish, fall}
-use Rattle.session.specs.Provenance.{unused, ready, annihilated, Live, idle, In, Holder, Provenance, blank, withHolder}
+use Rattle.session.specs.Provenance.{unused, idle, annihilated, Live, is-idle, In, Holder, Provenance, blank, withHolder}
 use Rattle.session.specs.Steps.{anew, isNil, rolledBackHolder, reads, writes, freezes, finishes, rollsBackOrFinishes, rollsBackOrStays, acted}
 use Rattle.session.proofs.Model.{Node, Ledger, own, withNode, bareNode, anewNode, readNode, writeNode, freezeNode, finishNode, rollbackNode}
 use Rattle.session.proofs.Tables.{pick-both, updated-both}
@@ -125,7 +125,7 @@ module _ {now : ℕ → HistoryView} {t : ℕ} {x : Node} {h : Holder} (r : Hold
     behaviour = none-rel now;
     coherent = coherent-part (Whole h) (Whole (finishes h)) whole (r .coherent);
     own = λ k. r .own live;
-    gone = λ k. absurd (k idle);
+    gone = λ k. absurd (k is-idle);
     first = r .first;
   }
     where
@@ -163,7 +163,7 @@ anew-rel now t m g f = record {
   behaviour = none-rel now;
   coherent = λ u a c p q s. superseded-ne s (alone u a p ∙ sym (alone u c q));
   own = λ k. only-same t m;
-  gone = λ k. absurd (k idle);
+  gone = λ k. absurd (k is-idle);
   first = f;
 }
   where
@@ -237,7 +237,7 @@ module _ (l : Ledger) (b : Provenance) (r : Rel l b) (t : ℕ) (live : Live (b .
 
   pub step-finish : Rel (withNode l t (finishNode (l .nodes t))) (withHolder b t (finishes (b .holders t)))
   unfolding finishes
-  step-finish = keep-rel l b r t live (finishNode x) (finishes h) idle refl (finish-rel (r .holders t) live)
+  step-finish = keep-rel l b r t live (finishNode x) (finishes h) is-idle refl (finish-rel (r .holders t) live)
 
   -- by G the present life was the opening one, so what is known of the take stays known
   step-vanish : h .history .incarnation .checkpoints ≡ [] → Rel (withNode l t (bareNode annihilated)) (withHolder b t (blank annihilated))
@@ -245,7 +245,7 @@ module _ (l : Ledger) (b : Provenance) (r : Rel l b) (t : ℕ) (live : Live (b .
       (⊑-annihilated (h .history) (λ i. record { checkpoints = p i; number = r .holders t .first p i })) (sym p) (λ later g k. blank-rel later t annihilated (λ i. elim i [ ]))
 
   step-next : (h .history .incarnation .checkpoints ≡ [] → ⊥) → Rel (withNode l t (anewNode t (rolledBackView (own t x)))) (withHolder b t (anew t (rolledBackView (h .history))))
-  step-next p = change-rel l b r t live (anewNode t (rolledBackView (own t x))) (anew t (rolledBackView (h .history))) (rolledBackView (h .history)) (live-used idle) (present-live ready (rolledBackView (h .history)) idle)
+  step-next p = change-rel l b r t live (anewNode t (rolledBackView (own t x))) (anew t (rolledBackView (h .history))) (rolledBackView (h .history)) (live-used is-idle) (present-live idle (rolledBackView (h .history)) is-idle)
       (⊑-rolledBack (h .history)) refl (λ later g k. rw same (anew-rel later t (rolledBackView (h .history)) (rw k (⊑-refl _)) (λ q. absurd (p q))))
 
   pub step-rollback : Rel (withNode l t (rollbackNode t (l .nodes t))) (withHolder b t (rolledBackHolder t (b .holders t)))

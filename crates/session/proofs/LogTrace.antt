@@ -113,7 +113,7 @@ pub record GrownLog (y : Layout) (img : List ℕ) (cs : List Call) : Type 1 wher
 fresh-logged : (m : Limits) → Logged (freshLedger m) (emptyProvenance m) emptyLog
 fresh-logged m = record {
   ledger = record { nodes = λ t. record { state = λ u. absent; creation = λ u. absent; behaviour = λ u. absent }; messages = none1 };
-  signed = λ u a c. nothing-checkpointed unused _ (λ k. elim k [ ]) c;
+  checkpointed = λ u a c. nothing-checkpointed unused _ (λ k. elim k [ ]) c;
 }
 
 pack-logged : {y : Layout} {s : State} {b : Provenance} {f : Log} → WellFormed y s → Logged (view s) b f → Logged (view (unpack y (pack y s))) b f

@@ -19,7 +19,7 @@ use Rattle.rules.specs.Step.{root, letter, receive, new, send, read, write, fre
 use Rattle.rules.specs.Refusals.{named}
 use Rattle.rules.proofs.Keep.Accepted.{kind-known}
 use Rattle.rules.proofs.Keep.Kinds.{acts-between}
-use Rattle.session.specs.Provenance.{Status, ready, busy, annihilated, Live, idle, working, Holder, WaitingMessage, Provenance, blank, find}
+use Rattle.session.specs.Provenance.{Status, idle, busy, annihilated, Live, is-idle, is-busy, Holder, WaitingMessage, Provenance, blank, find}
 use Rattle.session.specs.Steps.{anew, isNil, rolledBackHolder, reads, writes, freezes, finishes, rollsBackOrFinishes, rollsBackOrStays, acted, isDropped, isRolledBack, received, receives, opensRoot, opensChild, applied, checkpointedAt, provenanceRefusal, ProvenanceStep, refuses, applies, signing, not-ready}
 use Rattle.session.proofs.Model.{News, Ledger, own}
 use Rattle.session.proofs.Tables.{pick-view}
@@ -55,11 +55,11 @@ module _ (a : Incarnation) where
     unfolding rolledBackHolder
     rolledBack-past = pick-view Past (isNil (h .history .incarnation .checkpoints)) (blank annihilated) _
         (λ e c. absurd (nothing-checkpointed annihilated initialView (λ k. elim k [ ]) c))
-        (λ e. live-past ready (record { stable = false; incarnation = nextIncarnation (h .history .incarnation) }) (h .history) idle refl)
+        (λ e. live-past idle (record { stable = false; incarnation = nextIncarnation (h .history .incarnation) }) (h .history) is-idle refl)
 
     finish-past : Past (finishes h)
     unfolding finishes
-    finish-past = live-past ready (h .history) (h .history) idle refl
+    finish-past = live-past idle (h .history) (h .history) is-idle refl
 
     acted-past : (k : ℕ) → Past (acted k t h)
     unfolding acted reads writes freezes rollsBackOrFinishes rollsBackOrStays
@@ -76,7 +76,7 @@ module _ (a : Incarnation) where
     unfolding received
     received-past q =
         pick-view Past (isDropped h q) h _ (λ e. same-past) λ e1.
-        pick-view Past (isRolledBack h q) (rolledBackHolder t h) _ (λ e. rolledBack-past) (λ e. live-past busy (h .history) (h .history) working refl)
+        pick-view Past (isRolledBack h q) (rolledBackHolder t h) _ (λ e. rolledBack-past) (λ e. live-past busy (h .history) (h .history) is-busy refl)
 
 module _ (l : Ledger) (b : Provenance) (r : Rel l b) (y : Layout) (p : Step) (zero : provenanceRefusal y b p ≡ 0) (a : Incarnation) where
   abbrev Onto : Provenance → Type 0
@@ -93,7 +93,7 @@ module _ (l : Ledger) (b : Provenance) (r : Rel l b) (y : Layout) (p : Step) (ze
       let t = p .transactor in let k = p .kind in let h = b .holders t in
       let high = kind-known (provenance-accepted l b r y p zero) in
       let live : new ≤ k → k ≤ fail → Live (h .status) = λ f g. acting-live l b r y p zero (acts-between k f g) in
-      let opens : (z : Holder) → Checkpointed a (presentOf ready initialView .incarnation) → ⊥ = λ z c. initial-past a (rw (present-live ready initialView idle) at c) in
+      let opens : (z : Holder) → Checkpointed a (presentOf idle initialView .incarnation) → ⊥ = λ z c. initial-past a (rw (present-live idle initialView is-idle) at c) in
       pick-view Onto (eqb k root) _ _
       (λ i. updated-view (λ u (z : Holder). Checkpointed a (presentOf (z .status) (z .history) .incarnation) → Checkpointed a (present (b .holders) u .incarnation))
       (b .holders) (b .opened) (anew (b .opened) initialView) (λ c. absurd (opens h c)) (λ u n c. c)) λ i1.
@@ -118,22 +118,22 @@ pub record Logged (l : Ledger) (b : Provenance) (f : Log) : Type 0 where
   -- every frozen mark of every map of every take and every waiting parcel is in the log
   pub ledger : LedgerLog f l
   -- and so is every signed life
-  pub signed : (u : ℕ) (a : Incarnation) → Checkpointed a (present (b .holders) u .incarnation) → f u a
+  pub checkpointed : (u : ℕ) (a : Incarnation) → Checkpointed a (present (b .holders) u .incarnation) → f u a
 
 -- a live take that is frozen was frozen in its present life
 pub present-logged : (l : Ledger) (b : Provenance) → Rel l b → (f : Log) → Logged l b f → (t : ℕ) → Live (b .holders t .status) → b .holders t .history .stable ≡ true → f t (b .holders t .history .incarnation)
 present-logged l b r f k t live e = backed-has (k .ledger .nodes t .state t) (r .holders t .own live) e
 
 module _ (l : Ledger) (b : Provenance) (r : Rel l b) (y : Layout) (p : Step) (bits : p .message < bound 2) (f : Log) (k : Logged l b f) where
-  signed-kept : {c : Provenance} → ProvenanceStep y b p c → (u : ℕ) (a : Incarnation) → Checkpointed a (present (c .holders) u .incarnation) → LogAfter y b p f u a
+  checkpointed-kept : {c : Provenance} → ProvenanceStep y b p c → (u : ℕ) (a : Incarnation) → Checkpointed a (present (c .holders) u .incarnation) → LogAfter y b p f u a
   unfolding checkpointedAt
-  signed-kept (refuses z) u a = λ c. earlier (k .signed u a c)
-  signed-kept (applies z n) u a = λ c. earlier (k .signed u a (applied-past l b r y p z a n u c))
-  signed-kept (not-ready z n q) u a = λ c. earlier (k .signed u a c)
-  signed-kept (signing z n same) u a = pick-view (λ (h : Holder). Checkpointed a (presentOf (h .status) (h .history) .incarnation) → LogAfter y b p f u a) (named (p .message) u)
+  checkpointed-kept (refuses z) u a = λ c. earlier (k .checkpointed u a c)
+  checkpointed-kept (applies z n) u a = λ c. earlier (k .checkpointed u a (applied-past l b r y p z a n u c))
+  checkpointed-kept (not-ready z n q) u a = λ c. earlier (k .checkpointed u a c)
+  checkpointed-kept (signing z n same) u a = pick-view (λ (h : Holder). Checkpointed a (presentOf (h .status) (h .history) .incarnation) → LogAfter y b p f u a) (named (p .message) u)
       (anew u (record { stable = false; incarnation = checkpointIncarnation (b .holders u .history .incarnation) })) (b .holders u)
-      (λ e c. go (live e) (flag e) (checkpointed-split a (b .holders u .history .incarnation) (rw (present-live ready _ idle) at c)))
-      (λ e c. earlier (k .signed u a c))
+      (λ e c. go (live e) (flag e) (checkpointed-split a (b .holders u .history .incarnation) (rw (present-live idle _ is-idle) at c)))
+      (λ e c. earlier (k .checkpointed u a c))
     where
       live : named (p .message) u ≡ true → Live (b .holders u .status)
       live = named-live l b r y p z n bits u
@@ -142,14 +142,14 @@ module _ (l : Ledger) (b : Provenance) (r : Rel l b) (y : Layout) (p : Step) (bi
       flag e = same u (b .holders u .history .incarnation) .0 (own-uncheckpointed b (p .message) u e (own-has l b r u (live e))) .stable
 
       go : Live (b .holders u .status) → b .holders u .history .stable ≡ true → Checkpointed a (b .holders u .history .incarnation) ⊎ (a ≡ b .holders u .history .incarnation) → LogAfter y b p f u a
-      go v i (inl s) = earlier (k .signed u a (rw (present-live (b .holders u .status) (b .holders u .history) v) s))
+      go v i (inl s) = earlier (k .checkpointed u a (rw (present-live (b .holders u .status) (b .holders u .history) v) s))
       go v i (inr s) = earlier (rw s (present-logged l b r f k u v i))
 
   -- every kind of step, refused or not, with the news: whatever Bools stand for the tests at a receipt and at a signing
   pub log-kept : (w : News) → NewsLaw w → (d e ok : Bool) (n : ℕ) → n ≡ provenanceRefusal y b p → {c : Provenance} → ProvenanceStep y b p c
       → Logged (stepLedger w n d e ok l p) c (LogAfter y b p f)
   unfolding stepLedger
-  log-kept w law d e ok n s step = record { ledger = part; signed = signed-kept step }
+  log-kept w law d e ok n s step = record { ledger = part; checkpointed = checkpointed-kept step }
     where
       more : LedgerLog (LogAfter y b p f) l
       more = log-more (λ u a. earlier) (k .ledger)
@@ -158,5 +158,5 @@ module _ (l : Ledger) (b : Provenance) (r : Rel l b) (y : Layout) (p : Step) (bi
       part = pick-view (LedgerLog (LogAfter y b p f)) (eqb n 0) _ l
           (λ i. applied-log (LogAfter y b p f) l more w law d e ok p
           (λ j. just-now (record { accepted = sym s ∙ eqb-true n 0 i; kind = j; transactor = refl; incarnation = ap (λ (z : HistoryView). z .incarnation) (own-history (r .holders (p .transactor))) }))
-          (λ u q x a c. earlier (k .signed u a (checkpointed-up c (cell-has x (find-rel (p .message) (r .messages) .incarnations u) .known .incarnation)))))
+          (λ u q x a c. earlier (k .checkpointed u a (checkpointed-up c (cell-has x (find-rel (p .message) (r .messages) .incarnations u) .known .incarnation)))))
           (λ i. more)

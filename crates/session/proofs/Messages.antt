@@ -10,7 +10,7 @@ use Rattle.marks.specs.Incarnation.{Incarnation}
 use Rattle.marks.specs.History.{HistoryView}
 use Rattle.marks.proofs.Histories.{⊑-refl}
 use Rattle.maps.specs.Internal.View.{MapView, joinView, emptyView, singletonView, SupersededView}
-use Rattle.session.specs.Provenance.{busy, Live, working, Incarnations, In, one, Holder, WaitingMessage, Provenance, withHolder, withWaitingMessage, remove, withoutWaitingMessage, find, isMissing, anySuperseded}
+use Rattle.session.specs.Provenance.{busy, Live, is-busy, Incarnations, In, one, Holder, WaitingMessage, Provenance, withHolder, withWaitingMessage, remove, withoutWaitingMessage, find, isMissing, anySuperseded}
 use Rattle.session.specs.Steps.{carried, rolledBackHolder, isDropped, isRolledBack, received, receives}
 use Rattle.session.proofs.Model.{Node, MessageView, Ledger, own, withNode, withMessageView, removeMessage, withoutMessageView, findMessage, missingMessage, rollbackNode, News, knownMap, sentMap, busyNode}
 use Rattle.session.proofs.Tables.{pick-both, same-test}
@@ -150,7 +150,7 @@ module _ {now : ℕ → HistoryView} {t : ℕ} {x : Node} {h : Holder} (r : Hold
     behaviour = p .incarnations;
     coherent = coherent;
     own = λ k. law .own t (x .state) (m .dependences) ∙ r .own live;
-    gone = λ k. absurd (k working);
+    gone = λ k. absurd (k is-busy);
     first = r .first;
   }
     where
@@ -201,7 +201,7 @@ module _ (w : News) (law : NewsLaw w) (l : Ledger) (b : Provenance) (r : Rel l b
       (λ k. held-rel (withoutMessageView l n) (withoutWaitingMessage b n) s t live) λ k.
       pick-both (λ z v. Rel (withNode (withoutMessageView l n) t z) (withHolder (withoutWaitingMessage b n) t v)) e (isRolledBack h q) g (rollbackNode t x) (busyNode w t x (m .dependences)) (rolledBackHolder t h) y
       (λ j. step-rollback (withoutMessageView l n) (withoutWaitingMessage b n) s t live)
-      (λ j. keep-rel (withoutMessageView l n) (withoutWaitingMessage b n) s t live (busyNode w t x (m .dependences)) y working refl (busy-rel (r .holders t) p w law live (sym f ∙ k) (sym g ∙ j)))
+      (λ j. keep-rel (withoutMessageView l n) (withoutWaitingMessage b n) s t live (busyNode w t x (m .dependences)) y is-busy refl (busy-rel (r .holders t) p w law live (sym f ∙ k) (sym g ∙ j)))
 
   pub step-receive : Live (b .holders (find n (b .messages) .addressee) .status)
       → ReceiptTests (l .nodes (findMessage n (l .messages) .addressee)) (findMessage n (l .messages)) d e → Rel (receiveMessage w d e l n) (receives b n)

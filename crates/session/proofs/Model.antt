@@ -11,7 +11,7 @@ use Rattle.octets.specs.Table.{updated}
 use Rattle.maps.specs.Internal.View.{MapView, mapView, emptyView, singletonView, joinView}
 use Rattle.rules.specs.Layout.{Limits}
 use Rattle.rules.specs.State.{Transactor, Message, State, transactorAt}
-use Rattle.session.specs.Provenance.{Status, unused, ready, busy, annihilated}
+use Rattle.session.specs.Provenance.{Status, unused, idle, busy, annihilated}
 use Rattle.session.specs.Steps.{isNil}
 
 -- ---- states
@@ -68,7 +68,7 @@ abbrev pub bareNode : Status → Node
 bareNode status = record { status = status; state = emptyView; creation = emptyView; behaviour = emptyView }
 
 abbrev pub anewNode : ℕ → HistoryView → Node
-anewNode t m = record { status = ready; state = singletonView t m; creation = emptyView; behaviour = emptyView }
+anewNode t m = record { status = idle; state = singletonView t m; creation = emptyView; behaviour = emptyView }
 
 abbrev pub readNode : Node → Node
 readNode x = record { status = x .status; state = x .state; creation = x .creation; behaviour = joinView (x .state) (x .behaviour) }
@@ -85,7 +85,7 @@ freezeNode t x = record {
 }
 
 abbrev pub finishNode : Node → Node
-finishNode x = record { status = ready; state = x .state; creation = x .creation; behaviour = emptyView }
+finishNode x = record { status = idle; state = x .state; creation = x .creation; behaviour = emptyView }
 
 unfoldable pub rollbackNode : ℕ → Node → Node
 rollbackNode t x =
@@ -108,7 +108,7 @@ abbrev pub busyNode : News → ℕ → Node → MapView → Node
 busyNode w t x M = record { status = busy; state = w t (x .state) M; creation = w t (x .creation) M; behaviour = M }
 
 abbrev pub childNode : ℕ → MapView → Node
-childNode c M = record { status = ready; state = singletonView c initialView; creation = M; behaviour = emptyView }
+childNode c M = record { status = idle; state = singletonView c initialView; creation = M; behaviour = emptyView }
 
 abbrev pub openerNode : ℕ → Node → Node
 openerNode c x = record { status = x .status; state = x .state; creation = x .creation; behaviour = joinView (singletonView c initialView) (x .behaviour) }
@@ -123,7 +123,7 @@ signLedger l v = record { limits = l .limits; opened = l .opened; next = l .next
 
 unfoldable pub statusOf : ℕ → Status
 statusOf zero = unused
-statusOf (suc zero) = ready
+statusOf (suc zero) = idle
 statusOf (suc (suc zero)) = busy
 statusOf (suc (suc (suc n))) = annihilated
 

@@ -17,7 +17,7 @@ use Rattle.rules.specs.Layout.{Layout}
 use Rattle.rules.specs.declared.Step.{Step}
 use Rattle.rules.specs.Step.{root, letter, receive, new, send, read, write, freeze, finish, fall, fail, lose, sign}
 use Rattle.rules.proofs.Keep.Accepted.{kind-known}
-use Rattle.session.specs.Provenance.{Status, ready, Live, idle, working, Holder, WaitingMessage, Provenance, find}
+use Rattle.session.specs.Provenance.{Status, idle, Live, is-idle, is-busy, Holder, WaitingMessage, Provenance, find}
 use Rattle.session.specs.Steps.{isNil, rolledBackHolder, reads, writes, freezes, finishes, rollsBackOrFinishes, rollsBackOrStays, acted, isDropped, isRolledBack, received, receives, opensRoot, opensChild, applied, provenanceRefusal}
 use Rattle.session.proofs.Model.{Ledger}
 use Rattle.session.proofs.Tables.{pick-view, and-of}
@@ -68,7 +68,7 @@ module _ (t : ℕ) (h : Holder) (live : Live (h .status)) (first : h .history .i
   unfolding rolledBackHolder
   rolled-grows = pick-view (Grows h) (isNil (h .history .incarnation .checkpoints)) _ _
       (λ e. let p = isNil-true (h .history .incarnation .checkpoints) e in rw (present-gone initialView) (⊑-annihilated (h .history) (λ i. record { checkpoints = p i; number = first p i })))
-      (λ e. rw (present-live ready (rolledBackView (h .history)) idle) (⊑-rolledBack (h .history)))
+      (λ e. rw (present-live idle (rolledBackView (h .history)) is-idle) (⊑-rolledBack (h .history)))
 
   -- kind k of 5 to 10
   acted-grows : (k : ℕ) → Grows h (acted k t h)
@@ -77,15 +77,15 @@ module _ (t : ℕ) (h : Holder) (live : Live (h .status)) (first : h .history .i
       pick-view (Grows h) (eqb k read) _ _ (λ e. grows-same h live refl) λ e0.
       pick-view (Grows h) (eqb k write) _ _ (λ e. pick-view (Grows h) (h .history .stable) _ _ (λ f. grows-same h live refl) (λ f. grows-same h live refl)) λ e1.
       pick-view (Grows h) (eqb k freeze) _ _ (λ e. rw (present-live (h .status) (stabilizedView (h .history)) live) (⊑-stabilized (h .history))) λ e2.
-      pick-view (Grows h) (eqb k finish) _ _ (λ e. grows-same h idle refl) λ e3.
-      pick-view (Grows h) (eqb k fall) _ _ (λ e. pick-view (Grows h) (h .history .stable) _ _ (λ f. grows-same h idle refl) (λ f. rolled-grows)) λ e4.
+      pick-view (Grows h) (eqb k finish) _ _ (λ e. grows-same h is-idle refl) λ e3.
+      pick-view (Grows h) (eqb k fall) _ _ (λ e. pick-view (Grows h) (h .history .stable) _ _ (λ f. grows-same h is-idle refl) (λ f. rolled-grows)) λ e4.
       pick-view (Grows h) (h .history .stable) _ _ (λ f. grows-same h live refl) (λ f. rolled-grows)
 
   received-grows : (q : WaitingMessage) → Grows h (received t h q)
   unfolding received
   received-grows q =
       pick-view (Grows h) (isDropped h q) _ _ (λ e. grows-same h live refl) λ e0.
-      pick-view (Grows h) (isRolledBack h q) _ _ (λ e. rolled-grows) (λ e. grows-same h working refl)
+      pick-view (Grows h) (isRolledBack h q) _ _ (λ e. rolled-grows) (λ e. grows-same h is-busy refl)
 
   module _ (stable : h .history .stable ≡ true) where
     acted-stays : (k : ℕ) → Stays h (acted k t h)
@@ -94,14 +94,14 @@ module _ (t : ℕ) (h : Holder) (live : Live (h .status)) (first : h .history .i
         pick-view (Stays h) (eqb k read) _ _ (λ e. record { history = refl; state = refl; creation = refl; live = live }) λ e0.
         pick-view (Stays h) (eqb k write) _ _ (λ e. rw stable (stays-refl live)) λ e1.
         pick-view (Stays h) (eqb k freeze) _ _ (λ e. record { history = stable-is (h .history) stable; state = refl; creation = refl; live = live }) λ e2.
-        pick-view (Stays h) (eqb k finish) _ _ (λ e. record { history = refl; state = refl; creation = refl; live = idle }) λ e3.
-        pick-view (Stays h) (eqb k fall) _ _ (λ e. rw stable (record { history = refl; state = refl; creation = refl; live = idle })) λ e4.
+        pick-view (Stays h) (eqb k finish) _ _ (λ e. record { history = refl; state = refl; creation = refl; live = is-idle }) λ e3.
+        pick-view (Stays h) (eqb k fall) _ _ (λ e. rw stable (record { history = refl; state = refl; creation = refl; live = is-idle })) λ e4.
         rw stable (stays-refl live)
 
     received-stays : (q : WaitingMessage) → isRolledBack h q ≡ false → Stays h (received t h q)
     unfolding received
     received-stays q f =
-        pick-view (Stays h) (isDropped h q) _ _ (λ e. stays-refl live) (λ e. rw f (record { history = refl; state = refl; creation = refl; live = working }))
+        pick-view (Stays h) (isDropped h q) _ _ (λ e. stays-refl live) (λ e. rw f (record { history = refl; state = refl; creation = refl; live = is-busy }))
 
 -- ---- every step that is not refused and no signing
 
@@ -132,7 +132,7 @@ module _ (l : Ledger) (b : Provenance) (r : Rel l b) (y : Layout) (p : Step) (ze
       let high = kind-known (provenance-accepted l b r y p zero) in
       let P : Provenance → Type 0 = λ c. Onward v H (c .holders) in
       let live : new ≤ k → k ≤ fail → Live (h .status) = λ f g. acting-live l b r y p zero (and-of (leb new k) (leb k fail) (le-leb new k f) (le-leb k fail g)) in
-      pick-view P (eqb k root) _ _ (λ e. opened H (onward-refl v H lives) refl _ (present-live ready initialView idle)) λ e0.
+      pick-view P (eqb k root) _ _ (λ e. opened H (onward-refl v H lives) refl _ (present-live idle initialView is-idle)) λ e0.
       pick-view P (eqb k letter) _ _ (λ e. onward-refl v H lives) λ e1.
       pick-view P (eqb k receive) _ _ (λ e.
       let q = find (p .message) (b .messages) in
@@ -142,7 +142,7 @@ module _ (l : Ledger) (b : Provenance) (r : Rel l b) (y : Layout) (p : Step) (ze
       pick-view P (eqb k new) _ _ (λ e.
       let i = eqb-true k new e in
       let w = live (omega arith) (omega arith) in
-      opened (updated H t _) (put t _ w (grows-same h w refl) (λ n. record { history = refl; state = refl; creation = refl; live = w })) (updated-other H t _ (b .opened) (other-opened t w)) _ (present-live ready initialView idle)) λ e3.
+      opened (updated H t _) (put t _ w (grows-same h w refl) (λ n. record { history = refl; state = refl; creation = refl; live = w })) (updated-other H t _ (b .opened) (other-opened t w)) _ (present-live idle initialView is-idle)) λ e3.
       pick-view P (eqb k send) _ _ (λ e. onward-refl v H lives) λ e4.
       pick-view P (eqb k lose) _ _ (λ e. onward-refl v H lives) λ e5.
       let n0 = eqb-false k root e0 in let n1 = eqb-false k letter e1 in let n2 = eqb-false k receive e2 in let n5 = eqb-false k lose e5 in

@@ -12,7 +12,7 @@ use Rattle.marks.proofs.Histories.{_⊑_, ⊑-refl, ⊑-trans}
 use Rattle.octets.specs.Table.{updated}
 use Rattle.maps.specs.Internal.View.{singletonView}
 use Rattle.octets.proofs.Tables.{updated-same, updated-view}
-use Rattle.session.specs.Provenance.{unused, ready, Live, idle, one, Holder, Provenance, withHolder, withOpened}
+use Rattle.session.specs.Provenance.{unused, idle, Live, is-idle, one, Holder, Provenance, withHolder, withOpened}
 use Rattle.session.specs.Steps.{anew, carried, opensRoot, opensChild}
 use Rattle.session.proofs.Model.{Node, Ledger, withNode, openNode, anewNode, sentMap, childNode, openerNode}
 use Rattle.session.proofs.Tables.{updated-both}
@@ -56,7 +56,7 @@ module _ (l : Ledger) (b : Provenance) (r : Rel l b) (x : Node) (h : Holder) (us
 
 pub step-root : (l : Ledger) (b : Provenance) → Rel l b → Rel (openNode l (anewNode (l .opened) initialView)) (opensRoot b)
 unfolding opensRoot
-step-root l b r = open-rel l b r (anewNode (l .opened) initialView) (anew (b .opened) initialView) (live-used idle) (present-live ready initialView idle)
+step-root l b r = open-rel l b r (anewNode (l .opened) initialView) (anew (b .opened) initialView) (live-used is-idle) (present-live idle initialView is-idle)
     (λ later g e. rw (r .opened) (anew-rel later (b .opened) initialView (rw e (⊑-refl _)) (λ k. refl)))
 
 -- ---- new
@@ -78,7 +78,7 @@ coherent-open now c e P Q coherent known part u a b p q s = go (part u a p) (par
 
 -- the child c of take t, and t with the child's life
 abbrev child : ℕ → ℕ → Holder → Holder
-child c t h = record { status = ready; history = initialView; state = one c initialIncarnation; creation = carried t h; behaviour = [] }
+child c t h = record { status = idle; history = initialView; state = one c initialIncarnation; creation = carried t h; behaviour = [] }
 
 abbrev opener : ℕ → Holder → Holder
 opener c h = record { status = h .status; history = h .history; state = h .state; creation = h .creation; behaviour = one c initialIncarnation ++ h .behaviour }
@@ -110,7 +110,7 @@ module _ {now : ℕ → HistoryView} {t : ℕ} {x : Node} {h : Holder} (r : Hold
     coherent = coherent-open now c fresh (Members (carried t h)) (Whole (child c t h)) (sent-coherent r live is)
         (set-known now (sentMap t x) (carried t h) (sent-rel r live is)) part;
     own = λ k. only-same c initialView;
-    gone = λ k. absurd (k idle);
+    gone = λ k. absurd (k is-idle);
     first = λ k. refl;
   }
     where
@@ -130,5 +130,5 @@ module _ (l : Ledger) (b : Provenance) (r : Rel l b) (t : ℕ) (live : Live (b .
       let r1 : Rel (withNode l t y) (withHolder b t w) = keep-rel l b r t live y w live refl (opener-rel (r .holders t) live is c fresh) in
       let g = grow l b r t live y w (live-used live) (rw (present-live (h .status) (h .history) live) (⊑-refl _)) in
       subst (λ n. Rel (openNode (withNode l t (openerNode n x)) (childNode n (sentMap t x))) (opensChild b t)) (sym (r .opened))
-      (open-rel (withNode l t y) (withHolder b t w) r1 (childNode c (sentMap t x)) (child c t h) (live-used idle) (present-live ready initialView idle)
+      (open-rel (withNode l t y) (withHolder b t w) r1 (childNode c (sentMap t x)) (child c t h) (live-used is-idle) (present-live idle initialView is-idle)
       (λ later k e. holder-later (λ u. ⊑-trans (g u) (k u)) (child-rel (r .holders t) live is c fresh)))

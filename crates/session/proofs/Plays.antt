@@ -19,6 +19,7 @@ use Rattle.session.specs.Provenance.{Entry, Incarnations, In, one, Live,
 use Rattle.session.specs.Grounds.{Brought, from-start, from-noted, from-list, Ground, in-state, in-creation, RestsOn, CheckpointedNow, StablePresent, Equal}
 use Rattle.session.specs.Steps.{opensRoot, opensChild, receives, applied, provenanceRefusal, ProvenanceStep, applies}
 use Rattle.session.specs.Play.{Play, end, then, played}
+use Rattle.session.proofs.Sets.{in-one}
 use Rattle.session.proofs.Tables.{pick-view}
 use Rattle.session.proofs.Accepted.{named-within}
 use Rattle.session.proofs.Sign.{Settled, settle, settled-equal}
@@ -67,9 +68,6 @@ played-notes b (p ∷ ps) t a u c =
 pub entry-cases : {u t : ℕ} {a c : Incarnation} {rest : Incarnations} → In u a (record { transactor = t; incarnation = c } ∷ rest) → ((u ≡ t) × (a ≡ c)) ⊎ In u a rest
 entry-cases i = ⊎-elim (λ e. inl (ap (λ (x : Entry). x .transactor) e, ap (λ (x : Entry). x .incarnation) e)) inr (List·Memᴰ·cases-cons i)
 
-pub one-case : {u t : ℕ} {a c : Incarnation} → In u a (one t c) → (u ≡ t) × (a ≡ c)
-one-case i = ⊎-elim (λ e. e) (λ k. absurd (List·Memᴰ·not-nil k)) (entry-cases i)
-
 -- a take with no creation set has its state set for ground
 pub ground-state : {h : Holder} → h .creation ≡ [] → (u : ℕ) (a : Incarnation) → Ground h u a → In u a (h .state)
 ground-state e u a (in-state i) = i
@@ -99,7 +97,7 @@ pub alone-equal : {b : Provenance} {h : Holder} → b .holders 0 ≡ h → h .cr
     → ((t : ℕ) (a : Incarnation) (u : ℕ) (c : Incarnation) → b .noted t a u c → CheckpointedNow b u c) → Equal b 1
 unfolding named
 alone-equal {b} {h} e created state live stable noted = settled-equal b 1
-    (λ t n. settle b 1 noted (λ u a g. stable-at e refl live stable u a (one-case (rw state at (ground-state created u a (rw (is-0 t n, e) at g))))))
+    (λ t n. settle b 1 noted (λ u a g. stable-at e refl live stable u a (in-one (rw state at (ground-state created u a (rw (is-0 t n, e) at g))))))
     (λ t n k. rw (is-0 t n, e, state) (List·Memᴰ·head refl))
   where
     is-0 : (t : ℕ) → named 1 t ≡ true → t ≡ 0

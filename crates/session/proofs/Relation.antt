@@ -12,7 +12,7 @@ use Rattle.marks.specs.Order.{Precedes}
 use Rattle.marks.proofs.Order.{checkpointed-up, checkpointed-list, checkpointed-irrefl, initial-precedes}
 use Rattle.marks.proofs.Histories.{_⊑_}
 use Rattle.rules.specs.Layout.{Limits}
-use Rattle.session.specs.Provenance.{Status, unused, ready, busy, annihilated, Live, idle, working, In, Holder, WaitingMessage, Provenance, blank, emptyProvenance}
+use Rattle.session.specs.Provenance.{Status, unused, idle, busy, annihilated, Live, is-idle, is-busy, In, Holder, WaitingMessage, Provenance, blank, emptyProvenance}
 use Rattle.session.proofs.Model.{Node, MessageView, Ledger, own, bareNode}
 use Rattle.session.proofs.Sets.{SetRel, set-later, set-known, none-rel, cell-none, Coherent, Members}
 
@@ -20,8 +20,8 @@ use Rattle.session.proofs.Sets.{SetRel, set-later, set-known, none-rel,
 
 pub live-or-not : (s : Status) → Live s ⊎ (Live s → ⊥)
 live-or-not unused = inr (λ h. elim h [ ])
-live-or-not ready = inl idle
-live-or-not busy = inl working
+live-or-not idle = inl is-idle
+live-or-not busy = inl is-busy
 live-or-not annihilated = inr (λ h. elim h [ ])
 
 pub live-used : {s : Status} → Live s → s ≡ unused → ⊥
@@ -41,7 +41,7 @@ goneView = stabilizedView initialView
 
 unfoldable pub presentOf : Status → HistoryView → HistoryView
 presentOf unused m = initialView
-presentOf ready m = m
+presentOf idle m = m
 presentOf busy m = m
 presentOf annihilated m = goneView
 
@@ -50,8 +50,8 @@ present H t = presentOf (H t .status) (H t .history)
 
 pub present-live : (s : Status) (m : HistoryView) → Live s → presentOf s m ≡ m
 unfolding presentOf
-present-live ready m idle = refl
-present-live busy m working = refl
+present-live idle m is-idle = refl
+present-live busy m is-busy = refl
 
 pub present-unused : (m : HistoryView) → presentOf unused m ≡ initialView
 unfolding presentOf
@@ -65,8 +65,8 @@ present-gone m = refl
 pub nothing-checkpointed : {a : Incarnation} (s : Status) (m : HistoryView) → (Live s → ⊥) → Checkpointed a (presentOf s m .incarnation) → ⊥
 unfolding presentOf
 nothing-checkpointed unused m k h = checkpointed-irrefl (checkpointed-up h (initial-precedes _))
-nothing-checkpointed ready m k h = k idle
-nothing-checkpointed busy m k h = k working
+nothing-checkpointed idle m k h = k is-idle
+nothing-checkpointed busy m k h = k is-busy
 nothing-checkpointed annihilated m k h = checkpointed-irrefl (checkpointed-up h (initial-precedes _))
 
 -- ---- one take, one parcel

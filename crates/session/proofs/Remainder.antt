@@ -19,7 +19,7 @@ use Rattle.rules.specs.declared.Step.{Step}
 use Rattle.rules.specs.Step.{sign}
 use Rattle.rules.specs.Refusals.{named}
 use Rattle.rules.proofs.Bits.{named-without}
-use Rattle.session.specs.Provenance.{Live, idle, Provenance}
+use Rattle.session.specs.Provenance.{Live, is-idle, Provenance}
 use Rattle.session.specs.Grounds.{Equal}
 use Rattle.session.specs.Steps.{signs, provenanceRefusal, ProvenanceStep, refuses, applies, signing, not-ready}
 use Rattle.session.proofs.Model.{Node, Ledger, own, anewNode, checkpointedNodes, signLedger}
@@ -69,13 +69,13 @@ module _ (l : Ledger) (v w : ℕ → Bool) where
       ready-of : after (checkpointedNodes w (l .nodes) u) → EntryReady (signLedger l w) rest u m
       ready-of k = record { live = k .0; is = k .1 }
 
-      now-signed : Checkpointed (m .incarnation) (own u (l .nodes u) .incarnation) ⊎ ((v u ≡ true) × (m .incarnation ≡ own u (l .nodes u) .incarnation))
+      now-checkpointed : Checkpointed (m .incarnation) (own u (l .nodes u) .incarnation) ⊎ ((v u ≡ true) × (m .incarnation ≡ own u (l .nodes u) .incarnation))
           → Checkpointed (m .incarnation) (checkpointedView (own u (l .nodes u)) .incarnation)
-      now-signed (inl s) = checkpointed-up s (⊑-checkpointed (own u (l .nodes u)) .incarnation)
-      now-signed (inr p) = rw (p .1) (checkpointed-checkpoint (own u (l .nodes u) .incarnation))
+      now-checkpointed (inl s) = checkpointed-up s (⊑-checkpointed (own u (l .nodes u)) .incarnation)
+      now-checkpointed (inr p) = rw (p .1) (checkpointed-checkpoint (own u (l .nodes u) .incarnation))
 
       go : (t : Bool) → w u ≡ t → EntryReady (signLedger l w) rest u m
-      go true q = ready-of (rw q (idle, inl (rw (own-anew u (checkpointedView (own u (l .nodes u)))) (now-signed (e .is)))))
+      go true q = ready-of (rw q (is-idle, inl (rw (own-anew u (checkpointedView (own u (l .nodes u)))) (now-checkpointed (e .is)))))
       go false q = ready-of (rw q (e .live, ⊎-elim inl (λ p. inr (rw (p .0) refl, p .1)) (e .is)))
 
   pub rule-rest : Ready l v → Ready (signLedger l w) rest

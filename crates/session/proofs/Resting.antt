@@ -21,6 +21,7 @@ use Rattle.rules.specs.State.{Transactor, State, noTransactor, transactorAt, ow
 use Rattle.rules.specs.Refusals.{named}
 use Rattle.rules.specs.Dependents.{holdsPresent, restsAt, groupOf, throughAt, dependentsOf}
 use Rattle.rules.specs.Internal.Well.{WellFormed}
+use Rattle.rules.proofs.Groups.Impediments.{live-low}
 use Rattle.rules.proofs.Bits.{named-past}
 use Rattle.rules.proofs.Groups.Dependents.{group-names, in-group}
 use Rattle.rules.proofs.Groups.Through.{through-split, through-first, through-self, through-rests, through-trans}
@@ -54,7 +55,7 @@ ground-live l b r {u} {t} {a} g = go (live-or-not (b .holders u .status))
 pub rests-ground : (l : Ledger) (b : Provenance) → Rel l b → {t u : ℕ} {a : Incarnation} → RestsOn b t u a → Ground (b .holders t) u a ⊎ CheckpointedNow b u a
 rests-ground l b r (from-start g) = inl g
 rests-ground l b r (from-noted {t} {u} {a} {c} x y) = inr (checkpointedNow-of b (r .noted .grounds t a u c y))
-rests-ground l b r {t} (from-list {u} {a} {c} x e) = inr (⊎-elim (λ g. under g) (λ s. signed s) (rests-ground l b r x))
+rests-ground l b r {t} (from-list {u} {a} {c} x e) = inr (⊎-elim (λ g. under g) (λ s. checkpointed s) (rests-ground l b r x))
   where
     whole : Ground (b .holders t) u a → Whole (b .holders t) u a
     whole (in-state i) = relation.in-state i
@@ -63,14 +64,18 @@ rests-ground l b r {t} (from-list {u} {a} {c} x e) = inr (⊎-elim (λ g. under 
     under : Ground (b .holders t) u a → CheckpointedNow b u c
     under g = checkpointedNow-of b (checkpointed-up (before-checkpointed a c e) (whole-known (r .holders t) u a (whole g)))
 
-    signed : CheckpointedNow b u a → CheckpointedNow b u c
-    signed s = checkpointedNow-of b (under-checkpointed (checkpointed-under (before-checkpointed a c e)) (checkpointedNow-to b s))
+    checkpointed : CheckpointedNow b u a → CheckpointedNow b u c
+    checkpointed s = checkpointedNow-of b (under-checkpointed (checkpointed-under (before-checkpointed a c e)) (checkpointedNow-to b s))
 
 -- a present life is not signed: what rests on it has it in its own sets
 pub rests-present : (l : Ledger) (b : Provenance) → Rel l b → {u t : ℕ} → RestsOn b u t (b .holders t .history .incarnation) → Ground (b .holders u) t (b .holders t .history .incarnation)
 rests-present l b r x = ⊎-elim (λ g. g) (λ s. absurd (checkpointed-longer (s .is) refl)) (rests-ground l b r x)
 
 -- ---- a map holds the present life exactly if its set does
+
+pub rests-below : {y : Layout} {s : State} → WellFormed y s → (t u : ℕ) → restsAt s t u ≡ true → u < y .transactors
+unfolding restsAt
+rests-below {y} {s} w t u e = live-low w u (both (live (transactorAt s u)) (holdsPresent s t (transactorAt s u .state) or holdsPresent s t (transactorAt s u .creation)) e .0)
 
 module _ {y : Layout} {s : State} (well : WellFormed y s) {b : Provenance} (r : Rel (view s) b) (t : ℕ) (there : Live (b .holders t .status)) where
   abbrev now : Incarnation
@@ -129,16 +134,12 @@ module _ {y : Layout} {s : State} (well : WellFormed y s) {b : Provenance} (r : 
           and-of (live x) (holdsPresent s t (x .state) or holdsPresent s t (x .creation)) (live-test (x .status) .1 w)
           (or-of (holdsPresent s t (x .state)) (holdsPresent s t (x .creation)) (either g))
 
-  rests-below : (u : ℕ) → restsAt s t u ≡ true → u < y .transactors
-  unfolding restsAt
-  rests-below u e = ⊎-elim (λ h. h) (λ (h : y .transactors ≤ u). absurd (false≢true (subst (λ (x : Transactor). live x and (holdsPresent s t (x .state) or holdsPresent s t (x .creation)) ≡ true) (no-transactor well u h) e))) (sides u (y .transactors))
-
   -- Take u is in the answer's word exactly if the book says that u rests on take t's present life. Such a take is live.
   pub resting-exactly : (u : ℕ) → (named (dependentsOf y s t .resting) u ≡ true) ↔ RestsOn b u t now
   unfolding dependentsOf
   resting-exactly u = (
     λ e. rests-exactly u .0 (inside e (sides u (y .transactors))),
-    λ k. let e = rests-exactly u .1 k in in-group (y .transactors) (restsAt s t) u (rests-below u e) ∙ e,
+    λ k. let e = rests-exactly u .1 k in in-group (y .transactors) (restsAt s t) u (rests-below well t u e) ∙ e,
   )
     where
       inside : named (groupOf (y .transactors) (restsAt s t)) u ≡ true → (u < y .transactors) ⊎ (y .transactors ≤ u) → restsAt s t u ≡ true

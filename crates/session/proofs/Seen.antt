@@ -27,7 +27,7 @@ pub record SameSeen (v w : Seen) : Type 0 where
   pub incarnation : (t : ℕ) → v .incarnation t ≡ w .incarnation t
   pub missing : (n : ℕ) → v .missing n ≡ w .missing n
   pub addressee : (n : ℕ) → v .addressee n ≡ w .addressee n
-  pub falls : (n : ℕ) → v .falls n ≡ w .falls n
+  pub rolls : (n : ℕ) → v .rolls n ≡ w .rolls n
   pub unrelated : (n : ℕ) → v .unrelated n ≡ w .unrelated n
 
 pub same-seen : {v w : Seen} → SameSeen v w → v ≡ w
@@ -42,7 +42,7 @@ same-seen s = λ i. record {
   incarnation = λ t. s .incarnation t i;
   missing = λ n. s .missing n i;
   addressee = λ n. s .addressee n i;
-  falls = λ n. s .falls n i;
+  rolls = λ n. s .rolls n i;
   unrelated = λ n. s .unrelated n i;
 }
 
@@ -60,7 +60,7 @@ seenOf l d e f = record {
   incarnation = λ t. own t (l .nodes t) .incarnation .number;
   missing = λ n. missingMessage n (l .messages);
   addressee = λ n. findMessage n (l .messages) .addressee;
-  falls = λ n. not (d n) and e n;
+  rolls = λ n. not (d n) and e n;
   unrelated = f;
 }
 
@@ -96,7 +96,7 @@ module _ (l : Ledger) (b : Provenance) (r : Rel l b) (d e f : ℕ → Bool)
     incarnation = history-shown (λ m. m .incarnation .number);
     missing = λ n. missing-same n (r .messages);
     addressee = λ n. found n .addressee;
-    falls = λ n i. not (dropped-shown n i) and rolledBack-shown n i;
+    rolls = λ n i. not (dropped-shown n i) and rolledBack-shown n i;
     unrelated = λ n. related n ∙ sym (receipt-related l b r n);
   }
 

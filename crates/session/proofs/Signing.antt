@@ -10,7 +10,7 @@ use Rattle.marks.specs.History.{HistoryView, checkpointedView}
 use Rattle.marks.proofs.Order.{checkpointed-up, checkpointed-checkpoint, checkpointed-split}
 use Rattle.marks.proofs.Histories.{_⊑_, ⊑-refl, ⊑-checkpointed}
 use Rattle.rules.specs.Refusals.{named}
-use Rattle.session.specs.Provenance.{unused, ready, Live, idle, Holder, Provenance}
+use Rattle.session.specs.Provenance.{unused, idle, Live, is-idle, Holder, Provenance}
 use Rattle.session.specs.Grounds.{from-start, in-state, CheckpointedNow, StablePresent}
 use Rattle.session.specs.Steps.{anew, checkpointedAt, NotedBy, before, now-checkpointed, signs}
 use Rattle.session.proofs.Model.{Ledger, own, anewNode, checkpointedNodes, signLedger}
@@ -37,12 +37,12 @@ module _ (l : Ledger) (b : Provenance) (r : Rel l b) (g : ℕ) (ok : Ready l (na
   named-now : (t : ℕ) → named g t ≡ true → later t ≡ checkpointedView (b .holders t .history)
   unfolding checkpointedAt
   named-now t n = pick-view (λ (h : Holder). presentOf (h .status) (h .history) ≡ checkpointedView (b .holders t .history)) (named g t) (anewAt t) (b .holders t)
-      (λ e. present-live ready (checkpointedView (b .holders t .history)) idle) (λ e. absurd (true≢false (sym n ∙ e)))
+      (λ e. present-live idle (checkpointedView (b .holders t .history)) is-idle) (λ e. absurd (true≢false (sym n ∙ e)))
 
   grow : (t : ℕ) → present (b .holders) t ⊑ later t
   unfolding checkpointedAt
   grow t = pick-view (λ (h : Holder). present (b .holders) t ⊑ presentOf (h .status) (h .history)) (named g t) (anewAt t) (b .holders t)
-      (λ e. rw (present-live (b .holders t .status) (b .holders t .history) (live t e), present-live ready (checkpointedView (b .holders t .history)) idle) (⊑-checkpointed (b .holders t .history)))
+      (λ e. rw (present-live (b .holders t .status) (b .holders t .history) (live t e), present-live idle (checkpointedView (b .holders t .history)) is-idle) (⊑-checkpointed (b .holders t .history)))
       (λ e. ⊑-refl _)
 
   -- E: what a named take rests on was signed, or is the present life of a named take, which is signed now
@@ -66,7 +66,7 @@ module _ (l : Ledger) (b : Provenance) (r : Rel l b) (g : ℕ) (ok : Ready l (na
       (λ n s. ⊎-elim
       (λ c. before (r .noted .own t a (rw (present-live (b .holders t .status) (b .holders t .history) (live t n)) c)))
       (λ e. now-checkpointed n e (rw e (from-start (in-state (own-has l b r t (live t n))))))
-      (checkpointed-split a (b .holders t .history .incarnation) (rw (present-live ready (checkpointedView (b .holders t .history)) idle) at s)))
+      (checkpointed-split a (b .holders t .history .incarnation) (rw (present-live idle (checkpointedView (b .holders t .history)) is-idle) at s)))
       (λ n s. before (r .noted .own t a s))
 
   pub step-sign : Rel (signLedger l (named g)) (signs b g)
@@ -75,7 +75,7 @@ module _ (l : Ledger) (b : Provenance) (r : Rel l b) (g : ℕ) (ok : Ready l (na
     limits = r .limits;
     opened = r .opened;
     next = r .next;
-    used = λ t k. pick-view (λ (h : Holder). h .status ≡ unused → ⊥) (named g t) (anewAt t) (b .holders t) (λ e. live-used idle) (λ e. r .used t k);
+    used = λ t k. pick-view (λ (h : Holder). h .status ≡ unused → ⊥) (named g t) (anewAt t) (b .holders t) (λ e. live-used is-idle) (λ e. r .used t k);
     fresh = λ t k. pick-view (λ (h : Holder). h .status ≡ unused) (named g t) (anewAt t) (b .holders t)
         (λ e. absurd (live-used (live t e) (r .fresh t k))) (λ e. r .fresh t k);
     holders = λ t. pick-both (λ x h. HolderRel later t x h) (named g t) (named g t) refl

@@ -12,14 +12,14 @@ use Rattle.octets.specs.Numbers.{bound}
 use Rattle.octets.proofs.Zero.{both}
 use Rattle.maps.proofs.News.{informedTable}
 use Rattle.rules.specs.Layout.{Layout, Fitting, largest}
-use Rattle.rules.specs.Status.{ready}
+use Rattle.rules.specs.Status.{idle}
 use Rattle.rules.specs.State.{Transactor, Message, State, transactorAt, messageAt, ownHistory, withTransactor, withoutMessage, placeOf}
 use Rattle.rules.specs.declared.Step.{Step}
 use Rattle.rules.specs.declared.Reply.{Reply}
 use Rattle.rules.specs.Step.{receive, dropped}
 use Rattle.rules.specs.Rules.{Effect, Result, rollback, messageSuperseded, receiverSuperseded, receiveBy, receiptRollsBack, seen, refusal, answer, applyReceive, apply, stepOf}
 use Rattle.rules.specs.Internal.Well.{TransactorOk, MessageOk, Known, Live, Alive, TransactorFormed, StepOk, WellFormed}
-use Rattle.rules.proofs.Keep.Accepted.{Accepted, accepted, receiver-ready, falls-received}
+use Rattle.rules.proofs.Keep.Accepted.{Accepted, accepted, receiver-idle, rolls-received}
 use Rattle.rules.proofs.Keep.Transactor.{TransactorWell, EffectOk, formed-alive, rollback-ok}
 use Rattle.rules.proofs.Keep.State.{well-withTransactor, well-withoutMessage}
 use Rattle.rules.proofs.Keep.Step.{applied-same, keeps}
@@ -67,7 +67,7 @@ module _ {y : Layout} {s : State} {p : Step} (well : WellFormed y s) (k : eqb (p
 
   alive : Alive y (s .limits .checkpoints) (s .opened) receiver x
   unfolding seen
-  alive = formed-alive (well .transactors receiver below) receiver-opened (let r : x .status ≡ ready = receiver-ready a k in rw r)
+  alive = formed-alive (well .transactors receiver below) receiver-opened (let r : x .status ≡ idle = receiver-idle a k in rw r)
 
   received-ok : TransactorWell y (s .limits .checkpoints) (s .opened) receiver (receiveSilently y receiver x (messageAt s waits) .transactor)
   unfolding receiveSilently seen receiptRollsBack
@@ -77,11 +77,11 @@ module _ {y : Layout} {s : State} {p : Step} (well : WellFormed y s) (k : eqb (p
       let P : Effect → Type 0 = λ e. TransactorWell y (s .limits .checkpoints) (s .opened) receiver (e .transactor) in
       pick-view P (messageSuperseded y x m) _ _ (λ e. record { ok = o; formed = TransactorFormed.alive receiver-opened alive }) λ e.
       pick-view P (receiverSuperseded y x m) (rollback y receiver x) _
-      (λ f. rollback-ok below receiver-opened o alive (λ c. omega (arith, falls-received a k (rw (e, f) refl) c)) .transactor) λ f.
+      (λ f. rollback-ok below receiver-opened o alive (λ c. omega (arith, rolls-received a k (rw (e, f) refl) c)) .transactor) λ f.
       record {
         ok = record { status = omega arith; value = o .value; saved = o .saved; state = o .state; creation = o .creation; behaviour = well .packable .messages waits place .dependences };
         formed = TransactorFormed.alive receiver-opened (record {
-          status = Live.working;
+          status = Live.is-busy;
           state = alive .state;
           creation = alive .creation;
           behaviour = well .known waits place;

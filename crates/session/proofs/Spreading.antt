@@ -1,6 +1,6 @@
 -- The other two parts of the answer, work in hand and waiting parcels, are the book's too; and where all three parts are empty but for the
 -- take itself, its withdrawal spoils nobody, ever.
-use Prim.Native.Nat.{ℕ, zero, suc, _+_, _≤_, _<_}
+use Prim.Native.Nat.{ℕ, zero, suc, _≤_, _<_}
 use mathlib.Core.Bool.{Bool, true, false, false≢true}
 use mathlib.Core.Path.{_≡_, refl, ap, sym, _∙_, subst}
 use mathlib.Core.List.{List, [], _∷_, _++_, map, List·Memᴰ, List·Memᴰ·head, List·Memᴰ·tail, List·Memᴰ·append-cases, List·Memᴰ·not-nil, List·Memᴰ·eq-of-singleton, List·Memᴰ·cases-cons}
@@ -12,7 +12,7 @@ use lib.Dec.{eqb, leb}
 use lib.ListN.{length, getD, length-map}
 use Rattle.octets.proofs.Tests as law
 use borrow.Author.Tests.{eqb-true, eqb-false, eq-eqb, le-leb}
-use Rattle.octets.specs.Bytes.{pick, _and_}
+use Rattle.octets.specs.Bytes.{_and_}
 use Rattle.octets.specs.Numbers.{bound}
 use Rattle.octets.proofs.Zero.{both}
 use Rattle.octets.proofs.Chunks.{sides}
@@ -34,13 +34,14 @@ use Rattle.rules.specs.Rules.{stepOf}
 use Rattle.rules.specs.Dependents.{holdsPresent, worksAt, carriesAt, groupOf, dependentsOf}
 use Rattle.rules.specs.ReadyGroups.{howMany}
 use Rattle.rules.proofs.Bits.{named-zero, named-past}
+use Rattle.rules.proofs.Groups.Counting.{many-same, many-nowhere}
 use Rattle.rules.proofs.Groups.Dependents.{group-names, in-group}
 use Rattle.rules.specs.Obstacle.{StandsIn}
 use Rattle.rules.specs.Internal.Well.{StepOk, TransactorFormed, not-opened, gone, alive, WellFormed}
 use Rattle.rules.proofs.Keep.Accepted.{kind-known}
 use Rattle.rules.proofs.Keep.Run.{stepOk-at}
 use Rattle.rules.proofs.Keep.Step.{keeps}
-use Rattle.session.specs.Provenance.{Status, unused, ready, busy, annihilated, Live, statusNumber, Incarnations, In, one, Holder, WaitingMessage, noWaitingMessage, Provenance, blank, remove, find}
+use Rattle.session.specs.Provenance.{Status, unused, idle, busy, annihilated, Live, statusNumber, Incarnations, In, one, Holder, WaitingMessage, noWaitingMessage, Provenance, blank, remove, find}
 use Rattle.session.specs.Grounds.{from-start, Ground, in-state, in-creation, RestsOn}
 use Rattle.session.specs.Trace.{Trace}
 use Rattle.session.specs.Point.{Point}
@@ -58,7 +59,7 @@ use Rattle.session.proofs.Resting.{rests-ground, holds-exactly}
 use Rattle.session.proofs.Turns.{dead-live, Past, passed, vanished, past-on, turn}
 use Rattle.session.proofs.Kept.{provenance-determined}
 use Rattle.session.proofs.ViewStep.{state-kept}
-use Rattle.session.proofs.Falling.{fell, fell-past, present-not-past, Alone, alone}
+use Rattle.session.proofs.Falling.{rolled, rolled-past, present-not-past, Alone, alone}
 use Rattle.session.proofs.Reached.{related, well}
 use Rattle.session.proofs.Sign.{own-has, checkpointed-stands}
 use Rattle.session.proofs.Withdrawal.{past-withdrawn, resting-means}
@@ -90,19 +91,19 @@ module _ {y : Layout} {s : State} (well : WellFormed y s) {b : Provenance} (r : 
       has : mapView (transactorAt s u .behaviour) t ≡ some (cell-some a i (r .holders u .behaviour t) .0)
       has = cell-some a i (r .holders u .behaviour t) .1
 
-      idle-none : {x : Transactor} → TransactorFormed y (s .limits .checkpoints) (s .opened) u x → x .status ≡ number.ready → mapView (x .behaviour) t ≡ none
+      idle-none : {x : Transactor} → TransactorFormed y (s .limits .checkpoints) (s .opened) u x → x .status ≡ number.idle → mapView (x .behaviour) t ≡ none
       idle-none (not-opened h) e = view-empty (y .places) (y .transactors) t
       idle-none (gone h) e = view-empty (y .places) (y .transactors) t
       idle-none (alive h a) e = ap (λ m. mapView m t) (a .behaves e) ∙ view-empty (y .places) (y .transactors) t
 
-      below : (u < y .transactors) ⊎ (y .transactors ≤ u) → transactorAt s u .status ≡ number.ready → ⊥
+      below : (u < y .transactors) ⊎ (y .transactors ≤ u) → transactorAt s u .status ≡ number.idle → ⊥
       below (inl h) e = no-some (sym (idle-none (well .transactors u h) e) ∙ has)
       below (inr h) e = no-some (sym (ap (λ (x : Transactor). mapView (x .behaviour) t) (no-transactor well u h) ∙ view-no-map t) ∙ has)
 
       go : (q : Status) → b .holders u .status ≡ q → eqb (transactorAt s u .status) number.busy ≡ true
       go unused e = absurd (nothing (λ k. live-used k e))
       go annihilated e = absurd (nothing (λ k. dead-live e k))
-      go ready e = absurd (below (sides u (y .transactors)) (status-is ∙ ap statusNumber e))
+      go idle e = absurd (below (sides u (y .transactors)) (status-is ∙ ap statusNumber e))
       go busy e = eq-eqb (transactorAt s u .status) number.busy (status-is ∙ ap statusNumber e)
 
   -- `unfinished`: take u is at work on what holds the present life of take t
@@ -259,9 +260,9 @@ module _ (l : Ledger) (b : Provenance) (r : Rel l b) (y : Layout) (p : Step) {t 
       let n0 = eqb-false n root e0 in let n1 = eqb-false n letter e1 in let n2 = eqb-false n receive e2 in let n5 = eqb-false n lose e5 in
       (put-not w _ (acted-not w (live (omega arith) (omega arith)) n), k .messages)
 
-  signed-nowhere : (g : ℕ) → ((u : ℕ) → named g u ≡ true → Live (b .holders u .status)) → (u : ℕ) → Not (checkpointedAt b g u)
+  checkpointed-nowhere : (g : ℕ) → ((u : ℕ) → named g u ≡ true → Live (b .holders u .status)) → (u : ℕ) → Not (checkpointedAt b g u)
   unfolding checkpointedAt
-  signed-nowhere g lives u = pick-view Not (named g u) _ _ (λ e. holder-not (checkpoint-not u (lives u e)) none-in none-in) (λ e. k .sets u)
+  checkpointed-nowhere g lives u = pick-view Not (named g u) _ _ (λ e. holder-not (checkpoint-not u (lives u e)) none-in none-in) (λ e. k .sets u)
 
   -- Every step keeps it so.
   pub absent-on : p .message < bound 2 → {c : Provenance} → ProvenanceStep y b p c → Absent c t a
@@ -270,7 +271,7 @@ module _ (l : Ledger) (b : Provenance) (r : Rel l b) (y : Layout) (p : Step) {t 
       nowhere : p .message < bound 2 → {c : Provenance} → ProvenanceStep y b p c → Nowhere c
       nowhere bits (refuses z) = (k .sets, k .messages)
       nowhere bits (applies z n) = applied-nowhere z n
-      nowhere bits (signing z q e) = (signed-nowhere (p .message) (named-live l b r y p z q bits), k .messages)
+      nowhere bits (signing z q e) = (checkpointed-nowhere (p .message) (named-live l b r y p z q bits), k .messages)
       nowhere bits (not-ready z q e) = (k .sets, k .messages)
 
 -- ---- a fall that spoils nobody
@@ -323,7 +324,7 @@ module _ {y : Layout} (z : Fitting y) {img : List ℕ} {τ : Trace y img} {s : S
       (idle-all : (u : ℕ) → worksAt s t u ≡ false)
       (none-carried : (i : ℕ) → i < length (s .messages) → carriesAt s t i ≡ false) where
     there : Live (b .holders t .status)
-    there = fell (well z k) (related z k) p (ok .message) w .0
+    there = rolled (well z k) (related z k) p (ok .message) w .0
 
     rel-after : Rel (view (stepOf y s p .state)) c
     rel-after =
@@ -331,7 +332,7 @@ module _ {y : Layout} (z : Fitting y) {img : List ℕ} {τ : Trace y img} {s : S
         subst (λ (d : Provenance). Rel (view (stepOf y s p .state)) d) (provenance-determined (q .step) taken) (q .rel)
 
     life-past : Past (c .holders t) (b .holders t .history .incarnation)
-    life-past = fell-past (well z k) (keeps z (well z k) ok) (related z k) rel-after (fell (well z k) (related z k) p (ok .message) w .1)
+    life-past = rolled-past (well z k) (keeps z (well z k) ok) (related z k) rel-after (rolled (well z k) (related z k) p (ok .message) w .1)
 
     only-t : Alone b c t
     only-t = alone (view s) b (related z k) y p t there taken life-past
@@ -386,21 +387,6 @@ module _ {y : Layout} (z : Fitting y) {img : List ℕ} {τ : Trace y img} {s : S
 none-named : (n : ℕ) (f : ℕ → Bool) → groupOf n f ≡ 0 → (u : ℕ) → u < n → f u ≡ false
 none-named n f e u h = sym (in-group n f u h) ∙ ap (λ (g : ℕ). named g u) e ∙ named-zero u
 
-counted-alike : (n : ℕ) (f g : ℕ → Bool) → ((i : ℕ) → i < n → f i ≡ g i) → howMany n f ≡ howMany n g
-unfolding howMany
-counted-alike zero f g e = refl
-counted-alike (suc n) f g e = rw (counted-alike n f g (λ i h. e i (omega arith)), e n (omega arith))
-
-none-counted : (n : ℕ) (f : ℕ → Bool) → howMany n f ≡ 0 → (i : ℕ) → i < n → f i ≡ false
-unfolding howMany
-none-counted zero f e i h = absurd (omega arith)
-none-counted (suc n) f e i h = go (f n) refl e (ℕ-discrete i n) (λ (q : howMany n f ≡ 0) (l : i < n). none-counted n f q i l)
-  where
-    go : (c : Bool) → f n ≡ c → howMany n f + pick c 1 0 ≡ 0 → Dec (i ≡ n) → (howMany n f ≡ 0 → i < n → f i ≡ false) → f i ≡ false
-    go true q z d k = absurd (omega arith)
-    go false q z (yes j) k = subst (λ (x : ℕ). f x ≡ false) (sym j) q
-    go false q z (no j) k = k (omega arith) (omega arith)
-
 module _ {y : Layout} (z : Fitting y) {img : List ℕ} {τ : Trace y img} {s : State} {b : Provenance} (k : Point y img τ s b) where
   idle-past : (t u : ℕ) → y .transactors ≤ u → worksAt s t u ≡ false
   unfolding worksAt
@@ -412,7 +398,7 @@ module _ {y : Layout} (z : Fitting y) {img : List ℕ} {τ : Trace y img} {s : S
 
   carried-by : (t : ℕ) → dependentsOf y s t .carried ≡ 0 → (i : ℕ) → i < length (s .messages) → carriesAt s t i ≡ false
   unfolding dependentsOf
-  carried-by t e = none-counted (length (s .messages)) (carriesAt s t) e
+  carried-by t e = many-nowhere (carriesAt s t) (length (s .messages)) e
 
   -- The answer about take t names nobody but t, `unfinished` and `carried` are 0, and take t falls at the next step: then nobody is spoilt, after whatever steps.
   pub spoils-nobody-answered : {p : Step} → StepOk p → {c : Provenance} → ProvenanceStep y b p c → {t : ℕ} → Withdraws y s p t
@@ -455,4 +441,4 @@ module _ {y : Layout} (z : Fitting y) {img : List ℕ} {τ : Trace y img} {s : S
       many = sym (length-map (s .messages) viewMessage) ∙ all2-length (related z k .messages)
 
       counted-same : (n : ℕ) → ((i : ℕ) → i < n → carriesAt s t i ≡ f i) → howMany n (carriesAt s t) ≡ howMany n f
-      counted-same n e = counted-alike n (carriesAt s t) f e
+      counted-same n e = many-same (carriesAt s t) f n e

@@ -9,12 +9,10 @@ use Rattle.octets.specs.Bytes.{zeros}
 use Rattle.octets.proofs.Zero.{length-zeros}
 use Rattle.rules.specs.Layout.{Layout, Limits, inRange, Fitting, base, imageBytes}
 use Rattle.rules.specs.Calls.{wrongLength, beginAnswer}
-use Rattle.rules.proofs.Calls.Begin.{begin-accepted}
 use Rattle.rules.proofs.Keep.Step.{fitting-base}
 use Rattle.session.specs.Provenance.{Provenance}
 use Rattle.session.specs.Fed.{Call, begin, run, offer, smallest, heard, counts, depends, hinders, blocks, show, ProvenanceOf}
-use Rattle.session.specs.Trace.{Answer, Performed, beginning, running, offering, naming, hearing, counting, depending, hindering, blocking, showing, Trace, opened, called, callsOf, Started, first, later, Traced}
-use Rattle.session.proofs.Unique.{provenance-unique}
+use Rattle.session.specs.Trace.{Answer, Performed, beginning, running, offering, naming, hearing, counting, depending, hindering, blocking, showing, opened, called, callsOf, Started, first, later, Traced}
 use Rattle.session.proofs.Calls.{Holds}
 use Rattle.session.proofs.Queries.{offers-exist, smallest-exist}
 use Rattle.session.proofs.Grown.{grown}
@@ -54,12 +52,6 @@ every-list {y} z (later c s) =
 -- the same at the ledger's own layout
 pub every-list-base : {cs : List Call} → Started base cs → Traced base cs
 every-list-base = every-list fitting-base
-
--- the calls of a trace are such
-pub trace-started : {y : Layout} {img : List ℕ} (τ : Trace y img) → Started y (callsOf τ)
-unfolding callsOf
-trace-started {y} (opened m img e) = first (begin-accepted y img m e .0)
-trace-started (called τ c a p) = later c (trace-started τ)
 
 -- ---- the book of a list of calls
 

@@ -16,14 +16,15 @@ use Rattle.rules.specs.Layout.{Limits, base}
 use Rattle.rules.specs.declared.Step.{Step}
 use Rattle.rules.specs.Step.{read, freeze, finish, fail}
 use Rattle.rules.specs.Refusals.{named, anyNamed, malformed, notWaiting, emptyGroup, unopened, isGone, wrongStatus, unrelatedReceipt, allOpened, allWaiting, allNumbered, allCheckpointed, atLast, lastRollsBack, refusalOf}
-use Rattle.session.specs.Provenance.{Incarnations, In, one, Status, ready, busy, annihilated, idle, working, Holder, Provenance, emptyProvenance, remove, find, isMissing, anyEntry, supersededEntry, anySuperseded}
+use Rattle.session.specs.Provenance.{Incarnations, In, one, Status, idle, busy, annihilated, is-idle, is-busy, Holder, Provenance, emptyProvenance, remove, find, isMissing, anyEntry, supersededEntry, anySuperseded}
 use Rattle.session.specs.Grounds.{from-start, from-noted, from-list, Ground, in-state, in-creation, RestsOn, ValueRestsOn, Present, CheckpointedNow, SupersededOrAnnihilated, gone, neither, Equal}
 use Rattle.session.specs.Unrelated.{unrelatedEntry, anyUnrelated, isUnrelatedTo}
 use Rattle.session.specs.Steps.{rolledBackHolder, reads, writes, freezes, finishes, rollsBackOrFinishes, rollsBackOrStays, acted, isDropped, isRolledBack, received, signs, checkpointedAt, NotedBy, before, now-checkpointed, opensRoot, opensChild, receives, applied, provenanceSeen, provenanceRefusal, signing, not-ready}
+use Rattle.session.proofs.Sets.{in-one}
 use Rattle.session.proofs.Accepted.{named-within}
 use Rattle.session.specs.Play.{wideProvenance, aRoot, aLetter, aReceive, aNew, aSend, aWrite, aStep, aSign, Play, end, then, After, played}
 use Rattle.session.specs.Sessions.{firstNine, firstEleven, thirteen, carriedOn, upToSigning, oldMessage, thenRolledBack, thenTold, unreadSteps, readSteps, childSteps, openerSteps, smallLimits, smallSteps, receiveAndFreeze, smallProvenance, usedProvenance, incarnation0, incarnation1, incarnation2, incarnation3, child, holder, strange, pastedProvenance}
-use Rattle.session.proofs.Plays.{play-on, quiet, play-quiet, played-notes, entry-cases, one-case, ground-state, differs, brings-itself, alone-equal, pair-equal, only-3, only-6}
+use Rattle.session.proofs.Plays.{play-on, quiet, play-quiet, played-notes, entry-cases, ground-state, differs, brings-itself, alone-equal, pair-equal, only-3, only-6}
 
 -- ---- document 01's session
 
@@ -87,10 +88,10 @@ record Computed : Type 0 where
   one-11 : provenance11 .holders 1 ≡ holder busy true incarnation0 (one 0 incarnation0 ++ one 1 incarnation0) (one 0 incarnation0)
   sign-12 : provenanceRefusal base provenance11 (aSign 3) ≡ 0
   quiet-13 : quiet (signs provenance11 3) (aStep fail 0 ∷ []) ≡ true
-  zero-13 : provenance13 .holders 0 ≡ holder ready false incarnation2 (one 0 incarnation2) []
-  one-13 : provenance13 .holders 1 ≡ holder ready false incarnation1 (one 1 incarnation1) []
+  zero-13 : provenance13 .holders 0 ≡ holder idle false incarnation2 (one 0 incarnation2) []
+  one-13 : provenance13 .holders 1 ≡ holder idle false incarnation1 (one 1 incarnation1) []
   quiet-carried : quiet (signs provenance11 3) carriedOn ≡ true
-  zero-carried : carriedProvenance .holders 0 ≡ holder ready false incarnation1 (one 0 incarnation1) []
+  zero-carried : carriedProvenance .holders 0 ≡ holder idle false incarnation1 (one 0 incarnation1) []
   one-carried : carriedProvenance .holders 1 ≡ holder busy true incarnation1 (one 1 incarnation1) []
   two-carried : carriedProvenance .holders 2 ≡ holder busy true incarnation0 (one 1 incarnation1 ++ one 2 incarnation0) (one 1 incarnation1)
   sign-carried : provenanceRefusal base carriedProvenance (aSign 6) ≡ 0
@@ -102,10 +103,10 @@ record Computed : Type 0 where
   quiet-rolledBack : quiet checkpointedProvenance thenRolledBack ≡ true
   zero-rolledBack : rolledBackProvenance .holders 0 ≡ holder busy true incarnation2 (one 0 incarnation2) []
   sign-rolledBack : provenanceRefusal base rolledBackProvenance (aSign 1) ≡ 0
-  zero-again : againProvenance .holders 0 ≡ holder ready false incarnation3 (one 0 incarnation3) []
+  zero-again : againProvenance .holders 0 ≡ holder idle false incarnation3 (one 0 incarnation3) []
   one-again : againProvenance .holders 1 ≡ holder busy true incarnation0 (one 0 incarnation1 ++ one 1 incarnation0) (one 0 incarnation1)
   quiet-told : quiet checkpointedProvenance thenTold ≡ true
-  one-told : toldProvenance .holders 1 ≡ holder ready true incarnation0 (one 0 incarnation1 ++ one 1 incarnation0) []
+  one-told : toldProvenance .holders 1 ≡ holder idle true incarnation0 (one 0 incarnation1 ++ one 1 incarnation0) []
   quiet-gone : quiet toldProvenance (aReceive 5 ∷ []) ≡ true
   one-gone : played toldProvenance (aReceive 5 ∷ []) .holders 1 .status ≡ annihilated
   quiet-unread : quiet wideProvenance unreadSteps ≡ true
@@ -201,9 +202,9 @@ none-11 t a u c x = played-notes wideProvenance firstNine t a u c .0 (played-not
 equal-3 : Equal provenance11 3
 unfolding named
 equal-3 = pair-equal only-3 refl refl (λ t a u c x. absurd (none-11 t a u c x))
-    (record { is = computed .zero-11; live = working; stable = refl; own = List·Memᴰ·head refl })
-    (record { is = computed .one-11; live = working; stable = refl; own = List·Memᴰ·tail (List·Memᴰ·head refl) })
-    (λ u a. ⊎-elim (λ g. inl (one-case (ground-state refl u a g))) (λ g. ⊎-elim inl (λ i. inr (one-case i)) (entry-cases (ground-state refl u a g))))
+    (record { is = computed .zero-11; live = is-busy; stable = refl; own = List·Memᴰ·head refl })
+    (record { is = computed .one-11; live = is-busy; stable = refl; own = List·Memᴰ·tail (List·Memᴰ·head refl) })
+    (λ u a. ⊎-elim (λ g. inl (in-one (ground-state refl u a g))) (λ g. ⊎-elim inl (λ i. inr (in-one i)) (entry-cases (ground-state refl u a g))))
 
 differ-9 : Equal provenance9 2 → ⊥
 differ-9 = differ-2 provenance9 (rw (computed .one-9) (in-state (List·Memᴰ·head refl))) (rw (computed .zero-9))
@@ -229,7 +230,7 @@ pub document-12 : After firstEleven (λ b. Equal b 3)
 document-12 = record { provenance = provenance11; play = play-11; holds = equal-3 }
 
 -- step 13: take 0 has fallen back to its signed text, take 1 stands
-pub document-13 : After thirteen (λ b. (b .holders 0 ≡ holder ready false incarnation2 (one 0 incarnation2) []) × (b .holders 1 ≡ holder ready false incarnation1 (one 1 incarnation1) []))
+pub document-13 : After thirteen (λ b. (b .holders 0 ≡ holder idle false incarnation2 (one 0 incarnation2) []) × (b .holders 1 ≡ holder idle false incarnation1 (one 1 incarnation1) []))
 document-13 = record { provenance = provenance13; play = play-13; holds = (computed .zero-13, computed .one-13) }
 
 -- ---- what signed texts rest on
@@ -243,8 +244,8 @@ rests-11 : (t : ℕ) → named 3 t ≡ true → (u : ℕ) (a : Incarnation) → 
 rests-11 t n u a r = start t (only-3 t n) u a (brings-itself none-11 (λ u a g. first (start t (only-3 t n) u a g)) u a r)
   where
     start : (t : ℕ) → (t ≡ 0) ⊎ (t ≡ 1) → (u : ℕ) (a : Incarnation) → Ground (provenance11 .holders t) u a → Rests12 t u a
-    start t (inl e) u a g = let i = one-case (ground-state refl u a (rw (e, computed .zero-11) at g)) in on-0 (i .0) (i .1)
-    start t (inr e) u a g = ⊎-elim (λ i. on-0 (i .0) (i .1)) (λ i. let k = one-case i in on-1 e (k .0) (k .1)) (entry-cases (ground-state refl u a (rw (e, computed .one-11) at g)))
+    start t (inl e) u a g = let i = in-one (ground-state refl u a (rw (e, computed .zero-11) at g)) in on-0 (i .0) (i .1)
+    start t (inr e) u a g = ⊎-elim (λ i. on-0 (i .0) (i .1)) (λ i. let k = in-one i in on-1 e (k .0) (k .1)) (entry-cases (ground-state refl u a (rw (e, computed .one-11) at g)))
 
     first : {t u : ℕ} {a : Incarnation} → Rests12 t u a → a .checkpoints ≡ []
     first (on-0 i e) = ap (λ (x : Incarnation). x .checkpoints) e
@@ -285,15 +286,15 @@ unfolding carriedProvenance
 noted-carried t a u c x = go (notes-12 t a u c (played-notes (signs provenance11 3) carriedOn t a u c .0 x))
   where
     go : Rests12 t u c → CheckpointedNow carriedProvenance u c
-    go (on-0 i e) = rw (i, e) (record { live = rw (computed .zero-carried) idle; is = rw (computed .zero-carried) (begins [] refl) })
-    go (on-1 n i e) = rw (i, e) (record { live = rw (computed .one-carried) working; is = rw (computed .one-carried) (begins [] refl) })
+    go (on-0 i e) = rw (i, e) (record { live = rw (computed .zero-carried) is-idle; is = rw (computed .zero-carried) (begins [] refl) })
+    go (on-1 n i e) = rw (i, e) (record { live = rw (computed .one-carried) is-busy; is = rw (computed .one-carried) (begins [] refl) })
 
 equal-carried : Equal carriedProvenance 6
 unfolding named
 equal-carried = pair-equal only-6 refl refl noted-carried
-    (record { is = computed .one-carried; live = working; stable = refl; own = List·Memᴰ·head refl })
-    (record { is = computed .two-carried; live = working; stable = refl; own = List·Memᴰ·tail (List·Memᴰ·head refl) })
-    (λ u a. ⊎-elim (λ g. inl (one-case (ground-state refl u a g))) (λ g. ⊎-elim inl (λ i. inr (one-case i)) (entry-cases (ground-state refl u a g))))
+    (record { is = computed .one-carried; live = is-busy; stable = refl; own = List·Memᴰ·head refl })
+    (record { is = computed .two-carried; live = is-busy; stable = refl; own = List·Memᴰ·tail (List·Memᴰ·head refl) })
+    (λ u a. ⊎-elim (λ g. inl (in-one (ground-state refl u a g))) (λ g. ⊎-elim inl (λ i. inr (in-one i)) (entry-cases (ground-state refl u a g))))
 
 -- Over two signings: the text that take 2 signs rests on the life of take 0 that step 12 signed, though no set of take 2 held
 -- it. Its state holds the second life of take 1; that brings in the life signed last before it, and this what was noted for it.
@@ -326,10 +327,10 @@ only-0 t n u c r = opening u c (brings-itself none-uncheckpointed (λ u a g. ap 
     opening : (u : ℕ) (a : Incarnation) → Ground (uncheckpointedProvenance .holders t) u a → (u ≡ 0) × (a ≡ incarnation0)
     opening u a g =
         let z : t ≡ 0 = omega (arith, named-within 1 1 t (omega arith) n) in
-        one-case (ground-state refl u a (rw (z, computed .zero-uncheckpointed) at g))
+        in-one (ground-state refl u a (rw (z, computed .zero-uncheckpointed) at g))
 
 equal-uncheckpointed : Equal uncheckpointedProvenance 1
-equal-uncheckpointed = alone-equal (computed .zero-uncheckpointed) refl refl working refl (λ t a u c x. absurd (none-uncheckpointed t a u c x))
+equal-uncheckpointed = alone-equal (computed .zero-uncheckpointed) refl refl is-busy refl (λ t a u c x. absurd (none-uncheckpointed t a u c x))
 
 play-checkpointed : Play wideProvenance (upToSigning ++ (aSign 1 ∷ [])) checkpointedProvenance
 unfolding uncheckpointedProvenance checkpointedProvenance
@@ -342,10 +343,10 @@ noted-checkpointed t a u c x = go (played-notes checkpointedProvenance thenRolle
   where
     go : NotedBy uncheckpointedProvenance 1 t a u c → CheckpointedNow rolledBackProvenance u c
     go (before x) = absurd (none-uncheckpointed t a u c x)
-    go (now-checkpointed n e r) = let i = only-0 t n u c r in rw (i .0, i .1) (record { live = rw (computed .zero-rolledBack) working; is = rw (computed .zero-rolledBack) (begins [] refl) })
+    go (now-checkpointed n e r) = let i = only-0 t n u c r in rw (i .0, i .1) (record { live = rw (computed .zero-rolledBack) is-busy; is = rw (computed .zero-rolledBack) (begins [] refl) })
 
 equal-rolledBack : Equal rolledBackProvenance 1
-equal-rolledBack = alone-equal (computed .zero-rolledBack) refl refl working refl noted-checkpointed
+equal-rolledBack = alone-equal (computed .zero-rolledBack) refl refl is-busy refl noted-checkpointed
 
 -- ---- the readings to guard against
 
@@ -381,7 +382,7 @@ not-mended = record {
     not-checkpointed s = uncheckpointed (rw (computed .zero-again) at (s .is))
 
 -- "Sparing a frozen take when a parcel shows that its ground fell." Take 1 is frozen; parcel 5 shows that its ground fell.
-pub still-stable : After (upToSigning ++ (aSign 1 ∷ []) ++ thenTold) (λ b. b .holders 1 ≡ holder ready true incarnation0 (one 0 incarnation1 ++ one 1 incarnation0) [])
+pub still-stable : After (upToSigning ++ (aSign 1 ∷ []) ++ thenTold) (λ b. b .holders 1 ≡ holder idle true incarnation0 (one 0 incarnation1 ++ one 1 incarnation0) [])
 unfolding toldProvenance
 still-stable = record { provenance = toldProvenance; play = play-on play-checkpointed (play-quiet checkpointedProvenance thenTold (computed .quiet-told)); holds = computed .one-told }
 
@@ -419,15 +420,15 @@ none-opener t a u c x = played-notes wideProvenance childSteps t a u c .0 (playe
 
 -- the child rests on its own life, and on its opener's by its creation set
 child-rests : (u : ℕ) (a : Incarnation) → Ground (child busy true incarnation0 (one 1 incarnation0) (one 0 incarnation0) []) u a → ((u ≡ 0) × (a ≡ incarnation0)) ⊎ ((u ≡ 1) × (a ≡ incarnation0))
-child-rests u a (in-state i) = inr (one-case i)
-child-rests u a (in-creation i) = inl (one-case i)
+child-rests u a (in-state i) = inr (in-one i)
+child-rests u a (in-creation i) = inl (in-one i)
 
 equal-opener : Equal openerProvenance 3
 unfolding named
 equal-opener = pair-equal only-3 refl refl (λ t a u c x. absurd (none-opener t a u c x))
-    (record { is = computed .zero-opener; live = working; stable = refl; own = List·Memᴰ·head refl })
-    (record { is = computed .one-opener; live = working; stable = refl; own = List·Memᴰ·head refl })
-    (λ u a. ⊎-elim (λ g. inl (one-case (ground-state refl u a g))) (child-rests u a))
+    (record { is = computed .zero-opener; live = is-busy; stable = refl; own = List·Memᴰ·head refl })
+    (record { is = computed .one-opener; live = is-busy; stable = refl; own = List·Memᴰ·head refl })
+    (λ u a. ⊎-elim (λ g. inl (in-one (ground-state refl u a g))) (child-rests u a))
 
 play-child : Play wideProvenance childSteps childProvenance
 unfolding childProvenance

@@ -17,7 +17,7 @@ use Rattle.rules.specs.declared.Step.{Step}
 use Rattle.rules.specs.Step.{root, letter, receive, new, send, read, write, freeze, finish, fall, fail, lose, sign}
 use Rattle.rules.specs.Refusals.{named}
 use Rattle.rules.proofs.Keep.Accepted.{kind-known}
-use Rattle.session.specs.Provenance.{Status, unused, annihilated, Live, idle, working, Holder, WaitingMessage, Provenance, find}
+use Rattle.session.specs.Provenance.{Status, unused, annihilated, Live, is-idle, is-busy, Holder, WaitingMessage, Provenance, find}
 use Rattle.session.specs.Grounds.{Ground, in-state, in-creation}
 use Rattle.session.specs.Steps.{isNil, anew, rolledBackHolder, reads, writes, freezes, finishes, rollsBackOrFinishes, rollsBackOrStays, acted, isDropped, isRolledBack, received, receives, opensRoot, opensChild, applied, checkpointedAt, provenanceRefusal, ProvenanceStep, refuses, applies, signing, not-ready}
 use Rattle.session.proofs.Model.{Ledger}
@@ -71,15 +71,15 @@ module _ (t : ℕ) (h : Holder) (live : Live (h .status)) where
       pick-view (Turn ⊥ t h) (eqb k read) _ _ (λ e. keeps-same live refl refl refl) λ e0.
       pick-view (Turn ⊥ t h) (eqb k write) _ _ (λ e. pick-view (Turn ⊥ t h) (h .history .stable) _ _ (λ f. stays refl) (λ f. written _ refl)) λ e1.
       pick-view (Turn ⊥ t h) (eqb k freeze) _ _ (λ e. keeps-same live refl refl refl) λ e2.
-      pick-view (Turn ⊥ t h) (eqb k finish) _ _ (λ e. keeps-same idle refl refl refl) λ e3.
-      pick-view (Turn ⊥ t h) (eqb k fall) _ _ (λ e. pick-view (Turn ⊥ t h) (h .history .stable) _ _ (λ f. keeps-same idle refl refl refl) (λ f. rolls-back live refl)) λ e4.
+      pick-view (Turn ⊥ t h) (eqb k finish) _ _ (λ e. keeps-same is-idle refl refl refl) λ e3.
+      pick-view (Turn ⊥ t h) (eqb k fall) _ _ (λ e. pick-view (Turn ⊥ t h) (h .history .stable) _ _ (λ f. keeps-same is-idle refl refl refl) (λ f. rolls-back live refl)) λ e4.
       pick-view (Turn ⊥ t h) (h .history .stable) _ _ (λ f. stays refl) (λ f. rolls-back live refl)
 
   received-turn : (q : WaitingMessage) → Turn ⊥ t h (received t h q)
   unfolding received
   received-turn q =
       pick-view (Turn ⊥ t h) (isDropped h q) _ _ (λ e. stays refl) λ e0.
-      pick-view (Turn ⊥ t h) (isRolledBack h q) _ _ (λ e. rolls-back live refl) (λ e. keeps-same working refl refl refl)
+      pick-view (Turn ⊥ t h) (isRolledBack h q) _ _ (λ e. rolls-back live refl) (λ e. keeps-same is-busy refl refl refl)
 
 -- ---- every step
 
@@ -119,9 +119,9 @@ module _ (l : Ledger) (b : Provenance) (r : Rel l b) (y : Layout) (p : Step) whe
       let w = live (omega arith) (omega arith) in
       put t _ (acted-turn t h w k)
 
-  signed-turn : (g : ℕ) → ((t : ℕ) → named g t ≡ true → Live (b .holders t .status)) → (u : ℕ) → Turn (named g u ≡ true) u (H u) (checkpointedAt b g u)
+  checkpointed-turn : (g : ℕ) → ((t : ℕ) → named g t ≡ true → Live (b .holders t .status)) → (u : ℕ) → Turn (named g u ≡ true) u (H u) (checkpointedAt b g u)
   unfolding checkpointedAt
-  signed-turn g lives u = pick-view (Turn (named g u ≡ true) u (H u)) (named g u) _ _ (λ e. checkpoints e (lives u e) refl) (λ e. stays refl)
+  checkpointed-turn g lives u = pick-view (Turn (named g u ≡ true) u (H u)) (named g u) _ _ (λ e. checkpoints e (lives u e) refl) (λ e. stays refl)
 
   -- take u is signed only in a volume that is ready
   pub turn-because : p .message < bound 2 → {c : Provenance} → ProvenanceStep y b p c → (u : ℕ) → Turn ((g : ℕ) × (named g u ≡ true) × Ready l (named g)) u (b .holders u) (c .holders u)
@@ -129,7 +129,7 @@ module _ (l : Ledger) (b : Provenance) (r : Rel l b) (y : Layout) (p : Step) whe
   turn-because bits (applies z n) u = turn-map (λ k. absurd k) (applied-turn z n u)
   turn-because bits (signing z k e) u =
       let lives = named-live l b r y p z k bits in
-      turn-map (λ n. (p .message, n, equal-ready l b r (p .message) lives e)) (signed-turn (p .message) lives u)
+      turn-map (λ n. (p .message, n, equal-ready l b r (p .message) lives e)) (checkpointed-turn (p .message) lives u)
   turn-because bits (not-ready z k e) u = stays refl
 
   pub turn : p .message < bound 2 → {c : Provenance} → ProvenanceStep y b p c → (u : ℕ) → Turn Unit u (b .holders u) (c .holders u)
@@ -182,12 +182,12 @@ since-on {t} {h} {k} {j} (still s) (works w g) = still (record { live = g .live;
 since-on {t} {h} {k} {j} (moved l s) (works w g) = moved (g .live) (subst (Later (h .history .incarnation)) (sym (g .incarnation)) s)
 since-on {t} {h} {k} {j} (dead e) (works w g) = absurd (dead-live e w)
 since-on {t} {h} {k} {j} (still s) (rolls-back w e) = subst (Since h) (sym e)
-    (rolled (Since h) t k (dead refl) (moved idle (subst (λ (a : Incarnation). Later a (nextIncarnation (k .history .incarnation))) (s .incarnation) (later-superseded (superseded-next (k .history .incarnation))))))
-since-on {t} {h} {k} {j} (moved l s) (rolls-back w e) = subst (Since h) (sym e) (rolled (Since h) t k (dead refl) (moved idle (later-next s)))
+    (rolled (Since h) t k (dead refl) (moved is-idle (subst (λ (a : Incarnation). Later a (nextIncarnation (k .history .incarnation))) (s .incarnation) (later-superseded (superseded-next (k .history .incarnation))))))
+since-on {t} {h} {k} {j} (moved l s) (rolls-back w e) = subst (Since h) (sym e) (rolled (Since h) t k (dead refl) (moved is-idle (later-next s)))
 since-on {t} {h} {k} {j} (dead d) (rolls-back w e) = absurd (dead-live d w)
 since-on {t} {h} {k} {j} (still s) (checkpoints i w e) = subst (Since h) (sym e)
-    (moved idle (subst (λ (a : Incarnation). Later a (checkpointIncarnation (k .history .incarnation))) (s .incarnation) (later-checkpointed (checkpointed-checkpoint (k .history .incarnation)))))
-since-on {t} {h} {k} {j} (moved l s) (checkpoints i w e) = subst (Since h) (sym e) (moved idle (later-checkpoint s))
+    (moved is-idle (subst (λ (a : Incarnation). Later a (checkpointIncarnation (k .history .incarnation))) (s .incarnation) (later-checkpointed (checkpointed-checkpoint (k .history .incarnation)))))
+since-on {t} {h} {k} {j} (moved l s) (checkpoints i w e) = subst (Since h) (sym e) (moved is-idle (later-checkpoint s))
 since-on {t} {h} {k} {j} (dead d) (checkpoints i w e) = absurd (dead-live d w)
 since-on {t} {h} {k} {j} (still s) (opens e) = absurd (live-used (s .live) e)
 since-on {t} {h} {k} {j} (moved l s) (opens e) = absurd (live-used l e)
@@ -217,8 +217,8 @@ pub past-on : {S : Type 0} {t : ℕ} {h k : Holder} {a : Incarnation} → Past h
 past-on {S} {t} {h} {k} {a} s (stays e) = subst (λ (j : Holder). Past j a) (sym e) s
 past-on {S} {t} {h} {k} {a} (passed l s) (works w g) = passed (g .live) (subst (Superseded a) (sym (g .incarnation)) s)
 past-on {S} {t} {h} {k} {a} (passed l s) (rolls-back w e) = subst (λ (j : Holder). Past j a) (sym e)
-    (rolled (λ (j : Holder). Past j a) t h (vanished refl) (passed idle (superseded-up s (precedes-next (h .history .incarnation)))))
-past-on {S} {t} {h} {k} {a} (passed l s) (checkpoints i w e) = subst (λ (j : Holder). Past j a) (sym e) (passed idle (superseded-up s (precedes-checkpoint (h .history .incarnation))))
+    (rolled (λ (j : Holder). Past j a) t h (vanished refl) (passed is-idle (superseded-up s (precedes-next (h .history .incarnation)))))
+past-on {S} {t} {h} {k} {a} (passed l s) (checkpoints i w e) = subst (λ (j : Holder). Past j a) (sym e) (passed is-idle (superseded-up s (precedes-checkpoint (h .history .incarnation))))
 past-on {S} {t} {h} {k} {a} (passed l s) (opens e) = absurd (live-used l e)
 past-on {S} {t} {h} {k} {a} (vanished d) (works w g) = absurd (dead-live d w)
 past-on {S} {t} {h} {k} {a} (vanished d) (rolls-back w e) = absurd (dead-live d w)
@@ -231,7 +231,7 @@ past-all p (more s o) = past-on (past-all p s) o
 
 -- a take that falls leaves its life behind
 pub past-fall : (t : ℕ) (h : Holder) → Past (rolledBackHolder t h) (h .history .incarnation)
-past-fall t h = rolled (λ (j : Holder). Past j (h .history .incarnation)) t h (vanished refl) (passed idle (superseded-next (h .history .incarnation)))
+past-fall t h = rolled (λ (j : Holder). Past j (h .history .incarnation)) t h (vanished refl) (passed is-idle (superseded-next (h .history .incarnation)))
 
 -- ---- a take that is not signed at its life: it keeps it, or it is past
 

@@ -26,13 +26,15 @@ use Rattle.maps.proofs.View.{Answers, one, no-one, view-superseded, view-held, 
 use Rattle.rules.specs.Layout.{Layout}
 use Rattle.rules.specs.State.{Transactor, Message, State, transactorAt, messageAt, ownHistory, live, withTransactor, withoutMessage, numbered, placeOf}
 use Rattle.rules.specs.State as state
+use Rattle.rules.specs.Status as number
 use Rattle.rules.specs.declared.Step.{Step}
 use Rattle.rules.specs.Step.{read, write, freeze, finish, fall}
 use Rattle.rules.specs.Refusals.{named}
 use Rattle.rules.specs.Rules.{Effect, isSome, carried, rollback, readBy, writeBy, freezeBy, finishBy, fallBy, failBy, localBy, known, messageSuperseded, receiverSuperseded, receiveBy, entryReady, mapReady, transactorReady, groupReady, opening, applyRoot, applyLetter, applyReceive, applyNew, applySend, applyLocal, applyLose, applySign}
 use Rattle.rules.specs.Rules as rules
 use Rattle.rules.specs.Internal.Well.{TransactorOk, WellFormed}
-use Rattle.session.specs.Provenance.{Live, idle, working}
+use Rattle.rules.proofs.Groups.Obstacles.{parts-ready}
+use Rattle.session.specs.Provenance.{Live, is-idle, is-busy}
 use Rattle.session.specs.Steps.{isNil}
 use Rattle.session.specs.Silent.{receiveSilently, applySilently}
 use Rattle.session.proofs.Model.{Node, Ledger, own, withNode, openNode, withMessageView, withoutMessageView, findMessage, anewNode, readNode, freezeNode, finishNode, rollbackNode, knownMap, sentMap, childNode, openerNode, signLedger, statusOf, viewNode, view}
@@ -94,7 +96,7 @@ module _ {y : Layout} {x : Transactor} (ok : TransactorOk y x) where
       pub view-rollback : viewNode (rollback y t x .transactor) ≡ rollbackNode t (viewNode x)
       unfolding rollback rollbackNode statusOf
       view-rollback = pick-both Leaves (eqb (ownHistory t x .count) 0) (isNil (own t (viewNode x) .incarnation .checkpoints)) never-checkpointed _ _ _ _
-          (λ e. view-bare y state.annihilated)
+          (λ e. view-bare y number.annihilated)
           (λ e. view-anew y t (x .saved) (x .saved) (rolledBack (ownHistory t x)) below
           ∙ ap (λ (m : HistoryView). anewNode t (rolledBackView m)) (sym (view-own (ok .state) t)))
 
@@ -295,11 +297,11 @@ module _ {y : Layout} {s : State} (well : WellFormed y s) (p : Step) where
 
 -- ---- sign
 
-pub live-test : (n : ℕ) → (eqb n state.ready or eqb n state.busy ≡ true) ↔ Live (statusOf n)
+pub live-test : (n : ℕ) → (eqb n number.idle or eqb n number.busy ≡ true) ↔ Live (statusOf n)
 unfolding statusOf
-live-test n = (λ e. ⊎-elim (λ k. rw (eqb-true n state.ready k) idle) (λ k. rw (eqb-true n state.busy k) working) (or-to (eqb n state.ready) (eqb n state.busy) e), of n)
+live-test n = (λ e. ⊎-elim (λ k. rw (eqb-true n number.idle k) is-idle) (λ k. rw (eqb-true n number.busy k) is-busy) (or-to (eqb n number.idle) (eqb n number.busy) e), of n)
   where
-    of : (n : ℕ) → Live (statusOf n) → eqb n state.ready or eqb n state.busy ≡ true
+    of : (n : ℕ) → Live (statusOf n) → eqb n number.idle or eqb n number.busy ≡ true
     of zero k = elim k [ ]
     of (suc zero) k = refl
     of (suc (suc zero)) k = refl
@@ -359,16 +361,6 @@ module _ {y : Layout} {s : State} (well : WellFormed y s) (g : ℕ) where
           at u true e = entry-test u (historyAt m u) .1 (k u (viewOf (historyAt m u)) (view-held m u e))
           at u false e = refl
 
-  transactor-test : (t : ℕ) → transactorReady y s g t ≡ true
-      → (ownHistory t (transactorAt s t) .stable ≡ true) × (mapReady y s g (transactorAt s t .state) ≡ true) × (mapReady y s g (transactorAt s t .creation) ≡ true)
-  unfolding transactorReady
-  transactor-test t e =
-      let x : Transactor = transactorAt s t in
-      let p = both (ownHistory t x .stable) (mapReady y s g (x .state) and mapReady y s g (x .creation)) e in
-      let q = both (mapReady y s g (x .state)) (mapReady y s g (x .creation)) (p .1) in
-      (p .0, q .0, q .1)
-
-  -- the named takes are takes
   module _ (bounded : (t : ℕ) → named g t ≡ true → t < y .transactors) where
     pub ready-test : (groupReady y s g ≡ true) ↔ Ready (view s) (named g)
     unfolding groupReady transactorReady view
@@ -386,7 +378,7 @@ module _ {y : Layout} {s : State} (well : WellFormed y s) (g : ℕ) where
           where
             each : (t : ℕ) → named g t ≡ true
                 → (ownHistory t (transactorAt s t) .stable ≡ true) × (mapReady y s g (transactorAt s t .state) ≡ true) × (mapReady y s g (transactorAt s t .creation) ≡ true)
-            each t k = let q = every-at f (y .transactors) t e (bounded t k) in transactor-test t (rw k at q)
+            each t k = let q = every-at f (y .transactors) t e (bounded t k) in parts-ready y s g t (rw k at q)
 
         of : Ready (view s) (named g) → every (y .transactors) f ≡ true
         of r = every-all f (y .transactors) (λ t h. at t (named g t) refl)

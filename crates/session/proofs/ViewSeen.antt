@@ -46,6 +46,6 @@ module _ {y : Layout} {s : State} (well : WellFormed y s) where
     incarnation = λ t. sym (own-view well t) i .incarnation .number;
     missing = λ n. sym (view-missing s n) i;
     addressee = λ n. sym (view-find s n) i .addressee;
-    falls = receiptRollsBack y s;
+    rolls = receiptRollsBack y s;
     unrelated = receiptUnrelated y s;
   }

@@ -26,6 +26,7 @@ use Rattle.maps.proofs.View.{roomy-entry, within-ok, view-past, view-empty, vie
 use Rattle.rules.specs.Layout.{Layout, Limits}
 use Rattle.rules.specs.State.{Transactor, Message, State, bare, noMap, noTransactor, noMessage, transactorAt, messageAt, fresh, ownHistory, withTransactor, withOpened, withMessage, withoutMessage, placeFrom, numbered, placeOf}
 use Rattle.rules.specs.State as state
+use Rattle.rules.specs.Status as number
 use Rattle.rules.specs.Refusals.{named}
 use Rattle.rules.specs.Rules.{opened, checkpointBy, checkpointAt, checkpointGroup}
 use Rattle.rules.specs.Rules as rules
@@ -59,7 +60,7 @@ view-no-transactor = node-same refl view-no-map view-no-map view-no-map
 
 -- a take with its own mark alone
 pub view-anew : (y : Layout) (t v w : ℕ) (h : History) → t < y .transactors
-    → viewNode (record { status = state.ready; value = v; saved = w; state = rules.only y t h; creation = rules.noDependences y; behaviour = rules.noDependences y }) ≡ anewNode t (viewOf h)
+    → viewNode (record { status = number.idle; value = v; saved = w; state = rules.only y t h; creation = rules.noDependences y; behaviour = rules.noDependences y }) ≡ anewNode t (viewOf h)
 unfolding statusOf
 view-anew y t v w h below = node-same refl
     (view-singleton (y .places) (y .transactors) t h below) (view-empty (y .places) (y .transactors)) (view-empty (y .places) (y .transactors))
@@ -84,10 +85,10 @@ pub view-fresh : (y : Layout) (m : Limits) → view (fresh y m) ≡ freshLedger 
 unfolding view fresh transactorAt statusOf
 view-fresh y m = λ i. record { limits = m; opened = 0; next = 0; nodes = λ t. each t i; messages = [] }
   where
-    each : (t : ℕ) → viewNode (getD (replicate (y .transactors) (bare y state.unused)) t noTransactor) ≡ bareNode unused
+    each : (t : ℕ) → viewNode (getD (replicate (y .transactors) (bare y number.unused)) t noTransactor) ≡ bareNode unused
     each t = ⊎-elim
-        (λ (h : t < y .transactors). ap viewNode (getD-replicate (y .transactors) t (bare y state.unused) noTransactor h) ∙ view-bare y state.unused)
-        (λ (h : y .transactors ≤ t). ap viewNode (List·getD-eq-default (replicate (y .transactors) (bare y state.unused)) noTransactor {n = t} (rw length-replicate h)) ∙ view-no-transactor)
+        (λ (h : t < y .transactors). ap viewNode (getD-replicate (y .transactors) t (bare y number.unused) noTransactor h) ∙ view-bare y number.unused)
+        (λ (h : y .transactors ≤ t). ap viewNode (List·getD-eq-default (replicate (y .transactors) (bare y number.unused)) noTransactor {n = t} (rw length-replicate h)) ∙ view-no-transactor)
         (sides t (y .transactors))
 
 -- ---- own marks

@@ -37,7 +37,7 @@ use Rattle.session.specs.Grounds.{Equal}
 use Rattle.session.specs.Steps.{provenanceRefusal, signing}
 use Rattle.session.specs.Fed.{Call, run}
 use Rattle.session.specs.Trace.{Answer, Performed, beginning, running, offering, naming, hearing, counting, depending, hindering, blocking, showing, Trace, CallsFrom, none, one-more, GoesOn}
-use Rattle.session.specs.Waiting.{ReadyGroup, Grounded, Falls, falls-back, vanishes, falls-last, Stands, NoSigning, Waits, Waiting, SignsTake, Unsigned, Leaves, Leaving}
+use Rattle.session.specs.Waiting.{ReadyGroup, Grounded, Rolls, rolls-back, vanishes, rolls-last, Stands, NoSigning, Waits, Waiting, SignsTake, Unsigned, Leaves, Leaving}
 use Rattle.session.proofs.Model.{MessageView, own, findMessage, knownMap, view}
 use Rattle.session.proofs.Tables.{pick-view}
 use Rattle.session.proofs.Relation.{live-or-not, Rel, own-history}
@@ -79,15 +79,15 @@ module _ (x : ℕ) (free : 0 ≡ x → ⊥) (others : (n : ℕ) → 20 ≤ n →
       last : (c : Bool) → c ≡ false → pick c 28 0 ≡ x → ⊥
       last c f = rw f free
 
-falls-no-refusal : {x : ℕ} → Falls x → (y : Layout) (w : Seen) (p : Step) → lastRollsBack y w p ≡ false → refusalOf y w p ≡ x → ⊥
-falls-no-refusal falls-back = refusal-else 3 (λ e. omega arith) (λ n h k e. omega arith)
-falls-no-refusal vanishes = refusal-else 4 (λ e. omega arith) (λ n h k e. omega arith)
-falls-no-refusal falls-last = refusal-else 28 (λ e. omega arith) (λ n h k e. k e)
+rolls-no-refusal : {x : ℕ} → Rolls x → (y : Layout) (w : Seen) (p : Step) → lastRollsBack y w p ≡ false → refusalOf y w p ≡ x → ⊥
+rolls-no-refusal rolls-back = refusal-else 3 (λ e. omega arith) (λ n h k e. omega arith)
+rolls-no-refusal vanishes = refusal-else 4 (λ e. omega arith) (λ n h k e. omega arith)
+rolls-no-refusal rolls-last = refusal-else 28 (λ e. omega arith) (λ n h k e. k e)
 
-falls-high : {x : ℕ} → Falls x → 3 ≤ x
-falls-high falls-back = omega arith
-falls-high vanishes = omega arith
-falls-high falls-last = omega arith
+rolls-high : {x : ℕ} → Rolls x → 3 ≤ x
+rolls-high rolls-back = omega arith
+rolls-high vanishes = omega arith
+rolls-high rolls-last = omega arith
 
 module _ (y : Layout) (s : State) (p : Step) (k : p .kind ≡ receive) (e : rolledBackAt y s (p .message) ≡ false) where
   -- 28 asks for a fall
@@ -106,13 +106,13 @@ module _ (y : Layout) (s : State) (p : Step) (k : p .kind ≡ receive) (e : roll
   accepted-low = rw (applies y s p .receive k, e) (pick-view (λ (x : Effect). x .outcome ≤ 2)
       (messageSuperseded y (transactorAt s (messageAt s (placeOf s (p .message)) .addressee)) (messageAt s (placeOf s (p .message)))) _ _ (λ f. omega arith) (λ f. omega arith))
 
-  receipt-stands : Falls (stepOf y s p .reply .outcome) → ⊥
+  receipt-stands : Rolls (stepOf y s p .reply .outcome) → ⊥
   unfolding refusal
   receipt-stands f = go (ℕ-discrete (refusal y s p) 0)
     where
       go : Dec (refusal y s p ≡ 0) → ⊥
-      go (yes q) = omega (arith, falls-high f, accepted-low, ap (λ (x : Result). x .reply .outcome) (applied-same y s p q))
-      go (no n) = falls-no-refusal f y (seen y s) p no-28 (sym (ap (λ (x : Result). x .reply .outcome) (refused-same y s p n)))
+      go (yes q) = omega (arith, rolls-high f, accepted-low, ap (λ (x : Result). x .reply .outcome) (applied-same y s p q))
+      go (no n) = rolls-no-refusal f y (seen y s) p no-28 (sym (ap (λ (x : Result). x .reply .outcome) (refused-same y s p n)))
 
 -- ---- states beside a book
 
@@ -267,9 +267,9 @@ module _ (y : Layout) (z : Fitting y) {img : List ℕ} (τ : Trace y img) where
 
     -- And it stays so until the take is signed itself, whatever else is signed meanwhile: with the volume ready, no parcel makes it fall that
     -- is sent later either.
-    pub never-falls : (i j v t : ℕ) → i ≤ j → Unsigned y (unpack y img) steps t i j → ReadyGroup y (stateAfter y (unpack y img) steps i) v → Grounded (stateAfter y (unpack y img) steps i) v t
+    pub never-rolls : (i j v t : ℕ) → i ≤ j → Unsigned y (unpack y img) steps t i j → ReadyGroup y (stateAfter y (unpack y img) steps i) v → Grounded (stateAfter y (unpack y img) steps i) v t
         → Stands y (stateAfter y (unpack y img) steps j) t
-    never-falls i j v t h others before g =
+    never-rolls i j v t h others before g =
         beside-stands z (well-after j) (ran j .rel) t (beside-after i j t h others (grounded-beside z (well-after i) (ran i .rel) before g))
 
     -- For a volume that is ready, and where "the next step is no signing, it must still be ready afterwards", refused or not.
@@ -349,28 +349,20 @@ module _ (y : Layout) (z : Fitting y) where
     calls-beside τ (one-more k w p) before = call-beside (on-trace τ k) w p (calls-beside τ k before)
 
     -- And of the fact: no parcel of that session makes the take fall, until it is signed itself or the session is begun anew.
-    pub never-falls-calls : {img after : List ℕ} → Trace y img → Leaving y img t after → (v : ℕ) → ReadyGroup y (unpack y img) v → Grounded (unpack y img) v t → Stands y (unpack y after) t
-    never-falls-calls τ k v before g =
+    pub never-rolls-calls : {img after : List ℕ} → Trace y img → Leaving y img t after → (v : ℕ) → ReadyGroup y (unpack y img) v → Grounded (unpack y img) v t → Stands y (unpack y after) t
+    never-rolls-calls τ k v before g =
         let r = grown z τ .holds in
         let q = grown z (on-trace τ k) .holds in
         beside-stands z (q .well) (q .rel) t (calls-beside τ k (grounded-beside z (r .well) (r .rel) before g))
-
--- calls that sign nothing leave every take unsigned
-pub waiting-leaves : {y : Layout} {img after : List ℕ} (t : ℕ) → Waiting y img after → Leaving y img t after
-waiting-leaves t none = none
-waiting-leaves t (one-more k w p) = one-more (waiting-leaves t k) (record {
-  goes-on = w .goes-on;
-  unsigned = λ list o start end lent e f i a b s. w .unsigned list o start end lent e f i a b (s .kind);
-}) p
 
 -- At the ledger's own layout: no hypothesis but the trace.
 module _ {img : List ℕ} (τ : Trace base img) where
   pub cannot-fall-base : (steps : List ℕ) → Octets steps → (i v t : ℕ) → Grounded (stateAfter base (unpack base img) steps i) v t → Stands base (stateAfter base (unpack base img) steps i) t
   cannot-fall-base = cannot-fall base fitting-base τ
 
-  pub never-falls-base : (steps : List ℕ) → Octets steps → (i j v t : ℕ) → i ≤ j → Unsigned base (unpack base img) steps t i j → ReadyGroup base (stateAfter base (unpack base img) steps i) v
+  pub never-rolls-base : (steps : List ℕ) → Octets steps → (i j v t : ℕ) → i ≤ j → Unsigned base (unpack base img) steps t i j → ReadyGroup base (stateAfter base (unpack base img) steps i) v
       → Grounded (stateAfter base (unpack base img) steps i) v t → Stands base (stateAfter base (unpack base img) steps j) t
-  never-falls-base = never-falls base fitting-base τ
+  never-rolls-base = never-rolls base fitting-base τ
 
   pub still-ready-base : (steps : List ℕ) → Octets steps → (i v : ℕ) → ReadyGroup base (stateAfter base (unpack base img) steps i) v
       → (stepAt steps i .kind ≡ sign → ⊥) → ReadyGroup base (stateAfter base (unpack base img) steps (suc i)) v
@@ -380,9 +372,9 @@ module _ {img : List ℕ} (τ : Trace base img) where
       → ReadyGroup base (stateAfter base (unpack base img) steps j) v
   still-ready-steps-base = still-ready-steps base fitting-base τ
 
-  pub never-falls-calls-base : (t : ℕ) {after : List ℕ} → Leaving base img t after → (v : ℕ) → ReadyGroup base (unpack base img) v → Grounded (unpack base img) v t
+  pub never-rolls-calls-base : (t : ℕ) {after : List ℕ} → Leaving base img t after → (v : ℕ) → ReadyGroup base (unpack base img) v → Grounded (unpack base img) v t
       → Stands base (unpack base after) t
-  never-falls-calls-base t = never-falls-calls base fitting-base t τ
+  never-rolls-calls-base t = never-rolls-calls base fitting-base t τ
 
   pub still-ready-calls-base : {after : List ℕ} → Waiting base img after → (v : ℕ) → ReadyGroup base (unpack base img) v → ReadyGroup base (unpack base after) v
   still-ready-calls-base k v = still-ready-calls base fitting-base v τ k

@@ -24,7 +24,7 @@ use Rattle.maps.specs.View.{mapView}
 use Rattle.maps.proofs.View.{view-some, view-empty}
 use Rattle.rules.specs.Layout.{Layout, Fitting}
 use Rattle.rules.specs.State.{Transactor, State, noTransactor, transactorAt, ownHistory, live}
-use Rattle.rules.specs.State as state
+use Rattle.rules.specs.Status as number
 use Rattle.rules.specs.Form.{wellFormed}
 use Rattle.rules.specs.declared.Step.{Step}
 use Rattle.rules.specs.Step.{stepAt, sign}
@@ -39,7 +39,7 @@ use Rattle.rules.specs.Internal.Well.{StepOk, Known, TransactorFormed, not-open
 use Rattle.rules.proofs.Pack.RoundTrip.{unpack-pack}
 use Rattle.rules.proofs.Keep.Run.{stepOk-at}
 use Rattle.rules.proofs.Keep.Step.{keeps, keeps-after}
-use Rattle.session.specs.Provenance.{Status, unused, ready, busy, annihilated, statusNumber, Live, idle, working, Holder, Provenance}
+use Rattle.session.specs.Provenance.{Status, unused, idle, busy, annihilated, statusNumber, Live, is-idle, is-busy, Holder, Provenance}
 use Rattle.session.specs.Grounds.{from-start, from-noted, from-list, Ground, in-state, in-creation, RestsOn, Present, CheckpointedNow, SupersededOrAnnihilated, neither, StablePresent, Equal}
 use Rattle.session.specs.Grounds as grounds
 use Rattle.session.specs.Steps.{isNil, anew, rolledBackHolder, ProvenanceStep, refuses, applies, signing, not-ready}
@@ -68,7 +68,7 @@ use Rattle.session.proofs.Waiting.{signs-exactly, ready-on, ready-rule,
 use Rattle.session.proofs.Resting.{ground-live, rests-ground, rests-present, resting-exactly, rests-trans, through-exactly}
 use Rattle.session.proofs.Turns.{Keeps, Turns, kept-all, Past, passed, vanished, past-on, past-all, Turn, turn, turn-because, Fate, kept, lost, fate-on}
 use Rattle.session.proofs.Turns as turns
-use Rattle.session.proofs.Falling.{fell, fell-past, present-not-past, Alone, signed-others, alone}
+use Rattle.session.proofs.Falling.{rolled, rolled-past, present-not-past, Alone, checkpointed-others, alone}
 use Rattle.session.proofs.Reached.{related, well}
 
 -- ---- withdrawn, by the book
@@ -90,8 +90,8 @@ spoilt l b r {u} {t} {a} rests w v n ok = go (settled l b r v ok u n t a rests)
 
 not-used : (s : Status) → (Live s → ⊥) → (s ≡ unused → ⊥) → s ≡ annihilated
 not-used unused n m = absurd (m refl)
-not-used ready n m = absurd (n idle)
-not-used busy n m = absurd (n working)
+not-used idle n m = absurd (n is-idle)
+not-used busy n m = absurd (n is-busy)
 not-used annihilated n m = refl
 
 module _ {y : Layout} {s : State} (w : WellFormed y s) {b : Provenance} (r : Rel (view s) b) where
@@ -146,8 +146,8 @@ module _ {y : Layout} {s : State} (w : WellFormed y s) {b : Provenance} (r : Rel
       go (inr k) = vanished (not-used (b .holders t .status) k (ground-used g))
 
 -- a life without a list has nothing signed before it
-none-signed : {a c : Incarnation} → c .checkpoints ≡ [] → Checkpointed a c → ⊥
-none-signed {a} e (begins r q) = go (a .checkpoints) (sym e ∙ q)
+none-checkpointed : {a c : Incarnation} → c .checkpoints ≡ [] → Checkpointed a c → ⊥
+none-checkpointed {a} e (begins r q) = go (a .checkpoints) (sym e ∙ q)
   where
     go : (l : List ℕ) → [] ≡ l ++ a .number ∷ r → ⊥
     go [] q = let z : _≡_ {A = ℕ} 0 1 = cc in omega arith
@@ -158,8 +158,8 @@ module _ {b c : Provenance} {u : ℕ} (e : b .holders u ≡ c .holders u) {a : I
   present-as : Present b u a → Present c u a
   present-as q = record { live = subst (λ (h : Holder). Live (h .status)) e (q .live); is = subst (λ (h : Holder). a ≡ h .history .incarnation) e (q .is) }
 
-  signed-as : CheckpointedNow b u a → CheckpointedNow c u a
-  signed-as q = record { live = subst (λ (h : Holder). Live (h .status)) e (q .live); is = subst (λ (h : Holder). Checkpointed a (h .history .incarnation)) e (q .is) }
+  checkpointed-as : CheckpointedNow b u a → CheckpointedNow c u a
+  checkpointed-as q = record { live = subst (λ (h : Holder). Live (h .status)) e (q .live); is = subst (λ (h : Holder). Checkpointed a (h .history .incarnation)) e (q .is) }
 
   stable-as : {v : ℕ} → StablePresent b v u a → StablePresent c v u a
   stable-as q = record { named = q .named; present = present-as (q .present); stable = subst (λ (h : Holder). h .history .stable ≡ true) e (q .stable) }
@@ -393,7 +393,7 @@ module _ {y : Layout} (z : Fitting y) {img : List ℕ} {τ : Trace y img} {s : S
     status-of after q u l = live-test (transactorAt after u .status) .1 (rw (q .holders u .status) l)
 
     there : Live (b .holders t .status)
-    there = fell (well z k) (related z k) p (ok .message) w .0
+    there = rolled (well z k) (related z k) p (ok .message) w .0
 
     rel-after : Rel (view (stepOf y s p .state)) c
     rel-after =
@@ -401,7 +401,7 @@ module _ {y : Layout} (z : Fitting y) {img : List ℕ} {τ : Trace y img} {s : S
         subst (λ (d : Provenance). Rel (view (stepOf y s p .state)) d) (provenance-determined (q .step) taken) (q .rel)
 
     life-past : Past (c .holders t) (b .holders t .history .incarnation)
-    life-past = fell-past (well z k) (keeps z (well z k) ok) (related z k) rel-after (fell (well z k) (related z k) p (ok .message) w .1)
+    life-past = rolled-past (well z k) (keeps z (well z k) ok) (related z k) rel-after (rolled (well z k) (related z k) p (ok .message) w .1)
 
     only-t : Alone b c t
     only-t = alone (view s) b (related z k) y p t there taken life-past
@@ -437,12 +437,12 @@ module _ {y : Layout} (z : Fitting y) {img : List ℕ} {τ : Trace y img} {s : S
 
     -- ---- just those of `through` are spoilt by it
 
-    fell-back : c .holders t ≡ rolledBackHolder t (b .holders t)
-    fell-back = go (turn (view s) b (related z k) y p (ok .message) taken t) life-past
+    rolled-back : c .holders t ≡ rolledBackHolder t (b .holders t)
+    rolled-back = go (turn (view s) b (related z k) y p (ok .message) taken t) life-past
       where
         new-mark : Past (anew t (checkpointedView (b .holders t .history))) (b .holders t .history .incarnation) → ⊥
         new-mark (passed l q) = superseded-not-checkpointed q (checkpointed-checkpoint (b .holders t .history .incarnation))
-        new-mark (vanished e) = turns.dead-live e idle
+        new-mark (vanished e) = turns.dead-live e is-idle
 
         go : Turn Unit t (b .holders t) (c .holders t) → Past (c .holders t) (b .holders t .history .incarnation) → c .holders t ≡ rolledBackHolder t (b .holders t)
         go (turns.stays e) q = absurd (present-not-past there (subst (λ (h : Holder). Past h (b .holders t .history .incarnation)) e q))
@@ -452,13 +452,13 @@ module _ {y : Layout} (z : Fitting y) {img : List ℕ} {τ : Trace y img} {s : S
         go (turns.opens e) q = absurd (live-used there e)
 
     -- what was signed of it stays signed
-    signed-on : {a : Incarnation} → CheckpointedNow b t a → CheckpointedNow c t a
+    checkpointed-on : {a : Incarnation} → CheckpointedNow b t a → CheckpointedNow c t a
     unfolding rolledBackHolder
-    signed-on {a} q =
+    checkpointed-on {a} q =
         let P : Holder → Type 0 = λ h. Live (h .status) × Checkpointed a (h .history .incarnation) in
-        let e = subst P (sym fell-back) (pick-view P (isNil (b .holders t .history .incarnation .checkpoints)) _ _
-        (λ e. absurd (none-signed (isNil-true (b .holders t .history .incarnation .checkpoints) e) (q .is)))
-        (λ e. (idle, checkpointed-up (q .is) (precedes-next (b .holders t .history .incarnation))))) in
+        let e = subst P (sym rolled-back) (pick-view P (isNil (b .holders t .history .incarnation .checkpoints)) _ _
+        (λ e. absurd (none-checkpointed (isNil-true (b .holders t .history .incarnation .checkpoints) e) (q .is)))
+        (λ e. (is-idle, checkpointed-up (q .is) (precedes-next (b .holders t .history .incarnation))))) in
         record { live = e .0; is = e .1 }
 
     -- a life of take t that is not signed afterwards was its present one, or withdrawn before
@@ -467,11 +467,11 @@ module _ {y : Layout} (z : Fitting y) {img : List ℕ} {τ : Trace y img} {s : S
       where
         go : Dec (a ≡ b .holders t .history .incarnation) → Spoilt b x ⊎ RestsThrough b t x
         go (yes e) = inr (via itself (subst (RestsOn b x t) e rests))
-        go (no m) = inl (on-withdrawn rests (neither (λ q. m (q .is)) (λ q. n (signed-on q))))
+        go (no m) = inl (on-withdrawn rests (neither (λ q. m (q .is)) (λ q. n (checkpointed-on q))))
 
     withdrawn-same : {u : ℕ} {a : Incarnation} → t ≢ u → SupersededOrAnnihilated c u a → SupersededOrAnnihilated b u a
     withdrawn-same {u} n (grounds.gone e) = grounds.gone (ap (λ (h : Holder). h .status) (sym (only-t .others u n)) ∙ e)
-    withdrawn-same {u} n (neither q r) = let e = sym (only-t .others u n) in neither (λ m. q (present-as e m)) (λ m. r (signed-as e m))
+    withdrawn-same {u} n (neither q r) = let e = sym (only-t .others u n) in neither (λ m. q (present-as e m)) (λ m. r (checkpointed-as e m))
 
     spoilt-before : {x : ℕ} → t ≢ x → Spoilt c x → Spoilt b x ⊎ RestsThrough b t x
     spoilt-before {x} n (on-withdrawn {u = u} {a = a} rests q) = go (ℕ-discrete t u)
@@ -530,13 +530,13 @@ module _ {y : Layout} (z : Fitting y) {img : List ℕ} {τ : Trace y img} {s : S
 
     -- ---- the volumes without take t
 
-    signed-back : {a : Incarnation} → CheckpointedNow c t a → CheckpointedNow b t a
+    checkpointed-back : {a : Incarnation} → CheckpointedNow c t a → CheckpointedNow b t a
     unfolding rolledBackHolder
-    signed-back {a} q =
+    checkpointed-back {a} q =
         let P : Holder → Type 0 = λ h. Live (h .status) → Checkpointed a (h .history .incarnation) → Checkpointed a (b .holders t .history .incarnation) in
         record {
           live = there;
-          is = subst P (sym fell-back) (pick-view P (isNil (b .holders t .history .incarnation .checkpoints)) _ _ (λ e l m. absurd (turns.dead-live refl l)) (λ e l m. same-list m)) (q .live) (q .is);
+          is = subst P (sym rolled-back) (pick-view P (isNil (b .holders t .history .incarnation .checkpoints)) _ _ (λ e l m. absurd (turns.dead-live refl l)) (λ e l m. same-list m)) (q .live) (q .is);
         }
       where
         same-list : Checkpointed a (nextIncarnation (b .holders t .history .incarnation)) → Checkpointed a (b .holders t .history .incarnation)
@@ -550,16 +550,16 @@ module _ {y : Layout} (z : Fitting y) {img : List ℕ} {τ : Trace y img} {s : S
       settled-back {u} {a} (inl q) = inl (go (ℕ-discrete t u))
         where
           go : Dec (t ≡ u) → CheckpointedNow b u a
-          go (yes e) = subst (λ (x : ℕ). CheckpointedNow b x a) e (signed-back (subst (λ (x : ℕ). CheckpointedNow c x a) (sym e) q))
-          go (no n) = signed-as (only-t .others u n) q
+          go (yes e) = subst (λ (x : ℕ). CheckpointedNow b x a) e (checkpointed-back (subst (λ (x : ℕ). CheckpointedNow c x a) (sym e) q))
+          go (no n) = checkpointed-as (only-t .others u n) q
       settled-back {u} (inr q) = inr (stable-as (only-t .others u (apart (q .named))) q)
 
       settled-on : {u : ℕ} {a : Incarnation} → Settled b v u a → Settled c v u a
       settled-on {u} {a} (inl q) = inl (go (ℕ-discrete t u))
         where
           go : Dec (t ≡ u) → CheckpointedNow c u a
-          go (yes e) = subst (λ (x : ℕ). CheckpointedNow c x a) e (signed-on (subst (λ (x : ℕ). CheckpointedNow b x a) (sym e) q))
-          go (no n) = signed-as (sym (only-t .others u n)) q
+          go (yes e) = subst (λ (x : ℕ). CheckpointedNow c x a) e (checkpointed-on (subst (λ (x : ℕ). CheckpointedNow b x a) (sym e) q))
+          go (no n) = checkpointed-as (sym (only-t .others u n)) q
       settled-on {u} (inr q) = inr (stable-as (sym (only-t .others u (apart (q .named)))) q)
 
       -- The fall makes no difference to a volume that does not name take t: its two sets are equal after it exactly if they were before.
@@ -574,7 +574,7 @@ module _ {y : Layout} (z : Fitting y) {img : List ℕ} {τ : Trace y img} {s : S
     no-signing : {d : Provenance} → ProvenanceStep y b p d → Past (d .holders t) (b .holders t .history .incarnation) → p .kind ≡ sign → ⊥
     no-signing (refuses q) past i = present-not-past there past
     no-signing (applies q n) past i = n i
-    no-signing (signing q i e) past j = signed-others (view s) b (related z k) y p t there (p .message) past
+    no-signing (signing q i e) past j = checkpointed-others (view s) b (related z k) y p t there (p .message) past
     no-signing (not-ready q i e) past j = present-not-past there past
 
     limits-same : {d : Provenance} → ProvenanceStep y b p d → b .limits ≡ d .limits
@@ -585,7 +585,7 @@ module _ {y : Layout} (z : Fitting y) {img : List ℕ} {τ : Trace y img} {s : S
 
     unfrozen : c .holders t .history .stable ≡ false
     unfolding rolledBackHolder
-    unfrozen = subst (λ (h : Holder). h .history .stable ≡ false) (sym fell-back)
+    unfrozen = subst (λ (h : Holder). h .history .stable ≡ false) (sym rolled-back)
         (pick-view (λ (h : Holder). h .history .stable ≡ false) (isNil (b .holders t .history .incarnation .checkpoints)) _ _ (λ e. refl) (λ e. refl))
 
     -- a volume that is ready after it does not name take t
@@ -705,10 +705,10 @@ module _ {y : Layout} (z : Fitting y) {img : List ℕ} (τ : Trace y img) {b : P
       let f = pick-zero (wrongLength y img) 16 _ (omega arith) e in
       let g = pick-zero (not (wellFormed y img)) 19 _ (omega arith) (f .1) in
       let h = pick-zero (leb (unpack y img .opened) t) 21 _ (omega arith) (g .1) in
-      let i = pick-zero (eqb (transactorAt (unpack y img) t .status) state.annihilated) 22 0 (omega arith) (h .1) in
-      go (live-or-not (b .holders t .status)) (leb-false (unpack y img .opened) t (h .0)) (eqb-false (transactorAt (unpack y img) t .status) state.annihilated (i .0))
+      let i = pick-zero (eqb (transactorAt (unpack y img) t .status) number.annihilated) 22 0 (omega arith) (h .1) in
+      go (live-or-not (b .holders t .status)) (leb-false (unpack y img .opened) t (h .0)) (eqb-false (transactorAt (unpack y img) t .status) number.annihilated (i .0))
     where
-      go : Live (b .holders t .status) ⊎ (Live (b .holders t .status) → ⊥) → t < unpack y img .opened → (transactorAt (unpack y img) t .status ≡ state.annihilated → ⊥) → Live (b .holders t .status)
+      go : Live (b .holders t .status) ⊎ (Live (b .holders t .status) → ⊥) → t < unpack y img .opened → (transactorAt (unpack y img) t .status ≡ number.annihilated → ⊥) → Live (b .holders t .status)
       go (inl k) l n = k
       go (inr k) l n = absurd (n (matches-rel well-here related-here t .status ∙ ap statusNumber (not-used (b .holders t .status) k (opened-used t l))))
 

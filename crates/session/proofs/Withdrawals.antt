@@ -17,7 +17,7 @@ use Rattle.session.specs.Provenance.{Live, Provenance}
 use Rattle.session.specs.Steps.{ProvenanceStep}
 use Rattle.session.specs.Trace.{Trace}
 use Rattle.session.specs.Point.{StepIn, Point}
-use Rattle.session.specs.Withdrawal.{Withdraws, falls-back, vanishes, Spoilt, Doomed, FellIn, fell-back, vanished-in, Withdrawal}
+use Rattle.session.specs.Withdrawal.{Withdraws, rolls-back, vanishes, Spoilt, Doomed, RolledBackIn, rolled-back, vanished-in, Withdrawal}
 use Rattle.session.specs.Meanings.{DependentsMean}
 use Rattle.session.proofs.Run.{first-packReply}
 use Rattle.session.proofs.Points.{Taken, step-taken}
@@ -36,7 +36,7 @@ module _ {y : Layout} (z : Fitting y) {img : List ℕ} {τ : Trace y img} {s s' 
   taken : Taken y s b p reply s'
   taken = step-taken z k
 
-  withdraws : {t : ℕ} → FellIn reply t → Withdraws y s p t
+  withdraws : {t : ℕ} → RolledBackIn reply t → Withdraws y s p t
   withdraws {t} f = go f
     where
       fits : ReplyOk (stepOf y s p .reply)
@@ -48,12 +48,12 @@ module _ {y : Layout} (z : Fitting y) {img : List ℕ} {τ : Trace y img} {s s' 
       transactor : getD reply 1 0 ≡ stepOf y s p .reply .transactor
       transactor = ap (λ (l : List ℕ). getD l 1 0) (taken .given) ∙ second-packReply (stepOf y s p .reply) (fits .outcome) (fits .transactor)
 
-      go : FellIn reply t → Withdraws y s p t
-      go (fell-back e q) = falls-back (sym outcome ∙ e) (sym transactor ∙ q)
+      go : RolledBackIn reply t → Withdraws y s p t
+      go (rolled-back e q) = rolls-back (sym outcome ∙ e) (sym transactor ∙ q)
       go (vanished-in e q) = vanishes (sym outcome ∙ e) (sym transactor ∙ q)
 
   -- The book after the step, and what is said of the fall.
-  pub withdrawal : {t : ℕ} → FellIn reply t → (c : Provenance) × ProvenanceStep y b p c × Withdrawal y s b s' c t
+  pub withdrawal : {t : ℕ} → RolledBackIn reply t → (c : Provenance) × ProvenanceStep y b p c × Withdrawal y s b s' c t
   withdrawal {t} f =
       let j = step-point y z k in
       let ok = taken .ok in
@@ -75,7 +75,7 @@ module _ {y : Layout} (z : Fitting y) {img : List ℕ} {τ : Trace y img} {s s' 
 
 -- At the ledger's own layout: no hypothesis but the trace.
 pub withdrawal-base : {img : List ℕ} {τ : Trace base img} {s s' : State} {b : Provenance} {p : Step} {reply : List ℕ} → StepIn base img τ s b p reply s'
-    → {t : ℕ} → FellIn reply t → (c : Provenance) × ProvenanceStep base b p c × Withdrawal base s b s' c t
+    → {t : ℕ} → RolledBackIn reply t → (c : Provenance) × ProvenanceStep base b p c × Withdrawal base s b s' c t
 withdrawal-base k = withdrawal fitting-base k
 
 -- ---- at every point: who rests on a take, and what is spoilt

@@ -38,7 +38,7 @@ pub record Demand3 (y : Layout) (img : List ℕ) (τ : Trace y img) : Type 1 whe
       × (Equal b (p .message) → s' ≡ checkpointGroup y s (p .message))
       × ((Equal b (p .message) → ⊥) → s' ≡ s)
   -- "After the list the live takes and their own marks in the image are the book's": and so they are at every point of it.
-  pub takes-match : {s : State} {b : Provenance} → Point y img τ s b → Matches s b
+  pub transactors-match : {s : State} {b : Provenance} → Point y img τ s b → Matches s b
   -- "Hence at no point of the list does a text signed since the last accepted begin rest, through any chain, on a withdrawn life."
   pub never-withdrawn : {s : State} {b : Provenance} → Point y img τ s b → Sound b
   -- None is left out: every step of every accepted run is a StepIn, with some book before it.

@@ -10,7 +10,7 @@ use Rattle.octets.specs.Bytes.{pick, _and_, part, Octets}
 use Rattle.rules.specs.Layout.{Layout, Limits, inRange}
 use Rattle.rules.specs.Step.{stepAt}
 use Rattle.rules.specs.Refusals.{groupBits}
-use Rattle.rules.specs.Groups.{signing}
+use Rattle.rules.specs.Groups.{signingRefusal}
 -- both are about the caller's list alone
 use Rattle.rules.specs.Calls.{wrongPart, stepsIn}
 use Rattle.session.specs.Provenance.{annihilated, statusNumber, Provenance, emptyProvenance, isMissing}
@@ -51,7 +51,7 @@ callRefusal y b (smallest t) = provenanceQueryRefusal b t
 callRefusal y b (heard t) = provenanceQueryRefusal b t
 callRefusal y b (counts n) = pick (not (leb 1 n and leb n groupBits)) 34 0
 callRefusal y b (depends t) = provenanceQueryRefusal b t
-callRefusal y b (hinders v) = provenanceRefusal y b (signing v)
+callRefusal y b (hinders v) = signingRefusal (provenanceRefusal y b) v
 callRefusal y b (blocks t) = provenanceQueryRefusal b t
 callRefusal y b (show n) = pick (isMissing n (b .messages)) 24 0
 

@@ -30,19 +30,19 @@ one t a = record { transactor = t; incarnation = a } ∷ []
 
 -- unused, idle, at work, vanished
 pub data Status : Type 0 where
-  unused ready busy annihilated : Status
+  unused idle busy annihilated : Status
 
 -- the number of a status
 abbrev pub statusNumber : Status → ℕ
 statusNumber unused = number.unused
-statusNumber ready = number.ready
+statusNumber idle = number.idle
 statusNumber busy = number.busy
 statusNumber annihilated = number.annihilated
 
 -- "live takes are idle or at work"
 pub data Live : Status → Type 0 where
-  idle : Live ready
-  working : Live busy
+  is-idle : Live idle
+  is-busy : Live busy
 
 -- "A live take has its present mark and three sets of lives (each with its take)".
 pub record Holder : Type 0 where

@@ -7,7 +7,7 @@ use Rattle.marks.specs.Incarnation.{Incarnation, initialIncarnation}
 use Rattle.rules.specs.Layout.{Limits}
 use Rattle.rules.specs.declared.Step.{Step}
 use Rattle.rules.specs.Step.{read, freeze, finish, fail}
-use Rattle.session.specs.Provenance.{Incarnations, one, Status, ready, Holder, Provenance, emptyProvenance}
+use Rattle.session.specs.Provenance.{Incarnations, one, Status, idle, Holder, Provenance, emptyProvenance}
 use Rattle.session.specs.Steps.{signs}
 use Rattle.session.specs.Play.{aRoot, aLetter, aReceive, aNew, aSend, aWrite, aStep, aSign, wideProvenance, played}
 
@@ -119,7 +119,7 @@ pastedProvenance state creation = record {
   limits = wideProvenance .limits;
   opened = 2;
   next = 1;
-  holders = λ t. child ready false incarnation0 state creation [];
+  holders = λ t. child idle false incarnation0 state creation [];
   messages = record { number = 0; addressee = 0; incarnations = one 1 incarnation1 } ∷ [];
   noted = λ t a u c. ⊥;
 }

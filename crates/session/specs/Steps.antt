@@ -12,13 +12,13 @@ use Rattle.rules.specs.Layout.{Layout}
 use Rattle.rules.specs.declared.Step.{Step}
 use Rattle.rules.specs.Step.{root, letter, receive, new, send, read, write, freeze, finish, fall, lose, sign}
 use Rattle.rules.specs.Refusals.{Seen, named, refusalOf}
-use Rattle.session.specs.Provenance.{Incarnations, one, ready, busy, annihilated, statusNumber, Holder, WaitingMessage, Provenance, blank, withHolder, withOpened, withWaitingMessage, withoutWaitingMessage, find, isMissing, anySuperseded}
+use Rattle.session.specs.Provenance.{Incarnations, one, idle, busy, annihilated, statusNumber, Holder, WaitingMessage, Provenance, blank, withHolder, withOpened, withWaitingMessage, withoutWaitingMessage, find, isMissing, anySuperseded}
 use Rattle.session.specs.Unrelated.{isUnrelatedTo}
 use Rattle.session.specs.Grounds.{RestsOn, Equal}
 
 -- a take with the mark m: its life in state, the rest empty, idle
 abbrev pub anew : ℕ → HistoryView → Holder
-anew t m = record { status = ready; history = m; state = one t (m .incarnation); creation = []; behaviour = [] }
+anew t m = record { status = idle; history = m; state = one t (m .incarnation); creation = []; behaviour = [] }
 
 -- what is sent: "the sender's creation, behaviour and own life"
 abbrev pub carried : ℕ → Holder → Incarnations
@@ -58,7 +58,7 @@ freezes h = record {
 
 -- "Done, and a held fall, empty behaviour."
 unfoldable pub finishes : Holder → Holder
-finishes h = record { status = ready; history = h .history; state = h .state; creation = h .creation; behaviour = [] }
+finishes h = record { status = idle; history = h .history; state = h .state; creation = h .creation; behaviour = [] }
 
 -- Fall: "unfrozen: the take falls"; a held one empties behaviour.
 unfoldable pub rollsBackOrFinishes : ℕ → Holder → Holder
@@ -125,7 +125,7 @@ unfoldable pub opensChild : Provenance → ℕ → Provenance
 opensChild b t =
     let h : Holder = b .holders t in
     let c : ℕ = b .opened in
-    let child : Holder = record { status = ready; history = initialView; state = one c (initialView .incarnation); creation = carried t h; behaviour = [] } in
+    let child : Holder = record { status = idle; history = initialView; state = one c (initialView .incarnation); creation = carried t h; behaviour = [] } in
     let opener : Holder = record { status = h .status; history = h .history; state = h .state; creation = h .creation; behaviour = one c (initialView .incarnation) ++ h .behaviour } in
     withOpened (withHolder b t opener) child
 
@@ -162,7 +162,7 @@ provenanceSeen b = record {
   incarnation = λ t. b .holders t .history .incarnation .number;
   missing = λ n. isMissing n (b .messages);
   addressee = λ n. find n (b .messages) .addressee;
-  falls = λ n.
+  rolls = λ n.
       not (isDropped (b .holders (find n (b .messages) .addressee)) (find n (b .messages)))
       and isRolledBack (b .holders (find n (b .messages) .addressee)) (find n (b .messages));
   unrelated = λ n. isUnrelatedTo (b .holders (find n (b .messages) .addressee)) (find n (b .messages));

@@ -34,14 +34,14 @@ pub record Grounded (s : State) (v t : ℕ) : Type 0 where
   pub creation : (u : ℕ) → (u ≡ t → ⊥) → heldAt (transactorAt s t .creation) u ≡ true → entryReady s v u (historyAt (transactorAt s t .creation) u) ≡ true
 
 -- the replies to a receipt by which the addressee falls: outcomes 3 and 4; and 28, where it would fall from the largest life number
-pub data Falls : ℕ → Type 0 where
-  falls-back : Falls fallenBack
-  vanishes : Falls vanished
-  falls-last : Falls 28
+pub data Rolls : ℕ → Type 0 where
+  rolls-back : Rolls fallenBack
+  vanishes : Rolls vanished
+  rolls-last : Rolls 28
 
 -- "can't be made to fall by any parcel of that session": no receipt of a parcel addressed to take t has such a reply
 abbrev pub Stands : Layout → State → ℕ → Type 0
-Stands y s t = (p : Step) → p .kind ≡ receive → messageAt s (placeOf s (p .message)) .addressee ≡ t → Falls (stepOf y s p .reply .outcome) → ⊥
+Stands y s t = (p : Step) → p .kind ≡ receive → messageAt s (placeOf s (p .message)) .addressee ≡ t → Rolls (stepOf y s p .reply .outcome) → ⊥
 
 -- ---- lists of steps and of calls without a signing
 

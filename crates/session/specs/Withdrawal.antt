@@ -28,7 +28,7 @@ use Rattle.session.specs.Waiting.{ReadyGroup}
 
 -- step p makes take t fall: outcome 3 or 4, with t the take acted on
 pub data Withdraws (y : Layout) (s : State) (p : Step) (t : ℕ) : Type 0 where
-  falls-back : stepOf y s p .reply .outcome ≡ fallenBack → stepOf y s p .reply .transactor ≡ t → Withdraws y s p t
+  rolls-back : stepOf y s p .reply .outcome ≡ fallenBack → stepOf y s p .reply .transactor ≡ t → Withdraws y s p t
   vanishes : stepOf y s p .reply .outcome ≡ vanished → stepOf y s p .reply .transactor ≡ t → Withdraws y s p t
 
 -- any further steps from state s on, signings among them, refused ones included; a step is what some eight bytes hold
@@ -64,9 +64,9 @@ SmallestIn y s u a = Smallest y (pack y s) u a
 -- ---- a step of a session by which a take falls
 
 -- its eight bytes of reply say that take t fell: outcome 3 or 4, with t the take acted on
-pub data FellIn (reply : List ℕ) (t : ℕ) : Type 0 where
-  fell-back : outcomeIn reply ≡ fallenBack → getD reply 1 0 ≡ t → FellIn reply t
-  vanished-in : outcomeIn reply ≡ vanished → getD reply 1 0 ≡ t → FellIn reply t
+pub data RolledBackIn (reply : List ℕ) (t : ℕ) : Type 0 where
+  rolled-back : outcomeIn reply ≡ fallenBack → getD reply 1 0 ≡ t → RolledBackIn reply t
+  vanished-in : outcomeIn reply ≡ vanished → getD reply 1 0 ≡ t → RolledBackIn reply t
 
 -- What the two queries say of it: s and b, the ledger's state and the book just before the step; s' and c, just after it.
 pub record Withdrawal (y : Layout) (s : State) (b : Provenance) (s' : State) (c : Provenance) (t : ℕ) : Type 1 where

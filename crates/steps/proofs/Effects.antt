@@ -16,19 +16,19 @@ use Rattle.rules.specs.Rules.{Effect, isSome, known, unchanged, renewed, rollba
 use Rattle.rules.specs.Internal.Guards.{isLastIncarnation}
 use Rattle.transactor.specs.Internal.Effects.{rollbackOr28, actBy, takenIn, acceptBy}
 use Rattle.rules.proofs.ByKind.Outcomes.{local-small}
-use Rattle.rules.proofs.ByKind.Refused.{localRefusal}
+use Rattle.rules.proofs.ByKind.Refused.{localIn}
 
 -- what a fall answers
-record Fell (e : Effect) : Type 0 where
+record RolledBack (e : Effect) : Type 0 where
   small : e .outcome < 20
   some : e .outcome ≡ done → ⊥
   silent : e .value ≡ 0
 
-fell : (y : Layout) (t : ℕ) (x : Transactor) → Fell (rollback y t x)
+rolled : (y : Layout) (t : ℕ) (x : Transactor) → RolledBack (rollback y t x)
 unfolding rollback
-fell y t x = go (eqb (ownHistory t x .count) 0)
+rolled y t x = go (eqb (ownHistory t x .count) 0)
   where
-    go : (c : Bool) → Fell (pick c (record { outcome = vanished; value = 0; transactor = bare y annihilated }) (record { outcome = fallenBack; value = 0; transactor = renewed y t (rolledBack (ownHistory t x)) (x .saved) (x .saved) }))
+    go : (c : Bool) → RolledBack (pick c (record { outcome = vanished; value = 0; transactor = bare y annihilated }) (record { outcome = fallenBack; value = 0; transactor = renewed y t (rolledBack (ownHistory t x)) (x .saved) (x .saved) }))
     go true = record { small = omega arith; some = λ e. omega arith; silent = refl }
     go false = record { small = omega arith; some = λ e. omega arith; silent = refl }
 
@@ -46,7 +46,7 @@ module _ {r : ℕ} {x : Transactor} {l e : Effect} where
   judged-applied (refused n a b) h = absurd (omega arith)
   judged-applied (applied n a b) h = (a, b)
 
-pub act-judged : (y : Layout) (k t v : ℕ) (x : Transactor) → Judged (localRefusal y k t x) x (localBy y k t v x) (actBy y k t v x)
+pub act-judged : (y : Layout) (k t v : ℕ) (x : Transactor) → Judged (localIn y k t x) x (localBy y k t v x) (actBy y k t v x)
 unfolding actBy
 act-judged y k t v x =
     go (eqb (x .status) annihilated) (leb k fall and not (eqb (x .status) busy)) ((eqb k fall or eqb k fail) and not (ownHistory t x .stable) and isLastIncarnation y t x) (localBy y k t v x) (omega (arith, local-small y t x k v))
@@ -66,9 +66,9 @@ pub receipt-judged : (y : Layout) (t : ℕ) (x : Transactor) (p : Message)
     → Judged (pick (messageUnrelated y x p) 31 (pick ((not (messageSuperseded y x p) and receiverSuperseded y x p) and isLastIncarnation y t x) 28 0)) x (receiveBy y t x p) (answering (p .value) (acceptBy y t x (p .dependences)))
 unfolding acceptBy takenIn rollbackOr28 messageUnrelated messageSuperseded receiverSuperseded receiveBy
 receipt-judged y t x p =
-    go (anyUnrelated (y .transactors) (p .dependences) (known y x)) (isSome (firstSuperseded (y .transactors) (p .dependences) (known y x))) (isSome (firstSuperseded (y .transactors) (known y x) (p .dependences))) (isLastIncarnation y t x) (rollback y t x) (fell y t x)
+    go (anyUnrelated (y .transactors) (p .dependences) (known y x)) (isSome (firstSuperseded (y .transactors) (p .dependences) (known y x))) (isSome (firstSuperseded (y .transactors) (known y x) (p .dependences))) (isLastIncarnation y t x) (rollback y t x) (rolled y t x)
   where
-    go : (u a b c : Bool) (e : Effect) → Fell e
+    go : (u a b c : Bool) (e : Effect) → RolledBack e
         → Judged (pick u 31 (pick ((not a and b) and c) 28 0)) x (pick a (unchanged dropped x) (pick b e (record { outcome = done; value = p .value; transactor = taken y t x (p .dependences) })))
         (answering (p .value) (pick u (unchanged 31 x) (pick a (unchanged dropped x) (pick b (pick c (unchanged 28 x) e) (unchanged done (taken y t x (p .dependences)))))))
     go true a b c e f = refused (omega arith) refl refl

@@ -5,6 +5,7 @@ use mathlib.Core.Path.{_≡_, refl, sym, ap, _∙_}
 use mathlib.Core.List.{List}
 use native.Mathlib.Omega.{arith}
 use lib.Dec.{leb}
+use lib.ListN.{length}
 use borrow.Author.Tests.{le-leb, lt-leb, not-true, not-false}
 use Rattle.octets.specs.Bytes.{pick}
 use Rattle.octets.specs.Numbers.{bound}
@@ -19,7 +20,7 @@ use Rattle.rules.specs.Rules.{noDependences, carried, groupReady, checkpointGro
 use Rattle.rules.specs.Pack.{packTransactor, unpackTransactor, waitingIn, pack, unpack}
 use Rattle.rules.specs.Internal.Good.{Good}
 use Rattle.steps.specs.Internal.Stepped.{Stepped, Asked}
-use Rattle.rules.specs.Internal.Guards.{busyRefusal, crowdedRefusal, groupRefusal}
+use Rattle.rules.specs.Internal.Guards.{busyRefusal, roomRefusal, busyIn, roomIn, groupIn}
 use Rattle.transactor.specs.Internal.Effects.{openBytes, adopts}
 use Rattle.rules.proofs.Pack.Stores.{withTransactor-many}
 use Rattle.rules.proofs.Pack.Loads.{unpack-many, unpack-waiting}
@@ -29,12 +30,20 @@ use Rattle.rules.proofs.ByKind.Refused.{refusal-malformed, Refuses, refuses}
 use Rattle.rules.proofs.ByKind.Applied.{applies}
 use Rattle.steps.proofs.Stepped.{stepped-refused, stepped-applied}
 
--- not crowded: a place and a number are free for one more message, with no map or with what a take carries
-module _ (img : List ℕ) (n to : ℕ) (good : Good img) (w : n ≡ waitingIn base img) (z : crowdedRefusal (unpack base img) ≡ 0) (small : to < 16) where
+-- what the image says, asked for 21 to 23 and for 26 and 27
+pub busy-in : (img : List ℕ) (r n t status : ℕ) → r ≡ busyRefusal n t status → n ≡ unpack base img .opened → status ≡ transactorAt (unpack base img) t .status → r ≡ busyIn (unpack base img) t
+busy-in img r n t status e p q = e ∙ λ i. busyRefusal (p i) t (q i)
+
+pub room-in : (img : List ℕ) (r most n next : ℕ) → r ≡ roomRefusal most n next → most ≡ unpack base img .limits .messages → n ≡ waitingIn base img → next ≡ unpack base img .next
+    → r ≡ roomIn (unpack base img)
+room-in img r most n next e p q k = e ∙ λ i. roomRefusal (p i) ((q ∙ sym (unpack-waiting base img)) i) (k i)
+
+-- room: a place and a number are free for one more message, with no map or with what a take carries
+module _ (img : List ℕ) (n to : ℕ) (good : Good img) (w : n ≡ waitingIn base img) (z : roomIn (unpack base img) ≡ 0) (small : to < 16) where
   pub free-place : Good img × (n ≡ waitingIn base img) × (n < base .messages) × (to < 16) × (unpack base img .next < lastNumber)
   unfolding bound
   free-place =
-      let f = free (unpack base img) z in
+      let f = free (unpack base img .limits .messages) (length (unpack base img .messages)) (unpack base img .next) z in
       (good, w, omega (arith, unpack-waiting base img, f .room, good .well .limits .messages-high), small, omega (arith, good .well .packable .next, f .number))
 
   pub free-place-for : (t : ℕ) → t < base .transactors
@@ -73,13 +82,13 @@ module _ (img : List ℕ) (p : Step) where
     letter-unopened r h = stepped-refused img p r (a .good) 21 (refused-by a .letter (a .kind) ∙ rw (le-leb (s .opened) (p .transactor) h)) (λ z. omega arith)
 
     module _ (h : p .transactor < s .opened) where
-      letter-left : refusal base s p ≡ crowdedRefusal s
+      letter-left : refusal base s p ≡ roomIn s
       letter-left = refused-by a .letter (a .kind) ∙ rw (lt-leb (s .opened) (p .transactor) h)
 
-      pub letter-crowded : (r : Reply) → (crowdedRefusal s ≡ 0 → ⊥) → r ≡ answer (crowdedRefusal s) 0 0 0 → Stepped img p r img
-      letter-crowded r = stepped-refused img p r (a .good) (crowdedRefusal s) letter-left
+      pub letter-full : (r : Reply) → (roomIn s ≡ 0 → ⊥) → r ≡ answer (roomIn s) 0 0 0 → Stepped img p r img
+      letter-full r = stepped-refused img p r (a .good) (roomIn s) letter-left
 
-      pub letter-done : crowdedRefusal s ≡ 0 → (number : ℕ) (after : List ℕ) → number ≡ s .next → after ≡ pack base (withMessage s (p .transactor) (p .value) (noDependences base))
+      pub letter-done : roomIn s ≡ 0 → (number : ℕ) (after : List ℕ) → number ≡ s .next → after ≡ pack base (withMessage s (p .transactor) (p .value) (noDependences base))
           → Stepped img p (answer done (p .transactor) number 0) after
       unfolding applyLetter
       letter-done z number after e i = stepped-applied img p (answer done (p .transactor) number 0) after (applyLetter base s p) (letter-left ∙ z) (applies base s p .letter (a .kind))
@@ -96,20 +105,20 @@ module _ (img : List ℕ) (p : Step) where
     send-unopened r h = stepped-refused img p r (a .good) 21 (refused-by a .send (a .kind) ∙ rw (le-leb (s .opened) (p .other) h)) (λ z. omega arith)
 
     module _ (h : p .other < s .opened) where
-      send-first : refusal base s p ≡ first (busyRefusal s (p .transactor)) (crowdedRefusal s)
+      send-first : refusal base s p ≡ first (busyIn s (p .transactor)) (roomIn s)
       send-first = refused-by a .send (a .kind) ∙ rw (lt-leb (s .opened) (p .other) h)
 
-      pub send-idle : (r : Reply) → (busyRefusal s (p .transactor) ≡ 0 → ⊥) → r ≡ answer (busyRefusal s (p .transactor)) 0 0 0 → Stepped img p r img
-      send-idle r n = stepped-refused img p r (a .good) (busyRefusal s (p .transactor)) (send-first ∙ first-taken (busyRefusal s (p .transactor)) (crowdedRefusal s) _ refl n) n
+      pub send-idle : (r : Reply) → (busyIn s (p .transactor) ≡ 0 → ⊥) → r ≡ answer (busyIn s (p .transactor)) 0 0 0 → Stepped img p r img
+      send-idle r n = stepped-refused img p r (a .good) (busyIn s (p .transactor)) (send-first ∙ first-taken (busyIn s (p .transactor)) (roomIn s) _ refl n) n
 
-      module _ (works : busyRefusal s (p .transactor) ≡ 0) where
-        send-left : refusal base s p ≡ crowdedRefusal s
-        send-left = send-first ∙ first-left (busyRefusal s (p .transactor)) (crowdedRefusal s) _ refl works
+      module _ (works : busyIn s (p .transactor) ≡ 0) where
+        send-left : refusal base s p ≡ roomIn s
+        send-left = send-first ∙ first-left (busyIn s (p .transactor)) (roomIn s) _ refl works
 
-        pub send-crowded : (r : Reply) → (crowdedRefusal s ≡ 0 → ⊥) → r ≡ answer (crowdedRefusal s) 0 0 0 → Stepped img p r img
-        send-crowded r = stepped-refused img p r (a .good) (crowdedRefusal s) send-left
+        pub send-full : (r : Reply) → (roomIn s ≡ 0 → ⊥) → r ≡ answer (roomIn s) 0 0 0 → Stepped img p r img
+        send-full r = stepped-refused img p r (a .good) (roomIn s) send-left
 
-        pub send-done : crowdedRefusal s ≡ 0 → (number : ℕ) (after : List ℕ) → number ≡ s .next
+        pub send-done : roomIn s ≡ 0 → (number : ℕ) (after : List ℕ) → number ≡ s .next
             → after ≡ pack base (withMessage s (p .other) (p .value) (carried base (p .transactor) (transactorAt s (p .transactor))))
             → Stepped img p (answer done (p .transactor) number 0) after
         unfolding applySend
@@ -120,12 +129,12 @@ module _ (img : List ℕ) (p : Step) where
   -- ---- new
 
   module _ (a : Asked new img p) where
-    pub new-idle : (r : Reply) → (busyRefusal s (p .transactor) ≡ 0 → ⊥) → r ≡ answer (busyRefusal s (p .transactor)) 0 0 0 → Stepped img p r img
-    new-idle r n = stepped-refused img p r (a .good) (busyRefusal s (p .transactor)) (refused-by a .new (a .kind) ∙ first-taken (busyRefusal s (p .transactor)) _ _ refl n) n
+    pub new-idle : (r : Reply) → (busyIn s (p .transactor) ≡ 0 → ⊥) → r ≡ answer (busyIn s (p .transactor)) 0 0 0 → Stepped img p r img
+    new-idle r n = stepped-refused img p r (a .good) (busyIn s (p .transactor)) (refused-by a .new (a .kind) ∙ first-taken (busyIn s (p .transactor)) _ _ refl n) n
 
-    module _ (works : busyRefusal s (p .transactor) ≡ 0) where
+    module _ (works : busyIn s (p .transactor) ≡ 0) where
       new-left : refusal base s p ≡ pick (leb (s .limits .transactors) (s .opened)) 25 0
-      new-left = refused-by a .new (a .kind) ∙ first-left (busyRefusal s (p .transactor)) _ _ refl works
+      new-left = refused-by a .new (a .kind) ∙ first-left (busyIn s (p .transactor)) _ _ refl works
 
       pub new-full : (r : Reply) → s .limits .transactors ≤ s .opened → r ≡ answer 25 0 0 0 → Stepped img p r img
       new-full r h = stepped-refused img p r (a .good) 25 (new-left ∙ rw (le-leb (s .limits .transactors) (s .opened) h)) (λ z. omega arith)
@@ -160,13 +169,13 @@ module _ (img : List ℕ) (p : Step) where
   -- ---- sign
 
   module _ (a : Asked sign img p) where
-    sign-refusal : refusal base s p ≡ groupRefusal s (p .message)
+    sign-refusal : refusal base s p ≡ groupIn s (p .message)
     sign-refusal = refused-by a .sign (a .kind)
 
-    pub sign-refused : (r : Reply) → (groupRefusal s (p .message) ≡ 0 → ⊥) → r ≡ answer (groupRefusal s (p .message)) 0 0 0 → Stepped img p r img
-    sign-refused r = stepped-refused img p r (a .good) (groupRefusal s (p .message)) sign-refusal
+    pub sign-refused : (r : Reply) → (groupIn s (p .message) ≡ 0 → ⊥) → r ≡ answer (groupIn s (p .message)) 0 0 0 → Stepped img p r img
+    sign-refused r = stepped-refused img p r (a .good) (groupIn s (p .message)) sign-refusal
 
-    module _ (z : groupRefusal s (p .message) ≡ 0) where
+    module _ (z : groupIn s (p .message) ≡ 0) where
       pub sign-unready : (r : Reply) → not (groupReady base s (p .message)) ≡ true → r ≡ answer notReady 0 0 0 → Stepped img p r img
       unfolding applySign
       sign-unready r g q = stepped-applied img p r img (applySign base s p) (sign-refusal ∙ z) (applies base s p .sign (a .kind)) (q ∙ rw (not-true (groupReady base s (p .message)) g)) (sym (a .good .back) ∙ rw (not-true (groupReady base s (p .message)) g))

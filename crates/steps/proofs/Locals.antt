@@ -17,7 +17,7 @@ use Rattle.rules.specs.Internal.Good.{Good}
 use Rattle.transactor.specs.Internal.Effects.{Acts, actBy}
 use Rattle.steps.specs.Internal.Stepped.{Stepped}
 use Rattle.transactor.proofs.Lent.{lent, back, unpack-lent, lent-after, lent-same}
-use Rattle.rules.proofs.ByKind.Refused.{localRefusal, refuses}
+use Rattle.rules.proofs.ByKind.Refused.{localIn, refuses}
 use Rattle.steps.proofs.Effects.{Judged, judged-refused, judged-applied, act-judged}
 use Rattle.rules.proofs.ByKind.Applied.{applies}
 use Rattle.steps.proofs.Stepped.{stepped-refused, stepped-applied}
@@ -45,10 +45,10 @@ module _ (img : List ℕ) (p : Step) (good : Good img) (formed : malformed p ≡
     acted : Acts effect o v bs
     acted = rw (unpack-lent base img t within) at acts
 
-    left : refusal base s p ≡ localRefusal base (p .kind) t x
+    left : refusal base s p ≡ localIn base (p .kind) t x
     left = refuses base s p formed .local low high ∙ rw (lt-leb (s .opened) t h)
 
-    judged : Judged (localRefusal base (p .kind) t x) x (localBy base (p .kind) t (p .value) x) effect
+    judged : Judged (localIn base (p .kind) t x) x (localBy base (p .kind) t (p .value) x) effect
     judged = act-judged base (p .kind) t (p .value) x
 
     pub local-refused : (r : Reply) → 20 ≤ o → r ≡ answer o 0 0 0 → Stepped img p r (back base img t bs)

@@ -9,7 +9,7 @@ use lib.ListN.{length}
 use borrow.Author.Tests.{le-leb, lt-leb, eq-eqb, ne-eqb}
 use Rattle.octets.specs.Bytes.{pick, _and_}
 use Rattle.rules.specs.Layout.{base}
-use Rattle.rules.specs.Status.{ready, annihilated}
+use Rattle.rules.specs.Status.{idle, annihilated}
 use Rattle.rules.specs.State.{Transactor, Message, State, transactorAt, messageAt, withTransactor, withoutMessage, placeOf}
 use Rattle.rules.specs.declared.Step.{Step}
 use Rattle.rules.specs.declared.Reply.{Reply}
@@ -20,8 +20,9 @@ use Rattle.rules.specs.Internal.Well.{WellFormed}
 use Rattle.rules.specs.Internal.Good.{Good}
 use Rattle.transactor.specs.Internal.Effects.{ActsAt, acceptBy}
 use Rattle.steps.specs.Internal.Stepped.{Stepped, Asked}
-use Rattle.rules.specs.Internal.Guards.{isLastIncarnation}
+use Rattle.rules.specs.Internal.Guards.{isLastIncarnation, receiverRefusal}
 use Rattle.transactor.proofs.Accepting.{kept-at}
+use Rattle.rules.proofs.ByKind.Guards.{first-taken, receiver-first}
 use Rattle.rules.proofs.ByKind.Refused.{refuses}
 use Rattle.steps.proofs.Effects.{Judged, judged-refused, judged-applied, answering, receipt-judged}
 use Rattle.rules.proofs.ByKind.Applied.{applies}
@@ -42,18 +43,18 @@ module _ (o v text : ℕ) where
   text-none n q = rw (ne-eqb o done n) q
 
 -- take t falls from its last life by the parcel in place k
-abbrev lastFalls : State → ℕ → ℕ → Bool
-lastFalls s k t =
+abbrev lastRolls : State → ℕ → ℕ → Bool
+lastRolls s k t =
     (not (messageSuperseded base (transactorAt s t) (messageAt s k)) and receiverSuperseded base (transactorAt s t) (messageAt s k))
     and isLastIncarnation base t (transactorAt s t)
 
 -- why take t, being idle, does not receive it
 abbrev refusalFor : State → ℕ → ℕ → ℕ
-refusalFor s k t = pick (messageUnrelated base (transactorAt s t) (messageAt s k)) 31 (pick (lastFalls s k t) 28 0)
+refusalFor s k t = pick (messageUnrelated base (transactorAt s t) (messageAt s k)) 31 (pick (lastRolls s k t) 28 0)
 
 -- why take t does not receive it
 abbrev refusalTo : State → ℕ → ℕ → ℕ
-refusalTo s k t = pick (eqb (transactorAt s t .status) annihilated) 22 (pick (not (eqb (transactorAt s t .status) ready)) 23 (refusalFor s k t))
+refusalTo s k t = pick (eqb (transactorAt s t .status) annihilated) 22 (pick (not (eqb (transactorAt s t .status) idle)) 23 (refusalFor s k t))
 
 -- the parcel named stands in place k, or nowhere
 module _ (img : List ℕ) (p : Step) (a : Asked receive img p) (k : ℕ) (place : k ≡ placeOf (unpack base img) (p .message)) where
@@ -79,8 +80,8 @@ module _ {img : List ℕ} {p : Step} {k t : ℕ} (found : Found img p k t) where
   abbrev x : Transactor
   x = transactorAt s t
 
-  abbrev parcel : Message
-  parcel = messageAt s k
+  abbrev message : Message
+  message = messageAt s k
 
   good : Good img
   good = found .asked .good
@@ -91,29 +92,28 @@ module _ {img : List ℕ} {p : Step} {k t : ℕ} (found : Found img p k t) where
   found-refusal : refusal base s p ≡ refusalTo s k t
   found-refusal = rw (found .to) (receive-refusal img p (found .asked) k (found .place) ∙ rw (lt-leb (length (s .messages)) k waits))
 
-  pub receive-gone : (r : Reply) → x .status ≡ annihilated → r ≡ answer 22 0 0 0 → Stepped img p r img
-  receive-gone r e = stepped-refused img p r good 22 (found-refusal ∙ rw (eq-eqb (x .status) annihilated e)) (λ z. omega arith)
-
-  pub receive-busy : (r : Reply) → (x .status ≡ annihilated → ⊥) → (x .status ≡ ready → ⊥) → r ≡ answer 23 0 0 0 → Stepped img p r img
-  receive-busy r e f = stepped-refused img p r good 23 (found-refusal ∙ rw (ne-eqb (x .status) annihilated e, ne-eqb (x .status) ready f)) (λ z. omega arith)
+  -- 22 or 23
+  pub receive-status : (r : Reply) (n : ℕ) → n ≡ receiverRefusal (x .status) → (n ≡ 0 → ⊥) → r ≡ answer n 0 0 0 → Stepped img p r img
+  receive-status r n e h = stepped-refused img p r good n
+      (found-refusal ∙ sym (receiver-first (x .status) (refusalFor s k t)) ∙ first-taken (receiverRefusal (x .status)) (refusalFor s k t) n e h) h
 
   abbrev received : Effect
-  received = receiveBy base t x parcel
+  received = receiveBy base t x message
 
   receive-applies : apply base s p ≡ record { reply = answer (received .outcome) t (p .message) (received .value); state = withoutMessage (withTransactor s t (received .transactor)) k }
   unfolding applyReceive
   receive-applies = applies base s p .receive (found .asked .kind) ∙ rw (found .to, found .place)
 
   abbrev taken : Effect
-  taken = acceptBy base t x (parcel .dependences)
+  taken = acceptBy base t x (message .dependences)
 
   -- the addressee is idle
-  module _ (idle : x .status ≡ ready) {o v : ℕ} {after : List ℕ} (acts : ActsAt img t taken o v after) where
+  module _ (idle : x .status ≡ idle) {o v : ℕ} {after : List ℕ} (acts : ActsAt img t taken o v after) where
     receive-left : refusal base s p ≡ refusalFor s k t
     receive-left = found-refusal ∙ rw idle
 
-    judged : Judged (refusalFor s k t) x received (answering (parcel .value) taken)
-    judged = receipt-judged base t x parcel
+    judged : Judged (refusalFor s k t) x received (answering (message .value) taken)
+    judged = receipt-judged base t x message
 
     -- 31 or 28
     pub receive-refused : (r : Reply) → 20 ≤ o → r ≡ answer o 0 0 0 → Stepped img p r after
@@ -129,7 +129,7 @@ module _ {img : List ℕ} {p : Step} {k t : ℕ} (found : Found img p k t) where
       accepts : refusal base s p ≡ 0
       accepts = receive-left ∙ judged-applied judged small .0
 
-      same : answering (parcel .value) taken ≡ received
+      same : answering (message .value) taken ≡ received
       same = judged-applied judged small .1
 
       abbrev changed : State
@@ -155,7 +155,7 @@ module _ {img : List ℕ} {p : Step} {k t : ℕ} (found : Found img p k t) where
       unfolding withTransactor
       receive-waiting = ap (waitingIn base) (acts .image) ∙ waiting-pack base changed (well-changed .packable) ∙ unpack-waiting base img
 
-      pub receive-done : (end : List ℕ) (value : ℕ) → value ≡ pick (eqb o done) (parcel .value) 0 → end ≡ pack base (withoutMessage (unpack base after) k)
+      pub receive-done : (end : List ℕ) (value : ℕ) → value ≡ pick (eqb o done) (message .value) 0 → end ≡ pack base (withoutMessage (unpack base after) k)
           → Stepped img p (answer o t (p .message) value) end
       receive-done end value q i = stepped-applied img p (answer o t (p .message) value) end _ accepts receive-applies
           (rw (← same, ← (acts .outcome)) (ap (λ (n : ℕ). answer o t (p .message) n) q))

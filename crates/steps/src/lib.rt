@@ -6,27 +6,26 @@ use image::layout::TRANSACTOR;
 use image::limits;
 use image::messages;
 use lists::fields;
+use lists::refusals;
 use maps::DependenceMap;
 use rules::Reply;
 use rules::Step;
 use rules::numbers;
 use transactor::receipt;
 ghost use mathlib.Core.Path.{_≡_};
-ghost use mathlib.Core.Bool.{true, false, not};
-ghost use Prim.Native.Nat.{_+_, _≤_, _<_};
+ghost use mathlib.Core.Bool.{false};
+ghost use Prim.Native.Nat.{_≤_, _<_};
 ghost use lib.ListN.{length};
-ghost use lib.Dec.{eqb};
-ghost use Rattle.octets.specs.Bytes.{_or_};
 ghost use Rattle.maps.specs.Internal.Fitting.{Bounded};
 ghost use Rattle.rules.specs.Layout.{base, imageBytes};
 ghost use Rattle.rules.specs.Step.{root, letter, receive, new, send, lose, sign};
-ghost use Rattle.rules.specs.Refusals as refusals;
+ghost use Rattle.rules.specs.Refusals.{malformed};
 ghost use Rattle.rules.specs.Rules.{answer};
 ghost use Rattle.rules.specs.Pack.{waitingIn, unpack};
 ghost use Rattle.rules.specs.Internal.Well.{StepOk};
 ghost use Rattle.rules.specs.Internal.Good.{Good};
 ghost use Rattle.steps.specs.Internal.Stepped.{Stepped, Asked};
-ghost use Rattle.rules.specs.Internal.Guards.{busyRefusal, crowdedRefusal};
+ghost use Rattle.rules.specs.Internal.Guards.{busyIn, roomIn};
 ghost use Rattle.transactor.specs.Internal.Effects.{openBytes};
 
 // A reply that is an outcome or a refusal alone.
@@ -43,31 +42,18 @@ fn answered(number: u8) -> Reply
 
 // ---- 21 to 23, 26, 27
 
-fn busy_refusal(image: &[u8], t: usize) -> u8
-    requires { ⌜ Good (now image) × (t < base .transactors) ⌝ }
-    ensures { λ r. ⌜ r ≡ busyRefusal (unpack base (now (image .entry))) t ⌝ }
+fn busy_refusal(image: &[u8], t: u8) -> u8
+    requires { ⌜ (length (now image) ≡ imageBytes base) × (t < base .transactors) ⌝ }
+    ensures { λ r. ⌜ r ≡ busyIn (unpack base (now (image .entry))) t ⌝ }
 {
-    let r = head::refusal(image, t);
-    if r != 0 {
-        return r;
-    }
-    if head::status(image, t) != numbers::BUSY {
-        return numbers::WRONG_STATUS;
-    }
-    0
+    refusals::busy(head::opened(image), t, head::status(image, t as usize))
 }
 
-fn crowded(image: &[u8], n: usize) -> u8
+fn room_refusal(image: &[u8], n: usize) -> u8
     requires { ⌜ (length (now image) ≡ imageBytes base) × (n ≡ waitingIn base (now image)) ⌝ }
-    ensures { λ r. ⌜ r ≡ crowdedRefusal (unpack base (now (image .entry))) ⌝ }
+    ensures { λ r. ⌜ r ≡ roomIn (unpack base (now (image .entry))) ⌝ }
 {
-    if limits::messages(image) as usize <= n {
-        return numbers::ALL_WAITING;
-    }
-    if head::next(image) == lists::limits::LAST_NUMBER {
-        return numbers::ALL_NUMBERED;
-    }
-    0
+    refusals::room(limits::messages(image) as usize, n, head::next(image))
 }
 
 // ---- the kinds
@@ -110,7 +96,7 @@ fn letter(image: &mut [u8], p: Step) -> Reply
         return answered(numbers::UNOPENED);
     }
     let n = messages::waiting(image);
-    let r = crowded(image, n);
+    let r = room_refusal(image, n);
     if r != 0 {
         return answered(r);
     }
@@ -134,18 +120,15 @@ fn receive(image: &mut [u8], p: Step) -> Reply
         return answered(numbers::NOT_WAITING);
     }
     let t = messages::addressee(image, k);
-    let st = head::status(image, t);
-    if st == numbers::ANNIHILATED {
-        return answered(numbers::GONE);
-    }
-    if st != numbers::READY {
-        return answered(numbers::WRONG_STATUS);
+    let r = refusals::receiver(head::status(image, t));
+    if r != 0 {
+        return answered(r);
     }
     let content = messages::content(image, k);
     let a = receipt::accept(image, t, k);
     let outcome = a.outcome;
     // 28 or 31: the message stays
-    if numbers::MALFORMED <= outcome {
+    if refusals::is_refusal(outcome) {
         return answered(outcome);
     }
     messages::remove(image, k, n);
@@ -163,7 +146,7 @@ fn new(image: &mut [u8], p: Step) -> Reply
     ensures { λ r. ⌜ Stepped (now (image .entry)) p r (now (image .exit)) ⌝ }
 {
     let t = p.transactor as usize;
-    let r = busy_refusal(image, t);
+    let r = busy_refusal(image, p.transactor);
     if r != 0 {
         return answered(r);
     }
@@ -193,12 +176,12 @@ fn send(image: &mut [u8], p: Step) -> Reply
     if head::opened(image) <= to {
         return answered(numbers::UNOPENED);
     }
-    let w = busy_refusal(image, t);
+    let w = busy_refusal(image, p.transactor);
     if w != 0 {
         return answered(w);
     }
     let n = messages::waiting(image);
-    let r = crowded(image, n);
+    let r = room_refusal(image, n);
     if r != 0 {
         return answered(r);
     }
@@ -214,7 +197,7 @@ fn send(image: &mut [u8], p: Step) -> Reply
 
 // Kinds 5 to 10.
 fn local(image: &mut [u8], p: Step) -> Reply
-    requires { ⌜ Good (now image) × StepOk p × (refusals.malformed p ≡ false) × (5 ≤ p .kind) × (p .kind ≤ 10) ⌝ }
+    requires { ⌜ Good (now image) × StepOk p × (malformed p ≡ false) × (5 ≤ p .kind) × (p .kind ≤ 10) ⌝ }
     ensures { λ r. ⌜ Stepped (now (image .entry)) p r (now (image .exit)) ⌝ }
 {
     let t = p.transactor as usize;
@@ -225,7 +208,7 @@ fn local(image: &mut [u8], p: Step) -> Reply
     let end = at + TRANSACTOR;
     let a = transactor::act(&mut image[at..end], p.kind, t, p.value);
     let outcome = a.outcome;
-    if numbers::MALFORMED <= outcome {
+    if refusals::is_refusal(outcome) {
         return answered(outcome);
     }
     Reply {

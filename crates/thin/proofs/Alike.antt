@@ -43,12 +43,12 @@ alike-wide {x = x} {z = z} a d' e = subst (λ (c : Bool). Alike c x z) e a
 -- ---- states
 
 -- with other takes
-abbrev pub withTakes : State → List Transactor → State
-withTakes s l = record { limits = s .limits; opened = s .opened; next = s .next; transactors = l; messages = s .messages }
+abbrev pub withTransactors : State → List Transactor → State
+withTransactors s l = record { limits = s .limits; opened = s .opened; next = s .next; transactors = l; messages = s .messages }
 
 -- d t: the behaviour map of take t may be another
 pub data Related (d : ℕ → Bool) (a : State) : State → Type 0 where
-  related : {l : List Transactor} → length (a .transactors) ≡ length l → ((t : ℕ) → Alike (d t) (transactorAt a t) (getD l t noTransactor)) → Related d a (withTakes a l)
+  related : {l : List Transactor} → length (a .transactors) ≡ length l → ((t : ℕ) → Alike (d t) (transactorAt a t) (getD l t noTransactor)) → Related d a (withTransactors a l)
 
 pub related-self : (d : ℕ → Bool) (a : State) → Related d a a
 unfolding transactorAt
@@ -62,7 +62,7 @@ related-none {d} {a} (related {l} many each) off =
     sym (tabulate-getD (a .transactors) noTransactor (length l) many)
     ∙ tabulate-same (length l) (λ t. getD (a .transactors) t noTransactor) (λ t. getD l t noTransactor) (λ t h. alike-off (each t) (off t))
     ∙ tabulate-getD l noTransactor (length l) refl in
-    λ i. withTakes a (e i)
+    λ i. withTransactors a (e i)
 
 pub related-wide : {d : ℕ → Bool} {a b : State} → Related d a b → (d' : ℕ → Bool) → ((t : ℕ) → d t ≡ d' t) → Related d' a b
 related-wide (related many each) d' h = related many (λ t. alike-wide (each t) (d' t) (h t))
@@ -86,7 +86,7 @@ seen-same y {a = a} (related {l} many each) = λ i. record {
   incarnation = λ t. alike-on (λ x. ownHistory t x .incarnation) (λ x n. refl) (each t) i;
   missing = seen y a .missing;
   addressee = seen y a .addressee;
-  falls = λ n. alike-on
+  rolls = λ n. alike-on
       (λ x. not (isSome (firstSuperseded (y .transactors) (messageAt a (placeOf a n) .dependences) (known y x)))
       and isSome (firstSuperseded (y .transactors) (known y x) (messageAt a (placeOf a n) .dependences)))
       (λ x m. refl) (each (messageAt a (placeOf a n) .addressee)) i;
@@ -126,7 +126,7 @@ related-without (related many each) k = related many each
 
 -- takes made anew
 pub related-table : {d : ℕ → Bool} {a b : State} → Related d a b → (d' : ℕ → Bool) (n : ℕ) (f g : ℕ → Transactor) → ((t : ℕ) → Alike (d' t) (f t) (g t))
-    → Related d' (withTakes a (tabulate n f)) (withTakes b (tabulate n g))
+    → Related d' (withTransactors a (tabulate n f)) (withTransactors b (tabulate n g))
 unfolding transactorAt
 related-table (related many each) d' n f g h = related {l = tabulate n g} (length-tabulate f n ∙ sym (length-tabulate g n)) (λ t. ⊎-elim
     (λ (b : t < n). rw (getD-tabulate f n t noTransactor b, getD-tabulate g n t noTransactor b) (h t))

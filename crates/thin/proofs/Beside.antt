@@ -14,14 +14,14 @@ use Rattle.marks.specs.Incarnation.{checkpointedIn, sameIncarnation}
 use Rattle.marks.specs.History.{incarnationOf, initialHistory}
 use Rattle.maps.specs.declared.DependenceMap.{DependenceMap}
 use Rattle.rules.specs.Layout.{Layout}
-use Rattle.rules.specs.Status.{ready, busy}
+use Rattle.rules.specs.Status.{idle, busy}
 use Rattle.rules.specs.State.{Transactor, Message, State, transactorAt, messageAt, ownHistory, live, withBehaviour, withTransactor, withMessage, numbered, placeOf}
 use Rattle.rules.specs.declared.Step.{Step}
 use Rattle.rules.specs.Step.{done, held, notReady, finish, fall, fail, sign}
 use Rattle.rules.specs.Refusals.{named}
 use Rattle.rules.specs.Rules.{Effect, Result, join, only, noDependences, carried, rollback, finishBy, fallBy, failBy, localBy, receiveBy, entryReady, mapReady, transactorReady, groupReady, checkpointBy, checkpointAt, checkpointGroup, answer, opening, opened, applyRoot, applyLetter, applyReceive, applyNew, applySend, applyLocal, applyLose, applySign}
 use Rattle.thin.specs.Thin.{empties}
-use Rattle.thin.proofs.Alike.{Alike, same, differing, alike-on, alike-idle, alike-wide, Related, related, withTakes, related-wide, related-at, related-set, related-opened, related-message, related-without, related-table}
+use Rattle.thin.proofs.Alike.{Alike, same, differing, alike-on, alike-idle, alike-wide, Related, related, withTransactors, related-wide, related-at, related-set, related-opened, related-message, related-without, related-table}
 
 pub record Beside (d : ℕ → Bool) (r r' : Result) : Type 0 where
   pub reply : r .reply ≡ r' .reply
@@ -35,9 +35,9 @@ reset : {d : ℕ → Bool} {a b : State} → Related d a b → (d' : ℕ → Boo
 unfolding transactorAt
 reset {d} {a} (related {l} many each) d' t h e = related many (λ u. go u (ℕ-discrete u t))
   where
-    go : (u : ℕ) → Dec (u ≡ t) → Alike (d' u) (transactorAt a u) (transactorAt (withTakes a l) u)
+    go : (u : ℕ) → Dec (u ≡ t) → Alike (d' u) (transactorAt a u) (transactorAt (withTransactors a l) u)
     go u (no n) = alike-wide (each u) (d' u) (h u n)
-    go u (yes f) = alike-is (d' u) (ap (transactorAt a) f ∙ e ∙ ap (transactorAt (withTakes a l)) (sym f))
+    go u (yes f) = alike-is (d' u) (ap (transactorAt a) f ∙ e ∙ ap (transactorAt (withTransactors a l)) (sym f))
 
 -- ---- kind by kind
 
@@ -57,13 +57,13 @@ module _ (y : Layout) {d : ℕ → Bool} where
   unfolding applyLose placeOf numbered messageAt
   beside-lose {a} (related many each) p = record { reply = refl; state = related-without (related many each) (placeOf a (p .message)) }
 
-  pub beside-receive : {a b : State} → Related d a b → (p : Step) → transactorAt a (messageAt a (placeOf a (p .message)) .addressee) .status ≡ ready → Beside d (applyReceive y a p) (applyReceive y b p)
+  pub beside-receive : {a b : State} → Related d a b → (p : Step) → transactorAt a (messageAt a (placeOf a (p .message)) .addressee) .status ≡ idle → Beside d (applyReceive y a p) (applyReceive y b p)
   unfolding applyReceive placeOf numbered messageAt
   beside-receive {a} (related {l} many each) p r =
       let k : ℕ = placeOf a (p .message) in
       let q : Message = messageAt a k in
       let t : ℕ = q .addressee in
-      let e : transactorAt a t ≡ transactorAt (withTakes a l) t = alike-idle (related-at (related many each) t) (λ (f : transactorAt a t .status ≡ busy). omega arith) in
+      let e : transactorAt a t ≡ transactorAt (withTransactors a l) t = alike-idle (related-at (related many each) t) (λ (f : transactorAt a t .status ≡ busy). omega arith) in
       record {
         reply = ap (λ (x : Transactor). answer (receiveBy y t x q .outcome) t (p .message) (receiveBy y t x q .value)) e;
         state = related-without (related-set (related many each) d t _ _ (λ u n. refl) (alike-is (d t) (ap (λ (x : Transactor). receiveBy y t x q .transactor) e))) k;
@@ -92,7 +92,7 @@ module _ (y : Layout) {d : ℕ → Bool} (d' : ℕ → Bool) where
       let t : ℕ = p .transactor in
       record {
         reply = refl;
-        state = subst (λ (x : Transactor). Related d' (withMessage a (p .other) (p .value) (carried y t (transactorAt a t))) (withMessage (withTakes a l) (p .other) (p .value) (carried y t x))) e
+        state = subst (λ (x : Transactor). Related d' (withMessage a (p .other) (p .value) (carried y t (transactorAt a t))) (withMessage (withTransactors a l) (p .other) (p .value) (carried y t x))) e
             (related-message (reset (related many each) d' t h e) (p .other) (p .value) (carried y t (transactorAt a t)));
       }
 
@@ -129,17 +129,17 @@ module _ (y : Layout) {d : ℕ → Bool} {a b : State} (rel : Related d a b) (v 
   group-same = every-same _ _ (y .transactors) (λ t p. rw (take-same t))
 
   -- a named take is the same afterwards, any other as it was
-  signed-alike : (d' : ℕ → Bool) → ((t : ℕ) → named v t ≡ false → d t ≡ d' t) → (t : ℕ) → Alike (d' t) (checkpointAt y a v t) (checkpointAt y b v t)
+  checkpointed-alike : (d' : ℕ → Bool) → ((t : ℕ) → named v t ≡ false → d t ≡ d' t) → (t : ℕ) → Alike (d' t) (checkpointAt y a v t) (checkpointAt y b v t)
   unfolding checkpointAt checkpointBy
-  signed-alike d' h t = go (named v t) refl
+  checkpointed-alike d' h t = go (named v t) refl
     where
       go : (c : Bool) → named v t ≡ c → Alike (d' t) (pick c (checkpointBy y t (transactorAt a t)) (transactorAt a t)) (pick c (checkpointBy y t (transactorAt b t)) (transactorAt b t))
       go true e = alike-is (d' t) (alike-on (checkpointBy y t) (λ x n. refl) (related-at rel t))
       go false e = alike-wide (related-at rel t) (d' t) (h t e)
 
-  pub signed : (d' : ℕ → Bool) → ((t : ℕ) → named v t ≡ false → d t ≡ d' t) → Related d' (checkpointGroup y a v) (checkpointGroup y b v)
+  pub checkpointed : (d' : ℕ → Bool) → ((t : ℕ) → named v t ≡ false → d t ≡ d' t) → Related d' (checkpointGroup y a v) (checkpointGroup y b v)
   unfolding checkpointGroup
-  signed d' h = related-table rel d' (y .transactors) (checkpointAt y a v) (checkpointAt y b v) (signed-alike d' h)
+  checkpointed d' h = related-table rel d' (y .transactors) (checkpointAt y a v) (checkpointAt y b v) (checkpointed-alike d' h)
 
 pub beside-sign : (y : Layout) {d : ℕ → Bool} {a b : State} → Related d a b → (p : Step) (d' : ℕ → Bool)
     → (groupReady y a (p .message) ≡ true → (t : ℕ) → named (p .message) t ≡ false → d t ≡ d' t) → (groupReady y a (p .message) ≡ false → (t : ℕ) → d t ≡ d' t)
@@ -150,7 +150,7 @@ beside-sign y {d} {a} {b} rel p d' f g = rw (← group-same y rel (p .message)) 
     go : (c : Bool) → groupReady y a (p .message) ≡ c
         → Beside d' (pick c (record { reply = answer done 0 0 0; state = checkpointGroup y a (p .message) }) (record { reply = answer notReady 0 0 0; state = a }))
         (pick c (record { reply = answer done 0 0 0; state = checkpointGroup y b (p .message) }) (record { reply = answer notReady 0 0 0; state = b }))
-    go true e = record { reply = refl; state = signed y rel (p .message) d' (f e) }
+    go true e = record { reply = refl; state = checkpointed y rel (p .message) d' (f e) }
     go false e = record { reply = refl; state = related-wide rel d' (g e) }
 
 -- ---- what empties the behaviour map does not look at it

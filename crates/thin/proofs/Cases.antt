@@ -7,9 +7,9 @@ use Rattle.octets.specs.Bytes.{part, tabulate, every, any}
 use Rattle.octets.specs.Numbers.{be, ofBe}
 use Rattle.marks.specs.Incarnation.{sameList, beginsWith, strictPrefix, supersededBy, checkpointedIn, sameIncarnation}
 use Rattle.marks.specs.Relation.{byNumbers, byNextEntry, relationOf}
-use Rattle.marks.specs.History.{newerOf}
+use Rattle.marks.specs.History.{newerOf, isOlder}
 use Rattle.marks.specs.News.{showsStable, informed}
-use Rattle.maps.specs.Map.{emptyMap, withEntry, singleton, joinedHistory, joinedHeldAt, joinedHistoryAt, joinOf, supersededEntry, supersededAt, firstFrom, firstSuperseded, unrelatedEntry, unrelatedAt, anyFrom, anyUnrelated}
+use Rattle.maps.specs.Map.{emptyMap, withEntry, singleton, choosesRight, joinedHistory, joinedHeldAt, joinedHistoryAt, joinOf, supersededEntry, supersededAt, firstFrom, firstSuperseded, unrelatedEntry, unrelatedAt, anyUnrelated}
 use Rattle.maps.specs.News.{informedHistory, informedHistoryAt, informedOf}
 use Rattle.rules.specs.Layout.{Layout, widest}
 use Rattle.rules.specs.State.{transactorAt, messageAt, fresh, withTransactor, withOpened, withMessage, withoutMessage, placeFrom, numbered, placeOf}
@@ -71,7 +71,7 @@ pub record Cases : Type 0 where
   pub case-16 : Case 1 (word 5 0 0 0 0) (true ∷ []) (0 ∷ [])
 
 pub cases : Cases
-unfolding kept unused emptiedFrom outcomeAt touches empties notRefused stateAfter stepAt unpackStep part be ofBe fresh entryReady mapReady transactorReady groupReady checkpointBy checkpointAt checkpointGroup checkpointedIn sameIncarnation sameList beginsWith strictPrefix supersededBy byNumbers byNextEntry relationOf newerOf showsStable informed informedHistory informedHistoryAt informedOf emptyMap withEntry singleton joinedHistory joinedHeldAt joinedHistoryAt joinOf supersededEntry supersededAt firstFrom firstSuperseded unrelatedEntry unrelatedAt anyFrom anyUnrelated tabulate every transactorAt messageAt withTransactor withOpened withMessage withoutMessage placeFrom numbered placeOf any named anyNamed malformed notWaiting emptyGroup unopened isGone wrongStatus unrelatedReceipt allOpened allWaiting allNumbered allCheckpointed atLast lastRollsBack refusalOf rollback readBy writeBy freezeBy finishBy fallBy failBy localBy messageSuperseded receiverSuperseded messageUnrelated receiveBy receiptRollsBack receiptUnrelated seen refusal opened carried applyRoot applyLetter applyReceive applyNew applySend applyLocal applyLose applySign apply stepOf
+unfolding kept unused emptiedFrom outcomeAt touches empties notRefused stateAfter stepAt unpackStep part be ofBe fresh entryReady mapReady transactorReady groupReady checkpointBy checkpointAt checkpointGroup checkpointedIn sameIncarnation sameList beginsWith strictPrefix supersededBy byNumbers byNextEntry relationOf newerOf isOlder showsStable informed informedHistory informedHistoryAt informedOf emptyMap withEntry singleton choosesRight joinedHistory joinedHeldAt joinedHistoryAt joinOf supersededEntry supersededAt firstFrom firstSuperseded unrelatedEntry unrelatedAt anyUnrelated tabulate every transactorAt messageAt withTransactor withOpened withMessage withoutMessage placeFrom numbered placeOf any named anyNamed malformed notWaiting emptyGroup unopened isGone wrongStatus unrelatedReceipt allOpened allWaiting allNumbered allCheckpointed atLast lastRollsBack refusalOf rollback readBy writeBy freezeBy finishBy fallBy failBy localBy messageSuperseded receiverSuperseded messageUnrelated receiveBy receiptRollsBack receiptUnrelated seen refusal opened carried applyRoot applyLetter applyReceive applyNew applySend applyLocal applyLose applySign apply stepOf
 cases = record {
   case-1 = record { kept-are = refl; replied = refl };
   case-2 = record { kept-are = refl; replied = refl };

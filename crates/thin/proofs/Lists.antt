@@ -6,7 +6,7 @@ use mathlib.Core.List.{List, [], _∷_}
 use native.Mathlib.Decide.{ℕ-discrete}
 use native.Mathlib.Omega.{arith}
 use lib.Dec.{eqb}
-use borrow.Author.Tests.{eqb-true, eq-eqb, lt-ltb, le-ltb}
+use borrow.Author.Tests.{eqb-true, eq-eqb, lt-leb, le-leb}
 use Rattle.octets.specs.Bytes.{pick, _and_}
 use Rattle.octets.proofs.Zero.{both}
 use Rattle.rules.specs.Layout.{Layout}
@@ -22,12 +22,12 @@ use Rattle.rules.proofs.ByKind.Outcomes.{local-small, Judged, refused, applied,
 use Rattle.rules.proofs.Keep.Step.{applied-same}
 use Rattle.rules.proofs.Pack.Stores.{withTransactor-same}
 use Rattle.rules.proofs.Keep.Kinds.{lowest, highest}
-use Rattle.rules.proofs.Keep.Accepted.{Accepted, accepted, kind-known, receiver-ready, transactor-busy}
+use Rattle.rules.proofs.Keep.Accepted.{Accepted, accepted, kind-known, receiver-idle, transactor-busy}
 use Rattle.thin.specs.Thin.{notRefused, touches, empties}
 use Rattle.thin.proofs.Steps.{finalState, repliesTo, emptiedNext, unusedNext, keptOf, filtered}
 use Rattle.thin.proofs.Alike.{Alike, differing, alike-off, Related, related-none, related-wide, related-at, related-set, refusal-same}
 use Rattle.thin.proofs.Beside.{Beside, beside-root, beside-letter, beside-lose, beside-receive, beside-new, beside-send, beside-local, beside-sign, local-same}
-use Rattle.thin.proofs.Touches.{touch-none, touch-own, touch-other, touch-signed, touch-unsigned}
+use Rattle.thin.proofs.Touches.{touch-none, touch-own, touch-other, touch-checkpointed, touch-unsigned}
 
 -- ---- a kind that is not refused
 
@@ -93,7 +93,7 @@ module _ (y : Layout) (d d' : ℕ → Bool) {a b : State} (rel : Related d a b) 
   unfolding seen
   both-receive e f =
       let g : (u : ℕ) → d u ≡ d' u = λ u. untouched p (apply y a p .reply .outcome) d d' f u (touch-none p _ (rw e) (rw e) u) in
-      rw (applies y a p .receive e, applies y b p .receive e) (beside-receive y (related-wide rel d' g) p (receiver-ready ok (eq-eqb (p .kind) receive e)))
+      rw (applies y a p .receive e, applies y b p .receive e) (beside-receive y (related-wide rel d' g) p (receiver-idle ok (eq-eqb (p .kind) receive e)))
 
   -- a step that acts and does not empty finds the take the same
   module _ (o : ℕ) (f : Follows p o d d') (c : acts (p .kind) ≡ true) (t : notRefused o ≡ true) (n : eqb (p .kind) sign ≡ false) where
@@ -127,7 +127,7 @@ module _ (y : Layout) (d d' : ℕ → Bool) {a b : State} (rel : Related d a b) 
       let f' : Follows p r d d' = rw (applies y a p .local low high) at f in
       let c : acts (p .kind) ≡ true = acts-local (p .kind) low high in
       let n : eqb (p .kind) sign ≡ false = otherwise (p .kind) low high .sign in
-      let h : notRefused r ≡ true = lt-ltb r 20 (omega (arith, local-small y (p .transactor) (transactorAt a (p .transactor)) (p .kind) (p .value))) in
+      let h : notRefused r ≡ true = ap not (lt-leb 20 r (omega (arith, local-small y (p .transactor) (transactorAt a (p .transactor)) (p .kind) (p .value)))) in
       rw (applies y a p .local low high, applies y b p .local low high) (beside-local y d' rel p (others r f' c h n)
       (local-same y p (d (p .transactor)) r high (related-at rel (p .transactor)) refl (own r f' c h n)))
 
@@ -137,7 +137,7 @@ module _ (y : Layout) (d d' : ℕ → Bool) {a b : State} (rel : Related d a b) 
       let r : ℕ = applySign y a p .reply .outcome in
       let f' : Follows p r d d' = rw (applies y a p .sign e) at f in
       rw (applies y a p .sign e, applies y b p .sign e) (beside-sign y rel p d'
-      (λ g t n. untouched p r d d' f' t (touch-signed p r (rw e) (rw e) t n))
+      (λ g t n. untouched p r d d' f' t (touch-checkpointed p r (rw e) (rw e) t n))
       (λ g t. untouched p r d d' f' t (touch-unsigned p r (rw e) (rw g) t)))
 
   both-kinds : Follows p (apply y a p .reply .outcome) d d' → B (apply y a p) (apply y b p)
@@ -231,9 +231,9 @@ thin-step y p ps a b rel rest = go (judged y a p)
 
     go : Judged y a p → Thin y a b (p ∷ ps)
     go (refused n f) =
-        let h : notRefused (stepOf y a p .reply .outcome) ≡ false = le-ltb _ 20 n in
+        let h : notRefused (stepOf y a p .reply .outcome) ≡ false = ap not (le-leb 20 (stepOf y a p .reply .outcome) n) in
         thin-out y a b p ps (rw h) (rest (stepOf y a p .state) b (pass-refused y a b p ps rel h f))
-    go (applied e n) = left e (lt-ltb (stepOf y a p .reply .outcome) 20 (omega arith)) (unusedNext y a p ps) refl
+    go (applied e n) = left e (ap not (lt-leb 20 (stepOf y a p .reply .outcome) (omega arith))) (unusedNext y a p ps) refl
 
 pub thin : (y : Layout) (ps : List Step) (a b : State) → Related (emptiedNext y a ps) a b → Thin y a b ps
 unfolding finalState repliesTo keptOf filtered emptiedNext

@@ -1,6 +1,6 @@
 -- For each take, whether the next step that touches it empties its map: one step more in front.
 use Prim.Native.Nat.{ℕ, _+_, _≤_, _<_}
-use mathlib.Core.Bool.{Bool, true, false}
+use mathlib.Core.Bool.{Bool, true, false, not}
 use mathlib.Core.Path.{_≡_, refl, sym, ap, _∙_}
 use mathlib.Core.List.{List}
 use mathlib.Core.Logic.{⊎-elim}
@@ -9,7 +9,7 @@ use native.Mathlib.Omega.{arith}
 use lib.ListN.{length, getD, set, length-set}
 use lib.Seq.{getD-set-same, getD-set-other}
 use lib.Dec.{ltb, leb}
-use borrow.Author.Tests.{ne-eqb, lt-ltb, le-ltb, leb-true}
+use borrow.Author.Tests.{ne-eqb, lt-ltb, le-ltb, lt-leb, le-leb, leb-true}
 use Rattle.octets.specs.Bytes.{pick, _and_, _or_, tabulate}
 use Rattle.octets.proofs.Zero.{both}
 use Rattle.octets.proofs.Chunks.{sides, length-tabulate, getD-tabulate}
@@ -83,13 +83,13 @@ module _ (p : Step) (o : ℕ) (e : List Bool) (long : length e ≡ base .transac
 
   pub with-refused : 20 ≤ o → Says (with p o e) e
   unfolding notRefused
-  with-refused h = untouched (touch-refused p o (le-ltb o 20 h))
+  with-refused h = untouched (touch-refused p o (ap not (le-leb 20 o h)))
 
   module _ (ok : o < 20) where
     pub with-action : acts (p .kind) ≡ true → p .transactor < base .transactors → (v : Bool) → v ≡ empties p o → Says (with p o e) (set e (p .transactor) v)
     unfolding notRefused with
     with-action h l v k =
-        says-set {f = λ t. getD e t false} {g = with p o e} {e = e} (record { long = long; at = λ t m. refl }) (p .transactor) v l (k ∙ sym (rw (touch-own p o (lt-ltb o 20 ok) h)))
+        says-set {f = λ t. getD e t false} {g = with p o e} {e = e} (record { long = long; at = λ t m. refl }) (p .transactor) v l (k ∙ sym (rw (touch-own p o (ap not (lt-leb 20 o ok)) h)))
         (λ u n. sym (rw (touch-other p o (ne-eqb (p .kind) sign (λ f. omega (arith, leb-true (p .kind) fail (both (leb new (p .kind)) (leb (p .kind) fail) h .1)))) u n)))
 
   module _ (h : acts (p .kind) ≡ false) where
@@ -99,6 +99,6 @@ module _ (p : Step) (o : ℕ) (e : List Bool) (long : length e ≡ base .transac
     pub with-unsigned : (o ≡ done → ⊥) → Says (with p o e) e
     with-unsigned n = untouched (touch-unsigned p o h (ne-eqb o done n))
 
-    pub with-signed : {l : List Bool} → p .kind ≡ sign → o ≡ done → Says (λ t. named (p .message) t or getD e t false) l → Says (with p o e) l
+    pub with-checkpointed : {l : List Bool} → p .kind ≡ sign → o ≡ done → Says (λ t. named (p .message) t or getD e t false) l → Says (with p o e) l
     unfolding notRefused empties with
-    with-signed f k s = says-as s (λ t l. sym (rw (touch-named p o (rw k) (rw f) h (rw k) t, f)))
+    with-checkpointed f k s = says-as s (λ t l. sym (rw (touch-named p o (rw k) (rw f) h (rw k) t, f)))

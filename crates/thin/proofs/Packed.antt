@@ -6,8 +6,8 @@ use mathlib.Core.List.{List, [], _∷_, map}
 use native.Mathlib.Nat.{zero-add, suc-add, add-suc, add-zero}
 use native.Mathlib.Omega.{arith}
 use lib.ListN.{length, getD}
-use lib.Dec.{eqb, ltb}
-use borrow.Author.Tests.{ltb-true}
+use lib.Dec.{eqb, leb}
+use borrow.Author.Tests.{leb-false, not-true}
 use Rattle.octets.specs.Bytes.{pick, _and_, part, chunks}
 use Rattle.rules.specs.Layout.{Layout}
 use Rattle.rules.specs.State.{State}
@@ -176,7 +176,7 @@ small-filtered g f h (suc n) i = go (g i) refl (small-filtered g f h n (suc i))
 module _ (y : Layout) (s : State) (b : List ℕ) where
   pub kept-small : (n k : ℕ) → kept b (outcomeAt y s b) n k ≡ true → replyTo y s b k .outcome < 20
   unfolding kept notRefused outcomeAt replyTo
-  kept-small n k e = ltb-true _ 20 (first (ltb (outcomeAt y s b k) 20) _ e)
+  kept-small n k e = leb-false 20 _ (not-true _ (first (not (leb 20 (outcomeAt y s b k))) _ e))
     where
       first : (c d : Bool) → c and d ≡ true → c ≡ true
       first true d e = refl

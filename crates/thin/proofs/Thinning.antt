@@ -1,5 +1,6 @@
 -- The pass: the run's answer and replies, and the steps that are kept by these.
 use Prim.Native.Nat.{ℕ, _+_, _-_, _*_, _<_}
+use mathlib.Core.Bool.{true, false}
 use mathlib.Core.Path.{_≡_, refl, sym, ap, _∙_}
 use mathlib.Core.List.{List, _++_}
 use native.Mathlib.Numerals.{add-one}
@@ -13,12 +14,12 @@ use Rattle.rules.specs.Layout.{base, imageBytes}
 use Rattle.rules.specs.State.{State}
 use Rattle.rules.specs.Step.{stepBytes}
 use Rattle.rules.specs.Pack.{unpack}
-use Rattle.rules.specs.Calls.{stepsIn, runAnswer, ranReplies, runReplies}
+use Rattle.rules.specs.Calls.{stepsIn, wrongPart, runAnswer, ranReplies, runReplies}
 use Rattle.rules.specs.Internal.Well.{WellFormed}
 use Rattle.thin.specs.Thin.{chosen, outcomeAt, keptFrom, shortList, keptCount, thinRefusal, partOf, thinOut, thinCount}
 use Rattle.rules.proofs.Form.State.{formed-state}
 use Rattle.rules.proofs.Keep.Step.{fitting-base}
-use Rattle.rules.proofs.Calls.Run.{ran-16}
+use Rattle.rules.proofs.Calls.Run.{ran-16, ran-17, ran-18}
 use Rattle.rules.proofs.Calls.Stored.{Accepted, accepted}
 use Rattle.thin.proofs.Calls.{untouched, length-short}
 use Rattle.thin.proofs.Outcomes.{outcome-byte}
@@ -29,6 +30,16 @@ use Rattle.thin.proofs.Same.{kept-same, chosen-same, counted-same}
 pub ran-wrong : (img list : List ℕ) (start end : ℕ) (out : List ℕ) → (length img ≡ imageBytes base → ⊥)
     → (16 ≡ runAnswer base img list start end out) × (out ≡ runReplies base img list start end out)
 ran-wrong img list start end out n = let r = ran-16 base img list start end out n in (r .0, r .2)
+
+module _ (img list : List ℕ) (start end : ℕ) (out : List ℕ) (long : length img ≡ imageBytes base) where
+  -- no part of the list that can be run
+  pub ran-no-part : wrongPart list start end ≡ true → (17 ≡ runAnswer base img list start end out) × (out ≡ runReplies base img list start end out)
+  ran-no-part e = let r = ran-17 base img list start end out long e in (r .0, r .2)
+
+  -- a buffer of another length
+  pub ran-no-room : wrongPart list start end ≡ false → (length out ≡ end - start → ⊥)
+      → (18 ≡ runAnswer base img list start end out) × (out ≡ runReplies base img list start end out)
+  ran-no-room e n = let r = ran-18 base img list start end out long e n in (r .0, r .2)
 
 -- no byte of the image, copied
 pub copy-none : (img copy : List ℕ) → part 0 0 copy ≡ part 0 0 img

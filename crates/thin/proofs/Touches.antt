@@ -29,9 +29,9 @@ module _ (p : Step) (o : ℕ) where
       go true false = refl
       go false b = refl
 
-  pub touch-signed : eqb (p .kind) sign ≡ true → acts (p .kind) ≡ false → (u : ℕ) → named (p .message) u ≡ false → touches p o u ≡ false
+  pub touch-checkpointed : eqb (p .kind) sign ≡ true → acts (p .kind) ≡ false → (u : ℕ) → named (p .message) u ≡ false → touches p o u ≡ false
   unfolding touches
-  touch-signed e f u n = rw (e, f, n) (and-false (notRefused o))
+  touch-checkpointed e f u n = rw (e, f, n) (and-false (notRefused o))
 
   pub touch-unsigned : acts (p .kind) ≡ false → eqb o done ≡ false → (u : ℕ) → touches p o u ≡ false
   unfolding touches

@@ -5,12 +5,12 @@ use mathlib.Core.Bool.{Bool, true, false, not}
 use mathlib.Core.Path.{_≡_}
 use mathlib.Core.List.{List, [], _++_}
 use lib.ListN.{length}
-use lib.Dec.{eqb, ltb}
+use lib.Dec.{eqb}
 use Rattle.octets.specs.Bytes.{pick, _and_, _or_, part, chunks, zeros}
 use Rattle.rules.specs.Layout.{Layout}
 use Rattle.rules.specs.State.{State}
 use Rattle.rules.specs.declared.Step.{Step}
-use Rattle.rules.specs.Step.{stepBytes, stepAt, done, held, read, finish, fall, fail, sign}
+use Rattle.rules.specs.Step.{stepBytes, stepAt, isRefusal, done, held, read, finish, fall, fail, sign}
 use Rattle.rules.specs.Refusals.{named, acts}
 use Rattle.rules.specs.Rules.{stepOf}
 use Rattle.rules.specs.Pack.{unpack}
@@ -20,7 +20,7 @@ use Rattle.rules.specs.Calls.{stepsIn, stateAfter, runAnswer, runImage, runRepl
 
 -- it "was not refused"
 unfoldable pub notRefused : ℕ → Bool
-notRefused o = ltb o 20
+notRefused o = not (isRefusal o)
 
 -- it "was not refused and either acts on that take (kinds 3 to 10) or signs it with outcome 0"
 unfoldable pub touches : Step → ℕ → ℕ → Bool

@@ -61,14 +61,21 @@ fn shorten(list: &[u8], out: &mut [u8]) -> usize
     n
 }
 
-// Runs the part on a copy of the image, as a call does: the answer, and the replies in out. The loop stands here, not in a call of
-// octets::write: so compiled, it is one memcpy, and the zeros are not stored first.
+// Runs the part on a copy of the image, as a call does: the answer, and the replies in out. What is refused without a look into the image is
+// refused before it is copied. The loop stands here, not in a call of octets::write: so compiled, it is one memcpy, and the zeros are not
+// stored first.
 fn run_copy(image: &[u8], list: &[u8], start: usize, end: usize, out: &mut [u8]) -> u8
     ensures { λ r. ⌜ (r ≡ runAnswer base (now (image .entry)) (now (list .entry)) start end (now (out .entry)))
         × (now (out .exit) ≡ runReplies base (now (image .entry)) (now (list .entry)) start end (now (out .entry))) ⌝ }
 {
     if image.len() != IMAGE {
         return numbers::WRONG_LENGTH;
+    }
+    if lists::wrong_part(list, start, end) {
+        return numbers::WRONG_PART;
+    }
+    if out.len() != end - start {
+        return numbers::WRONG_ROOM;
     }
     let mut copy = [0u8; IMAGE];
     let mut i: usize = 0;

@@ -1,6 +1,7 @@
 // What the steps after a place in the list do to the behaviour maps.
 use lists::groups::is_named;
 use lists::limits::TRANSACTORS;
+use lists::refusals::is_refusal;
 use rules::Step;
 use rules::numbers;
 ghost use mathlib.Core.Path.{_≡_};
@@ -69,7 +70,7 @@ impl Lookahead {
         requires { ⌜ p .transactor < base .transactors ⌝ }
         ensures { λ r. ⌜ Says (with p outcome (self .emptied)) (r .emptied) ⌝ }
     {
-        if numbers::MALFORMED <= outcome {
+        if is_refusal(outcome) {
             return self;
         }
         let kind = p.kind;
@@ -92,7 +93,7 @@ impl Lookahead {
         requires { ⌜ p .transactor < base .transactors ⌝ }
         ensures { λ r. ⌜ r ≡ keptBy p outcome (self .emptied) ⌝ }
     {
-        if numbers::MALFORMED <= outcome {
+        if is_refusal(outcome) {
             return false;
         }
         if p.kind != numbers::READ {

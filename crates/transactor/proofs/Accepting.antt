@@ -44,8 +44,8 @@ module _ (y : Layout) (img : List ℕ) (t : ℕ) (below : t < y .transactors) (k
   -- ---- taken in: a status byte and a map are stored, in an image that is the packing of what it says
 
   module _ (packed : pack y s ≡ img) where
-    parcel-map : part (messageAddress y k + dependencesAt) (mapBytes y) img ≡ packDependences y deps
-    parcel-map =
+    message-map : part (messageAddress y k + dependencesAt) (mapBytes y) img ≡ packDependences y deps
+    message-map =
         let m : Message = messageAt s k in
         let e : messagePart y img k ≡ packMessage y m =
         ap (λ (l : List ℕ). messagePart y l k) (sym packed) ∙ messagePart-pack y s k (omega (arith, waiting-few y img)) ∙ at-waiting y s k (omega (arith, unpack-waiting y img)) in
@@ -81,7 +81,7 @@ module _ (y : Layout) (img : List ℕ) (t : ℕ) (below : t < y .transactors) (k
         let n : length (be 1 (64 * busy)) ≡ 1 = length-be 1 (64 * busy) in
         ap (part (messageAddress y k + dependencesAt) (mapBytes y)) one-byte
         ∙ part-put-after at (be 1 (64 * busy)) img (omega (arith, within)) (messageAddress y k + dependencesAt) (mapBytes y) (omega (arith, fits))
-        ∙ parcel-map
+        ∙ message-map
 
     map-put : put (at + behaviourAt y) (packDependences y deps) (pack y working) ≡ pack y (withTransactor s t (takenIn x deps))
     unfolding takenIn

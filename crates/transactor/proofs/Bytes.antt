@@ -3,7 +3,6 @@ use Prim.Native.Nat.{ℕ, _+_, _*_, _≤_, _<_}
 use mathlib.Core.Bool.{Bool, true, false, not}
 use mathlib.Core.Path.{_≡_, refl, sym, ap, _∙_}
 use mathlib.Core.List.{List, _++_}
-use mathlib.Core.Logic.{_⊎_, ⊎-elim}
 use native.Mathlib.Nat.{zero-add}
 use native.Mathlib.Omega.{arith}
 use borrow.Author.Tests.{lt-ltb, le-leb, lt-leb, eq-eqb, ne-eqb, eqb-false}
@@ -26,15 +25,15 @@ use Rattle.rules.specs.Layout.{Layout, largest, base, historyBytes, mapBytes, v
 use Rattle.rules.specs.Step.{done, held, fallenBack, vanished, read, write, freeze, finish, fall, fail}
 use Rattle.rules.specs.Status.{unused, busy, annihilated}
 use Rattle.rules.specs.State.{Transactor, bare, ownHistory, withStatus, withValue, withState, withBehaviour}
-use Rattle.rules.specs.Rules.{Effect, noDependences, join, unchanged, renewed, rollback, writeBy, madeReady, finishBy, fallBy, failBy, localBy}
+use Rattle.rules.specs.Rules.{Effect, noDependences, join, unchanged, renewed, rollback, writeBy, madeIdle, finishBy, fallBy, failBy, localBy}
 use Rattle.rules.specs.Pack.{packDependences, packTransactor, unpackDependences, unpackTransactor}
 use Rattle.transactor.specs.Internal.Effects.{Acts, rollbackOr28, rollbackUnlessStable, actBy}
-use Rattle.rules.specs.Internal.Guards.{isLastIncarnation}
+use Rattle.rules.specs.Internal.Guards.{isLastIncarnation, localRefusal}
 use Rattle.rules.proofs.Pack.Sizes.{length-packTransactor}
 use Rattle.rules.proofs.Pack.Stores.{put-status, put-own, put-behaviour}
 use Rattle.rules.proofs.Pack.Fresh.{pack-unused}
 use Rattle.rules.proofs.Pack.RoundTrip.{map-part}
-use Rattle.octets.proofs.Tests.{pick-view}
+use Rattle.octets.proofs.Tests.{pick-view, pick-zero}
 
 -- ---- stores
 
@@ -147,12 +146,12 @@ module _ (y : Layout) (t : ℕ) (x : Transactor) {h : History} (own : h ≡ ownH
       let n : ownHistory t x .count ≡ 0 = ap (λ (g : History). g .count) (sym own) ∙ z in
       rw n
 
-  module _ (signed : h .count ≡ 0 → ⊥) where
+  module _ (checkpointed : h .count ≡ 0 → ⊥) where
     positive : ltb 0 (ownHistory t x .count) ≡ true
     positive = rw (← own) (lt-ltb 0 (h .count) (omega arith))
 
     counted : eqb (ownHistory t x .count) 0 ≡ false
-    counted = rw (← own) (ne-eqb (h .count) 0 signed)
+    counted = rw (← own) (ne-eqb (h .count) 0 checkpointed)
 
     -- at the largest life number
     pub rollback-last : h .incarnation ≡ largest y → rollbackOr28 y t x ≡ unchanged 28 x
@@ -173,9 +172,9 @@ module _ (y : Layout) (t : ℕ) (x : Transactor) {h : History} (own : h ≡ ownH
   own-stable z e = ap (λ (g : History). g .stable) (sym own) ∙ e
 
   module _ (k : ℕ) where
-    pub unstable-loose : h .stable ≡ false → rollbackUnlessStable y k t x ≡ rollbackOr28 y t x
+    pub unstable-rolls : h .stable ≡ false → rollbackUnlessStable y k t x ≡ rollbackOr28 y t x
     unfolding rollbackUnlessStable
-    unstable-loose e = rw (own-stable false e)
+    unstable-rolls e = rw (own-stable false e)
 
     module _ (e : h .stable ≡ true) where
       pub unstable-fall : k ≡ fall → rollbackUnlessStable y k t x ≡ unchanged held (finishBy y x .transactor)
@@ -191,9 +190,9 @@ module _ (y : Layout) (t : ℕ) (x : Transactor) {h : History} (own : h ≡ ownH
   unfolding writeBy
   write-stable e = rw (← own, e)
 
-  pub write-loose : h .stable ≡ false → writeBy y t v x ≡ unchanged done (withState (withValue x v) (join y (x .behaviour) (x .state)))
+  pub write-unstable : h .stable ≡ false → writeBy y t v x ≡ unchanged done (withState (withValue x v) (join y (x .behaviour) (x .state)))
   unfolding writeBy
-  write-loose e = rw (← own, e)
+  write-unstable e = rw (← own, e)
 
 -- ---- kinds 5 to 10
 
@@ -202,43 +201,44 @@ swap : {A : Type 0} (s l : Bool) (a b c : A) → pick (not s and l) b (pick s a 
 swap true l a b c = refl
 swap false l a b c = refl
 
-module _ (y : Layout) (k t v : ℕ) (x : Transactor) where
-  pub act-gone : x .status ≡ annihilated → actBy y k t v x ≡ unchanged 22 x
-  unfolding actBy
-  act-gone e = rw (eq-eqb (x .status) annihilated e)
+-- r is the refusal that the status decides
+module _ (y : Layout) (k t v : ℕ) (x : Transactor) (r : ℕ) (asked : r ≡ localRefusal k (x .status)) where
+  pub act-refused : (r ≡ 0 → ⊥) → actBy y k t v x ≡ unchanged r x
+  unfolding actBy localRefusal
+  act-refused n = go (eqb (x .status) annihilated) (leb k fall and not (eqb (x .status) busy)) asked
+      (pick ((eqb k fall or eqb k fail) and not (ownHistory t x .stable) and isLastIncarnation y t x) (unchanged 28 x) (localBy y k t v x))
+    where
+      go : (a b : Bool) → r ≡ pick a 22 (pick b 23 0) → (e : Effect) → pick a (unchanged 22 x) (pick b (unchanged 23 x) e) ≡ unchanged r x
+      go true b q e = ap (λ (n : ℕ). unchanged n x) (sym q)
+      go false true q e = ap (λ (n : ℕ). unchanged n x) (sym q)
+      go false false q e = absurd (n q)
 
-  module _ (there : x .status ≡ annihilated → ⊥) where
+  module _ (passes : r ≡ 0) where
     left : eqb (x .status) annihilated ≡ false
-    left = ne-eqb (x .status) annihilated there
-
-    pub act-idle : k ≤ fall → not (eqb (x .status) busy) ≡ true → actBy y k t v x ≡ unchanged 23 x
-    unfolding actBy
-    act-idle h e = rw (left, le-leb k fall h, e)
+    unfolding localRefusal
+    left = pick-zero (eqb (x .status) annihilated) 22 _ (omega arith) (sym asked ∙ passes) .0
 
     -- at work where the kind asks so
-    module _ {A B : Type 0} (works : A → not (eqb (x .status) busy) ≡ false) (fails : B → fall < k) (came : A ⊎ B) where
-      work : leb k fall and not (eqb (x .status) busy) ≡ false
-      work = ⊎-elim
-          (λ a. pick-view (λ (z : Bool). z ≡ false) (leb k fall) (not (eqb (x .status) busy)) false (λ e. works a) (λ e. refl))
-          (λ b. rw (lt-leb k fall (fails b)))
-          came
+    work : leb k fall and not (eqb (x .status) busy) ≡ false
+    unfolding localRefusal
+    work = pick-zero (leb k fall and not (eqb (x .status) busy)) 23 0 (omega arith) (pick-zero (eqb (x .status) annihilated) 22 _ (omega arith) (sym asked ∙ passes) .1) .0
 
-      -- kind 5 to 8
-      pub act-early : {n : ℕ} {e : Effect} → k ≡ n → n < fall → localBy y n t v x ≡ e → actBy y k t v x ≡ e
-      unfolding actBy
-      act-early p h q =
-          let a : actBy y k t v x ≡ localBy y k t v x = rw (left, work, ne-eqb k fall (omega arith), ne-eqb k fail (omega arith)) in
-          a ∙ ap (λ (i : ℕ). localBy y i t v x) p ∙ q
+    -- kind 5 to 8
+    pub act-early : {n : ℕ} {e : Effect} → k ≡ n → n < fall → localBy y n t v x ≡ e → actBy y k t v x ≡ e
+    unfolding actBy
+    act-early p h q =
+        let a : actBy y k t v x ≡ localBy y k t v x = rw (left, work, ne-eqb k fall (omega arith), ne-eqb k fail (omega arith)) in
+        a ∙ ap (λ (i : ℕ). localBy y i t v x) p ∙ q
 
-      -- any other
-      pub act-late : read ≤ k → k ≤ fail → (k ≡ read → ⊥) → (k ≡ write → ⊥) → (k ≡ freeze → ⊥) → (k ≡ finish → ⊥) → actBy y k t v x ≡ rollbackUnlessStable y k t x
-      unfolding actBy localBy fallBy failBy rollbackUnlessStable rollbackOr28
-      act-late low high n5 n6 n7 n8 =
-          let late : eqb k fall or eqb k fail ≡ true =
-          pick-view (λ (z : Bool). z ≡ true) (eqb k fall) true (eqb k fail) (λ e. refl) (λ e. let n : k ≡ fall → ⊥ = eqb-false k fall e in eq-eqb k fail (omega arith)) in
-          rw (left, work, late, ne-eqb k read n5, ne-eqb k write n6, ne-eqb k freeze n7, ne-eqb k finish n8) (go (eqb k fall))
-        where
-          go : (z : Bool) → pick (not (ownHistory t x .stable) and isLastIncarnation y t x) (unchanged 28 x) (pick z (fallBy y t x) (failBy y t x))
-              ≡ pick (ownHistory t x .stable) (unchanged held (pick z (madeReady y x) x)) (pick (isLastIncarnation y t x) (unchanged 28 x) (rollback y t x))
-          go true = swap (ownHistory t x .stable) (isLastIncarnation y t x) _ _ _
-          go false = swap (ownHistory t x .stable) (isLastIncarnation y t x) _ _ _
+    -- any other
+    pub act-late : read ≤ k → k ≤ fail → (k ≡ read → ⊥) → (k ≡ write → ⊥) → (k ≡ freeze → ⊥) → (k ≡ finish → ⊥) → actBy y k t v x ≡ rollbackUnlessStable y k t x
+    unfolding actBy localBy fallBy failBy rollbackUnlessStable rollbackOr28
+    act-late low high n5 n6 n7 n8 =
+        let late : eqb k fall or eqb k fail ≡ true =
+        pick-view (λ (z : Bool). z ≡ true) (eqb k fall) true (eqb k fail) (λ e. refl) (λ e. let n : k ≡ fall → ⊥ = eqb-false k fall e in eq-eqb k fail (omega arith)) in
+        rw (left, work, late, ne-eqb k read n5, ne-eqb k write n6, ne-eqb k freeze n7, ne-eqb k finish n8) (go (eqb k fall))
+      where
+        go : (z : Bool) → pick (not (ownHistory t x .stable) and isLastIncarnation y t x) (unchanged 28 x) (pick z (fallBy y t x) (failBy y t x))
+            ≡ pick (ownHistory t x .stable) (unchanged held (pick z (madeIdle y x) x)) (pick (isLastIncarnation y t x) (unchanged 28 x) (rollback y t x))
+        go true = swap (ownHistory t x .stable) (isLastIncarnation y t x) _ _ _
+        go false = swap (ownHistory t x .stable) (isLastIncarnation y t x) _ _ _

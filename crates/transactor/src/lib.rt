@@ -9,6 +9,7 @@ use image::layout::STATE;
 use image::layout::TRANSACTOR;
 use image::layout::VALUE;
 use lists::limits;
+use lists::refusals;
 use maps::DependenceMap;
 use marks::History;
 use rules::numbers;
@@ -41,7 +42,7 @@ pub fn own(part: &[u8], t: usize) -> History
     requires { ⌜ (length (now part) ≡ transactorBytes base) × (t < base .transactors) ⌝ }
     ensures { λ r. ⌜ r ≡ ownHistory t (unpackTransactor base (now (part .entry))) ⌝ }
 {
-    History::load(part, STATE + marks::SIZE * t)
+    packed_histories::load(part, STATE + marks::SIZE * t)
 }
 
 // Only a status, all else zero.
@@ -52,30 +53,30 @@ pub fn strip(part: &mut [u8], status: u8)
     part[0] = 64 * status;
     octets::store32(part, VALUE, 0);
     octets::store32(part, SAVED, 0);
-    DependenceMap::store_empty(part, STATE);
-    DependenceMap::store_empty(part, CREATION);
-    DependenceMap::store_empty(part, BEHAVIOUR);
+    stored_maps::store_empty(part, STATE);
+    stored_maps::store_empty(part, CREATION);
+    stored_maps::store_empty(part, BEHAVIOUR);
 }
 
-// Ready, with h alone in the state map and the other maps empty.
+// Idle, with h alone in the state map and the other maps empty.
 pub fn renew(part: &mut [u8], t: usize, h: History, value: u32, saved: u32)
     requires { ⌜ (length (now part) ≡ transactorBytes base) × (t < base .transactors) × (h .count ≤ base .places) ⌝ }
     ensures { λ _. ⌜ now (part .exit) ≡ packTransactor base (renewed base t h value saved) ⌝ }
 {
     octets::clear(part, 0, TRANSACTOR);
-    part[0] = 64 * numbers::READY;
+    part[0] = 64 * numbers::IDLE;
     octets::store32(part, VALUE, value);
     octets::store32(part, SAVED, saved);
-    h.store(part, STATE + marks::SIZE * t);
+    packed_histories::store(h, part, STATE + marks::SIZE * t);
 }
 
-// Ready, with the initial history, and a creation map.
+// Idle, with the initial history, and a creation map.
 pub fn open(part: &mut [u8], t: usize, value: u32, creation: DependenceMap)
     requires { ⌜ (length (now part) ≡ transactorBytes base) × (t < base .transactors) × Bounded (base .places) creation ⌝ }
     ensures { λ _. ⌜ now (part .exit) ≡ packTransactor base (opening base t value creation) ⌝ }
 {
     renew(part, t, History::INITIAL, value, 0);
-    creation.store(part, CREATION);
+    stored_maps::store(creation, part, CREATION);
 }
 
 // The initial history of child c joins the behaviour map.
@@ -84,9 +85,9 @@ pub fn adopt(part: &mut [u8], c: usize)
     ensures { λ _. ⌜ now (part .exit) ≡ packTransactor base (adopts base c (unpackTransactor base (now (part .entry)))) ⌝ }
 {
     let one = DependenceMap::one(c, History::INITIAL);
-    let behaviour = DependenceMap::load(part, BEHAVIOUR);
+    let behaviour = packed_maps::load(part, BEHAVIOUR);
     let joined = one.join(behaviour);
-    joined.store(part, BEHAVIOUR);
+    stored_maps::store(joined, part, BEHAVIOUR);
 }
 
 // Creation, behaviour and own history joined: what a message carries and a child is created from.
@@ -95,11 +96,11 @@ pub fn carry(part: &[u8], t: usize) -> DependenceMap
     ensures { λ r. ⌜ r ≡ carried base t (unpackTransactor base (now (part .entry))) ⌝ }
 {
     let h = own(part, t);
-    DependenceMap::joined(part, CREATION, BEHAVIOUR).join_entry(t, h)
+    packed_maps::joined(part, CREATION, BEHAVIOUR).join_entry(t, h)
 }
 
 // Falls: annihilated if never checkpointed, else the next incarnation; 28 at the last one.
-pub fn roll_back(part: &mut [u8], t: usize) -> Acted
+pub fn rollback(part: &mut [u8], t: usize) -> Acted
     requires { ⌜ GoodPart (now part) × (t < base .transactors) ⌝ }
     ensures { λ r. ⌜ Acts (rollbackOr28 base t (unpackTransactor base (now (part .entry)))) (r .outcome) (r .value) (now (part .exit)) ⌝ }
 {
@@ -117,11 +118,11 @@ pub fn roll_back(part: &mut [u8], t: usize) -> Acted
 }
 
 // Idle, behaviour map emptied.
-fn become_ready(part: &mut [u8])
+fn become_idle(part: &mut [u8])
     requires { ⌜ GoodPart (now part) ⌝ }
     ensures { λ _. ⌜ now (part .exit) ≡ packTransactor base (finishBy base (unpackTransactor base (now (part .entry))) .transactor) ⌝ }
 {
-    part[0] = 64 * numbers::READY;
+    part[0] = 64 * numbers::IDLE;
     octets::clear(part, BEHAVIOUR, maps::SIZE);
 }
 
@@ -129,7 +130,7 @@ fn read(part: &mut [u8]) -> Acted
     requires { ⌜ GoodPart (now part) ⌝ }
     ensures { λ r. ⌜ Acts (readBy base (unpackTransactor base (now (part .entry)))) (r .outcome) (r .value) (now (part .exit)) ⌝ }
 {
-    DependenceMap::join_into(part, STATE, BEHAVIOUR);
+    stored_maps::join_into(part, STATE, BEHAVIOUR);
     let value = octets::load32(part, VALUE);
     Acted {
         outcome: numbers::DONE,
@@ -146,7 +147,7 @@ fn write(part: &mut [u8], t: usize, value: u32) -> Acted
         return outcome_of(numbers::HELD);
     }
     octets::store32(part, VALUE, value);
-    DependenceMap::join_into(part, BEHAVIOUR, STATE);
+    stored_maps::join_into(part, BEHAVIOUR, STATE);
     outcome_of(numbers::DONE)
 }
 
@@ -155,21 +156,21 @@ fn freeze(part: &mut [u8], t: usize) -> Acted
     ensures { λ r. ⌜ Acts (freezeBy t (unpackTransactor base (now (part .entry)))) (r .outcome) (r .value) (now (part .exit)) ⌝ }
 {
     let h = own(part, t).stabilize();
-    h.store(part, STATE + marks::SIZE * t);
+    packed_histories::store(h, part, STATE + marks::SIZE * t);
     outcome_of(numbers::DONE)
 }
 
 // Fall and fail: a stable transactor is held, and a fall makes it idle; any other falls, or 28.
-fn roll_back_unless_stable(part: &mut [u8], t: usize, kind: u8) -> Acted
+fn rollback_unless_stable(part: &mut [u8], t: usize, kind: u8) -> Acted
     requires { ⌜ GoodPart (now part) × (t < base .transactors) × (kind < 16) ⌝ }
     ensures { λ r. ⌜ Acts (rollbackUnlessStable base kind t (unpackTransactor base (now (part .entry)))) (r .outcome) (r .value) (now (part .exit)) ⌝ }
 {
     let h = own(part, t);
     if !h.stable {
-        return roll_back(part, t);
+        return rollback(part, t);
     }
     if kind == numbers::FALL {
-        become_ready(part);
+        become_idle(part);
     }
     outcome_of(numbers::HELD)
 }
@@ -179,22 +180,19 @@ pub fn act(part: &mut [u8], kind: u8, t: usize, value: u32) -> Acted
     requires { ⌜ GoodPart (now part) × (t < base .transactors) × (5 ≤ kind) × (kind ≤ 10) ⌝ }
     ensures { λ r. ⌜ Acts (actBy base kind t value (unpackTransactor base (now (part .entry)))) (r .outcome) (r .value) (now (part .exit)) ⌝ }
 {
-    let status = part[0] / 64;
-    if status == numbers::ANNIHILATED {
-        return outcome_of(numbers::GONE);
-    }
-    if kind <= numbers::FALL && status != numbers::BUSY {
-        return outcome_of(numbers::WRONG_STATUS);
+    let r = refusals::local(kind, part[0] / 64);
+    if r != 0 {
+        return outcome_of(r);
     }
     match kind {
         numbers::READ => read(part),
         numbers::WRITE => write(part, t, value),
         numbers::FREEZE => freeze(part, t),
         numbers::FINISH => {
-            become_ready(part);
+            become_idle(part);
             outcome_of(numbers::DONE)
         }
-        _ => roll_back_unless_stable(part, t, kind),
+        _ => rollback_unless_stable(part, t, kind),
     }
 }
 

@@ -7,7 +7,6 @@ use image::layout::FIRST_TRANSACTOR;
 use image::layout::MESSAGE;
 use image::layout::STATE;
 use image::layout::TRANSACTOR;
-use maps::stability;
 ghost use mathlib.Core.Path.{_≡_};
 ghost use Prim.Native.Nat.{_<_};
 ghost use Rattle.rules.specs.Layout.{base};

@@ -11,7 +11,6 @@ use image::layout::STATE;
 use image::layout::TRANSACTOR;
 use maps::Comparison;
 use maps::Comparisons;
-use maps::DependenceMap;
 use rules::numbers;
 ghost use mathlib.Core.Path.{_≡_};
 ghost use Prim.Native.Nat.{_+_, _≤_, _<_};
@@ -57,8 +56,8 @@ fn compared(image: &[u8], state: usize, creation: usize, m: usize) -> Comparison
             own: Comparison::Current,
         };
     }
-    let known = DependenceMap::joined(image, state, creation);
-    known.compare(image, m)
+    let known = packed_maps::joined(image, state, creation);
+    packed_maps::compare(known, image, m)
 }
 
 // The message in place k, addressed to transactor t: refused as of another book, or dropped, or a fall, or taken in with its news.
@@ -87,7 +86,7 @@ pub fn accept(image: &mut [u8], t: usize, k: usize) -> Acted
             take_in(image, t, k);
             return crate::outcome_of(numbers::DONE);
         };
-        return crate::roll_back(&mut image[at..end], t);
+        return crate::rollback(&mut image[at..end], t);
     };
     crate::outcome_of(numbers::DROPPED)
 }

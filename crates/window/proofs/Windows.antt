@@ -15,7 +15,7 @@ use Rattle.octets.proofs.Tests.{pick-zero}
 use Rattle.rules.specs.Step.{fallenBack, vanished}
 use Rattle.rules.specs.Calls.{stepsIn, longest, wrongPart}
 use Rattle.lists.proofs.Parts.{right-part}
-use Rattle.window.specs.Window.{Worst, outcomeAt, isTrouble, troubleAt, troubles, windowLength, lastPlace, windowCount, worseOf, worstUpTo, worst, wrongWidth, windowRefusal, worstWindow}
+use Rattle.window.specs.Window.{Worst, outcomeAt, isRollback, rollbackAt, rollbacks, windowLength, lastPlace, windowCount, worseOf, worstUpTo, worst, widest, wrongWidth, windowRefusal, worstWindow}
 
 -- ---- windows
 
@@ -47,38 +47,38 @@ module _ (b : List ℕ) (n : ℕ) where
   -- x is the first of the greatest counts of the windows at places 0 to k
   pub record FirstGreatest (k : ℕ) (x : Worst) : Type 0 where
     pub within : x .place ≤ k
-    pub attained : x .count ≡ troubles b (x .place) n
-    pub greatest : (p : ℕ) → p ≤ k → troubles b p n ≤ x .count
-    pub first : (p : ℕ) → p < x .place → troubles b p n < x .count
+    pub attained : x .count ≡ rollbacks b (x .place) n
+    pub greatest : (p : ℕ) → p ≤ k → rollbacks b p n ≤ x .count
+    pub first : (p : ℕ) → p < x .place → rollbacks b p n < x .count
 
   upTo-zero : FirstGreatest 0 (worstUpTo b n 0)
   unfolding worstUpTo
   upTo-zero = record {
     within = omega arith;
     attained = refl;
-    greatest = λ p h. let e : 0 ≡ p = omega arith in subst (λ (q : ℕ). troubles b q n ≤ troubles b 0 n) e (omega arith);
+    greatest = λ p h. let e : 0 ≡ p = omega arith in subst (λ (q : ℕ). rollbacks b q n ≤ rollbacks b 0 n) e (omega arith);
     first = λ p h. absurd (omega arith);
   }
 
   -- one more window
-  more : (k : ℕ) (x : Worst) → FirstGreatest k x → FirstGreatest (suc k) (worseOf x (troubles b (suc k) n) (suc k))
+  more : (k : ℕ) (x : Worst) → FirstGreatest k x → FirstGreatest (suc k) (worseOf x (rollbacks b (suc k) n) (suc k))
   unfolding worseOf
-  more k x f = go (ltb (x .count) (troubles b (suc k) n)) refl
+  more k x f = go (ltb (x .count) (rollbacks b (suc k) n)) refl
     where
-      here : (m p : ℕ) → p ≤ suc k → ((q : ℕ) → q ≤ k → troubles b q n ≤ m) → troubles b (suc k) n ≤ m → troubles b p n ≤ m
-      here m p h g l = ⊎-elim (λ (i : p < suc k). g p (omega arith)) (λ (e : p ≡ suc k). subst (λ (q : ℕ). troubles b q n ≤ m) (sym e) l) (cases (suc k) p (omega arith))
+      here : (m p : ℕ) → p ≤ suc k → ((q : ℕ) → q ≤ k → rollbacks b q n ≤ m) → rollbacks b (suc k) n ≤ m → rollbacks b p n ≤ m
+      here m p h g l = ⊎-elim (λ (i : p < suc k). g p (omega arith)) (λ (e : p ≡ suc k). subst (λ (q : ℕ). rollbacks b q n ≤ m) (sym e) l) (cases (suc k) p (omega arith))
 
-      go : (t : Bool) → ltb (x .count) (troubles b (suc k) n) ≡ t → FirstGreatest (suc k) (pick t (record { count = troubles b (suc k) n; place = suc k }) x)
+      go : (t : Bool) → ltb (x .count) (rollbacks b (suc k) n) ≡ t → FirstGreatest (suc k) (pick t (record { count = rollbacks b (suc k) n; place = suc k }) x)
       go true e =
-          let h : x .count < troubles b (suc k) n = ltb-true (x .count) (troubles b (suc k) n) e in
+          let h : x .count < rollbacks b (suc k) n = ltb-true (x .count) (rollbacks b (suc k) n) e in
           record {
             within = omega arith;
             attained = refl;
-            greatest = λ p i. here (troubles b (suc k) n) p i (λ q j. omega (arith, f .greatest q j)) (omega arith);
+            greatest = λ p i. here (rollbacks b (suc k) n) p i (λ q j. omega (arith, f .greatest q j)) (omega arith);
             first = λ p i. omega (arith, f .greatest p (omega arith));
           }
       go false e =
-          let h : troubles b (suc k) n ≤ x .count = ltb-false (x .count) (troubles b (suc k) n) e in
+          let h : rollbacks b (suc k) n ≤ x .count = ltb-false (x .count) (rollbacks b (suc k) n) e in
           record {
             within = omega (arith, f .within);
             attained = f .attained;
@@ -126,21 +126,21 @@ module _ (b : List ℕ) (w : ℕ) where
 
 -- ---- a reply
 
-pub trouble-fallen : (b : List ℕ) (i : ℕ) → outcomeAt b i ≡ fallenBack → 1 ≡ troubleAt b i
-unfolding troubleAt isTrouble
-trouble-fallen b i e = rw (eq-eqb (outcomeAt b i) fallenBack e)
+pub rollback-fallen : (b : List ℕ) (i : ℕ) → outcomeAt b i ≡ fallenBack → 1 ≡ rollbackAt b i
+unfolding rollbackAt isRollback
+rollback-fallen b i e = rw (eq-eqb (outcomeAt b i) fallenBack e)
 
-pub trouble-vanished : (b : List ℕ) (i : ℕ) → (outcomeAt b i ≡ fallenBack → ⊥) → outcomeAt b i ≡ vanished → 1 ≡ troubleAt b i
-unfolding troubleAt isTrouble
-trouble-vanished b i n e = rw (ne-eqb (outcomeAt b i) fallenBack n, eq-eqb (outcomeAt b i) vanished e)
+pub rollback-vanished : (b : List ℕ) (i : ℕ) → (outcomeAt b i ≡ fallenBack → ⊥) → outcomeAt b i ≡ vanished → 1 ≡ rollbackAt b i
+unfolding rollbackAt isRollback
+rollback-vanished b i n e = rw (ne-eqb (outcomeAt b i) fallenBack n, eq-eqb (outcomeAt b i) vanished e)
 
-pub trouble-off : (b : List ℕ) (i : ℕ) → (outcomeAt b i ≡ fallenBack → ⊥) → (outcomeAt b i ≡ vanished → ⊥) → 0 ≡ troubleAt b i
-unfolding troubleAt isTrouble
-trouble-off b i n m = rw (ne-eqb (outcomeAt b i) fallenBack n, ne-eqb (outcomeAt b i) vanished m)
+pub rollback-off : (b : List ℕ) (i : ℕ) → (outcomeAt b i ≡ fallenBack → ⊥) → (outcomeAt b i ≡ vanished → ⊥) → 0 ≡ rollbackAt b i
+unfolding rollbackAt isRollback
+rollback-off b i n m = rw (ne-eqb (outcomeAt b i) fallenBack n, ne-eqb (outcomeAt b i) vanished m)
 
-trouble-most : (b : List ℕ) (i : ℕ) → troubleAt b i ≤ 1
-unfolding troubleAt
-trouble-most b i = go (isTrouble (outcomeAt b i))
+rollback-most : (b : List ℕ) (i : ℕ) → rollbackAt b i ≤ 1
+unfolding rollbackAt
+rollback-most b i = go (isRollback (outcomeAt b i))
   where
     go : (t : Bool) → pick t 1 0 ≤ 1
     go true = omega arith
@@ -148,28 +148,28 @@ trouble-most b i = go (isTrouble (outcomeAt b i))
 
 -- ---- the count moves along
 
-troubles-most : (b : List ℕ) (p n : ℕ) → troubles b p n ≤ n
-unfolding troubles
-troubles-most b p zero = omega arith
-troubles-most b p (suc n) = omega (arith, troubles-most b p n, trouble-most b (p + n))
+rollbacks-most : (b : List ℕ) (p n : ℕ) → rollbacks b p n ≤ n
+unfolding rollbacks
+rollbacks-most b p zero = omega arith
+rollbacks-most b p (suc n) = omega (arith, rollbacks-most b p n, rollback-most b (p + n))
 
-pub troubles-sum : (b : List ℕ) (p q n c t : ℕ) → c ≡ troubles b p n → t ≡ troubleAt b q → c + t ≤ n + 1
-troubles-sum b p q n c t e f = omega (arith, troubles-most b p n, trouble-most b q)
+pub rollbacks-sum : (b : List ℕ) (p q n c t : ℕ) → c ≡ rollbacks b p n → t ≡ rollbackAt b q → c + t ≤ n + 1
+rollbacks-sum b p q n c t e f = omega (arith, rollbacks-most b p n, rollback-most b q)
 
-pub troubles-none : (b : List ℕ) (p : ℕ) → 0 ≡ troubles b p 0
-unfolding troubles
-troubles-none b p = refl
+pub rollbacks-none : (b : List ℕ) (p : ℕ) → 0 ≡ rollbacks b p 0
+unfolding rollbacks
+rollbacks-none b p = refl
 
-pub troubles-more : (b : List ℕ) (n c t : ℕ) → c ≡ troubles b 0 n → t ≡ troubleAt b n → c + t ≡ troubles b 0 (n + 1)
-unfolding troubles
-troubles-more b n c t e f = let z : 0 + n ≡ n = omega arith in rw (add-one, e, f, z)
+pub rollbacks-more : (b : List ℕ) (n c t : ℕ) → c ≡ rollbacks b 0 n → t ≡ rollbackAt b n → c + t ≡ rollbacks b 0 (n + 1)
+unfolding rollbacks
+rollbacks-more b n c t e f = let z : 0 + n ≡ n = omega arith in rw (add-one, e, f, z)
 
-pub troubles-end : (b : List ℕ) (n k c : ℕ) → c ≡ troubles b 0 k → k ≡ n → c ≡ troubles b 0 n
-troubles-end b n k c e h = e ∙ rw h
+pub rollbacks-end : (b : List ℕ) (n k c : ℕ) → c ≡ rollbacks b 0 k → k ≡ n → c ≡ rollbacks b 0 n
+rollbacks-end b n k c e h = e ∙ rw h
 
 -- what comes in, and what goes out
-turn : (b : List ℕ) (p n : ℕ) → troubles b p n + troubleAt b (p + n) ≡ troubleAt b p + troubles b (p + 1) n
-unfolding troubles
+turn : (b : List ℕ) (p n : ℕ) → rollbacks b p n + rollbackAt b (p + n) ≡ rollbackAt b p + rollbacks b (p + 1) n
+unfolding rollbacks
 turn b p zero = let e : p + 0 ≡ p = omega arith in rw e (omega arith)
 turn b p (suc n) =
     let e : p + suc n ≡ p + 1 + n = omega arith in
@@ -177,11 +177,11 @@ turn b p (suc n) =
     rw e (omega arith)
 
 -- so the count that moves along is the fresh one
-pub troubles-moved : (b : List ℕ) (p n c i o : ℕ) → c ≡ troubles b p n → i ≡ troubleAt b (p + n) → o ≡ troubleAt b p → c + i - o ≡ troubles b (p + 1) n
-troubles-moved b p n c i o e f g = omega (arith, turn b p n)
+pub rollbacks-moved : (b : List ℕ) (p n c i o : ℕ) → c ≡ rollbacks b p n → i ≡ rollbackAt b (p + n) → o ≡ rollbackAt b p → c + i - o ≡ rollbacks b (p + 1) n
+rollbacks-moved b p n c i o e f g = omega (arith, turn b p n)
 
-pub troubles-left : (b : List ℕ) (p n c i o : ℕ) → c ≡ troubles b p n → i ≡ troubleAt b (p + n) → o ≡ troubleAt b p → o ≤ c + i
-troubles-left b p n c i o e f g = omega (arith, turn b p n)
+pub rollbacks-left : (b : List ℕ) (p n c i o : ℕ) → c ≡ rollbacks b p n → i ≡ rollbackAt b (p + n) → o ≡ rollbackAt b p → o ≤ c + i
+rollbacks-left b p n c i o e f g = omega (arith, turn b p n)
 
 -- ---- the worst so far
 
@@ -193,11 +193,11 @@ pub worse-not : (x : Worst) (n p : ℕ) → n ≤ x .count → x ≡ worseOf x n
 unfolding worseOf
 worse-not x n p h = rw (le-ltb (x .count) n h)
 
-pub upTo-first : (b : List ℕ) (n c : ℕ) → c ≡ troubles b 0 n → record { count = c; place = 0 } ≡ worstUpTo b n 0
+pub upTo-first : (b : List ℕ) (n c : ℕ) → c ≡ rollbacks b 0 n → record { count = c; place = 0 } ≡ worstUpTo b n 0
 unfolding worstUpTo
 upTo-first b n c e = rw e
 
-pub upTo-more : (b : List ℕ) (n k c : ℕ) (x : Worst) (z : Worst) → x ≡ worstUpTo b n k → c ≡ troubles b (k + 1) n → z ≡ worseOf x c (k + 1) → z ≡ worstUpTo b n (k + 1)
+pub upTo-more : (b : List ℕ) (n k c : ℕ) (x : Worst) (z : Worst) → x ≡ worstUpTo b n k → c ≡ rollbacks b (k + 1) n → z ≡ worseOf x c (k + 1) → z ≡ worstUpTo b n (k + 1)
 unfolding worstUpTo
 upTo-more b n k c x z e f g = g ∙ rw (e, f, add-one)
 
@@ -216,13 +216,13 @@ module _ (b : List ℕ) (w : ℕ) where
     unfolding windowRefusal wrongWidth
     refusal-narrow h = rw (fine, lt-ltb w 1 h)
 
-    pub refusal-wide : 1 ≤ w → 256 < w → 35 ≡ windowRefusal b w
+    pub refusal-wide : 1 ≤ w → widest < w → 35 ≡ windowRefusal b w
     unfolding windowRefusal wrongWidth
-    refusal-wide h i = rw (fine, le-ltb w 1 h, lt-ltb 256 w i)
+    refusal-wide h i = rw (fine, le-ltb w 1 h, lt-ltb widest w i)
 
-    pub refusal-none : 1 ≤ w → w ≤ 256 → 0 ≡ windowRefusal b w
+    pub refusal-none : 1 ≤ w → w ≤ widest → 0 ≡ windowRefusal b w
     unfolding windowRefusal wrongWidth
-    refusal-none h i = rw (fine, le-ltb w 1 h, le-ltb 256 w i)
+    refusal-none h i = rw (fine, le-ltb w 1 h, le-ltb widest w i)
 
 -- r is the refusal
 module _ (b : List ℕ) (w r : ℕ) (is : r ≡ windowRefusal b w) where
@@ -259,5 +259,5 @@ empty-length zero = refl
 empty-length (suc w) = rw (lt-ltb 0 (suc w) (omega arith)) refl
 
 pub worst-empty : (w : ℕ) → worst [] w ≡ record { count = 0; place = 0 }
-unfolding worst lastPlace worstUpTo troubles
+unfolding worst lastPlace worstUpTo rollbacks
 worst-empty w = rw (empty-length w) refl

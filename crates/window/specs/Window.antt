@@ -17,17 +17,17 @@ abbrev pub outcomeAt : List ℕ → ℕ → ℕ
 outcomeAt b i = getD b (stepBytes * i) 0
 
 -- outcomes 3 and 4
-unfoldable pub isTrouble : ℕ → Bool
-isTrouble o = eqb o fallenBack or eqb o vanished
+unfoldable pub isRollback : ℕ → Bool
+isRollback o = eqb o fallenBack or eqb o vanished
 
 -- 1 for a reply with outcome 3 or 4, else 0
-unfoldable pub troubleAt : List ℕ → ℕ → ℕ
-troubleAt b i = pick (isTrouble (outcomeAt b i)) 1 0
+unfoldable pub rollbackAt : List ℕ → ℕ → ℕ
+rollbackAt b i = pick (isRollback (outcomeAt b i)) 1 0
 
 -- "count outcomes 3 and 4", of the n replies from place p on
-unfoldable pub troubles : List ℕ → ℕ → ℕ → ℕ
-troubles b p zero = 0
-troubles b p (suc n) = troubles b p n + troubleAt b (p + n)
+unfoldable pub rollbacks : List ℕ → ℕ → ℕ → ℕ
+rollbacks b p zero = 0
+rollbacks b p (suc n) = rollbacks b p n + rollbackAt b (p + n)
 
 -- ---- "every window of w successive replies"
 
@@ -41,7 +41,7 @@ lastPlace w n = n - windowLength w n
 
 -- "a fresh count of each": of the window at place p
 abbrev pub windowCount : List ℕ → ℕ → ℕ → ℕ
-windowCount b w p = troubles b p (windowLength w (stepsIn b))
+windowCount b w p = rollbacks b p (windowLength w (stepsIn b))
 
 -- ---- "give the greatest count and the first window that has it"
 
@@ -51,17 +51,21 @@ worseOf x n p = pick (ltb (x .count) n) (record { count = n; place = p }) x
 
 -- of the windows of n replies at places 0 to k
 unfoldable pub worstUpTo : List ℕ → ℕ → ℕ → Worst
-worstUpTo b n zero = record { count = troubles b 0 n; place = 0 }
-worstUpTo b n (suc k) = worseOf (worstUpTo b n k) (troubles b (suc k) n) (suc k)
+worstUpTo b n zero = record { count = rollbacks b 0 n; place = 0 }
+worstUpTo b n (suc k) = worseOf (worstUpTo b n k) (rollbacks b (suc k) n) (suc k)
 
 unfoldable pub worst : List ℕ → ℕ → Worst
 worst b w = worstUpTo b (windowLength w (stepsIn b)) (lastPlace w (stepsIn b))
 
 -- ---- the call
 
+-- a window's greatest width
+abbrev pub widest : ℕ
+widest = 256
+
 -- 35: "a width outside 1 to 256"
 unfoldable pub wrongWidth : ℕ → Bool
-wrongWidth w = ltb w 1 or ltb 256 w
+wrongWidth w = ltb w 1 or ltb widest w
 
 -- "Lists come under 17", the whole list; 35 "after the length"
 unfoldable pub windowRefusal : List ℕ → ℕ → ℕ

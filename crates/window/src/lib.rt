@@ -6,7 +6,7 @@ ghost use Prim.Native.Nat.{_-_, _*_, _≤_, _<_};
 ghost use lib.ListN.{length};
 ghost use Rattle.rules.specs.Step.{stepBytes};
 ghost use Rattle.rules.specs.Calls.{stepsIn, longest};
-ghost use Rattle.window.specs.Window.{troubleAt, troubles, worseOf, worstUpTo, windowRefusal, worstWindow};
+ghost use Rattle.window.specs.Window.{rollbackAt, rollbacks, worseOf, worstUpTo, windowRefusal, worstWindow};
 
 // The greatest width.
 const WIDEST: usize = 256;
@@ -19,9 +19,9 @@ pub struct Worst {
 }
 
 // 1 if reply i has outcome 3 or 4, else 0.
-fn trouble(replies: &[u8], i: usize) -> usize
+fn rollback(replies: &[u8], i: usize) -> usize
     requires { ⌜ stepBytes * i < length (now replies) ⌝ }
-    ensures { λ r. ⌜ r ≡ troubleAt (now (replies .entry)) i ⌝ }
+    ensures { λ r. ⌜ r ≡ rollbackAt (now (replies .entry)) i ⌝ }
 {
     let outcome = replies[STEP * i];
     if outcome == numbers::FALLEN_BACK {
@@ -36,12 +36,12 @@ fn trouble(replies: &[u8], i: usize) -> usize
 // How many of the first n replies have outcome 3 or 4.
 fn first(replies: &[u8], n: usize) -> usize
     requires { ⌜ (stepBytes * n ≤ length (now replies)) × (length (now replies) ≤ longest) ⌝ }
-    ensures { λ r. ⌜ r ≡ troubles (now (replies .entry)) 0 n ⌝ }
+    ensures { λ r. ⌜ r ≡ rollbacks (now (replies .entry)) 0 n ⌝ }
 {
     let mut count: usize = 0;
     let mut i: usize = 0;
     while i < n {
-        count += trouble(replies, i);
+        count += rollback(replies, i);
         i += 1;
     }
     count
@@ -68,7 +68,7 @@ fn slide(replies: &[u8], width: usize) -> Worst
     let mut best = Worst { count, place: 0 };
     let mut place: usize = 0;
     while place + width < n {
-        count = count + trouble(replies, place + width) - trouble(replies, place);
+        count = count + rollback(replies, place + width) - rollback(replies, place);
         place += 1;
         best = worse(best, count, place);
     }

@@ -1,7 +1,7 @@
 // Lines to standard output.
 use libc::STDOUT_FILENO;
-use notation::write::Line;
-use notation::write::ROOM;
+use lines::Line;
+use lines::ROOM;
 
 // Writes the line; answers whether all of it was written.
 pub fn show(l: Line) -> bool {

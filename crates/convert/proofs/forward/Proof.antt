@@ -7,14 +7,13 @@ use Rattle.octets.proofs.Put.{octets-of}
 use Rattle.octets.proofs.Tests.{passed, failed}
 use Rattle.rules.specs.Layout.{base}
 use Rattle.rules.specs.Form.{wellFormed}
-use Rattle.convert.proofs.Stores.{zero-buffer}
 use Rattle.convert.proofs.Answers.{forward-source, forward-target, forward-ill-formed, forward-done}
 use borrow.Author.Needs.{needs}
 use Rattle.convert.proofs.forward.Statement.{statement}
 use Rattle.convert.proofs.forward.Tie as tie
 
 wider-requires : tie.Need-wider-requires
-wider-requires c κs = (search needs, search needs, zero-buffer 42616)
+wider-requires c κs = (search needs, search needs)
 
 returns-3 : tie.Need-returns-3
 returns-3 c =

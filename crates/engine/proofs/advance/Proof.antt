@@ -8,7 +8,7 @@ use Rattle.rules.specs.Refusals as refusals
 use Rattle.rules.specs.Refusals.{groupBits}
 use Rattle.rules.proofs.Keep.Kinds.{lowest, highest}
 use Rattle.rules.proofs.ByKind.Refused.{kind-formed}
-use Rattle.tables.proofs.Outcomes.{malformed-done}
+use Rattle.engine_tables.proofs.Outcomes.{malformed-done}
 use Rattle.engine.proofs.Advancing.{asked, advance-any}
 use Rattle.engine.proofs.advance.Statement.{statement}
 use Rattle.engine.proofs.advance.Tie as tie

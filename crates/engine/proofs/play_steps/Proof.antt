@@ -11,8 +11,8 @@ use Rattle.rules.specs.Layout.{limitsOf}
 use Rattle.rules.specs.Step.{stepAt}
 use Rattle.rules.specs.Refusals.{groupBits}
 use Rattle.session.proofs.Run.{length-packReply}
-use Rattle.tables.specs.declared.Operands.{Operands}
-use Rattle.tables.specs.Internal.Turns.{placeOf}
+use Rattle.engine_tables.specs.declared.turns.Operands.{Operands}
+use Rattle.engine_tables.specs.Internal.Turns.{placeOf}
 use Rattle.engine.specs.Internal.Advance.{most, Advances}
 use Rattle.engine.proofs.Playing.{Playing, playing-none, playing-group, playing-more, playing-all, placed-within, read-within, can-walk, subject-below, ahead}
 use Rattle.engine.proofs.play_steps.Statement.{statement}

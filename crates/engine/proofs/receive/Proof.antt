@@ -2,8 +2,8 @@
 use mathlib.Core.Path.{sym, _∙_}
 use borrow.Author.Needs.{needs}
 use Rattle.rules.specs.Step.{receive}
-use Rattle.registers.proofs.Guarding.{receipt-waits}
-use Rattle.tables.proofs.Outcomes.{receive-refused}
+use Rattle.engine_tables.proofs.Guarding.{receipt-waits}
+use Rattle.engine_tables.proofs.Outcomes.{receive-refused}
 use Rattle.engine.proofs.Advancing.{asked, receiver-below, advance-any, advance-receive}
 use Rattle.engine.proofs.receive.Statement.{statement}
 use Rattle.engine.proofs.receive.Tie as tie

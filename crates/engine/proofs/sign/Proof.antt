@@ -3,8 +3,8 @@ use mathlib.Core.Bool.{false}
 use mathlib.Core.Path.{_≡_, sym, _∙_}
 use borrow.Author.Needs.{needs}
 use Rattle.rules.specs.Refusals as refusals
-use Rattle.tables.proofs.Outcomes.{sign-malformed, sign-refused}
-use Rattle.engine.proofs.Advancing.{group-any, group-loose, group-stable}
+use Rattle.engine_tables.proofs.Outcomes.{sign-malformed, sign-refused}
+use Rattle.engine.proofs.Advancing.{group-any, group-unstable, group-stable}
 use Rattle.engine.proofs.sign.Statement.{statement}
 use Rattle.engine.proofs.sign.Tie as tie
 
@@ -29,7 +29,7 @@ sign-requires c κs =
     (well (b .before), start (b .before) .pre .1, sym (b .group .ensures) ∙ c .before .before .if2 .left)
 
 returns-3 : tie.Need-returns-3
-returns-3 c = group-loose _ _ _ _ _ _ _ _ (c .before .before .blocked .ensures) (c .before .if3 .taken) (c .sign .ensures)
+returns-3 c = group-unstable _ _ _ _ _ _ _ _ (c .before .before .unstable .ensures) (c .before .if3 .taken) (c .sign .ensures)
 
 grounded-requires : tie.Need-grounded-requires
 grounded-requires c κs = start (c .before .before .before .before) .pre .0
@@ -40,7 +40,7 @@ sign-requires-2 c κs =
     (well (b .before), start (b .before) .pre .1, sym (b .group .ensures) ∙ c .before .before .before .if2 .left)
 
 returns-4 : tie.Need-returns-4
-returns-4 c = group-stable _ _ _ _ _ _ _ _ (c .before .before .before .blocked .ensures) (c .before .before .if3 .left) _ (c .before .grounded .ensures) (c .sign2 .ensures)
+returns-4 c = group-stable _ _ _ _ _ _ _ _ (c .before .before .before .unstable .ensures) (c .before .before .if3 .left) _ (c .before .grounded .ensures) (c .sign2 .ensures)
 
 pub sign-spec : {M : Type 1} → statement M
 sign-spec =

@@ -1,7 +1,7 @@
 -- The receiver, or the step's own.
 use borrow.Author.Tests.{ne-eqb}
 use borrow.Author.Needs.{needs}
-use Rattle.tables.specs.Internal.Turns.{subjectOf}
+use Rattle.engine_tables.specs.Internal.Turns.{subjectOf}
 use Rattle.engine.proofs.subject.Statement.{statement}
 use Rattle.engine.proofs.subject.Tie as tie
 

@@ -11,17 +11,17 @@ use Rattle.rules.specs.declared.Step.{Step}
 use Rattle.rules.specs.Step.{stepBytes, receive}
 use Rattle.rules.specs.Refusals.{groupBits}
 use Rattle.rules.specs.Calls.{longest}
-use Rattle.chains.specs.declared.rows.Row.{Row}
-use Rattle.chains.specs.declared.rows.Slot.{Slot}
-use Rattle.chains.specs.Internal.Tables.{Tables, emptySlot, Played, play}
-use Rattle.chains.specs.Internal.Walk.{Walk}
-use Rattle.chains.specs.Internal.Engine.{Walkable, receiptBack, receiptWalk, readyIn}
-use Rattle.registers.specs.declared.register.Register.{Register}
-use Rattle.tables.specs.declared.Operands.{Operands}
-use Rattle.tables.specs.declared.Turn.{Turn}
-use Rattle.tables.specs.declared.GroupTurn.{GroupTurn}
-use Rattle.registers.specs.Internal.Register.{rowAt, viewOf}
-use Rattle.tables.specs.Internal.Turns.{placeOf, subjectOf, Holds, playedOf, playedGroup}
+use Rattle.engine_chains.specs.declared.rows.Row.{Row}
+use Rattle.engine_chains.specs.declared.rows.Slot.{Slot}
+use Rattle.engine_chains.specs.Internal.Tables.{Tables, emptySlot, Played, play}
+use Rattle.engine_chains.specs.Internal.Walk.{Walk}
+use Rattle.engine_chains.specs.Internal.Engine.{Walkable, receiptBack, receiptWalk, readyIn}
+use Rattle.engine_tables.specs.declared.register.Register.{Register}
+use Rattle.engine_tables.specs.declared.turns.Operands.{Operands}
+use Rattle.engine_tables.specs.declared.turns.Turn.{Turn}
+use Rattle.engine_tables.specs.declared.turns.GroupTurn.{GroupTurn}
+use Rattle.engine_tables.specs.Internal.Register.{rowAt, viewOf}
+use Rattle.engine_tables.specs.Internal.Turns.{placeOf, subjectOf, Holds, playedOf, playedGroup}
 
 -- steps of a list at most
 abbrev pub most : ℕ

@@ -16,7 +16,7 @@ abbrev μ-loop : tie.MeasureT-loop
 
 loop-again : tie.Need-loop-again Inv-loop μ-loop
 loop-again c =
-    let l = c .before .before .before .loop in
+    let l = c .before .before .loop in
     listing-more (l .inv) (search needs) _ (c .resting .ensures)
 
 pub all-resting-spec : {M : Type 1} → statement M
@@ -26,7 +26,6 @@ all-resting-spec =
     Inv-loop
     μ-loop
     (λ c. listing-none base _ _ refl)
-    (λ c κs. search needs)
     (λ c κs. search needs)
     (λ c. search needs)
     (λ c. search needs)

@@ -14,10 +14,10 @@ use Rattle.grounds.proofs.carried.Statement.{statement}
 use Rattle.grounds.proofs.carried.Tie as tie
 
 abbrev Inv-loop : tie.InvT-loop
-Inv-loop image t n h count₀ k₀ count k = (count ≡ howMany k (carriesAt (unpack base image) t)) × (count ≤ k) × (k ≤ n)
+Inv-loop image t n count₀ k₀ count k = (count ≡ howMany k (carriesAt (unpack base image) t)) × (count ≤ k) × (k ≤ n)
 
 abbrev μ-loop : tie.MeasureT-loop
-μ-loop image t n h count₀ k₀ count k = n - k
+μ-loop image t n count₀ k₀ count k = n - k
 
 loop-again : tie.Need-loop-again Inv-loop μ-loop
 loop-again c =

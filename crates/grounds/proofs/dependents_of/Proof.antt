@@ -13,5 +13,4 @@ dependents-of-spec =
     (λ c κs. search needs)
     (λ c κs. search needs)
     (λ c κs. search needs)
-    (λ c κs. search needs)
     (λ c. dependents-is base _ _ (c .before .before .before .waiting .ensures .0) (c .before .before .resting .ensures) (search needs) (c .before .unfinished .ensures) (c .carried .ensures)))

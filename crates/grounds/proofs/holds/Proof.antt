@@ -1,22 +1,24 @@
--- No history, or one to compare with the own one.
+-- No history, or one to compare with the own one, where it stands.
 use mathlib.Core.Bool.{not}
 use mathlib.Core.Path.{sym, ap, _∙_}
 use borrow.Author.Needs.{needs}
 use Rattle.rules.specs.Layout.{base}
-use Rattle.rules.proofs.Groups.Ready.{own-count}
+use Rattle.rules.proofs.Pack.Loads.{read-history}
 use Rattle.rules.proofs.Groups.Dependents.{present-absent, present-same}
+use Rattle.grounds.proofs.Rooms.{room-state}
 use Rattle.grounds.proofs.holds.Statement.{statement}
 use Rattle.grounds.proofs.holds.Tie as tie
 
-same-as-requires : tie.Need-same-as-requires
-same-as-requires c κs =
+same-in-requires : tie.Need-same-in-requires
+same-in-requires c κs =
     let p = c .before .before .before .pre in
-    (search needs, own-count _ (search needs) _ (search needs) _ (p .3))
+    (search needs, search needs, p .3, room-state _ (p .0) _ (p .2) _ (p .2))
 
 returns-2 : tie.Need-returns-2
 returns-2 c =
     let n = c .before .before in
-    c .same-as .ensures ∙ present-same base _ _ (search needs) _ (ap not (sym (n .present .ensures)) ∙ c .before .if1 .left) _ (n .before .before .pre .3)
+    c .same-in .ensures
+    ∙ present-same base _ _ (search needs) _ (ap not (sym (n .present .ensures)) ∙ c .before .if1 .left) _ (sym (read-history base _ _ (search needs) _ (search needs)))
 
 pub holds-spec : {M : Type 1} → statement M
 holds-spec =
@@ -24,5 +26,10 @@ holds-spec =
     (tie.spec
     (λ c κs. search needs)
     (λ c. present-absent base _ _ (search needs) _ (ap not (sym (c .before .present .ensures)) ∙ c .if1 .taken))
-    same-as-requires
+    (λ c. search needs)
+    (λ c. search needs)
+    (λ c. search needs)
+    (λ c. search needs)
+    (λ c. search needs)
+    same-in-requires
     returns-2)

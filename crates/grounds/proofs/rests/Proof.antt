@@ -4,8 +4,19 @@ use borrow.Author.Needs.{needs}
 use Rattle.octets.proofs.Tests.{passed, failed}
 use Rattle.rules.specs.Layout.{base}
 use Rattle.rules.proofs.Groups.Dependents.{rests-dead, rests-state, rests-creation}
+use Rattle.grounds.proofs.Rooms.{room-state, room-creation}
 use Rattle.grounds.proofs.rests.Statement.{statement}
 use Rattle.grounds.proofs.rests.Tie as tie
+
+holds-requires : tie.Need-holds-requires
+holds-requires c κs =
+    let n = c .before .before .before in
+    (search needs, search needs, search needs, room-state _ (n .pre .0) (n .args .t) (n .pre .1) (n .args .u) (n .pre .2))
+
+holds-requires-2 : tie.Need-holds-requires-2
+holds-requires-2 c κs =
+    let n = c .before .before .before .before .before in
+    (search needs, search needs, search needs, room-creation _ (n .pre .0) (n .args .t) (n .pre .1) (n .args .u) (n .pre .2))
 
 returns : tie.Need-returns
 returns c = rests-dead base _ _ (search needs) _ (search needs) (failed (c .before .is-live .ensures) (c .if1 .taken))
@@ -32,10 +43,10 @@ rests-spec =
     (λ c. search needs)
     (λ c. search needs)
     (λ c. search needs)
-    (λ c κs. search needs)
+    holds-requires
     returns-2
     (λ c. search needs)
     (λ c. search needs)
     (λ c. search needs)
-    (λ c κs. search needs)
+    holds-requires-2
     returns-3)

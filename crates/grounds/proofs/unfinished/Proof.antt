@@ -16,10 +16,10 @@ use Rattle.grounds.proofs.unfinished.Statement.{statement}
 use Rattle.grounds.proofs.unfinished.Tie as tie
 
 abbrev Inv-loop : tie.InvT-loop
-Inv-loop image t h group₀ u₀ group u = Names (worksAt (unpack base image) t) u group × (u ≤ base .transactors)
+Inv-loop image t group₀ u₀ group u = Names (worksAt (unpack base image) t) u group × (u ≤ base .transactors)
 
 abbrev μ-loop : tie.MeasureT-loop
-μ-loop image t h group₀ u₀ group u = base .transactors - u
+μ-loop image t group₀ u₀ group u = base .transactors - u
 
 add-group : tie.Need-add-group Inv-loop μ-loop
 add-group c =

@@ -6,8 +6,14 @@ use borrow.Author.Needs.{needs}
 use Rattle.rules.specs.Layout.{base}
 use Rattle.rules.specs.Status.{busy}
 use Rattle.rules.proofs.Groups.Dependents.{works-idle, works-busy}
+use Rattle.grounds.proofs.Rooms.{room-behaviour}
 use Rattle.grounds.proofs.works.Statement.{statement}
 use Rattle.grounds.proofs.works.Tie as tie
+
+holds-requires : tie.Need-holds-requires
+holds-requires c κs =
+    let n = c .before .before .before in
+    (search needs, search needs, search needs, room-behaviour _ (n .pre .0) (n .args .t) (n .pre .1) (n .args .u) (n .pre .2))
 
 returns : tie.Need-returns
 returns c = works-idle base _ _ (search needs) _ (search needs) (ap (λ n. eqb n busy) (sym (c .before .status .ensures)) ∙ ne-eqb _ busy (c .if1 .taken))
@@ -28,5 +34,5 @@ works-spec =
     (λ c. search needs)
     (λ c. search needs)
     (λ c. search needs)
-    (λ c κs. search needs)
+    holds-requires
     returns-2)

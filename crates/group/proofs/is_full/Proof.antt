@@ -1,19 +1,13 @@
--- As its own history counts.
-use mathlib.Core.Path.{sym, ap, _∙_}
+-- As many checkpoints as the session allows.
 use borrow.Author.Needs.{needs}
-use Rattle.marks.specs.declared.History.{History}
-use Rattle.rules.specs.Layout.{base}
-use Rattle.rules.proofs.Pack.Loads.{read-history}
-use Rattle.rules.proofs.Groups.Ready.{blocks-full}
+use Rattle.rules.proofs.Groups.Ready.{full-is}
 use Rattle.group.proofs.is_full.Statement.{statement}
 use Rattle.group.proofs.is_full.Tie as tie
-
-returns : tie.Need-returns
-returns c =
-    rw (c .checkpoints .ensures)
-    (blocks-full _ _ _ (c .before .count .ensures .0 ∙ ap (λ (h : History). h .count) (sym (read-history base _ _ (search needs) _ (search needs)))))
 
 pub is-full-spec : {M : Type 1} → statement M
 is-full-spec =
     tie.close
-    (tie.spec (λ c. search needs) (λ c. search needs) (λ c. search needs) (λ c. search needs) (λ c. search needs) (λ c κs. search needs) (λ c κs. search needs) (λ c. search needs) returns)
+    (tie.spec
+    (λ c κs. search needs)
+    (λ c κs. search needs)
+    (λ c. rw (c .before .checkpoints .ensures) (full-is _ _ _ (c .count .ensures))))

@@ -1,7 +1,7 @@
 -- By the status.
 use borrow.Author.Tests.{ne-eqb}
 use borrow.Author.Needs.{needs}
-use Rattle.rules.specs.Status.{ready}
+use Rattle.rules.specs.Status.{idle}
 use Rattle.group.proofs.is_live.Statement.{statement}
 use Rattle.group.proofs.is_live.Tie as tie
 
@@ -11,4 +11,4 @@ is-live-spec =
     (tie.spec
     (λ c κs. search needs)
     (λ c. rw (← c .before .status .ensures, c .if1 .taken))
-    (λ c. rw (← c .before .status .ensures, ne-eqb _ ready (c .if1 .left))))
+    (λ c. rw (← c .before .status .ensures, ne-eqb _ idle (c .if1 .left))))

@@ -8,7 +8,7 @@ use Rattle.rules.specs.Layout.{base}
 use Rattle.rules.specs.Refusals.{groupBits}
 use Rattle.rules.specs.Pack.{unpack}
 use Rattle.rules.proofs.Bits.{shifted}
-use Rattle.group.proofs.Presenting.{Presented, presented-none, presented-all, presented-unnamed, presented-loose, presented-stable, presented-fits}
+use Rattle.group.proofs.Presenting.{Presented, presented-none, presented-all, presented-unnamed, presented-unstable, presented-stable, presented-fits}
 use Rattle.group.proofs.presents.Statement.{statement}
 use Rattle.group.proofs.presents.Tie as tie
 
@@ -30,7 +30,7 @@ loop-again c =
     ⊎-elim
     (λ w. subst₂ (Presented base (unpack base _) _ _) (sym (w .3)) (sym (w .4)) (presented-stable (b .inv) (search needs) (sym n ∙ w .0 .taken) _ (w .1 .ensures) _ (shifted _ groupBits (search needs)) (w .2 .taken)))
     (⊎-elim
-    (λ w. subst₂ (Presented base (unpack base _) _ _) (sym (w .3)) (sym (w .4)) (presented-loose (b .inv) (search needs) (sym n ∙ w .0 .taken) _ (w .1 .ensures) (w .2 .left)))
+    (λ w. subst₂ (Presented base (unpack base _) _ _) (sym (w .3)) (sym (w .4)) (presented-unstable (b .inv) (search needs) (sym n ∙ w .0 .taken) _ (w .1 .ensures) (w .2 .left)))
     (λ w. subst₂ (Presented base (unpack base _) _ _) (sym (w .1)) (sym (w .2)) (presented-unnamed (b .inv) (search needs) (sym n ∙ w .0 .left))))
     (c .if1 .came)
 

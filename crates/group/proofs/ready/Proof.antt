@@ -9,7 +9,7 @@ use Rattle.octets.proofs.Zero.{Held, held-none, held-more}
 use Rattle.rules.specs.Layout.{base}
 use Rattle.rules.specs.Pack.{unpack}
 use Rattle.rules.specs.Internal.Closure.{pairReady, stableNamed}
-use Rattle.rules.proofs.Groups.Ready.{namedReady, ready-end, ready-unnamed, present-stable, present-loose, ready-named, ready-unmet}
+use Rattle.rules.proofs.Groups.Ready.{namedReady, ready-end, ready-unnamed, present-stable, present-unstable, ready-named, ready-unmet}
 use Rattle.group.proofs.Presenting.{kept-named}
 use Rattle.group.proofs.ready.Statement.{statement}
 use Rattle.group.proofs.ready.Tie as tie
@@ -60,7 +60,7 @@ ready-spec =
     Inv-named
     μ-named
     (λ c κs. search needs)
-    (λ c. present-loose base _ _ (c .before .presents .ensures) refl (search needs) (c .if1 .taken))
+    (λ c. present-unstable base _ _ (c .before .presents .ensures) refl (search needs) (c .if1 .taken))
     (λ c. (held-none _ _, refl))
     (λ c κs. search needs)
     (λ c. (held-none _ _, search needs))

@@ -1,31 +1,24 @@
--- One test for each refusal, in the table's order; the last two at once.
+-- Those of the group alone, and then those of its members.
 use Prim.Native.Nat.{ℕ}
-use mathlib.Core.Path.{ap, _∙_}
-use lib.Dec.{leb}
+use mathlib.Core.Path.{_≡_, ap, _∙_}
 use borrow.Author.Needs.{needs}
-use Rattle.rules.specs.Refusals.{anyNamed}
-use Rattle.rules.proofs.ByKind.Guards.{group-empty, group-unopened, group-opened}
+use Rattle.rules.specs.Layout.{base}
+use Rattle.rules.specs.Pack.{unpack}
+use Rattle.rules.specs.Internal.Guards.{namesRefusal}
+use Rattle.rules.proofs.ByKind.Guards.{group-names, group-named}
 use Rattle.group.proofs.refusal.Statement.{statement}
 use Rattle.group.proofs.refusal.Tie as tie
 
-returns-2 : tie.Need-returns-2
-returns-2 c =
-    let b = c .before .before in
-    group-unopened _ _ (search needs) _ (c .before .names-from .ensures ∙ ap (λ (n : ℕ). anyNamed (b .before .before .before .args .group) (leb n)) (b .opened .ensures)) (c .if2 .taken)
-
-returns-3 : tie.Need-returns-3
-returns-3 c =
-    let b = c .before .before .before in
-    c .blocked .ensures ∙ group-opened _ _ (search needs) _ (c .before .before .names-from .ensures ∙ ap (λ (n : ℕ). anyNamed (b .before .before .before .args .group) (leb n)) (b .opened .ensures)) (c .before .if2 .left)
+-- 29, 21 of what the image says
+names : (c : tie.After-group) → let s = c .before .before .before in c .group .result ≡ namesRefusal (unpack base (s .args .image .now) .opened) (s .args .group)
+names c = c .group .ensures ∙ ap (λ (n : ℕ). namesRefusal n (c .before .before .before .args .group)) (c .before .opened .ensures)
 
 pub refusal-spec : {M : Type 1} → statement M
 refusal-spec =
     tie.close
     (tie.spec
-    (λ c. group-empty _ _ (search needs))
     (λ c κs. search needs)
-    (λ c. search needs)
     (λ c κs. search needs)
-    returns-2
+    (λ c. group-names _ _ _ _ _ _ (names (c .before)) (c .if1 .taken))
     (λ c κs. search needs)
-    returns-3)
+    (λ c. c .blocked .ensures ∙ group-named _ _ _ _ _ _ (names (c .before .before)) (c .before .if1 .left)))

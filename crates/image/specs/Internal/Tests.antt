@@ -1,16 +1,24 @@
 -- What the internal functions of ledger cite: the form in the order in which the code tests it, take by take and place by place.
-use Prim.Native.Nat.{ℕ, zero, suc, _+_, _-_, _*_, _/_, _%_}
+use Prim.Native.Nat.{ℕ, zero, suc, _+_, _-_, _*_, _/_, _%_, _≤_}
 use mathlib.Core.Bool.{Bool, not}
 use mathlib.Core.List.{List}
-use lib.ListN.{getD}
+use mathlib.Core.Path.{_≡_}
+use lib.ListN.{length, getD}
 use lib.Dec.{eqb, ltb, leb}
 use Rattle.octets.specs.Bytes.{pick, _and_, _or_, part, every, allZero}
 use Rattle.octets.specs.Numbers.{ofBe}
 use Rattle.marks.specs.Packed.{unpackHistory, presentIn}
-use Rattle.rules.specs.Layout.{Layout, inRange, historyBytes, mapBytes, savedAt, stateAt, creationAt, behaviourAt, dependencesAt, transactorBytes, messageBytes, transactorAddress, messageAddress}
-use Rattle.rules.specs.Status.{unused, ready, annihilated}
+use Rattle.rules.specs.Layout.{Layout, base, inRange, imageBytes, historyBytes, mapBytes, savedAt, stateAt, creationAt, behaviourAt, dependencesAt, transactorBytes, messageBytes, transactorAddress, messageAddress}
+use Rattle.rules.specs.Status.{unused, idle, annihilated}
 use Rattle.rules.specs.Pack.{waitingIn, unpack}
 use Rattle.rules.specs.Form.{mapFormed, limitsZero}
+
+-- as long as an image, with so many takes opened, and signings of one take within what a mark has places for
+pub record Headed (img : List ℕ) (opened limit : ℕ) : Type 0 where
+  pub long : length img ≡ imageBytes base
+  pub many : opened ≡ unpack base img .opened
+  pub most : limit ≡ unpack base img .limits .checkpoints
+  pub within : limit ≤ base .places
 
 -- where the own mark of take t stands
 abbrev pub ownAt : Layout → ℕ → ℕ
@@ -29,7 +37,7 @@ formedLiveAt y img t =
     mapFormed y (unpack y img) (transactorAddress y t + stateAt) img
     and mapFormed y (unpack y img) (transactorAddress y t + creationAt y) img
     and formedOwnAt y img t
-    and pick (eqb (getD img (transactorAddress y t) 0 / 64) ready) (allZero (part (transactorAddress y t + behaviourAt y) (mapBytes y) img))
+    and pick (eqb (getD img (transactorAddress y t) 0 / 64) idle) (allZero (part (transactorAddress y t + behaviourAt y) (mapBytes y) img))
     (mapFormed y (unpack y img) (transactorAddress y t + behaviourAt y) img)
 
 -- take t: unopened, vanished, idle or at work

@@ -1,5 +1,5 @@
 -- Opened, and the next parcel.
-use Rattle.notation.proofs.Lining.{written-empty}
+use Rattle.lines.proofs.Lining.{written-empty}
 use Rattle.inspection.specs.Inspection.{countersText}
 use Rattle.inspection.proofs.Inspecting.{two-say}
 use borrow.Author.Needs.{needs}

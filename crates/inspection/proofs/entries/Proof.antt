@@ -5,7 +5,7 @@ use mathlib.Core.List.{[]}
 use native.Mathlib.Omega.{arith}
 use lib.ListN.{length}
 use borrow.Author.Needs.{needs}
-use Rattle.notation.specs.Lines.{lineRoom, written, plus}
+use Rattle.lines.specs.Lines.{lineRoom, written, plus}
 use Rattle.inspection.proofs.Inspecting.{entriesTo, entries-none, entries-more, entries-all}
 use Rattle.inspection.proofs.entries.Statement.{statement}
 use Rattle.inspection.proofs.entries.Tie as tie

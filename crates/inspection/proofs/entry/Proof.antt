@@ -1,5 +1,5 @@
 -- Nothing, or the name, the take and its mark.
-use Rattle.notation.proofs.Lining.{written-empty}
+use Rattle.lines.proofs.Lining.{written-empty}
 use borrow.Author.Tests.{not-true, not-false}
 use Rattle.inspection.proofs.Inspecting.{count-low, entry-none, entry-some}
 use borrow.Author.Needs.{needs}
@@ -30,14 +30,14 @@ put-requires c κs = search needs
 byte-requires : tie.Need-byte-requires
 byte-requires c κs = search needs
 
-mark-requires : tie.Need-mark-requires
-mark-requires c κs = count-low _ _ (c .before .before .load .ensures)
+put-history-requires : tie.Need-put-history-requires
+put-history-requires c κs = count-low _ _ (c .before .before .load .ensures)
 
 byte-requires-2 : tie.Need-byte-requires-2
 byte-requires-2 c κs = search needs
 
 returns-2 : tie.Need-returns-2
-returns-2 c = entry-some _ _ _ (c .before .before .before .before .before .before .before .before .before .args .u) (search needs) _ _ _ _ _ _ _ (c .before .before .before .before .before .before .present .ensures) (not-false _ (c .before .before .before .before .before .if1 .left)) (c .before .before .before .before .load .ensures) (written-empty _) (c .before .before .before .put .ensures) (c .before .before .byte .ensures) (c .before .mark .ensures) (c .byte2 .ensures) (search needs) (search needs)
+returns-2 c = entry-some _ _ _ (c .before .before .before .before .before .before .before .before .before .args .u) (search needs) _ _ _ _ _ _ _ (c .before .before .before .before .before .before .present .ensures) (not-false _ (c .before .before .before .before .before .if1 .left)) (c .before .before .before .before .load .ensures) (written-empty _) (c .before .before .before .put .ensures) (c .before .before .byte .ensures) (c .before .put-history .ensures) (c .byte2 .ensures) (search needs) (search needs)
 
 pub entry-spec : {M : Type 1} → statement M
 entry-spec =
@@ -51,6 +51,6 @@ entry-spec =
     cast-put
     put-requires
     byte-requires
-    mark-requires
+    put-history-requires
     byte-requires-2
     returns-2)

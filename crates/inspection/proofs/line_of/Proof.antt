@@ -1,5 +1,5 @@
 -- By its number.
-use Rattle.inspection.proofs.Inspecting.{line-limits, line-counters, line-take, line-parcel}
+use Rattle.inspection.proofs.Inspecting.{line-limits, line-counters, line-transactor, line-message}
 use borrow.Author.Needs.{needs}
 use Rattle.inspection.proofs.line_of.Statement.{statement}
 use Rattle.inspection.proofs.line_of.Tie as tie
@@ -19,17 +19,17 @@ returns-2 c = line-counters _ _ _ (c .before .before .if1 .left) (c .before .if2
 sub-i : tie.Need-sub-i
 sub-i c = search needs
 
-take-line-requires : tie.Need-take-line-requires
-take-line-requires c κs = search needs
+transactor-line-requires : tie.Need-transactor-line-requires
+transactor-line-requires c κs = search needs
 
 returns-3 : tie.Need-returns-3
-returns-3 c = line-take _ _ _ (c .before .before .before .if1 .left) (c .before .before .if2 .left) (c .before .if3 .taken) (c .take-line .ensures)
+returns-3 c = line-transactor _ _ _ (c .before .before .before .if1 .left) (c .before .before .if2 .left) (c .before .if3 .taken) (c .transactor-line .ensures)
 
-parcel-line-requires : tie.Need-parcel-line-requires
-parcel-line-requires c κs = search needs
+message-line-requires : tie.Need-message-line-requires
+message-line-requires c κs = search needs
 
 returns-4 : tie.Need-returns-4
-returns-4 c = line-parcel _ _ _ (c .before .before .before .if1 .left) (c .before .before .if2 .left) (c .before .if3 .left) (c .parcel-line .ensures)
+returns-4 c = line-message _ _ _ (c .before .before .before .if1 .left) (c .before .before .if2 .left) (c .before .if3 .left) (c .message-line .ensures)
 
 pub line-of-spec : {M : Type 1} → statement M
 line-of-spec =
@@ -40,7 +40,7 @@ line-of-spec =
     counters-requires
     returns-2
     sub-i
-    take-line-requires
+    transactor-line-requires
     returns-3
-    parcel-line-requires
+    message-line-requires
     returns-4)

@@ -1,6 +1,6 @@
 -- Empty, or the entries without the first comma.
 use mathlib.Core.Path.{_∙_, ap, sym}
-use Rattle.notation.specs.Lines.{plus}
+use Rattle.lines.specs.Lines.{plus}
 use lib.ListN.{drop}
 use Rattle.inspection.proofs.Inspecting.{list-empty, list-some}
 use borrow.Author.Needs.{needs}

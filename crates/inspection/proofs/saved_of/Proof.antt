@@ -3,7 +3,6 @@ use Rattle.inspection.proofs.Inspecting.{saved-loaded}
 use borrow.Author.Needs.{needs}
 use Rattle.inspection.proofs.saved_of.Statement.{statement}
 use Rattle.inspection.proofs.saved_of.Tie as tie
-use Rattle.octets.proofs.load32.Reads as load32-reads
 
 mul-load32 : tie.Need-mul-load32
 mul-load32 c = search needs

@@ -1,5 +1,5 @@
 -- Takes, parcels and signings.
-use Rattle.notation.proofs.Lining.{written-empty}
+use Rattle.lines.proofs.Lining.{written-empty}
 use Rattle.inspection.specs.Inspection.{limitsText}
 use Rattle.inspection.proofs.Inspecting.{three-say}
 use borrow.Author.Needs.{needs}
@@ -9,20 +9,20 @@ use Rattle.inspection.proofs.session_limits.Tie as tie
 transactors-requires : tie.Need-transactors-requires
 transactors-requires c κs = search needs
 
-cast-takes : tie.Need-cast-takes
-cast-takes c = search needs
+cast-transactors : tie.Need-cast-transactors
+cast-transactors c = search needs
 
 messages-requires : tie.Need-messages-requires
 messages-requires c κs = search needs
 
-cast-parcels : tie.Need-cast-parcels
-cast-parcels c = search needs
+cast-messages : tie.Need-cast-messages
+cast-messages c = search needs
 
 checkpoints-requires : tie.Need-checkpoints-requires
 checkpoints-requires c κs = search needs
 
-cast-signings : tie.Need-cast-signings
-cast-signings c = search needs
+cast-checkpoints : tie.Need-cast-checkpoints
+cast-checkpoints c = search needs
 
 slice-aggregate-put : tie.Need-slice-aggregate-put
 slice-aggregate-put c = search needs
@@ -54,11 +54,11 @@ session-limits-spec =
     tie.close
     (tie.spec
     transactors-requires
-    cast-takes
+    cast-transactors
     messages-requires
-    cast-parcels
+    cast-messages
     checkpoints-requires
-    cast-signings
+    cast-checkpoints
     slice-aggregate-put
     put-requires
     slice-aggregate-put-2

@@ -20,11 +20,11 @@ slice-aggregate-word-2 c = search needs
 word-requires-2 : tie.Need-word-requires-2
 word-requires-2 c κs = search needs
 
-texts-requires : tie.Need-texts-requires
-texts-requires c κs = search needs
+put-values-requires : tie.Need-put-values-requires
+put-values-requires c κs = search needs
 
 returns-2 : tie.Need-returns-2
-returns-2 c = status-idle _ _ (c .before .before .before .before .before .before .pre .2) _ _ _ (c .before .before .before .before .if1 .left) (c .before .before .before .if2 .taken) (c .before .word2 .ensures) (c .texts .ensures)
+returns-2 c = status-idle _ _ (c .before .before .before .before .before .before .pre .2) _ _ _ (c .before .before .before .before .if1 .left) (c .before .before .before .if2 .taken) (c .before .word2 .ensures) (c .put-values .ensures)
 
 slice-aggregate-word-3 : tie.Need-slice-aggregate-word-3
 slice-aggregate-word-3 c = search needs
@@ -32,11 +32,11 @@ slice-aggregate-word-3 c = search needs
 word-requires-3 : tie.Need-word-requires-3
 word-requires-3 c κs = search needs
 
-texts-requires-2 : tie.Need-texts-requires-2
-texts-requires-2 c κs = search needs
+put-values-requires-2 : tie.Need-put-values-requires-2
+put-values-requires-2 c κs = search needs
 
 returns-3 : tie.Need-returns-3
-returns-3 c = status-working _ _ (c .before .before .before .before .before .before .pre .2) _ _ _ (c .before .before .before .before .if1 .left) (c .before .before .before .if2 .left) (c .before .word3 .ensures) (c .texts2 .ensures)
+returns-3 c = status-working _ _ (c .before .before .before .before .before .before .pre .2) _ _ _ (c .before .before .before .before .if1 .left) (c .before .before .before .if2 .left) (c .before .word3 .ensures) (c .put-values2 .ensures)
 
 pub status-spec : {M : Type 1} → statement M
 status-spec =
@@ -47,9 +47,9 @@ status-spec =
     returns
     slice-aggregate-word-2
     word-requires-2
-    texts-requires
+    put-values-requires
     returns-2
     slice-aggregate-word-3
     word-requires-3
-    texts-requires-2
+    put-values-requires-2
     returns-3)

@@ -1,5 +1,5 @@
 -- As text_length answers.
-use mathlib.Core.Path.{_∙_, ap, sym}
+use mathlib.Core.Path.{_∙_, ap}
 use Rattle.notation_c.specs.Interface.{givenBy}
 use borrow.Author.Needs.{needs}
 use Rattle.notation_c.proofs.notation_length.Statement.{statement}

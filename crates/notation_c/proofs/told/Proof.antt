@@ -1,5 +1,5 @@
 -- The numbers of each answer.
-use mathlib.Core.Path.{_∙_, ap, sym}
+use mathlib.Core.Path.{ap, sym}
 use Rattle.notation_c.specs.Interface.{givenBy}
 use borrow.Author.Needs.{needs}
 use Rattle.notation_c.proofs.told.Statement.{statement}

@@ -8,14 +8,14 @@ use lib.ListN.{length}
 use borrow.Author.Tests.{le-leb, ltb-false, ne-eqb}
 use Rattle.octets.specs.Bytes.{pick, _and_, _or_}
 use Rattle.rules.specs.Layout.{Layout}
-use Rattle.rules.specs.Status.{ready, busy, annihilated}
+use Rattle.rules.specs.Status.{idle, busy, annihilated}
 use Rattle.rules.specs.State.{Transactor, State, ownHistory, transactorAt, messageAt, placeOf}
 use Rattle.rules.specs.Step.{Step, root, letter, receive, new, send, read, fall, fail, lose, sign}
 use Rattle.rules.specs.Refusals.{malformed, notWaiting, emptyGroup, unopened, isGone, wrongStatus, unrelatedReceipt, allOpened, allWaiting, allNumbered, allCheckpointed, atLast, lastRollsBack, refusalOf}
 use Rattle.rules.specs.Rules.{receiptRollsBack, receiptUnrelated, seen, refusal}
-use Rattle.rules.specs.Internal.Guards.{isLastIncarnation, busyRefusal, crowdedRefusal, namedRefusal, groupRefusal, blocksAt}
+use Rattle.rules.specs.Internal.Guards.{isLastIncarnation, roomRefusal, namedRefusal, groupRefusal, busyIn, roomIn, groupIn}
 use Rattle.octets.proofs.Tests.{or-none, or-off, pick-or}
-use Rattle.rules.proofs.ByKind.Guards.{first, working-first}
+use Rattle.rules.proofs.ByKind.Guards.{first, busy-first}
 
 pub refusal-malformed : (y : Layout) (s : State) (p : Step) → malformed p ≡ true → refusal y s p ≡ 20
 unfolding refusal refusalOf
@@ -26,8 +26,8 @@ unfolding malformed
 kind-formed p e = ltb-false sign (p .kind) (or-off (ltb sign (p .kind)) _ e .0)
 
 -- kind k of 5 to 10, the take t being opened
-abbrev pub localRefusal : Layout → ℕ → ℕ → Transactor → ℕ
-localRefusal y k t x =
+abbrev pub localIn : Layout → ℕ → ℕ → Transactor → ℕ
+localIn y k t x =
     pick (eqb (x .status) annihilated) 22
     (pick (leb k fall and not (eqb (x .status) busy)) 23
     (pick ((eqb k fall or eqb k fail) and not (ownHistory t x .stable) and isLastIncarnation y t x) 28 0))
@@ -63,28 +63,28 @@ receiver s n = messageAt s (placeOf s n) .addressee
 
 pub record Refuses (y : Layout) (s : State) (p : Step) : Type 0 where
   pub root : p .kind ≡ root → refusal y s p ≡ pick (leb (s .limits .transactors) (s .opened)) 25 0
-  pub letter : p .kind ≡ letter → refusal y s p ≡ pick (leb (s .opened) (p .transactor)) 21 (crowdedRefusal s)
+  pub letter : p .kind ≡ letter → refusal y s p ≡ pick (leb (s .opened) (p .transactor)) 21 (roomIn s)
   pub receive : p .kind ≡ receive → refusal y s p
       ≡ pick (leb (length (s .messages)) (placeOf s (p .message))) 24
       (pick (eqb (transactorAt s (receiver s (p .message)) .status) annihilated) 22
-      (pick (not (eqb (transactorAt s (receiver s (p .message)) .status) ready)) 23
+      (pick (not (eqb (transactorAt s (receiver s (p .message)) .status) idle)) 23
       (pick (receiptUnrelated y s (p .message)) 31
       (pick (receiptRollsBack y s (p .message) and isLastIncarnation y (receiver s (p .message)) (transactorAt s (receiver s (p .message)))) 28 0))))
-  pub new : p .kind ≡ new → refusal y s p ≡ first (busyRefusal s (p .transactor)) (pick (leb (s .limits .transactors) (s .opened)) 25 0)
-  pub send : p .kind ≡ send → refusal y s p ≡ pick (leb (s .opened) (p .other)) 21 (first (busyRefusal s (p .transactor)) (crowdedRefusal s))
+  pub new : p .kind ≡ new → refusal y s p ≡ first (busyIn s (p .transactor)) (pick (leb (s .limits .transactors) (s .opened)) 25 0)
+  pub send : p .kind ≡ send → refusal y s p ≡ pick (leb (s .opened) (p .other)) 21 (first (busyIn s (p .transactor)) (roomIn s))
   pub local : read ≤ p .kind → p .kind ≤ fail → refusal y s p
-      ≡ pick (leb (s .opened) (p .transactor)) 21 (localRefusal y (p .kind) (p .transactor) (transactorAt s (p .transactor)))
+      ≡ pick (leb (s .opened) (p .transactor)) 21 (localIn y (p .kind) (p .transactor) (transactorAt s (p .transactor)))
   pub lose : p .kind ≡ lose → refusal y s p ≡ pick (leb (length (s .messages)) (placeOf s (p .message))) 24 0
-  pub sign : p .kind ≡ sign → refusal y s p ≡ groupRefusal s (p .message)
+  pub sign : p .kind ≡ sign → refusal y s p ≡ groupIn s (p .message)
 
 pub refuses : (y : Layout) (s : State) (p : Step) → malformed p ≡ false → Refuses y s p
-unfolding refusal refusalOf notWaiting emptyGroup unopened isGone wrongStatus unrelatedReceipt allOpened allWaiting allNumbered allCheckpointed atLast lastRollsBack seen isLastIncarnation crowdedRefusal namedRefusal groupRefusal blocksAt
+unfolding refusal refusalOf notWaiting emptyGroup unopened isGone wrongStatus unrelatedReceipt allOpened allWaiting allNumbered allCheckpointed atLast lastRollsBack seen isLastIncarnation roomRefusal namedRefusal groupRefusal
 refuses y s p formed = record {
   root = λ e. rw (formed, e);
   letter = λ e. simp (formed, e, or-none);
   receive = λ e. simp (formed, e, or-none);
-  new = λ e. simp (formed, e, or-none, working-first);
-  send = λ e. simp (formed, e, or-none, working-first, pick-or);
+  new = λ e. simp (formed, e, or-none, busy-first);
+  send = λ e. simp (formed, e, or-none, busy-first, pick-or);
   local = λ low high.
       let k = otherwise (p .kind) low high in
       simp (formed, k .root, k .letter, k .receive, k .new, k .send, k .lose, k .sign, k .from, k .upto, or-none);

@@ -13,7 +13,7 @@ use Rattle.rules.specs.Step.{Step, Reply}
 use Rattle.rules.specs.Refusals.{malformed}
 use Rattle.rules.specs.Rules.{localBy, refusal, answer, applyLocal, apply, stepOf}
 use Rattle.rules.specs.Exchange.{Edit, EditsApart, Exchanged}
-use Rattle.rules.proofs.ByKind.Refused.{localRefusal, otherwise, refuses, refusal-malformed}
+use Rattle.rules.proofs.ByKind.Refused.{localIn, otherwise, refuses, refusal-malformed}
 use Rattle.rules.proofs.Pack.Stores.{withTransactor-other, withTransactor-same}
 
 -- nothing but document 02's words is asked of the two steps
@@ -26,7 +26,7 @@ edits-apart p q a b c d apart = record {
 
 -- what refuses such a step: takes opened, and the take alone
 unfoldable editRefusal : Layout → Step → ℕ → Transactor → ℕ
-editRefusal y p o x = pick (malformed p) 20 (pick (leb o (p .transactor)) 21 (localRefusal y (p .kind) (p .transactor) x))
+editRefusal y p o x = pick (malformed p) 20 (pick (leb o (p .transactor)) 21 (localIn y (p .kind) (p .transactor) x))
 
 unfoldable editReply : Layout → Step → ℕ → Transactor → Reply
 editReply y p o x =
@@ -45,7 +45,7 @@ module _ (y : Layout) (s : State) (p : Step) (e : Edit p) where
   unfolding editRefusal
   refusal-edit = pick-case (malformed p) refl
     where
-      pick-case : (c : Bool) → malformed p ≡ c → refusal y s p ≡ pick (malformed p) 20 (pick (leb (s .opened) (p .transactor)) 21 (localRefusal y (p .kind) (p .transactor) acting))
+      pick-case : (c : Bool) → malformed p ≡ c → refusal y s p ≡ pick (malformed p) 20 (pick (leb (s .opened) (p .transactor)) 21 (localIn y (p .kind) (p .transactor) acting))
       pick-case true f = refusal-malformed y s p f ∙ rw f
       pick-case false f = refuses y s p f .local (e .from) (e .upto) ∙ rw f
 

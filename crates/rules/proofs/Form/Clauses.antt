@@ -10,7 +10,7 @@ use Rattle.octets.specs.Bytes.{_and_, every}
 use Rattle.octets.proofs.Zero.{both, every-at, every-all}
 use Rattle.rules.specs.Layout.{Layout, inRange}
 use Rattle.rules.specs.Pack.{unpack}
-use Rattle.rules.specs.Form.{limitsZero, transactorZeros, messageZeros, statusRight, ownHeld, savedRight, readyRight, annihilatedRight, noGap, inOrder, numberRight, addresseeRight, wellFormed}
+use Rattle.rules.specs.Form.{limitsZero, transactorZeros, messageZeros, statusRight, ownHeld, savedRight, idleRight, annihilatedRight, noGap, inOrder, numberRight, addresseeRight, wellFormed}
 
 -- f holds below n
 abbrev pub Below : ℕ → (ℕ → Bool) → Type 0
@@ -27,7 +27,7 @@ pub record Clauses (y : Layout) (img : List ℕ) : Type 0 where
   pub status : Below (y .transactors) (statusRight (unpack y img))
   pub own : Below (y .transactors) (ownHeld (unpack y img))
   pub saved : Below (y .transactors) (savedRight (unpack y img))
-  pub idle : Below (y .transactors) (readyRight y img)
+  pub idle : Below (y .transactors) (idleRight y img)
   pub vanished : Below (y .transactors) (annihilatedRight y img)
   pub gap : Below (y .messages) (noGap y img)
   pub order : Below (y .messages) (inOrder (unpack y img))
@@ -53,7 +53,7 @@ clauses-of y img e =
     let status = each (y .transactors) (statusRight (unpack y img)) _ (waiting .1) in
     let own = each (y .transactors) (ownHeld (unpack y img)) _ (status .1) in
     let saved = each (y .transactors) (savedRight (unpack y img)) _ (own .1) in
-    let idle = each (y .transactors) (readyRight y img) _ (saved .1) in
+    let idle = each (y .transactors) (idleRight y img) _ (saved .1) in
     let vanished = each (y .transactors) (annihilatedRight y img) _ (idle .1) in
     let gap = each (y .messages) (noGap y img) _ (vanished .1) in
     let order = each (y .messages) (inOrder (unpack y img)) _ (gap .1) in
@@ -90,7 +90,7 @@ clauses-all y img c = rw (
   every-all (statusRight (unpack y img)) (y .transactors) (c .status),
   every-all (ownHeld (unpack y img)) (y .transactors) (c .own),
   every-all (savedRight (unpack y img)) (y .transactors) (c .saved),
-  every-all (readyRight y img) (y .transactors) (c .idle),
+  every-all (idleRight y img) (y .transactors) (c .idle),
   every-all (annihilatedRight y img) (y .transactors) (c .vanished),
   every-all (noGap y img) (y .messages) (c .gap),
   every-all (inOrder (unpack y img)) (y .messages) (c .order),

@@ -16,40 +16,40 @@ use Rattle.maps.specs.Map.{heldAt}
 use Rattle.maps.specs.Packed.{formedMap}
 use Rattle.maps.proofs.Packed.{formed-zeroMap}
 use Rattle.rules.specs.Layout.{Layout, mapBytes, stateAt, creationAt, behaviourAt, transactorBytes, transactorAddress}
-use Rattle.rules.specs.Status.{unused, ready, busy, annihilated}
+use Rattle.rules.specs.Status.{unused, idle, busy, annihilated}
 use Rattle.rules.specs.State.{Transactor, State, transactorAt, ownHistory, live}
 use Rattle.rules.specs.Pack.{transactorPart, unpack}
-use Rattle.rules.specs.Form.{mapFormed, transactorZeros, statusRight, ownHeld, savedRight, readyRight, annihilatedRight}
-use Rattle.rules.specs.Internal.Well.{Live, idle, working}
+use Rattle.rules.specs.Form.{mapFormed, transactorZeros, statusRight, ownHeld, savedRight, idleRight, annihilatedRight}
+use Rattle.rules.specs.Internal.Well.{Live, is-idle, is-busy}
 use Rattle.octets.proofs.Tests.{implied, implying, otherwise, unless}
 use Rattle.rules.proofs.Pack.Loads.{first-transactor, read-status}
 
 -- ---- each clause at t, as a fact
 
 pub live-low : {n : ℕ} → Live n → 1 ≤ n
-live-low idle = omega arith
-live-low working = omega arith
+live-low is-idle = omega arith
+live-low is-busy = omega arith
 
 pub live-high : {n : ℕ} → Live n → n ≤ 2
-live-high idle = omega arith
-live-high working = omega arith
+live-high is-idle = omega arith
+live-high is-busy = omega arith
 
-pub live-true : {n : ℕ} → Live n → eqb n ready or eqb n busy ≡ true
-live-true idle = refl
-live-true working = refl
+pub live-true : {n : ℕ} → Live n → eqb n idle or eqb n busy ≡ true
+live-true is-idle = refl
+live-true is-busy = refl
 
-live-of : (n : ℕ) → eqb n ready or eqb n busy ≡ true → Live n
-live-of n e = go (eqb n ready) refl
+live-of : (n : ℕ) → eqb n idle or eqb n busy ≡ true → Live n
+live-of n e = go (eqb n idle) refl
   where
-    go : (a : Bool) → eqb n ready ≡ a → Live n
-    go true p = subst Live (sym (eqb-true n ready p)) idle
-    go false p = subst Live (sym (eqb-true n busy (otherwise (eqb n ready) (eqb n busy) e p))) working
+    go : (a : Bool) → eqb n idle ≡ a → Live n
+    go true p = subst Live (sym (eqb-true n idle p)) is-idle
+    go false p = subst Live (sym (eqb-true n busy (otherwise (eqb n idle) (eqb n busy) e p))) is-busy
 
 -- what a status can be
 pub statuses : (n : ℕ) → n < 4 → (n ≡ unused) ⊎ ((n ≡ annihilated) ⊎ Live n)
 statuses zero h = inl refl
-statuses (suc zero) h = inr (inr idle)
-statuses (suc (suc zero)) h = inr (inr working)
+statuses (suc zero) h = inr (inr is-idle)
+statuses (suc (suc zero)) h = inr (inr is-busy)
 statuses (suc (suc (suc zero))) h = inr (inl refl)
 statuses (suc (suc (suc (suc n)))) h = absurd (omega arith)
 
@@ -81,13 +81,13 @@ module _ (y : Layout) (img : List ℕ) (t : ℕ) where
   zeros-hold z = rw (eq-eqb (getD (transactorPart y img t) 0 0 % 64) 0 (z .head), z .state, z .creation, z .behaviour)
       (unless (ltb t (unpack y img .opened)) (allZero (transactorPart y img t)) (λ e. z .rest (ltb-false t (unpack y img .opened) e)))
 
-  idle-says : readyRight y img t ≡ true → transactorAt (unpack y img) t .status ≡ ready → allZero (part (behaviourAt y) (mapBytes y) (transactorPart y img t)) ≡ true
-  unfolding readyRight
-  idle-says e h = implied (eqb (transactorAt (unpack y img) t .status) ready) _ e (eq-eqb (transactorAt (unpack y img) t .status) ready h)
+  idle-says : idleRight y img t ≡ true → transactorAt (unpack y img) t .status ≡ idle → allZero (part (behaviourAt y) (mapBytes y) (transactorPart y img t)) ≡ true
+  unfolding idleRight
+  idle-says e h = implied (eqb (transactorAt (unpack y img) t .status) idle) _ e (eq-eqb (transactorAt (unpack y img) t .status) idle h)
 
-  idle-holds : (transactorAt (unpack y img) t .status ≡ ready → allZero (part (behaviourAt y) (mapBytes y) (transactorPart y img t)) ≡ true) → readyRight y img t ≡ true
-  unfolding readyRight
-  idle-holds f = implying (eqb (transactorAt (unpack y img) t .status) ready) _ (λ e. f (eqb-true (transactorAt (unpack y img) t .status) ready e))
+  idle-holds : (transactorAt (unpack y img) t .status ≡ idle → allZero (part (behaviourAt y) (mapBytes y) (transactorPart y img t)) ≡ true) → idleRight y img t ≡ true
+  unfolding idleRight
+  idle-holds f = implying (eqb (transactorAt (unpack y img) t .status) idle) _ (λ e. f (eqb-true (transactorAt (unpack y img) t .status) idle e))
 
   vanished-says : annihilatedRight y img t ≡ true → transactorAt (unpack y img) t .status ≡ annihilated → allZero (drop 1 (transactorPart y img t)) ≡ true
   unfolding annihilatedRight
@@ -140,7 +140,7 @@ pub record AliveForm (y : Layout) (s : State) (t : ℕ) (b : List ℕ) (x : Tran
   pub behaviour : mapFormed y s (behaviourAt y) b ≡ true
   pub own : heldAt (x .state) t ≡ true
   pub saved : ownHistory t x .count ≡ 0 → x .saved ≡ 0
-  pub behaves : x .status ≡ ready → allZero (part (behaviourAt y) (mapBytes y) b) ≡ true
+  pub behaves : x .status ≡ idle → allZero (part (behaviourAt y) (mapBytes y) b) ≡ true
 
 -- transactor t, which is x, in the bytes b
 pub data TransactorForm (y : Layout) (s : State) (t : ℕ) (b : List ℕ) (x : Transactor) : Type 0 where
@@ -179,7 +179,7 @@ pub record TransactorClauses (y : Layout) (img : List ℕ) (t : ℕ) : Type 0 wh
   pub status : statusRight (unpack y img) t ≡ true
   pub own : ownHeld (unpack y img) t ≡ true
   pub saved : savedRight (unpack y img) t ≡ true
-  pub idle : readyRight y img t ≡ true
+  pub idle : idleRight y img t ≡ true
   pub vanished : annihilatedRight y img t ≡ true
 
 module _ (y : Layout) (img : List ℕ) (t : ℕ) where

@@ -43,7 +43,7 @@ pub many-off : (f : ℕ → Bool) (n k : ℕ) → k ≡ howMany n f → f n ≡ 
 unfolding howMany
 many-off f n k e h = rw (add-one n, h, add-zero) e
 
-many-same : (f g : ℕ → Bool) (n : ℕ) → ((i : ℕ) → i < n → f i ≡ g i) → howMany n f ≡ howMany n g
+pub many-same : (f g : ℕ → Bool) (n : ℕ) → ((i : ℕ) → i < n → f i ≡ g i) → howMany n f ≡ howMany n g
 unfolding howMany
 many-same f g zero h = refl
 many-same f g (suc n) h = rw (many-same f g n (λ i b. h i (omega arith)), h n (omega arith))
@@ -57,7 +57,7 @@ many-le f (suc n) = go (f n) (many-le f n)
     go true h = omega arith
     go false h = omega arith
 
-many-nowhere : (f : ℕ → Bool) (n : ℕ) → howMany n f ≡ 0 → (i : ℕ) → i < n → f i ≡ false
+pub many-nowhere : (f : ℕ → Bool) (n : ℕ) → howMany n f ≡ 0 → (i : ℕ) → i < n → f i ≡ false
 unfolding howMany
 many-nowhere f zero e i h = absurd (omega arith)
 many-nowhere f (suc n) e i h = go (f n) refl e (λ (z : howMany n f ≡ 0) (k : i < n). many-nowhere f n z i k)
@@ -99,9 +99,9 @@ many-more f n (suc m) h o = ⊎-elim
 
 -- ---- the takes of a volume
 
-pub takes-ones : (v : ℕ) → v < 2 ^ groupBits → ones v ≡ sizeOf v
+pub size-ones : (v : ℕ) → v < 2 ^ groupBits → ones v ≡ sizeOf v
 unfolding sizeOf
-takes-ones v h = sym (go groupBits v h)
+size-ones v h = sym (go groupBits v h)
   where
     parity : (n : ℕ) → pick (eqb (n % 2) 1) 1 0 ≡ n % 2
     parity n = ⊎-elim
@@ -121,17 +121,17 @@ takes-ones v h = sym (go groupBits v h)
         (many-same (λ i. named v (1 + i)) (named (v / 2)) n (λ i b. ap (named v) (omega arith) ∙ named-half v i) ∙ go n (v / 2) (omega arith))
         ∙ sym (ones-step v)
 
-takes-zero : (v : ℕ) → v < 2 ^ groupBits → sizeOf v ≡ 0 → v ≡ 0
+size-zero : (v : ℕ) → v < 2 ^ groupBits → sizeOf v ≡ 0 → v ≡ 0
 unfolding sizeOf
-takes-zero v h e = named-same groupBits v 0 h (pow-pos groupBits) (λ t b. many-nowhere (named v) groupBits e t b ∙ sym (named-zero t))
+size-zero v h e = named-same groupBits v 0 h (pow-pos groupBits) (λ t b. many-nowhere (named v) groupBits e t b ∙ sym (named-zero t))
 
-zero-takes : sizeOf 0 ≡ 0
-zero-takes = sym (takes-ones 0 (pow-pos groupBits)) ∙ omega (arith, ones-le 0 0 (pow-pos 0))
+zero-size : sizeOf 0 ≡ 0
+zero-size = sym (size-ones 0 (pow-pos groupBits)) ∙ omega (arith, ones-le 0 0 (pow-pos 0))
 
 -- one more
-takes-more : (v n : ℕ) → n < groupBits → v < 2 ^ n → sizeOf (2 ^ n + v) ≡ suc (sizeOf v)
+size-more : (v n : ℕ) → n < groupBits → v < 2 ^ n → sizeOf (2 ^ n + v) ≡ suc (sizeOf v)
 unfolding sizeOf
-takes-more v n h b =
+size-more v n h b =
     let e : 2 ^ n + v ≡ v + 2 ^ n = omega arith in
     let o : named v n ≡ false = named-past v n n b (omega arith) in
     many-same (named (2 ^ n + v)) (λ t. named v t or eqb n t) groupBits (λ t k. ap (λ (x : ℕ). named x t) e ∙ named-add v n t o)
@@ -199,20 +199,20 @@ by-size f size n (suc m) h =
 
 singles : (f : ℕ → Bool) (n : ℕ) → n ≤ groupBits → howMany (2 ^ n) (λ v. eqb (sizeOf v) 1 and f v) ≡ howMany n (λ t. f (2 ^ t))
 unfolding howMany
-singles f zero h = many-first (λ v. eqb (sizeOf v) 1 and f v) 1 (omega arith) (λ i a b. absurd (omega arith)) ∙ rw zero-takes
+singles f zero h = many-first (λ v. eqb (sizeOf v) 1 and f v) 1 (omega arith) (λ i a b. absurd (omega arith)) ∙ rw zero-size
 singles f (suc n) h =
     let p : 2 ^ suc n ≡ 2 ^ n + 2 ^ n = pow-succ' 2 n ∙ omega arith in
     ap (λ (k : ℕ). howMany k (λ v. eqb (sizeOf v) 1 and f v)) p
     ∙ many-add (λ v. eqb (sizeOf v) 1 and f v) (2 ^ n) (2 ^ n)
     ∙ ap₂ (λ (a b : ℕ). a + b)
     (singles f n (omega arith))
-    (many-first (λ i. eqb (sizeOf (2 ^ n + i)) 1 and f (2 ^ n + i)) (2 ^ n) (pow-pos n) others ∙ rw (takes-more 0 n (omega arith) (pow-pos n), zero-takes, add-zero))
+    (many-first (λ i. eqb (sizeOf (2 ^ n + i)) 1 and f (2 ^ n + i)) (2 ^ n) (pow-pos n) others ∙ rw (size-more 0 n (omega arith) (pow-pos n), zero-size, add-zero))
   where
     others : (i : ℕ) → 0 < i → i < 2 ^ n → eqb (sizeOf (2 ^ n + i)) 1 and f (2 ^ n + i) ≡ false
     others i a b =
         let le : 2 ^ n ≤ 2 ^ groupBits = pow-mono {i = n} {j = groupBits} (omega arith) in
         let wide : i < 2 ^ groupBits = omega arith in
-        rw (takes-more i n (omega arith) b, ne-eqb (suc (sizeOf i)) 1 (λ z. let e : i ≡ 0 = takes-zero i wide (omega arith) in omega arith))
+        rw (size-more i n (omega arith) b, ne-eqb (suc (sizeOf i)) 1 (λ z. let e : i ≡ 0 = size-zero i wide (omega arith) in omega arith))
 
 -- ---- ready volumes
 
@@ -222,7 +222,7 @@ module _ (y : Layout) (s : State) where
   unfolding readyCount readyGroups sizeOf bound
   counts-add-up = by-size (readyGroup y s) sizeOf groupBits (bound 2) (λ v h r. (
     ⊎-elim
-        (λ (k : sizeOf v < 1). absurd (ready-exactly y s v .0 r .names (takes-zero v h (omega arith))))
+        (λ (k : sizeOf v < 1). absurd (ready-exactly y s v .0 r .names (size-zero v h (omega arith))))
         (λ (k : 1 ≤ sizeOf v). k)
         (sides (sizeOf v) 1),
     many-le (named v) groupBits,
@@ -280,7 +280,7 @@ module _ (y : Layout) (img : List ℕ) (size : ℕ) where
             tested w false p = refl
             tested w true p = meets-ready y img well many found w (λ z.
                 let q : sizeOf w ≡ size = eqb-true (sizeOf w) size p in
-                let o : sizeOf w ≡ 0 = ap sizeOf z ∙ zero-takes in
+                let o : sizeOf w ≡ 0 = ap sizeOf z ∙ zero-size in
                 omega arith)
 
 -- ---- the call's answers for all sizes, on an image that it takes

@@ -7,9 +7,9 @@ use Rattle.octets.specs.Bytes.{tabulate, zeros, every, any}
 use Rattle.octets.specs.Numbers.{be, ofBe, bound}
 use Rattle.marks.specs.Incarnation.{sameList, beginsWith, strictPrefix, supersededBy, checkpointedIn, sameIncarnation}
 use Rattle.marks.specs.Relation.{byNumbers, byNextEntry, relationOf}
-use Rattle.marks.specs.History.{newerOf}
+use Rattle.marks.specs.History.{newerOf, isOlder}
 use Rattle.marks.specs.News.{showsStable, informed}
-use Rattle.maps.specs.Map.{emptyMap, withEntry, singleton, joinedHistory, joinedHeldAt, joinedHistoryAt, joinOf, supersededEntry, supersededAt, firstFrom, firstSuperseded, unrelatedEntry, unrelatedAt, anyFrom, anyUnrelated}
+use Rattle.maps.specs.Map.{emptyMap, withEntry, singleton, choosesRight, joinedHistory, joinedHeldAt, joinedHistoryAt, joinOf, supersededEntry, supersededAt, firstFrom, firstSuperseded, unrelatedEntry, unrelatedAt, anyUnrelated}
 use Rattle.maps.specs.News.{informedHistory, informedHistoryAt, informedOf}
 use Rattle.rules.specs.declared.Obstacle.the-variants.{Unstable, Outside, Superseded}
 use Rattle.rules.specs.declared.Impediment.the-variants as impediment
@@ -26,5 +26,5 @@ use Rattle.rules.specs.Impediment.{isWithdrawn, withdrawnIn, withdrawnBy
 use Rattle.rules.specs.Examples.{three, limits, made, after, pages, frozen, withdrawn, Computed}
 
 pub computed : Computed
-unfolding after tabulate zeros every any be ofBe bound sameList beginsWith strictPrefix supersededBy checkpointedIn sameIncarnation byNumbers byNextEntry relationOf newerOf showsStable informed emptyMap withEntry singleton joinedHistory joinedHeldAt joinedHistoryAt joinOf supersededEntry supersededAt firstFrom firstSuperseded unrelatedEntry unrelatedAt anyFrom anyUnrelated informedHistory informedHistoryAt informedOf fresh transactorAt messageAt withTransactor withOpened withMessage withoutMessage placeFrom numbered placeOf named anyNamed malformed notWaiting emptyGroup unopened isGone wrongStatus unrelatedReceipt allOpened allWaiting allNumbered allCheckpointed atLast lastRollsBack refusalOf carried messageUnrelated receiptUnrelated rollback readBy writeBy freezeBy finishBy fallBy failBy localBy messageSuperseded receiverSuperseded receiveBy receiptRollsBack entryReady mapReady transactorReady groupReady seen refusal opened applyRoot applyLetter applyReceive applyNew applySend applyLocal applyLose applySign apply stepOf howMany holdsPresent restsAt worksAt carriesAt groupOf throughAt dependentsOf firstOf unstableAt blocksIn isPresent groundOf entryObstacle mapObstacle obstacleOf isWithdrawn withdrawnIn withdrawnBy lostGround impedesAt lowestFor nextAt impedimentOf
+unfolding after tabulate zeros every any be ofBe bound sameList beginsWith strictPrefix supersededBy checkpointedIn sameIncarnation byNumbers byNextEntry relationOf newerOf isOlder showsStable informed emptyMap withEntry singleton choosesRight joinedHistory joinedHeldAt joinedHistoryAt joinOf supersededEntry supersededAt firstFrom firstSuperseded unrelatedEntry unrelatedAt anyUnrelated informedHistory informedHistoryAt informedOf fresh transactorAt messageAt withTransactor withOpened withMessage withoutMessage placeFrom numbered placeOf named anyNamed malformed notWaiting emptyGroup unopened isGone wrongStatus unrelatedReceipt allOpened allWaiting allNumbered allCheckpointed atLast lastRollsBack refusalOf carried messageUnrelated receiptUnrelated rollback readBy writeBy freezeBy finishBy fallBy failBy localBy messageSuperseded receiverSuperseded receiveBy receiptRollsBack entryReady mapReady transactorReady groupReady seen refusal opened applyRoot applyLetter applyReceive applyNew applySend applyLocal applyLose applySign apply stepOf howMany holdsPresent restsAt worksAt carriesAt groupOf throughAt dependentsOf firstOf unstableAt blocksIn isPresent groundOf entryObstacle mapObstacle obstacleOf isWithdrawn withdrawnIn withdrawnBy lostGround impedesAt lowestFor nextAt impedimentOf
 computed = record { names = refl; page = refl; through = refl; page-through = refl; working = refl; page-working = refl; first = refl; second = refl; third = refl; fourth = refl; fifth = refl; sixth = refl; seventh = refl; eighth = refl }

@@ -14,7 +14,7 @@ use borrow.Author.Tests.{eq-eqb, ne-eqb, eqb-true, eqb-false, lt-ltb, ltb-true, 
 use Rattle.octets.specs.Bytes.{pick, _and_, _or_, Octets}
 use Rattle.octets.specs.Numbers.{bound}
 use Rattle.octets.proofs.Chunks.{sides}
-use Rattle.octets.proofs.Tests.{pick-view, pick-zero, implying}
+use Rattle.octets.proofs.Tests.{pick-view, pick-zero, or-to, or-of, and-off, implying}
 use Rattle.octets.proofs.Zero.{both, every-all, every-at}
 use Rattle.marks.specs.declared.History.{History}
 use Rattle.marks.specs.Incarnation.{Incarnation, checkpointedIn, sameIncarnation}
@@ -41,7 +41,7 @@ use Rattle.rules.specs.ReadyGroups.{readyGroup, Ready}
 use Rattle.rules.specs.Dependents.{holdsPresent, restsAt, groupOf, throughAt}
 use Rattle.rules.specs.Obstacle.{StandsIn, in-state, in-creation, WithdrawnMark}
 use Rattle.rules.specs.Impediment.{isWithdrawn, withdrawnIn, withdrawnBy, lostGround, impedesAt, lowestFor, nextAt, impedimentOf, impedimentAnswer, Follows, arrived, link, Leads, Impedes, is-nothing, is-hopeless, is-exhausted, is-unstable, Again, again-hopeless, again-exhausted, again-unstable}
-use Rattle.rules.specs.Internal.Well.{Live, idle, working, TransactorFormed, not-opened, gone, alive, WellFormed}
+use Rattle.rules.specs.Internal.Well.{Live, is-idle, is-busy, TransactorFormed, not-opened, gone, alive, WellFormed}
 use Rattle.rules.proofs.Bits.{named-past, named-zero}
 use Rattle.rules.proofs.Form.State.{formed-state}
 use Rattle.rules.proofs.Calls.Query.{Accepted, query-accepted}
@@ -200,10 +200,6 @@ module _ (s : State) where
       go true p false q true r = absurd (m .not-present p (same-test a b .0 r))
       go true p false q false r = refl
 
-  either : (a b : Bool) → a or b ≡ true → (a ≡ true) ⊎ (b ≡ true)
-  either true b e = inl refl
-  either false b e = inr e
-
   record Lost (c u : ℕ) : Type 0 where
     history : History
     stands : StandsIn s c u history
@@ -216,19 +212,12 @@ module _ (s : State) where
       record { history = _; stands = in-state (p .0) refl; withdrawn = withdrawn-mark u _ (p .1) })
       (λ q. let p = both (heldAt (transactorAt s c .creation) u) (isWithdrawn s u (historyAt (transactorAt s c .creation) u)) q in
       record { history = _; stands = in-creation (p .0) refl; withdrawn = withdrawn-mark u _ (p .1) })
-      (either (withdrawnIn s (transactorAt s c .state) u) (withdrawnIn s (transactorAt s c .creation) u) e)
-
-  or-first : (a b : Bool) → a ≡ true → a or b ≡ true
-  or-first a b e = rw e
-
-  or-second : (a b : Bool) → b ≡ true → a or b ≡ true
-  or-second true b e = refl
-  or-second false b e = e
+      (or-to (withdrawnIn s (transactorAt s c .state) u) (withdrawnIn s (transactorAt s c .creation) u) e)
 
   pub stands-lost : {c u : ℕ} {h : History} → StandsIn s c u h → WithdrawnMark s u h → withdrawnBy s c u ≡ true
   unfolding withdrawnBy withdrawnIn
-  stands-lost {c} {u} {h} (in-state k e) m = or-first (withdrawnIn s (transactorAt s c .state) u) (withdrawnIn s (transactorAt s c .creation) u) (rw k (mark-withdrawn u (historyAt (transactorAt s c .state) u) (subst (WithdrawnMark s u) e m)))
-  stands-lost {c} {u} {h} (in-creation k e) m = or-second (withdrawnIn s (transactorAt s c .state) u) (withdrawnIn s (transactorAt s c .creation) u) (rw k (mark-withdrawn u (historyAt (transactorAt s c .creation) u) (subst (WithdrawnMark s u) e m)))
+  stands-lost {c} {u} {h} (in-state k e) m = or-of (withdrawnIn s (transactorAt s c .state) u) (withdrawnIn s (transactorAt s c .creation) u) (inl (rw k (mark-withdrawn u (historyAt (transactorAt s c .state) u) (subst (WithdrawnMark s u) e m))))
+  stands-lost {c} {u} {h} (in-creation k e) m = or-of (withdrawnIn s (transactorAt s c .state) u) (withdrawnIn s (transactorAt s c .creation) u) (inr (rw k (mark-withdrawn u (historyAt (transactorAt s c .creation) u) (subst (WithdrawnMark s u) e m))))
 
 -- ---- the three tests
 
@@ -281,12 +270,8 @@ module _ (y : Layout) (s : State) where
     leads : live (transactorAt s (lowestFor y s kind t)) ≡ true → Leads y s t (lowestFor y s kind t) (nextAt s n (lowestFor y s kind t) t)
     leads l = record { live = l; next = refl; follows = follows s y (lowestFor y s kind t) t (in-way .0) }
 
-  and-false : (a b : Bool) → a and b ≡ false → a ≡ true → b ≡ false
-  and-false true b e q = e
-  and-false false b e q = absurd (false≢true q)
-
   none-in-way : (kind t : ℕ) → n ≤ lowestFor y s kind t → (c : ℕ) → c < n → throughAt s n c t ≡ true → impedesAt y s kind c ≡ false
-  none-in-way kind t h c l e = and-false (throughAt s n c t) (impedesAt y s kind c) (lowest-place kind t .before c (omega arith) (omega arith)) e
+  none-in-way kind t h c l e = and-off (throughAt s n c t) (impedesAt y s kind c) (lowest-place kind t .before c (omega arith) (omega arith)) e
 
   pub some-in-way : (kind t c : ℕ) → c < n → throughAt s n c t ≡ true → impedesAt y s kind c ≡ true → lowestFor y s kind t < n
   some-in-way kind t c l e q = ⊎-elim (λ h. h) (λ (h : n ≤ lowestFor y s kind t). absurd (false≢true (sym (none-in-way kind t h c l e) ∙ q))) (sides (lowestFor y s kind t) n)
@@ -319,14 +304,14 @@ module _ (y : Layout) (s : State) where
       ⊎-elim
       (λ q. let h = holds-is c (x .state) q in record { history = _; stands = in-state (h .0) refl; is = h .1 })
       (λ q. let h = holds-is c (x .creation) q in record { history = _; stands = in-creation (h .0) refl; is = h .1 })
-      (either s (holdsPresent s c (x .state)) (holdsPresent s c (x .creation)) (p .1))
+      (or-to (holdsPresent s c (x .state)) (holdsPresent s c (x .creation)) (p .1))
 
   -- a mark of a present life passes only where its take is named
   present-named : (v u : ℕ) (h : History) → incarnationOf h ≡ incarnationOf (ownHistory u (transactorAt s u)) → entryReady s v u h ≡ true → named v u ≡ true
   unfolding entryReady
   present-named v u h i e =
       let p = both (live (transactorAt s u)) (checkpointedIn a b or (named v u and sameIncarnation a b)) e in
-      ⊎-elim (λ q. absurd (checkpointed-ne (checkpointed-test a b .0 q) i)) (λ q. both (named v u) (sameIncarnation a b) q .0) (either s (checkpointedIn a b) (named v u and sameIncarnation a b) (p .1))
+      ⊎-elim (λ q. absurd (checkpointed-ne (checkpointed-test a b .0 q) i)) (λ q. both (named v u) (sameIncarnation a b) q .0) (or-to (checkpointedIn a b) (named v u and sameIncarnation a b) (p .1))
     where
       a : Incarnation
       a = incarnationOf h
@@ -431,8 +416,8 @@ module _ (y : Layout) (s : State) where
           go false e = absurd (false≢true (sym e))
 
       live-is : {k : ℕ} → Live k → (x : Transactor) → x .status ≡ k → live x ≡ true
-      live-is idle x e = rw e
-      live-is working x e = rw e
+      live-is is-idle x e = rw e
+      live-is is-busy x e = rw e
 
       g-live : (c : ℕ) → named g c ≡ true → live (transactorAt s c) ≡ true
       g-live c m = live-is (stable-alive well c (g-names c m .0) (g-stable c m) .1) (transactorAt s c) refl
@@ -477,7 +462,7 @@ module _ (y : Layout) (s : State) where
           let none : (u : ℕ) → u < y .transactors → withdrawnBy s c u ≡ false = lost-none y s c (clear .marks c (q .0) (q .1)) in (
             mark-passes c m (x .state) (λ u h. or-off (withdrawnIn s (x .state) u) (withdrawnIn s (x .creation) u) (none u h) .0) (λ u e. rw (g-live c m, e)),
             mark-passes c m (x .creation) (λ u h. or-off (withdrawnIn s (x .state) u) (withdrawnIn s (x .creation) u) (none u h) .1)
-                (λ u e. rw (g-live c m) (or-second s (holdsPresent s u (x .state)) (holdsPresent s u (x .creation)) e)),
+                (λ u e. rw (g-live c m) (or-of (holdsPresent s u (x .state)) (holdsPresent s u (x .creation)) (inr e))),
           )
 
       g-ready : groupReady y s g ≡ true
@@ -505,8 +490,8 @@ module _ (y : Layout) (s : State) where
 
 module _ {y : Layout} {s : State} (well : WellFormed y s) where
   live-of : {k : ℕ} → Live k → (x : Transactor) → x .status ≡ k → live x ≡ true
-  live-of idle x e = rw e
-  live-of working x e = rw e
+  live-of is-idle x e = rw e
+  live-of is-busy x e = rw e
 
   pub live-low : (t : ℕ) → live (transactorAt s t) ≡ true → t < y .transactors
   unfolding transactorAt
@@ -668,7 +653,7 @@ module _ (y : Layout) (s : State) (t : ℕ) (low : t < y .transactors) where
       where
         go : (b : Bool) → throughAt s (y .transactors) d (onward c) ≡ b → b and impedesAt y s kind d ≡ false
         go false r = refl
-        go true r = and-false y s (throughAt s (y .transactors) d t) (impedesAt y s kind d) q (onward-less c h e d r)
+        go true r = and-off (throughAt s (y .transactors) d t) (impedesAt y s kind d) q (onward-less c h e d r)
 
     none-again : (kind : ℕ) → y .transactors ≤ lowestFor y s kind t → y .transactors ≤ lowestFor y s kind (onward c)
     unfolding lowestFor

@@ -26,10 +26,10 @@ use Rattle.rules.specs.Rules.{entryReady, transactorReady, groupReady}
 use Rattle.rules.specs.Pack.{unpack}
 use Rattle.rules.specs.ReadyGroups.{readyGroup, Ready}
 use Rattle.rules.specs.Internal.Well.{WellFormed}
-use Rattle.rules.specs.Internal.Guards.{blocksAt}
-use Rattle.rules.specs.Internal.Closure.{storedReady, pairReady, Names, Kept, vouchedAt, checkpointedAt, askedAt, pairAsks, needsOf, able, Row, Needed, inside, meets, Closed}
+use Rattle.rules.specs.Internal.Guards.{isFull}
+use Rattle.rules.specs.Internal.Closure.{storedReady, pairReady, Names, Kept, inGroupAt, checkpointedAt, askedAt, pairAsks, needsOf, able, Row, Needed, inside, meets, Closed}
 use Rattle.rules.proofs.Bits.{named-zero, shifted, names-none, names-fits, names-on, names-off}
-use Rattle.rules.proofs.Groups.Ready.{stable-alive, alive-there, transactor-is, kept-vouched, kept-other}
+use Rattle.rules.proofs.Groups.Ready.{stable-alive, alive-there, transactor-is, kept-in-group, kept-other}
 use Rattle.rules.proofs.Groups.Signable.{ready-exactly}
 use Rattle.rules.proofs.Groups.Closure.{inside-at, inside-all}
 
@@ -63,24 +63,24 @@ module _ (y : Layout) (img : List ℕ) (at u : ℕ) where
     unfolding storedReady entryReady checkpointedAt
     stored-bare = rw (there, named-zero u, or-none)
 
-    vouched-unsigned : (g : ℕ) → vouchedAt y img g at u ≡ true → checkpointedAt y img at u ≡ false
-    unfolding vouchedAt checkpointedAt
-    vouched-unsigned g e =
+    in-group-unsigned : (g : ℕ) → inGroupAt y img g at u ≡ true → checkpointedAt y img at u ≡ false
+    unfolding inGroupAt checkpointedAt
+    in-group-unsigned g e =
         let a : named g u and sameIncarnation (incarnationOf h) (incarnationOf (ownHistory u x)) ≡ true = rw there at e in
         rw (tests.present-unsigned (incarnationOf h) (incarnationOf (ownHistory u x)) (both (named g u) (sameIncarnation (incarnationOf h) (incarnationOf (ownHistory u x))) a .1)) (and-false (live x))
 
     module _ {g : ℕ} {o : History} (kept : Kept (unpack y img) g u o) where
-      pub asked-vouched : vouchedAt y img g at u ≡ true → 1 ≡ askedAt y img g at u
+      pub asked-in-group : inGroupAt y img g at u ≡ true → 1 ≡ askedAt y img g at u
       unfolding askedAt
-      asked-vouched e = sym (rw (stored-bare, vouched-unsigned g e, kept-vouched y img g at u kept e))
+      asked-in-group e = sym (rw (stored-bare, in-group-unsigned g e, kept-in-group y img g at u kept e))
 
-      pub asked-other : vouchedAt y img g at u ≡ false → checkpointedAt y img at u ≡ false → 2 ≡ askedAt y img g at u
+      pub asked-other : inGroupAt y img g at u ≡ false → checkpointedAt y img at u ≡ false → 2 ≡ askedAt y img g at u
       unfolding askedAt
       asked-other e f = sym (rw (stored-bare, f, sym (kept-other y img g at u kept e) ∙ f))
 
-    pub asked-signed : (g : ℕ) → checkpointedAt y img at u ≡ true → 0 ≡ askedAt y img g at u
+    pub asked-checkpointed : (g : ℕ) → checkpointedAt y img at u ≡ true → 0 ≡ askedAt y img g at u
     unfolding askedAt
-    asked-signed g f = sym (rw (stored-bare, f))
+    asked-checkpointed g f = sym (rw (stored-bare, f))
 
   pub asked-absent : (g : ℕ) → not (presentIn (part at (historyBytes y) img)) ≡ true → 0 ≡ askedAt y img g at u
   unfolding askedAt storedReady
@@ -175,25 +175,25 @@ module _ {y : Layout} {img : List ℕ} {g t u need : ℕ} (rowed : Rowed y img g
 
 -- whether take t can be in a ready volume: one test after the other
 module _ (y : Layout) (img : List ℕ) (g t need : ℕ) where
-  pub row-unnamed : named g t ≡ false → Row y img g t need false
+  pub row-unnamed : need ≡ 0 → named g t ≡ false → Row y img g t need false
   unfolding able
-  row-unnamed e = record { is = rw e; needed = λ z. never (sym z) }
+  row-unnamed o e = record { is = rw e; needed = λ z. never (sym z); unneeded = λ z. o }
 
   module _ (name : named g t ≡ true) where
-    pub row-full : blocksAt (unpack y img) 30 t ≡ true → Row y img g t need false
+    pub row-full : need ≡ 0 → isFull (unpack y img) t ≡ true → Row y img g t need false
     unfolding able
-    row-full e = record { is = rw (name, e); needed = λ z. never (sym z) }
+    row-full o e = record { is = rw (name, e); needed = λ z. never (sym z); unneeded = λ z. o }
 
-    module _ (room : blocksAt (unpack y img) 30 t ≡ false) where
-      pub row-off : every (y .transactors) (pairReady y img g t) ≡ false → Row y img g t need false
+    module _ (room : isFull (unpack y img) t ≡ false) where
+      pub row-off : need ≡ 0 → every (y .transactors) (pairReady y img g t) ≡ false → Row y img g t need false
       unfolding able
-      row-off e = record { is = rw (name, room, e); needed = λ z. never (sym z) }
+      row-off o e = record { is = rw (name, room, e); needed = λ z. never (sym z); unneeded = λ z. o }
 
       pub row-met : {u : ℕ} → Rowed y img g t u need → y .transactors ≤ u → Row y img g t need true
       unfolding able
       row-met {u} r h =
           let e : u ≡ y .transactors = omega (arith, r .pairs .within) in
-          record { is = rw (name, room) (held-all (r .pairs) h); needed = λ z. subst (λ (n : ℕ). Names (needsOf y img t) n need) e (r .needed) }
+          record { is = rw (name, room) (held-all (r .pairs) h); needed = λ z. subst (λ (n : ℕ). Names (needsOf y img t) n need) e (r .needed); unneeded = λ z. never z }
 
 -- ---- the takes, one after the other
 
@@ -202,9 +202,10 @@ pub record Gathered (y : Layout) (img : List ℕ) (g t : ℕ) (l : List ℕ) (v 
   pub long : length l ≡ y .transactors
   pub members : Names (able y img g) t v
   pub needed : (u : ℕ) → u < t → able y img g u ≡ true → Names (needsOf y img u) (y .transactors) (getD l u 0)
+  pub unneeded : (u : ℕ) → u < t → able y img g u ≡ false → getD l u 0 ≡ 0
 
 pub gathered-none : (y : Layout) (img : List ℕ) (g : ℕ) (l : List ℕ) → length l ≡ y .transactors → Gathered y img g 0 l 0
-gathered-none y img g l e = record { within = omega arith; long = e; members = names-none (able y img g); needed = λ u h. absurd (omega arith) }
+gathered-none y img g l e = record { within = omega arith; long = e; members = names-none (able y img g); needed = λ u h. absurd (omega arith); unneeded = λ u h. absurd (omega arith) }
 
 module _ {y : Layout} {img : List ℕ} {g t : ℕ} {l : List ℕ} {v : ℕ} (gathered : Gathered y img g t l v) where
   pub gathered-all : Names (λ t. ownHistory t (transactorAt (unpack y img) t) .stable) (y .transactors) g → y .transactors ≤ t → Needed y img l v
@@ -215,6 +216,7 @@ module _ {y : Layout} {img : List ℕ} {g t : ℕ} {l : List ℕ} {v : ℕ} (gat
         stable = stable;
         members = subst (λ (n : ℕ). Names (able y img g) n v) e (gathered .members);
         needed = λ u b. gathered .needed u (omega arith);
+        unneeded = λ u b. gathered .unneeded u (omega arith);
       }
 
   module _ (below : t < y .transactors) {need : ℕ} {met : Bool} (row : Row y img g t need met) where
@@ -227,11 +229,20 @@ module _ {y : Layout} {img : List ℕ} {g t : ℕ} {l : List ℕ} {v : ℕ} (gat
         (λ a. subst (Names (needsOf y img t) (y .transactors)) (sym (getD-set-same l t need 0 (omega (arith, gathered .long)))) (row .needed (row .is ∙ a))) e)
         (sides u t)
 
+    kept-none : (u : ℕ) → u < t + 1 → able y img g u ≡ false → getD (set l t need) u 0 ≡ 0
+    kept-none u h e = ⊎-elim
+        (λ (q : u < t). getD-set-other l t u need 0 (λ z. omega arith) ∙ gathered .unneeded u q e)
+        (λ (q : t ≤ u).
+        let f : t ≡ u = omega arith in
+        subst (λ (x : ℕ). able y img g x ≡ false → getD (set l t need) x 0 ≡ 0) f
+        (λ a. getD-set-same l t need 0 (omega (arith, gathered .long)) ∙ row .unneeded (row .is ∙ a)) e)
+        (sides u t)
+
     pub gathered-able : met ≡ true → (b : ℕ) → b ≡ 2 ^ t → Gathered y img g (t + 1) (set l t need) (v + b)
-    gathered-able e b bit = record { within = omega arith; long = length-set l t need ∙ gathered .long; members = names-on (gathered .members) b bit (sym (row .is) ∙ e); needed = kept }
+    gathered-able e b bit = record { within = omega arith; long = length-set l t need ∙ gathered .long; members = names-on (gathered .members) b bit (sym (row .is) ∙ e); needed = kept; unneeded = kept-none }
 
     pub gathered-off : met ≡ false → Gathered y img g (t + 1) (set l t need) v
-    gathered-off e = record { within = omega arith; long = length-set l t need ∙ gathered .long; members = names-off (gathered .members) (sym (row .is) ∙ e); needed = kept }
+    gathered-off e = record { within = omega arith; long = length-set l t need ∙ gathered .long; members = names-off (gathered .members) (sym (row .is) ∙ e); needed = kept; unneeded = kept-none }
 
   pub gathered-fits : y .transactors ≡ groupBits → t < y .transactors → (b : ℕ) → b ≡ 2 ^ t → v + b < 2 ^ groupBits
   gathered-fits size below b bit = rw bit (names-fits (gathered .members) groupBits (omega arith))
@@ -284,7 +295,7 @@ module _ (y : Layout) (img : List ℕ) where
 
       -- the take is able
       ready-able : able y img g t ≡ true
-      unfolding able blocksAt
+      unfolding able isFull
       ready-able = rw (frozen t below name, lt-leb (s .limits .checkpoints) (ownHistory t (transactorAt s t) .count) (ready .room t below name))
           (every-all (pairReady y img g t) (y .transactors) (λ u h. go u h (named w u) refl))
         where
@@ -314,7 +325,7 @@ module _ (y : Layout) (img : List ℕ) where
     module _ (w : ℕ) (names : w ≡ 0 → ⊥) (in-able : inside w v ≡ true) (closed : Closed l w) where
       record Member (t : ℕ) : Type 0 where
         frozen : named g t ≡ true
-        room : blocksAt s 30 t ≡ false
+        room : isFull s t ≡ false
         pairs : (u : ℕ) → u < y .transactors → pairReady y img g t u ≡ true
         needed : Names (needsOf y img t) (y .transactors) (getD l t 0)
 
@@ -324,8 +335,8 @@ module _ (y : Layout) (img : List ℕ) where
           let b : t < y .transactors = omega arith in
           let a : able y img g t ≡ true = sym (found .members .exactly t b) ∙ inside-at w v in-able t h n in
           let c = both (named g t) _ a in
-          let d = both (not (blocksAt s 30 t)) _ (c .1) in
-          record { frozen = c .0; room = not-true (blocksAt s 30 t) (d .0); pairs = λ u k. every-at (pairReady y img g t) (y .transactors) u (d .1) k; needed = found .needed t b a }
+          let d = both (not (isFull s t)) _ (c .1) in
+          record { frozen = c .0; room = not-true (isFull s t) (d .0); pairs = λ u k. every-at (pairReady y img g t) (y .transactors) u (d .1) k; needed = found .needed t b a }
 
       pair-met : (t u : ℕ) → t < groupBits → u < groupBits → named w t ≡ true → pairReady y img w t u ≡ true
       unfolding needsOf Closed
@@ -343,7 +354,7 @@ module _ (y : Layout) (img : List ℕ) where
       stable t h n = sym (found .stable .exactly t (omega arith)) ∙ member t h n .frozen
 
       pub closed-ready : Ready y s w
-      unfolding blocksAt
+      unfolding isFull
       closed-ready = record {
         names = names;
         opened = λ t h n. stable-alive well t (omega arith) (stable t h n) .0;

@@ -1,5 +1,5 @@
 -- Why a volume can't be signed: nothing is answered exactly if its signing would reply 0, and every other answer is a true obstacle.
-use Prim.Native.Nat.{ℕ, zero, suc, _+_, _≤_, _<_}
+use Prim.Native.Nat.{ℕ, zero, suc, _+_, _^_, _≤_, _<_}
 use mathlib.Core.Bool.{Bool, true, false, not, false≢true}
 use mathlib.Core.Path.{_≡_, refl, ap, sym, _∙_, subst}
 use mathlib.Core.Logic.{_↔_, _⊎_, inl, inr}
@@ -7,7 +7,7 @@ use native.Mathlib.Omega.{arith}
 use mathlib.Core.List.{List}
 use lib.Dec.{eqb}
 use lib.ListN.{length}
-use borrow.Author.Tests.{eq-eqb, ne-eqb, eqb-true}
+use borrow.Author.Tests.{eq-eqb, ne-eqb, eqb-true, le-leb, lt-leb}
 use Rattle.octets.specs.Bytes.{pick, _and_, _or_}
 use Rattle.octets.proofs.Tests.{pick-view}
 use Rattle.octets.proofs.Zero.{both, every-all, every-at}
@@ -26,10 +26,10 @@ use Rattle.rules.specs.Pack.{unpack}
 use Rattle.rules.specs.Form.{wellFormed}
 use Rattle.rules.specs.State.{Transactor, State, transactorAt, ownHistory, live}
 use Rattle.rules.specs.Step.{done}
-use Rattle.rules.specs.Refusals.{named, malformed}
+use Rattle.rules.specs.Refusals.{groupBits, named, malformed}
 use Rattle.rules.specs.Rules.{entryReady, mapReady, transactorReady, groupReady, refusal, stepOf}
-use Rattle.rules.specs.Groups.{signing}
-use Rattle.rules.specs.Internal.Guards.{groupRefusal}
+use Rattle.rules.specs.Groups.{signing, signingRefusal}
+use Rattle.rules.specs.Internal.Guards.{groupIn}
 use Rattle.rules.specs.Obstacle.{obstacleNumbers, orElse, firstOf, unstableAt, blocksIn, isPresent, groundOf, entryObstacle, mapObstacle, obstacleOf, obstacleRefusal, obstacleAnswer, StandsIn, in-state, in-creation, Obstructs, is-ready, is-unstable, is-outside, is-superseded}
 use Rattle.rules.proofs.ByKind.Refused.{refuses}
 use Rattle.rules.proofs.Calls.Begin.{wrong-length, right-length}
@@ -81,6 +81,15 @@ first-of P f k (suc n) found none = or-else P (f k) (firstOf f (suc k) n) (found
 
 -- ---- what an answer means
 
+pub parts-ready : (y : Layout) (s : State) (v t : ℕ) → transactorReady y s v t ≡ true
+    → (ownHistory t (transactorAt s t) .stable ≡ true) × (mapReady y s v (transactorAt s t .state) ≡ true) × (mapReady y s v (transactorAt s t .creation) ≡ true)
+unfolding transactorReady
+parts-ready y s v t e =
+    let x : Transactor = transactorAt s t in
+    let p = both (ownHistory t x .stable) (mapReady y s v (x .state) and mapReady y s v (x .creation)) e in
+    let q = both (mapReady y s v (x .state)) (mapReady y s v (x .creation)) (p .1) in
+    (p .0, q .0, q .1)
+
 module _ (y : Layout) (s : State) (v : ℕ) where
   -- a mark that passes no test of the signing rule
   module _ (t u : ℕ) (h : History) (low : t < y .transactors) (low-u : u < y .transactors) (n : named v t ≡ true) (stands : StandsIn s t u h) (e : entryReady s v u h ≡ false) where
@@ -97,8 +106,8 @@ module _ (y : Layout) (s : State) (v : ℕ) where
         b : Incarnation
         b = incarnationOf (ownHistory u x)
 
-        signed : live x ≡ true → Checkpointed a b → ⊥
-        signed l c = false≢true (sym e ∙ rw (l, checkpointed-test a b .1 c))
+        checkpointed : live x ≡ true → Checkpointed a b → ⊥
+        checkpointed l c = false≢true (sym e ∙ rw (l, checkpointed-test a b .1 c))
 
         unnamed : live x ≡ true → sameIncarnation a b ≡ true → (c : Bool) → named v u ≡ c → c ≡ false
         unnamed l q false k = refl
@@ -110,7 +119,7 @@ module _ (y : Layout) (s : State) (v : ℕ) where
 
         go : (l : Bool) → live x ≡ l → (q : Bool) → sameIncarnation a b ≡ q → Obstructs y s v (pick (l and q) (Outside t u) (Superseded t u))
         go true el true eq = is-outside low low-u n stands el (same-test a b .0 eq) (unnamed el eq (named v u) refl)
-        go true el false eq = is-superseded low low-u n stands (record { not-present = λ l p. false≢true (sym eq ∙ same-test a b .1 p); not-checkpointed = signed })
+        go true el false eq = is-superseded low low-u n stands (record { not-present = λ l p. false≢true (sym eq ∙ same-test a b .1 p); not-checkpointed = checkpointed })
         go false el q eq = is-superseded low low-u n stands (record { not-present = λ l p. false≢true (sym el ∙ l); not-checkpointed = λ l c. false≢true (sym el ∙ l) })
 
   blocks-to : (m : DependenceMap) (u : ℕ) → blocksIn s v m u ≡ true → (heldAt m u ≡ true) × (entryReady s v u (historyAt m u) ≡ false)
@@ -219,22 +228,13 @@ module _ (y : Layout) (s : State) (v : ℕ) where
   unfolding groupReady
   transactor-ready e t l n = let q = every-at (λ t. not (named v t) or transactorReady y s v t) (y .transactors) t e l in rw n at q
 
-  parts-ready : (t : ℕ) → transactorReady y s v t ≡ true
-      → (ownHistory t (transactorAt s t) .stable ≡ true) × (mapReady y s v (transactorAt s t .state) ≡ true) × (mapReady y s v (transactorAt s t .creation) ≡ true)
-  unfolding transactorReady
-  parts-ready t e =
-      let x : Transactor = transactorAt s t in
-      let p = both (ownHistory t x .stable) (mapReady y s v (x .state) and mapReady y s v (x .creation)) e in
-      let q = both (mapReady y s v (x .state)) (mapReady y s v (x .creation)) (p .1) in
-      (p .0, q .0, q .1)
-
   mark-ready : (m : DependenceMap) → mapReady y s v m ≡ true → (u : ℕ) → u < y .transactors → heldAt m u ≡ true → entryReady s v u (historyAt m u) ≡ true
   unfolding mapReady
   mark-ready m e u l h = let q = every-at (λ u. not (heldAt m u) or entryReady s v u (historyAt m u)) (y .transactors) u e l in rw h at q
 
   pub stands-ready : groupReady y s v ≡ true → (t u : ℕ) (h : History) → t < y .transactors → u < y .transactors → named v t ≡ true → StandsIn s t u h → entryReady s v u h ≡ true
-  stands-ready e t u h l m n (in-state k q) = rw q (mark-ready (transactorAt s t .state) (parts-ready t (transactor-ready e t l n) .1) u m k)
-  stands-ready e t u h l m n (in-creation k q) = rw q (mark-ready (transactorAt s t .creation) (parts-ready t (transactor-ready e t l n) .2) u m k)
+  stands-ready e t u h l m n (in-state k q) = rw q (mark-ready (transactorAt s t .state) (parts-ready y s v t (transactor-ready e t l n) .1) u m k)
+  stands-ready e t u h l m n (in-creation k q) = rw q (mark-ready (transactorAt s t .creation) (parts-ready y s v t (transactor-ready e t l n) .2) u m k)
 
   -- a mark that passes is of the present life of a named take, or of a signed one
   entry-to : (u : ℕ) (h : History) → entryReady s v u h ≡ true
@@ -255,7 +255,7 @@ module _ (y : Layout) (s : State) (v : ℕ) where
   -- Every answer but nothing is a true obstacle: with it the volume is not ready.
   pub obstructs-not-ready : {o : Obstacle} → Obstructs y s v o → Found o → groupReady y s v ≡ true → ⊥
   obstructs-not-ready (is-ready e) f g = found-not f refl
-  obstructs-not-ready (is-unstable {t} l n k) f g = false≢true (sym k ∙ parts-ready t (transactor-ready g t l n) .0)
+  obstructs-not-ready (is-unstable {t} l n k) f g = false≢true (sym k ∙ parts-ready y s v t (transactor-ready g t l n) .0)
   obstructs-not-ready (is-outside {t} {u} {h} l m n stands w q k) f g = go (entry-to u h (stands-ready g t u h l m n stands) .1)
     where
       go : Checkpointed (incarnationOf h) (incarnationOf (ownHistory u (transactorAt s u))) ⊎ ((named v u ≡ true) × (incarnationOf h ≡ incarnationOf (ownHistory u (transactorAt s u)))) → ⊥
@@ -284,13 +284,13 @@ module _ (y : Layout) (s : State) (v : ℕ) where
   unfolding malformed
   nothing-exactly = (
     λ k. eqb-true (stepOf y s (signing v) .reply .outcome) done (signing-done y s v
-        ∙ rw (eq-eqb (groupRefusal s v) 0 (sym refused ∙ k .0), nothing-ready .0 (k .1))),
+        ∙ rw (eq-eqb (groupIn s v) 0 (sym refused ∙ k .0), nothing-ready .0 (k .1))),
     λ e.
-        let q = both (eqb (groupRefusal s v) 0) (groupReady y s v) (sym (signing-done y s v) ∙ eq-eqb (stepOf y s (signing v) .reply .outcome) done e) in
-        (refused ∙ eqb-true (groupRefusal s v) 0 (q .0), nothing-ready .1 (q .1)),
+        let q = both (eqb (groupIn s v) 0) (groupReady y s v) (sym (signing-done y s v) ∙ eq-eqb (stepOf y s (signing v) .reply .outcome) done e) in
+        (refused ∙ eqb-true (groupIn s v) 0 (q .0), nothing-ready .1 (q .1)),
   )
     where
-      refused : refusal y s (signing v) ≡ groupRefusal s v
+      refused : refusal y s (signing v) ≡ groupIn s v
       refused = refuses y s (signing v) refl .sign refl
 
 -- ---- the call's returns
@@ -305,16 +305,21 @@ module _ (y : Layout) (img : List ℕ) (v : ℕ) where
     unfolding obstacleRefusal obstacleAnswer
     obstacle-19 e = let l = right-length y img long in (rw (l, e), rw (l, e))
 
-    module _ (formed : not (wellFormed y img) ≡ false) (r : ℕ) (e : r ≡ groupRefusal (unpack y img) v) where
-      -- what the signing itself would be refused with
-      refusal-is : r ≡ obstacleRefusal y img v
-      unfolding obstacleRefusal malformed
-      refusal-is = e ∙ sym (refuses y (unpack y img) (signing v) refl .sign refl) ∙ rw (right-length y img long, formed)
+    module _ (formed : not (wellFormed y img) ≡ false) where
+      pub obstacle-21 : 2 ^ groupBits ≤ v → (21 ≡ obstacleRefusal y img v) × (Nothing ≡ obstacleAnswer y img v)
+      unfolding obstacleRefusal obstacleAnswer signingRefusal
+      obstacle-21 h = let l = right-length y img long in let w = le-leb (2 ^ groupBits) v h in (rw (l, formed, w), rw (l, formed, w))
 
-      pub obstacle-refused : (r ≡ 0 → ⊥) → (r ≡ obstacleRefusal y img v) × (Nothing ≡ obstacleAnswer y img v)
-      unfolding obstacleAnswer
-      obstacle-refused n = (refusal-is, rw (ne-eqb (obstacleRefusal y img v) 0 (λ (z : obstacleRefusal y img v ≡ 0). n (refusal-is ∙ z))))
+      module _ (narrow : v < 2 ^ groupBits) (r : ℕ) (e : r ≡ groupIn (unpack y img) v) where
+        -- what the signing itself would be refused with
+        refusal-is : r ≡ obstacleRefusal y img v
+        unfolding obstacleRefusal signingRefusal malformed
+        refusal-is = e ∙ sym (refuses y (unpack y img) (signing v) refl .sign refl) ∙ rw (right-length y img long, formed, lt-leb (2 ^ groupBits) v narrow)
 
-      pub obstacle-0 : r ≡ 0 → (o : Obstacle) → o ≡ obstacleOf y (unpack y img) v → (r ≡ obstacleRefusal y img v) × (o ≡ obstacleAnswer y img v)
-      unfolding obstacleAnswer
-      obstacle-0 z o q = (refusal-is, q ∙ rw (eq-eqb (obstacleRefusal y img v) 0 (sym refusal-is ∙ z)))
+        pub obstacle-refused : (r ≡ 0 → ⊥) → (r ≡ obstacleRefusal y img v) × (Nothing ≡ obstacleAnswer y img v)
+        unfolding obstacleAnswer
+        obstacle-refused n = (refusal-is, rw (ne-eqb (obstacleRefusal y img v) 0 (λ (z : obstacleRefusal y img v ≡ 0). n (refusal-is ∙ z))))
+
+        pub obstacle-0 : r ≡ 0 → (o : Obstacle) → o ≡ obstacleOf y (unpack y img) v → (r ≡ obstacleRefusal y img v) × (o ≡ obstacleAnswer y img v)
+        unfolding obstacleAnswer
+        obstacle-0 z o q = (refusal-is, q ∙ rw (eq-eqb (obstacleRefusal y img v) 0 (sym refusal-is ∙ z)))

@@ -22,37 +22,37 @@ use Rattle.rules.specs.State.{Transactor, State, bare, live, transactorA
 use Rattle.rules.specs.Refusals.{named, groupBits}
 use Rattle.rules.specs.Rules.{entryReady, mapReady, transactorReady, groupReady}
 use Rattle.rules.specs.Pack.{unpackDependences, unpack}
-use Rattle.rules.specs.Internal.Well.{Live, idle, working, TransactorFormed, not-opened, gone, alive, WellFormed}
+use Rattle.rules.specs.Internal.Well.{Live, is-idle, is-busy, TransactorFormed, not-opened, gone, alive, WellFormed}
 use Rattle.rules.specs.Internal.Good.{Good}
-use Rattle.rules.specs.Internal.Guards.{blocksAt}
-use Rattle.rules.specs.Internal.Closure.{storedReady, pairReady, stableNamed, Presents, Kept, vouchedAt, checkpointedAt}
+use Rattle.rules.specs.Internal.Guards.{isFull}
+use Rattle.rules.specs.Internal.Closure.{storedReady, pairReady, stableNamed, Presents, Kept, inGroupAt, checkpointedAt}
 use Rattle.rules.proofs.Bits.{named-same}
 use Rattle.rules.proofs.Pack.Loads.{held-at, history-at, read-state, read-creation}
 use Rattle.rules.proofs.Form.Transactor.{live-true}
 
 -- ---- what blocks a signing
 
-pub blocks-full : (s : State) (t n : ℕ) → n ≡ ownHistory t (transactorAt s t) .count → leb (s .limits .checkpoints) n ≡ blocksAt s 30 t
-unfolding blocksAt
-blocks-full s t n e = ap (leb (s .limits .checkpoints)) e
+pub full-is : (s : State) (t n : ℕ) → n ≡ ownHistory t (transactorAt s t) .count → leb (s .limits .checkpoints) n ≡ isFull s t
+unfolding isFull
+full-is s t n e = ap (leb (s .limits .checkpoints)) e
 
 -- ---- a take that is frozen is live
 
 pub alive-there : {n : ℕ} → Live n → eqb n annihilated ≡ false
-alive-there idle = refl
-alive-there working = refl
+alive-there is-idle = refl
+alive-there is-busy = refl
 
 module _ {y : Layout} {s : State} (well : WellFormed y s) (t : ℕ) (below : t < y .transactors) where
   -- the own history of a take that is not live is not stable
-  bare-loose : (n : ℕ) → ownHistory t (bare y n) .stable ≡ false
-  bare-loose n = ap (λ (x : History). x .stable) (history-empty (y .places) (y .transactors) t below)
+  bare-unstable : (n : ℕ) → ownHistory t (bare y n) .stable ≡ false
+  bare-unstable n = ap (λ (x : History). x .stable) (history-empty (y .places) (y .transactors) t below)
 
   pub stable-alive : ownHistory t (transactorAt s t) .stable ≡ true → (t < s .opened) × Live (transactorAt s t .status)
   stable-alive = go (well .transactors t below)
     where
       go : {x : Transactor} → TransactorFormed y (s .limits .checkpoints) (s .opened) t x → ownHistory t x .stable ≡ true → (t < s .opened) × Live (x .status)
-      go (not-opened h) e = never (sym e ∙ bare-loose unused)
-      go (gone h) e = never (sym e ∙ bare-loose annihilated)
+      go (not-opened h) e = never (sym e ∙ bare-unstable unused)
+      go (gone h) e = never (sym e ∙ bare-unstable annihilated)
       go (alive h a) e = (h, a .status)
 
 -- ---- one mark
@@ -73,35 +73,35 @@ module _ (y : Layout) (img : List ℕ) (g at u : ℕ) where
   abbrev h : History
   h = unpackHistory (y .width) (y .places) (part at (historyBytes y) img)
 
-  pub vouched-absent : not (presentIn (part at (historyBytes y) img)) ≡ true → true ≡ vouchedAt y img g at u
-  unfolding vouchedAt
-  vouched-absent e = rw e
+  pub in-group-absent : not (presentIn (part at (historyBytes y) img)) ≡ true → true ≡ inGroupAt y img g at u
+  unfolding inGroupAt
+  in-group-absent e = rw e
 
   module _ (there : not (presentIn (part at (historyBytes y) img)) ≡ false) where
-    pub vouched-unnamed : named g u ≡ false → false ≡ vouchedAt y img g at u
-    unfolding vouchedAt
-    vouched-unnamed o = rw (there, o)
+    pub in-group-unnamed : named g u ≡ false → false ≡ inGroupAt y img g at u
+    unfolding inGroupAt
+    in-group-unnamed o = rw (there, o)
 
-    pub vouched-same : {o : History} → Kept (unpack y img) g u o → named g u ≡ true → sameIncarnation (incarnationOf h) (incarnationOf o) ≡ vouchedAt y img g at u
-    unfolding vouchedAt
-    vouched-same {o} k n = rw (there, n) (ap (λ (z : History). sameIncarnation (incarnationOf h) (incarnationOf z)) (k .own n))
+    pub in-group-same : {o : History} → Kept (unpack y img) g u o → named g u ≡ true → sameIncarnation (incarnationOf h) (incarnationOf o) ≡ inGroupAt y img g at u
+    unfolding inGroupAt
+    in-group-same {o} k n = rw (there, n) (ap (λ (z : History). sameIncarnation (incarnationOf h) (incarnationOf z)) (k .own n))
 
-  pub signed-named : {o : History} → Kept (unpack y img) g u o → named g u ≡ true → checkpointedIn (incarnationOf h) (incarnationOf o) ≡ checkpointedAt y img at u
+  pub checkpointed-named : {o : History} → Kept (unpack y img) g u o → named g u ≡ true → checkpointedIn (incarnationOf h) (incarnationOf o) ≡ checkpointedAt y img at u
   unfolding checkpointedAt
-  signed-named {o} k n = rw (k .there n) (ap (λ (z : History). checkpointedIn (incarnationOf h) (incarnationOf z)) (k .own n))
+  checkpointed-named {o} k n = rw (k .there n) (ap (λ (z : History). checkpointedIn (incarnationOf h) (incarnationOf z)) (k .own n))
 
-  pub signed-dead : live x ≡ false → false ≡ checkpointedAt y img at u
+  pub checkpointed-dead : live x ≡ false → false ≡ checkpointedAt y img at u
   unfolding checkpointedAt
-  signed-dead l = rw l
+  checkpointed-dead l = rw l
 
-  pub signed-live : live x ≡ true → (o : History) → o ≡ ownHistory u x → checkpointedIn (incarnationOf h) (incarnationOf o) ≡ checkpointedAt y img at u
+  pub checkpointed-live : live x ≡ true → (o : History) → o ≡ ownHistory u x → checkpointedIn (incarnationOf h) (incarnationOf o) ≡ checkpointedAt y img at u
   unfolding checkpointedAt
-  signed-live l o e = rw l (ap (λ (z : History). checkpointedIn (incarnationOf h) (incarnationOf z)) e)
+  checkpointed-live l o e = rw l (ap (λ (z : History). checkpointedIn (incarnationOf h) (incarnationOf z)) e)
 
   module _ {o : History} (kept : Kept (unpack y img) g u o) where
     -- the two tests, one after the other
-    stored-kept : storedReady y img g at u ≡ vouchedAt y img g at u or checkpointedAt y img at u
-    unfolding storedReady entryReady vouchedAt checkpointedAt
+    stored-kept : storedReady y img g at u ≡ inGroupAt y img g at u or checkpointedAt y img at u
+    unfolding storedReady entryReady inGroupAt checkpointedAt
     stored-kept = go (presentIn (part at (historyBytes y) img)) (live x) (checkpointedIn (incarnationOf h) (incarnationOf (ownHistory u x))) (named g u)
         (sameIncarnation (incarnationOf h) (incarnationOf (ownHistory u x))) (kept .there)
       where
@@ -112,13 +112,13 @@ module _ (y : Layout) (img : List ℕ) (g at u : ℕ) where
         go true false c true e f = never (sym (f refl))
         go true false c false e f = refl
 
-    pub kept-vouched : vouchedAt y img g at u ≡ true → storedReady y img g at u ≡ true
-    kept-vouched e = stored-kept ∙ rw e
+    pub kept-in-group : inGroupAt y img g at u ≡ true → storedReady y img g at u ≡ true
+    kept-in-group e = stored-kept ∙ rw e
 
-    pub kept-signed : checkpointedAt y img at u ≡ true → storedReady y img g at u ≡ true
-    kept-signed e = stored-kept ∙ rw e (or-on (vouchedAt y img g at u))
+    pub kept-checkpointed : checkpointedAt y img at u ≡ true → storedReady y img g at u ≡ true
+    kept-checkpointed e = stored-kept ∙ rw e (or-on (inGroupAt y img g at u))
 
-    pub kept-other : vouchedAt y img g at u ≡ false → checkpointedAt y img at u ≡ storedReady y img g at u
+    pub kept-other : inGroupAt y img g at u ≡ false → checkpointedAt y img at u ≡ storedReady y img g at u
     kept-other e = sym (stored-kept ∙ rw e)
 
 module _ (y : Layout) (img : List ℕ) (g t u : ℕ) where
@@ -226,9 +226,9 @@ module _ (y : Layout) (s : State) (g : ℕ) where
         both (named g t) (ownHistory t (transactorAt s t) .stable)
         (sym (present .stable .exactly t h) ∙ ap (λ (x : ℕ). named x t) e ∙ n) .1))
 
-    pub present-loose : y .transactors ≡ groupBits → g < 2 ^ groupBits → (v ≡ g → ⊥) → false ≡ groupReady y s g
+    pub present-unstable : y .transactors ≡ groupBits → g < 2 ^ groupBits → (v ≡ g → ⊥) → false ≡ groupReady y s g
     unfolding stableNamed
-    present-loose size fits off = ready-unstable (go (every (y .transactors) (stableNamed s g)) refl)
+    present-unstable size fits off = ready-unstable (go (every (y .transactors) (stableNamed s g)) refl)
       where
         same : every (y .transactors) (stableNamed s g) ≡ true → v ≡ g
         same e = named-same groupBits v g (subst (λ (n : ℕ). v < 2 ^ n) size (present .stable .bits)) fits (λ t h.

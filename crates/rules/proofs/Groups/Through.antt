@@ -1,6 +1,6 @@
 -- Who rests on a take through others: what is said step by step is closed, and is what the loop of the least closed volume finds.
 use Prim.Native.Nat.{ℕ, zero, suc, _^_, _≤_, _<_}
-use mathlib.Core.Bool.{Bool, true, false}
+use mathlib.Core.Bool.{true}
 use mathlib.Core.Path.{_≡_, refl, sym, ap, _∙_, subst}
 use mathlib.Core.List.{List}
 use mathlib.Core.Logic.{_⊎_, inl, inr, ⊎-elim}
@@ -9,8 +9,8 @@ use native.Mathlib.Omega.{arith}
 use lib.Dec.{eqb}
 use lib.ListN.{getD}
 use borrow.Author.Tests.{eq-eqb, eqb-true}
-use Rattle.octets.specs.Bytes.{_and_, _or_}
-use Rattle.octets.proofs.Tests.{same-test, or-to as either, and-of as together}
+use Rattle.octets.specs.Bytes.{_and_}
+use Rattle.octets.proofs.Tests.{same-test, or-to as either, or-of, and-of as together}
 use Rattle.octets.proofs.Zero.{both}
 use Rattle.rules.specs.State.{State}
 use Rattle.rules.specs.Layout.{Layout}
@@ -21,13 +21,6 @@ use Rattle.rules.specs.Internal.Held.{Listed}
 use Rattle.rules.proofs.Bits.{named-same}
 use Rattle.rules.proofs.Groups.Closure.{inside-at, inside-all}
 use Rattle.rules.proofs.Groups.Dependents.{group-names, in-group}
-
-first : (a b : Bool) → a ≡ true → a or b ≡ true
-first a b e = rw e
-
-second : (a b : Bool) → b ≡ true → a or b ≡ true
-second true b e = refl
-second false b e = e
 
 module _ (s : State) where
   -- ---- by its steps
@@ -42,22 +35,22 @@ module _ (s : State) where
 
   pub through-more : (k t w : ℕ) → throughAt s k t w ≡ true → throughAt s (suc k) t w ≡ true
   unfolding throughAt
-  through-more k t w e = first (throughAt s k t w) (throughAt s k t k and throughAt s k k w) e
+  through-more k t w e = or-of (throughAt s k t w) (throughAt s k t k and throughAt s k k w) (inl e)
 
   pub through-by : (k t w : ℕ) → throughAt s k t k ≡ true → throughAt s k k w ≡ true → throughAt s (suc k) t w ≡ true
   unfolding throughAt
-  through-by k t w e f = second (throughAt s k t w) (throughAt s k t k and throughAt s k k w) (together (throughAt s k t k) (throughAt s k k w) e f)
+  through-by k t w e f = or-of (throughAt s k t w) (throughAt s k t k and throughAt s k k w) (inr (together (throughAt s k t k) (throughAt s k k w) e f))
 
   -- itself
   pub through-self : (k t : ℕ) → throughAt s k t t ≡ true
   unfolding throughAt
-  through-self zero t = first (eqb t t) (restsAt s t t) (eq-eqb t t refl)
+  through-self zero t = or-of (eqb t t) (restsAt s t t) (inl (eq-eqb t t refl))
   through-self (suc k) t = through-more k t t (through-self k t)
 
   -- who rests on it
   pub through-rests : (k t w : ℕ) → restsAt s t w ≡ true → throughAt s k t w ≡ true
   unfolding throughAt
-  through-rests zero t w e = second (eqb t w) (restsAt s t w) e
+  through-rests zero t w e = or-of (eqb t w) (restsAt s t w) (inr e)
   through-rests (suc k) t w e = through-more k t w (through-rests k t w e)
 
   -- and through any of the first k takes

@@ -7,7 +7,7 @@ use lib.Dec.{eqb, ltb, leb}
 use borrow.Author.Tests.{leb-false, ltb-false, lt-ltb, eqb-true, eqb-false, not-false}
 use Rattle.octets.specs.Bytes.{pick, _and_, _or_}
 use Rattle.rules.specs.Layout.{Layout, largest, lastNumber}
-use Rattle.rules.specs.Status.{ready, busy, annihilated}
+use Rattle.rules.specs.Status.{idle, busy, annihilated}
 use Rattle.rules.specs.Step.{Step, root, receive, new, send, fall, fail, lose, sign}
 use Rattle.rules.specs.Refusals.{Seen, groupBits, named, anyNamed, acts, usesTransactor, sends, malformed, notWaiting, emptyGroup, unopened, isGone, wrongStatus, unrelatedReceipt, allOpened, allWaiting, allNumbered, allCheckpointed, atLast, lastRollsBack, refusalOf}
 use Rattle.octets.proofs.Tests.{pick-zero, or-off, and-off}
@@ -119,33 +119,33 @@ module _ {y : Layout} {v : Seen} {p : Step} (a : Accepted y v p) where
   unfolding wrongStatus
   transactor-busy k =
       let c : Bool = leb new (p .kind) and leb (p .kind) fall in
-      let e = or-off (eqb (p .kind) receive and not (eqb (v .status (v .addressee (p .message))) ready)) (c and not (eqb (v .status (p .transactor)) busy)) (a .status) in
+      let e = or-off (eqb (p .kind) receive and not (eqb (v .status (v .addressee (p .message))) idle)) (c and not (eqb (v .status (p .transactor)) busy)) (a .status) in
       eqb-true (v .status (p .transactor)) busy (not-false (eqb (v .status (p .transactor)) busy) (and-off c (not (eqb (v .status (p .transactor)) busy)) (e .1) k))
 
   -- 28: a take that falls of itself
   last-rest : (((eqb (p .kind) fall or eqb (p .kind) fail) and not (v .stable (p .transactor)) and atLast y v (p .transactor)) ≡ false)
-      × ((eqb (p .kind) receive and v .falls (p .message) and atLast y v (v .addressee (p .message))) ≡ false)
+      × ((eqb (p .kind) receive and v .rolls (p .message) and atLast y v (v .addressee (p .message))) ≡ false)
   unfolding lastRollsBack
   last-rest = or-off ((eqb (p .kind) fall or eqb (p .kind) fail) and not (v .stable (p .transactor)) and atLast y v (p .transactor)) _ (a .incarnations)
 
-  pub falls-alone : eqb (p .kind) fall or eqb (p .kind) fail ≡ true → v .stable (p .transactor) ≡ false → 0 < v .checkpoints (p .transactor) → v .incarnation (p .transactor) < largest y
-  falls-alone k f =
+  pub rolls-alone : eqb (p .kind) fall or eqb (p .kind) fail ≡ true → v .stable (p .transactor) ≡ false → 0 < v .checkpoints (p .transactor) → v .incarnation (p .transactor) < largest y
+  rolls-alone k f =
       let e = and-off (eqb (p .kind) fall or eqb (p .kind) fail) (not (v .stable (p .transactor)) and atLast y v (p .transactor)) (last-rest .0) k in
       not-last y v (p .transactor) (and-off (not (v .stable (p .transactor))) (atLast y v (p .transactor)) e (rw f))
 
   -- 22, 23, 28 of a receiving take
   module _ (k : eqb (p .kind) receive ≡ true) where
-    pub receiver-ready : v .status (v .addressee (p .message)) ≡ ready
+    pub receiver-idle : v .status (v .addressee (p .message)) ≡ idle
     unfolding wrongStatus
-    receiver-ready =
-        let c : Bool = eqb (v .status (v .addressee (p .message))) ready in
+    receiver-idle =
+        let c : Bool = eqb (v .status (v .addressee (p .message))) idle in
         let e = or-off (eqb (p .kind) receive and not c) _ (a .status) in
-        eqb-true (v .status (v .addressee (p .message))) ready (not-false c (and-off (eqb (p .kind) receive) (not c) (e .0) k))
+        eqb-true (v .status (v .addressee (p .message))) idle (not-false c (and-off (eqb (p .kind) receive) (not c) (e .0) k))
 
-    pub falls-received : v .falls (p .message) ≡ true → 0 < v .checkpoints (v .addressee (p .message)) → v .incarnation (v .addressee (p .message)) < largest y
-    falls-received f =
+    pub rolls-received : v .rolls (p .message) ≡ true → 0 < v .checkpoints (v .addressee (p .message)) → v .incarnation (v .addressee (p .message)) < largest y
+    rolls-received f =
         let t : ℕ = v .addressee (p .message) in
-        not-last y v t (and-off (v .falls (p .message)) (atLast y v t) (and-off (eqb (p .kind) receive) (v .falls (p .message) and atLast y v t) (last-rest .1) k) f)
+        not-last y v t (and-off (v .rolls (p .message)) (atLast y v t) (and-off (eqb (p .kind) receive) (v .rolls (p .message) and atLast y v t) (last-rest .1) k) f)
 
   -- 21, 22, 30 of a named take
   module _ (k : eqb (p .kind) sign ≡ true) (t : ℕ) (below : t < groupBits) (n : named (p .message) t ≡ true) where

@@ -13,7 +13,7 @@ use Rattle.octets.proofs.Numbers.{bound-pos}
 use Rattle.octets.proofs.Zero.{both}
 use Rattle.maps.specs.declared.DependenceMap.{DependenceMap}
 use Rattle.rules.specs.Layout.{Layout, Fitting, largest, lastNumber}
-use Rattle.rules.specs.Status.{ready, busy, annihilated}
+use Rattle.rules.specs.Status.{idle, busy, annihilated}
 use Rattle.rules.specs.State.{Transactor, State, transactorAt, messageAt, ownHistory, withTransactor, withOpened, placeOf}
 use Rattle.rules.specs.Step.{Step, Reply, done, notReady, root, letter, receive, new, send, read, finish, fall, fail, lose, sign}
 use Rattle.rules.specs.Refusals.{groupBits, named, acts, sends}
@@ -23,7 +23,7 @@ use Rattle.octets.proofs.Tests.{pick-view, and-of}
 use Rattle.rules.proofs.Keep.Maps.{ok-none, known-none, ok-carried, known-carried, known-more}
 use Rattle.rules.proofs.Keep.State.{alive-more, well-withTransactor, well-opened, well-withMessage, well-withoutMessage, well-checkpointGroup}
 use Rattle.rules.proofs.Keep.Transactor.{TransactorWell, EffectOk, formed-alive, opening-ok, informed-well, checkpoint-ok, local-ok, receive-ok, grown-ok}
-use Rattle.rules.proofs.Keep.Accepted.{Accepted, kind-known, message-waits, one-unopened, one-place, one-number, transactor-opened, other-opened, transactor-there, transactor-busy, falls-alone, receiver-ready, falls-received, named-opened, named-there, named-room}
+use Rattle.rules.proofs.Keep.Accepted.{Accepted, kind-known, message-waits, one-unopened, one-place, one-number, transactor-opened, other-opened, transactor-there, transactor-busy, rolls-alone, receiver-idle, rolls-received, named-opened, named-there, named-room}
 
 -- every field fits its bytes
 pub record ReplyOk (r : Reply) : Type 0 where
@@ -153,7 +153,7 @@ module _ {y : Layout} {s : State} {p : Step} (z : Fitting y) (w : WellFormed y s
       let h : t < s .opened = acting k in
       let e : EffectOk y (s .limits .checkpoints) (s .opened) t (localBy y (p .kind) t (p .value) x) = local-ok (inside t h) h (ok-at t h) (acting-alive k) (p .kind) (p .value) (q .value) r
       (λ f. transactor-busy a (rw f))
-      (λ f b c. next-fits (ownHistory t x .incarnation) (falls-alone a (last f) b c)) in
+      (λ f b c. next-fits (ownHistory t x .incarnation) (rolls-alone a (last f) b c)) in
       record {
         state = well-withTransactor w t (inside t h) (e .transactor .ok) (e .transactor .formed);
         reply = reply-ok _ t 0 _ (e .outcome) (small t h) (bound-pos 2) (e .value);
@@ -193,10 +193,10 @@ module _ {y : Layout} {s : State} {p : Step} (z : Fitting y) (w : WellFormed y s
         let b : waits < length (s .messages) = place-waits y s p a (rw k) in
         let h : receiver < s .opened = receiver-opened in
         let x : Transactor = transactorAt s receiver in
-        let r : x .status ≡ ready = receiver-ready a k in
+        let r : x .status ≡ idle = receiver-idle a k in
         let v : Alive y (s .limits .checkpoints) (s .opened) receiver x = alive-at receiver h (rw r) in
         receive-ok (inside receiver h) h (ok-at receiver h) v (messageAt s waits) (w .packable .messages waits b) (w .known waits b)
-        (λ f c. next-fits (ownHistory receiver x .incarnation) (falls-received a k f c))
+        (λ f c. next-fits (ownHistory receiver x .incarnation) (rolls-received a k f c))
 
     pub well-received : WellFormed y (withTransactor s receiver (received .transactor))
     well-received = well-withTransactor w receiver (inside receiver receiver-opened) (received-ok .transactor .ok) (received-ok .transactor .formed)

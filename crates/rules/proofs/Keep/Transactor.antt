@@ -14,10 +14,10 @@ use Rattle.maps.specs.declared.DependenceMap.{DependenceMap}
 use Rattle.maps.specs.News.{informedOf}
 use Rattle.maps.proofs.News.{informed-empty}
 use Rattle.rules.specs.Layout.{Layout, Fitting}
-use Rattle.rules.specs.Status.{unused, ready, busy, annihilated}
+use Rattle.rules.specs.Status.{unused, idle, busy, annihilated}
 use Rattle.rules.specs.State.{Transactor, Message, bare, ownHistory, withBehaviour}
 use Rattle.rules.specs.Step.{done, held, dropped, read, write, freeze, finish, fall}
-use Rattle.rules.specs.Rules.{Effect, noDependences, only, join, unchanged, rollback, readBy, writeBy, freezeBy, madeReady, finishBy, fallBy, failBy, localBy, messageSuperseded, receiverSuperseded, receiveBy, checkpointBy, opening, informedBy, taken}
+use Rattle.rules.specs.Rules.{Effect, noDependences, only, join, unchanged, rollback, readBy, writeBy, freezeBy, madeIdle, finishBy, fallBy, failBy, localBy, messageSuperseded, receiverSuperseded, receiveBy, checkpointBy, opening, informedBy, taken}
 use Rattle.rules.specs.Internal.Well.{DependencesOk, TransactorOk, MessageOk, Known, Live, Alive, TransactorFormed}
 use Rattle.octets.proofs.Tests.{pick-view, never}
 use Rattle.rules.proofs.Keep.Maps.{HistoryOk, history-initial, history-stabilized, history-rolledBack, history-checkpointed, ok-none, ok-only, ok-join, ok-informed, ok-entry, known-none, known-only, known-join, known-informed, known-entry, known-count, own-only, only-is, own-entry, entry-is, own-kept, kept-is, own-join, join-count, own-history}
@@ -45,7 +45,7 @@ formed-alive (TransactorFormed.alive h a) k e = a
 module _ (y : Layout) (c o t : ℕ) (below : t < y .transactors) (k : t < o) where
   -- idle, with text v, saved text u, own mark h, creation map c
   pub alone-ok : (v u : ℕ) (h : History) (d : DependenceMap) → v < bound 4 → u < bound 4 → (h .count ≡ 0 → u ≡ 0) → HistoryOk y h → h .count ≤ c → DependencesOk y d → Known c o d
-      → TransactorWell y c o t (record { status = ready; value = v; saved = u; state = only y t h; creation = d; behaviour = noDependences y })
+      → TransactorWell y c o t (record { status = idle; value = v; saved = u; state = only y t h; creation = d; behaviour = noDependences y })
   alone-ok v u h d p q r z b i j = record {
     ok = record {
       status = omega arith;
@@ -56,7 +56,7 @@ module _ (y : Layout) (c o t : ℕ) (below : t < y .transactors) (k : t < o) whe
       behaviour = ok-none y;
     };
     formed = TransactorFormed.alive k (record {
-      status = Live.idle;
+      status = Live.is-idle;
       state = known-only y c o t h k b;
       creation = j;
       behaviour = known-none y c o;
@@ -118,7 +118,7 @@ module _ {y : Layout} {c o t : ℕ} {x : Transactor} (below : t < y .transactors
   behaving-ok b i j = record {
     ok = record { status = omega arith; value = p .value; saved = p .saved; state = p .state; creation = p .creation; behaviour = i };
     formed = TransactorFormed.alive k (record {
-      status = Live.working;
+      status = Live.is-busy;
       state = a .state;
       creation = a .creation;
       behaviour = j;
@@ -128,11 +128,11 @@ module _ {y : Layout} {c o t : ℕ} {x : Transactor} (below : t < y .transactors
     });
   }
 
-  idled-ok : TransactorWell y c o t (madeReady y x)
+  idled-ok : TransactorWell y c o t (madeIdle y x)
   idled-ok = record {
     ok = record { status = omega arith; value = p .value; saved = p .saved; state = p .state; creation = p .creation; behaviour = ok-none y };
     formed = TransactorFormed.alive k (record {
-      status = Live.idle;
+      status = Live.is-idle;
       state = a .state;
       creation = a .creation;
       behaviour = known-none y c o;
@@ -247,7 +247,7 @@ module _ {y : Layout} {c o t : ℕ} {x : Transactor} (below : t < y .transactors
       record {
         ok = record { status = omega arith; value = p .value; saved = p .saved; state = ok-informed y t b (p .state); creation = ok-informed y t b (p .creation); behaviour = i };
         formed = TransactorFormed.alive k (record {
-          status = Live.working;
+          status = Live.is-busy;
           state = w .state;
           creation = w .creation;
           behaviour = j;

@@ -323,13 +323,13 @@ module _ (y : Layout) (img : List ℕ) (whole : length img ≡ imageBytes y) (o 
         ∙ sym (zeros-is (messagePart y img k) (rw v at zeroed) ∙ ap zeros (length-messagePart y img whole k below))
 
   module _ (top : getD img 3 0 ≡ 0) (fourth : limitsZero y img ≡ true)
-      (takes : (t : ℕ) → t < y .transactors → transactorZeros y img t ≡ true)
-      (parcels : (k : ℕ) → k < y .messages → messageZeros y img k ≡ true)
+      (transactor-zeros : (t : ℕ) → t < y .transactors → transactorZeros y img t ≡ true)
+      (message-zeros : (k : ℕ) → k < y .messages → messageZeros y img k ≡ true)
       (gapless : (k : ℕ) → k < y .messages → noGap y img k ≡ true) where
     place-back : (k : ℕ) → k < y .messages → packMessageAt y (unpack y img) k ≡ messagePart y img k
     place-back k h = ⊎-elim
-        (λ (p : k < waitingIn y img). message-back k h (parcels k h) p)
-        (λ (p : waitingIn y img ≤ k). free-back k h (parcels k h) p (vacant-behind y img gapless k h p))
+        (λ (p : k < waitingIn y img). message-back k h (message-zeros k h) p)
+        (λ (p : waitingIn y img ≤ k). free-back k h (message-zeros k h) p (vacant-behind y img gapless k h p))
         (sides k (waitingIn y img))
 
     pub pack-unpack : pack y (unpack y img) ≡ img
@@ -341,7 +341,7 @@ module _ (y : Layout) (img : List ℕ) (whole : length img ≡ imageBytes y) (o 
         rw (
           head-back top,
           limits-back fourth,
-          run-back (headBytes + limitsBytes y) w (y .transactors) (packTransactorAt y (unpack y img)) img (omega arith) (λ t h. transactor-back t h (takes t h)),
+          run-back (headBytes + limitsBytes y) w (y .transactors) (packTransactorAt y (unpack y img)) img (omega arith) (λ t h. transactor-back t h (transactor-zeros t h)),
           run-back front v (y .messages) (packMessageAt y (unpack y img)) img (omega arith) place-back,
           joined headBytes (limitsBytes y) img,
           joined (headBytes + limitsBytes y) (w * y .transactors) img,

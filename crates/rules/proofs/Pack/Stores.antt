@@ -126,13 +126,13 @@ module _ (y : Layout) (x : Transactor) where
 
 -- ---- the image: what changes is the head, one take or one parcel
 
-abbrev takes : Layout → State → List ℕ
-takes y s = chunks (y .transactors) (packTransactorAt y s)
+abbrev packedTransactors : Layout → State → List ℕ
+packedTransactors y s = chunks (y .transactors) (packTransactorAt y s)
 
-abbrev parcels : Layout → State → List ℕ
-parcels y s = chunks (y .messages) (packMessageAt y s)
+abbrev packedMessages : Layout → State → List ℕ
+packedMessages y s = chunks (y .messages) (packMessageAt y s)
 
-length-front : (y : Layout) (s : State) → length (packFront y s ++ takes y s) ≡ transactorAddress y (y .transactors)
+length-front : (y : Layout) (s : State) → length (packFront y s ++ packedTransactors y s) ≡ transactorAddress y (y .transactors)
 length-front y s = rw (length-append, length-packFront y s, length-chunks (transactorBytes y) (packTransactorAt y s) (length-packTransactorAt y s) (y .transactors))
 
 module _ (y : Layout) (s s' : State) where
@@ -141,8 +141,8 @@ module _ (y : Layout) (s s' : State) where
   unfolding pack
   put-head at bs fits e ts ms =
       let h : at + length bs ≤ length (packFront y s) = rw length-packFront fits in
-      let h' : at + length bs ≤ length (packFront y s ++ takes y s) = rw length-append (omega arith) in
-      rw (put-left at bs (packFront y s ++ takes y s) (parcels y s) h', put-left at bs (packFront y s) (takes y s) h, e, ts, ms)
+      let h' : at + length bs ≤ length (packFront y s ++ packedTransactors y s) = rw length-append (omega arith) in
+      rw (put-left at bs (packFront y s ++ packedTransactors y s) (packedMessages y s) h', put-left at bs (packFront y s) (packedTransactors y s) h, e, ts, ms)
 
   pub put-transactor : (t off : ℕ) (bs : List ℕ) → t < y .transactors → off + length bs ≤ transactorBytes y
       → packFront y s' ≡ packFront y s → packMessageAt y s' ≡ packMessageAt y s
@@ -152,11 +152,11 @@ module _ (y : Layout) (s s' : State) where
   put-transactor t off bs below fits hd ms here other =
       let w : ℕ = transactorBytes y in
       let a : transactorAddress y t + off ≡ length (packFront y s) + (w * t + off) = rw length-packFront (add-assoc (headBytes + limitsBytes y) (w * t) off) in
-      let h : transactorAddress y t + off + length bs ≤ length (packFront y s ++ takes y s) = rw length-front (omega (arith, step w t (y .transactors) below)) in
+      let h : transactorAddress y t + off + length bs ≤ length (packFront y s ++ packedTransactors y s) = rw length-front (omega (arith, step w t (y .transactors) below)) in
       rw (
-        put-left (transactorAddress y t + off) bs (packFront y s ++ takes y s) (parcels y s) h,
+        put-left (transactorAddress y t + off) bs (packFront y s ++ packedTransactors y s) (packedMessages y s) h,
         a,
-        put-right (w * t + off) bs (packFront y s) (takes y s),
+        put-right (w * t + off) bs (packFront y s) (packedTransactors y s),
         put-chunk w (packTransactorAt y s) (packTransactorAt y s') (length-packTransactorAt y s) (y .transactors) t off bs below fits (sym here) other,
         hd,
         ms,
@@ -169,10 +169,10 @@ module _ (y : Layout) (s s' : State) where
   unfolding pack
   put-message k off bs below fits hd ts here other =
       let w : ℕ = messageBytes y in
-      let a : messageAddress y k + off ≡ length (packFront y s ++ takes y s) + (w * k + off) = rw length-front (add-assoc (transactorAddress y (y .transactors)) (w * k) off) in
+      let a : messageAddress y k + off ≡ length (packFront y s ++ packedTransactors y s) + (w * k + off) = rw length-front (add-assoc (transactorAddress y (y .transactors)) (w * k) off) in
       rw (
         a,
-        put-right (w * k + off) bs (packFront y s ++ takes y s) (parcels y s),
+        put-right (w * k + off) bs (packFront y s ++ packedTransactors y s) (packedMessages y s),
         put-chunk w (packMessageAt y s) (packMessageAt y s') (length-packMessageAt y s) (y .messages) k off bs below fits (sym here) other,
         hd,
         ts,
@@ -349,10 +349,10 @@ module _ (y : Layout) (s : State) (k : ℕ) (below : k < length (s .messages)) (
   pack-removed =
       let w : ℕ = messageBytes y in
       let m : ℕ = length (s .messages) - (k + 1) in
-      let front : List ℕ = packFront y s ++ takes y s in
+      let front : List ℕ = packFront y s ++ packedTransactors y s in
       let p : messageAddress y k ≡ length front + w * k = rw length-front in
       let q : messageAddress y k + w ≡ length front + (w * k + w) = rw length-front (add-assoc (transactorAddress y (y .transactors)) (w * k) w) in
-      rw (q, p, part-right (w * k + w) (w * m) front (parcels y s), put-right (w * k) (part (w * k + w) (w * m) (parcels y s) ++ zeros w) front (parcels y s), gone-chunks)
+      rw (q, p, part-right (w * k + w) (w * m) front (packedMessages y s), put-right (w * k) (part (w * k + w) (w * m) (packedMessages y s) ++ zeros w) front (packedMessages y s), gone-chunks)
 
 -- ---- one take after the other changes
 

@@ -1,6 +1,6 @@
 -- The signing rule, and what the takes need of a volume, as the code tests the image.
 use Prim.Native.Nat.{ℕ, _+_, _*_, _^_, _<_}
-use mathlib.Core.Bool.{Bool, true, not}
+use mathlib.Core.Bool.{Bool, true, false, not}
 use mathlib.Core.Path.{_≡_}
 use mathlib.Core.List.{List}
 use lib.Dec.{eqb}
@@ -18,7 +18,7 @@ use Rattle.rules.specs.Refusals.{groupBits, named}
 use Rattle.rules.specs.Rules.{entryReady}
 use Rattle.rules.specs.Pack.{unpack}
 use Rattle.rules.specs.ReadyGroups.{howMany, sizeOf}
-use Rattle.rules.specs.Internal.Guards.{blocksAt}
+use Rattle.rules.specs.Internal.Guards.{isFull}
 
 -- the mark packed in img from at on, if there is one, of take u
 unfoldable pub storedReady : Layout → List ℕ → ℕ → ℕ → ℕ → Bool
@@ -55,8 +55,8 @@ pub record Kept (s : State) (g u : ℕ) (h : History) : Type 0 where
   pub own : named g u ≡ true → h ≡ ownHistory u (transactorAt s u)
 
 -- no mark, or one of the present life of take u, a named one
-unfoldable pub vouchedAt : Layout → List ℕ → ℕ → ℕ → ℕ → Bool
-vouchedAt y img g at u =
+unfoldable pub inGroupAt : Layout → List ℕ → ℕ → ℕ → ℕ → Bool
+inGroupAt y img g at u =
     not (presentIn (part at (historyBytes y) img))
     or (named g u and sameIncarnation (incarnationOf (unpackHistory (y .width) (y .places) (part at (historyBytes y) img))) (incarnationOf (ownHistory u (transactorAt (unpack y img) u))))
 
@@ -83,12 +83,13 @@ needsOf y img t u = not (pairReady y img 0 t u)
 
 -- take t can be in a ready volume of takes of g: it is one of them, has room for a signing, and its entries ask for no more than g
 unfoldable pub able : Layout → List ℕ → ℕ → ℕ → Bool
-able y img g t = named g t and not (blocksAt (unpack y img) 30 t) and every (y .transactors) (pairReady y img g t)
+able y img g t = named g t and not (isFull (unpack y img) t) and every (y .transactors) (pairReady y img g t)
 
--- whether take t is, and what it then needs
+-- whether take t is, and what it then needs; if not, nobody
 pub record Row (y : Layout) (img : List ℕ) (g t need : ℕ) (met : Bool) : Type 0 where
   pub is : met ≡ able y img g t
   pub needed : met ≡ true → Names (needsOf y img t) (y .transactors) need
+  pub unneeded : met ≡ false → need ≡ 0
 
 -- of every take; g are the frozen ones
 pub record Needed (y : Layout) (img : List ℕ) (l : List ℕ) (v : ℕ) : Type 0 where
@@ -96,6 +97,7 @@ pub record Needed (y : Layout) (img : List ℕ) (l : List ℕ) (v : ℕ) : Type 
   pub stable : Names (λ t. ownHistory t (transactorAt (unpack y img) t) .stable) (y .transactors) g
   pub members : Names (able y img g) (y .transactors) v
   pub needed : (t : ℕ) → t < y .transactors → able y img g t ≡ true → Names (needsOf y img t) (y .transactors) (getD l t 0)
+  pub unneeded : (t : ℕ) → t < y .transactors → able y img g t ≡ false → getD l t 0 ≡ 0
 
 -- ---- volumes, by a list of what each take needs
 

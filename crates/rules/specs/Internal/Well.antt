@@ -8,7 +8,7 @@ use Rattle.maps.specs.declared.DependenceMap.{DependenceMap}
 use Rattle.maps.specs.Map.{heldAt, emptyMap}
 use Rattle.maps.specs.Internal.Fitting.{MapOk, Bounded}
 use Rattle.rules.specs.Layout.{Layout, Limits, widest, lowest}
-use Rattle.rules.specs.Status.{unused, ready, busy, annihilated}
+use Rattle.rules.specs.Status.{unused, idle, busy, annihilated}
 use Rattle.rules.specs.State.{Transactor, Message, State, bare, transactorAt, messageAt, ownHistory}
 use Rattle.rules.specs.Step.{Step}
 
@@ -71,8 +71,8 @@ pub record Known (c opened : ℕ) (m : DependenceMap) : Type 0 where
   pub counts : Bounded c m
 
 pub data Live : ℕ → Type 0 where
-  idle : Live ready
-  working : Live busy
+  is-idle : Live idle
+  is-busy : Live busy
 
 pub record Alive (y : Layout) (c opened t : ℕ) (x : Transactor) : Type 0 where
   pub status : Live (x .status)
@@ -84,7 +84,7 @@ pub record Alive (y : Layout) (c opened t : ℕ) (x : Transactor) : Type 0 where
   -- never signed: no saved text
   pub saved : ownHistory t x .count ≡ 0 → x .saved ≡ 0
   -- idle: no behaviour map
-  pub behaves : x .status ≡ ready → x .behaviour ≡ emptyMap (y .places) (y .transactors)
+  pub behaves : x .status ≡ idle → x .behaviour ≡ emptyMap (y .places) (y .transactors)
 
 pub data TransactorFormed (y : Layout) (c opened t : ℕ) : Transactor → Type 0 where
   not-opened : opened ≤ t → TransactorFormed y c opened t (bare y unused)

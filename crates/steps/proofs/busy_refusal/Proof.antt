@@ -1,6 +1,6 @@
--- The refusals of an acting transactor, and then its status.
+-- What the image says of the transactor.
 use borrow.Author.Needs.{needs}
-use Rattle.rules.proofs.ByKind.Guards.{working-refused, working-idle, working-busy}
+use Rattle.steps.proofs.Images.{busy-in}
 use Rattle.steps.proofs.busy_refusal.Statement.{statement}
 use Rattle.steps.proofs.busy_refusal.Tie as tie
 
@@ -9,7 +9,6 @@ busy-refusal-spec =
     tie.close
     (tie.spec
     (λ c κs. search needs)
-    (λ c. working-refused _ _ _ (search needs) (search needs))
     (λ c κs. search needs)
-    (λ c. working-idle _ _ (search needs) (search needs))
-    (λ c. working-busy _ _ (search needs) (search needs)))
+    (λ c κs. search needs)
+    (λ c. busy-in _ _ _ _ _ (c .busy .ensures) (search needs) (search needs)))

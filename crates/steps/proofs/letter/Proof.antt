@@ -1,6 +1,6 @@
--- Not opened, crowded, or one more message, which carries nothing.
+-- Not opened, no room, or one more message, which carries nothing.
 use borrow.Author.Needs.{needs}
-use Rattle.steps.proofs.Images.{free-place, letter-unopened, letter-crowded, letter-done}
+use Rattle.steps.proofs.Images.{free-place, letter-unopened, letter-full, letter-done}
 use Rattle.steps.proofs.letter.Statement.{statement}
 use Rattle.steps.proofs.letter.Tie as tie
 
@@ -16,7 +16,7 @@ letter-spec =
     (λ c κs. search needs)
     (λ c κs. search needs)
     (λ c. search needs)
-    (λ c. letter-crowded _ _ (search needs) (search needs) _ (search needs) (cc (c .answered2 .ensures, c .before .before .crowded .ensures)))
+    (λ c. letter-full _ _ (search needs) (search needs) _ (search needs) (cc (c .answered2 .ensures, c .before .before .room-refusal .ensures)))
     (λ c κs. search needs)
     (λ c κs. free-place _ _ _ (search needs) (search needs) (search needs) (search needs))
     (λ c. search needs)

@@ -1,5 +1,7 @@
 -- Not opened, or what its bytes do.
+use mathlib.Core.Path.{sym, _∙_}
 use borrow.Author.Needs.{needs}
+use borrow.Author.Tests.{leb-true, leb-false}
 use Rattle.transactor.proofs.Lent.{good-lent}
 use Rattle.steps.proofs.Locals.{local-unopened, local-refused, local-done}
 use Rattle.steps.proofs.local.Statement.{statement}
@@ -12,13 +14,14 @@ act-requires c κs =
 
 returns-2 : tie.Need-returns-2
 returns-2 c =
-    let act = c .before .before .before .before in
-    local-refused _ _ (search needs) (search needs) (search needs) (search needs) (search needs) _ _ _ (act .act .ensures) _ (search needs) (c .answered2 .ensures)
+    let r = c .before .before in
+    let act = r .before .before .before in
+    local-refused _ _ (search needs) (search needs) (search needs) (search needs) (search needs) _ _ _ (act .act .ensures) _ (leb-true 20 _ (sym (r .is-refusal .ensures) ∙ c .before .if2 .taken)) (c .answered2 .ensures)
 
 returns-3 : tie.Need-returns-3
 returns-3 c =
-    let act = c .before .before .before in
-    local-done _ _ (search needs) (search needs) (search needs) (search needs) (search needs) _ _ _ (act .act .ensures) (search needs)
+    let act = c .before .before .before .before in
+    local-done _ _ (search needs) (search needs) (search needs) (search needs) (search needs) _ _ _ (act .act .ensures) (leb-false 20 _ (sym (c .before .is-refusal .ensures) ∙ c .if2 .left))
 
 pub local-spec : {M : Type 1} → statement M
 local-spec =
@@ -37,6 +40,7 @@ local-spec =
     (λ c. search needs)
     (λ c. search needs)
     act-requires
+    (λ c κs. search needs)
     (λ c κs. search needs)
     (λ c. search needs)
     returns-2

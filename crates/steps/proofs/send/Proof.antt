@@ -1,6 +1,6 @@
--- Not opened, refused as a busy transactor is, crowded, or one more message with what the sender carries.
+-- Not opened, refused as a busy transactor is, no room, or one more message with what the sender carries.
 use borrow.Author.Needs.{needs}
-use Rattle.steps.proofs.Images.{free-place-for, send-unopened, send-idle, send-crowded, send-done}
+use Rattle.steps.proofs.Images.{free-place-for, send-unopened, send-idle, send-full, send-done}
 use Rattle.steps.proofs.send.Statement.{statement}
 use Rattle.steps.proofs.send.Tie as tie
 
@@ -27,7 +27,7 @@ send-spec =
     (λ c κs. search needs)
     (λ c κs. search needs)
     (λ c. search needs)
-    (λ c. send-crowded _ _ (search needs) (search needs) (search needs) _ (search needs) (cc (c .answered3 .ensures, c .before .before .crowded .ensures)))
+    (λ c. send-full _ _ (search needs) (search needs) (search needs) _ (search needs) (cc (c .answered3 .ensures, c .before .before .room-refusal .ensures)))
     (λ c κs. search needs)
     append-requires
     (λ c. search needs)

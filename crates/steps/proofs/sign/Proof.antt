@@ -2,7 +2,7 @@
 use mathlib.Core.Bool.{not}
 use mathlib.Core.Path.{sym, ap, _∙_}
 use borrow.Author.Needs.{needs}
-use Rattle.rules.proofs.ByKind.Guards.{group-room}
+use Rattle.rules.proofs.ByKind.Guards.{state-room}
 use Rattle.steps.proofs.Images.{sign-refused, sign-unready, sign-done}
 use Rattle.steps.proofs.sign.Statement.{statement}
 use Rattle.steps.proofs.sign.Tie as tie
@@ -28,7 +28,7 @@ sign-spec =
     (λ c κs. search needs)
     (λ c. search needs)
     (λ c. sign-unready _ _ (search needs) (search needs) _ (ap not (sym (c .before .before .ready .ensures)) ∙ c .before .if2 .taken) (c .answered2 .ensures))
-    (λ c κs. (search needs, group-room _ _ (search needs) (search needs)))
+    (λ c κs. (search needs, state-room _ _ (search needs) (search needs)))
     (λ c κs. search needs)
     (λ c. search needs)
     returns-3)

@@ -6,7 +6,7 @@ use borrow.Author.Needs.{needs}
 use Rattle.maps.specs.Map.{singleton}
 use Rattle.maps.proofs.Map.{sized-empty}
 use Rattle.rules.specs.Layout.{base}
-use Rattle.rules.specs.Status.{ready}
+use Rattle.rules.specs.Status.{idle}
 use Rattle.rules.proofs.Pack.Stores.{put-value, put-saved}
 use Rattle.transactor.proofs.Bytes.{stored, status-stored, history-stored, cleared, cleared-long}
 use Rattle.transactor.proofs.renew.Statement.{statement}
@@ -43,7 +43,7 @@ returns c =
     let s = g .before .before .before in
     history-stored base _ _ (sized-empty _ _) (s .pre .1)
     (stored base _ _ _ _ (put-saved base _ _)
-    (stored base _ _ _ _ (put-value base _ _) (status-stored base _ ready (cleared base _ (s .pre .0) (g .clear .ensures)) (omega arith)) (f .store32 .ensures))
+    (stored base _ _ _ _ (put-value base _ _) (status-stored base _ idle (cleared base _ (s .pre .0) (g .clear .ensures)) (omega arith)) (f .store32 .ensures))
     (e .store322 .ensures))
     refl (d .store .ensures)
 

@@ -5,7 +5,7 @@ use borrow.Author.Needs.{needs}
 use Rattle.rules.specs.Layout.{base, stateAt, behaviourAt}
 use Rattle.rules.specs.Pack.{unpackTransactor}
 use Rattle.rules.proofs.Pack.Stores.{put-value, put-state}
-use Rattle.transactor.proofs.Bytes.{stored, map-exact, map-behind, acted, write-stable, write-loose}
+use Rattle.transactor.proofs.Bytes.{stored, map-exact, map-behind, acted, write-stable, write-unstable}
 use Rattle.transactor.proofs.write.Statement.{statement}
 use Rattle.transactor.proofs.write.Tie as tie
 
@@ -35,7 +35,7 @@ returns-2 c =
     let p = f .before .before .before .before .pre .0 in
     let kept = map-behind base _ _ (p .long) (e .store32 .ensures) in
     acted
-    (write-loose base _ _ (f .before .own .ensures) _ (f .if1 .left)) (c .outcome-of2 .ensures)
+    (write-unstable base _ _ (f .before .own .ensures) _ (f .if1 .left)) (c .outcome-of2 .ensures)
     (stored base _ _ _ _ (put-state base _ _) (stored base _ _ _ _ (put-value base _ _) (sym (p .back)) (e .store32 .ensures))
     (d .join-into .ensures ∙ rw (kept (behaviourAt base) (omega arith), kept stateAt (omega arith))))
 

@@ -13,7 +13,7 @@ use Rattle.rules.specs.Layout.{Layout, base, transactorAddress}
 use Rattle.rules.specs.Status.{busy, annihilated}
 use Rattle.rules.specs.State.{Transactor, ownHistory, withTransactor, withBehaviour}
 use Rattle.rules.specs.Step.{done, held, dropped, fall, fail}
-use Rattle.rules.specs.Rules.{Effect, isSome, join, only, known, informedBy, unchanged, madeReady, rollback, localBy, opening}
+use Rattle.rules.specs.Rules.{Effect, isSome, join, only, known, informedBy, unchanged, madeIdle, rollback, localBy, opening}
 use Rattle.rules.specs.Pack.{packTransactor, pack, unpack}
 use Rattle.rules.specs.Internal.Guards.{isLastIncarnation}
 
@@ -36,7 +36,7 @@ rollbackOr28 y t x = pick (isLastIncarnation y t x) (unchanged 28 x) (rollback y
 -- fall and fail, or 28
 unfoldable pub rollbackUnlessStable : Layout → ℕ → ℕ → Transactor → Effect
 rollbackUnlessStable y k t x =
-    pick (ownHistory t x .stable) (unchanged held (pick (eqb k fall) (madeReady y x) x)) (rollbackOr28 y t x)
+    pick (ownHistory t x .stable) (unchanged held (pick (eqb k fall) (madeIdle y x) x)) (rollbackOr28 y t x)
 
 -- kinds 5 to 10 with the refusals 22, 23 and 28
 unfoldable pub actBy : Layout → ℕ → ℕ → ℕ → Transactor → Effect

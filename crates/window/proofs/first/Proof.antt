@@ -2,29 +2,29 @@
 use Prim.Native.Nat.{_-_, _≤_}
 use mathlib.Core.Path.{_≡_}
 use native.Mathlib.Omega.{arith}
-use Rattle.window.specs.Window.{troubles}
-use Rattle.window.proofs.Windows.{troubles-none, troubles-more, troubles-sum, troubles-end}
+use Rattle.window.specs.Window.{rollbacks}
+use Rattle.window.proofs.Windows.{rollbacks-none, rollbacks-more, rollbacks-sum, rollbacks-end}
 use borrow.Author.Needs.{needs}
 use Rattle.window.proofs.first.Statement.{statement}
 use Rattle.window.proofs.first.Tie as tie
 
 abbrev Inv-loop : tie.InvT-loop
-Inv-loop replies n count₀ i₀ count i = (i ≤ n) × (count ≡ troubles replies 0 i)
+Inv-loop replies n count₀ i₀ count i = (i ≤ n) × (count ≡ rollbacks replies 0 i)
 
 abbrev μ-loop : tie.MeasureT-loop
 μ-loop replies n count₀ i₀ count i = n - i
 
 loop-holds : tie.Need-loop-holds Inv-loop μ-loop
-loop-holds c = (search needs, troubles-none _ _)
+loop-holds c = (search needs, rollbacks-none _ _)
 
 add-count : tie.Need-add-count Inv-loop μ-loop
-add-count c = let h = troubles-sum _ _ _ _ _ _ (c .before .before .loop .inv .1) (c .trouble .ensures) in search needs
+add-count c = let h = rollbacks-sum _ _ _ _ _ _ (c .before .before .loop .inv .1) (c .rollback .ensures) in search needs
 
 loop-again : tie.Need-loop-again Inv-loop μ-loop
-loop-again c = (search needs, troubles-more _ _ _ _ (c .before .before .loop .inv .1) (c .trouble .ensures))
+loop-again c = (search needs, rollbacks-more _ _ _ _ (c .before .before .loop .inv .1) (c .rollback .ensures))
 
 returns : tie.Need-returns Inv-loop μ-loop
-returns c = troubles-end _ _ _ _ (c .before .loop .inv .1) (omega arith)
+returns c = rollbacks-end _ _ _ _ (c .before .loop .inv .1) (omega arith)
 
 pub first-spec : {M : Type 1} → statement M
 first-spec =

@@ -3,7 +3,7 @@ use mathlib.Core.Path.{_≡_}
 use native.Mathlib.Omega.{arith}
 use lib.ListN.{length, length-take}
 use borrow.Author.Needs.{needs}
-use Rattle.notation.specs.Lines.{lineRoom}
+use Rattle.lines.specs.Lines.{lineRoom}
 use Rattle.writing.proofs.show.Statement.{statement}
 use Rattle.writing.proofs.show.Tie as tie
 

@@ -7,7 +7,7 @@ use Rattle.octets.specs.Bytes.{put, chunks}
 use Rattle.octets.proofs.Chunks.{step, put-none}
 use Rattle.marks.specs.Packed.{historySize}
 use Rattle.convert.proofs.Turns.{sizes}
-use Rattle.convert.proofs.Stores.{entryAt, histories-more, histories-all, histories-zero}
+use Rattle.convert.proofs.Stores.{entryAt, histories-more, histories-all}
 use borrow.Author.Needs.{needs}
 use Rattle.convert.proofs.recast.histories.Statement.{statement}
 use Rattle.convert.proofs.recast.histories.Tie as tie
@@ -35,7 +35,7 @@ history-requires : tie.Need-history-requires Inv-loop μ-loop
 history-requires c κs =
     let s = c .before .before .before .before .before in
     let h : c .before .before .loop .i < s .args .n = search needs in
-    (s .pre .0, omega (arith, turn s (c .before .before .loop .i) h), omega (arith, turn' s (c .before .before .loop .i) h), histories-zero _ _ 15 _ _ _ (s .pre .1) _ _ _ _ (c .before .before .loop .inv .1) h (s .pre .2) (s .pre .3))
+    (s .pre .0, omega (arith, turn s (c .before .before .loop .i) h), omega (arith, turn' s (c .before .before .loop .i) h))
 
 loop-again : tie.Need-loop-again Inv-loop μ-loop
 loop-again c =

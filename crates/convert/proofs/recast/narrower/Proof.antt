@@ -1,66 +1,42 @@
--- Zeros, then head, transactors, messages: the whole image.
-use Prim.Native.Nat.{ℕ}
-use mathlib.Core.List.{List}
+-- Head, transactors, messages: the whole image.
 use native.Mathlib.Omega.{arith}
 use mathlib.Core.Bool.{true, false}
-use mathlib.Core.Path.{ap, sym, _∙_}
+use mathlib.Core.Path.{sym}
 use lib.Seq.{length-take-le}
 use Rattle.octets.specs.Bytes.{part}
 use Rattle.rules.specs.Layout.{narrow}
 use Rattle.convert.specs.Internal.Recast.{narrowing}
-use Rattle.convert.proofs.Stores.{cleared, put-as, front-plain, front-zero, transactor-records, message-records, transactors-done, image-done}
+use Rattle.convert.proofs.Stores.{put-as, front-plain, transactor-records, message-records, image-done}
 use borrow.Author.Needs.{needs}
 use Rattle.convert.proofs.recast.narrower.Statement.{statement}
 use Rattle.convert.proofs.recast.narrower.Tie as tie
 
 slice-aggregate-write : tie.Need-slice-aggregate-write
-slice-aggregate-write c = let s = c .before .before .before .before .before .before .before .before in sym (length-take-le 4 (s .args .source .now) (omega (arith, s .pre .0)))
+slice-aggregate-write c = let s = c .before .before .before .before in sym (length-take-le 4 (s .args .source .now) (omega (arith, s .pre .0)))
 
 write-requires : tie.Need-write-requires
-write-requires c κs =
-    let z = c .before .before .before .before in
-    let s = z .before .before .before .before in
-    omega (arith, cleared 22132 _ _ (s .pre .1) (z .clear .ensures) .0, length-take-le 4 (s .args .source .now) (omega (arith, s .pre .0)))
+write-requires c κs = let s = c .before .before .before .before in omega (arith, s .pre .0, s .pre .1, length-take-le 4 (s .args .source .now) (omega (arith, s .pre .0)))
 
 records-requires : tie.Need-records-requires
-unfolding part
-records-requires c κs =
-    let w = c .before .before .before in
-    let z = w .before .before .before .before .before in
-    let s = z .before .before .before .before in
-    let k = cleared 22132 _ _ (s .pre .1) (z .clear .ensures) in
-    let f = put-as _ _ _ _ _ (w .write .ensures) (sym (front-plain narrow 1 (s .args .source .now))) in
-    (narrowing, omega arith, omega arith, search needs, search needs, front-zero narrow 2 1 true false (s .args .source .now) (s .pre .0) _ _ (k .0) f (k .1))
+records-requires c κs = (narrowing, omega arith, omega arith, search needs, search needs)
 
 records-requires-2 : tie.Need-records-requires-2
-unfolding part
-records-requires-2 c κs =
-    let t = c .before .before .before in
-    let w = t .before .before .before .before in
-    let z = w .before .before .before .before .before in
-    let s = z .before .before .before .before in
-    let k = cleared 22132 _ _ (s .pre .1) (z .clear .ensures) in
-    let f = put-as _ _ _ _ _ (w .write .ensures) (sym (front-plain narrow 1 (s .args .source .now))) in
-    let g = put-as _ _ _ _ _ (t .records .ensures) (transactor-records narrow 2 1 true false (s .args .source .now) (s .pre .0)) in
-    (narrowing, omega arith, omega arith, search needs, search needs, transactors-done narrow 2 1 true false _ (s .pre .0) _ _ (k .0) f _ g (k .1))
+records-requires-2 c κs = (narrowing, omega arith, omega arith, search needs, search needs)
 
 returns : tie.Need-returns
 unfolding part
 returns c =
     let t = c .before .before .before .before .before .before in
     let w = t .before .before .before .before in
-    let z = w .before .before .before .before .before in
-    let s = z .before .before .before .before in
-    let k = cleared 22132 _ _ (s .pre .1) (z .clear .ensures) in
+    let s = w .before .before .before .before .before in
     let f = put-as _ _ _ _ _ (w .write .ensures) (sym (front-plain narrow 1 (s .args .source .now))) in
     let g = put-as _ _ _ _ _ (t .records .ensures) (transactor-records narrow 2 1 true false (s .args .source .now) (s .pre .0)) in
-    image-done narrow 2 1 true false _ (s .pre .0) _ _ (k .0) f _ g _ (put-as _ _ _ _ _ (c .before .before .records2 .ensures) (message-records narrow 2 1 true false (s .args .source .now) (s .pre .0)))
+    image-done narrow 2 1 true false _ (s .pre .0) _ _ (s .pre .1) f _ g _ (put-as _ _ _ _ _ (c .before .before .records2 .ensures) (message-records narrow 2 1 true false (s .args .source .now) (s .pre .0)))
 
 pub narrower-spec : {M : Type 1} → statement M
 narrower-spec =
     tie.close
     (tie.spec
-    (λ c κs. search needs)
     slice-aggregate-write
     write-requires
     records-requires

@@ -8,7 +8,7 @@ use Rattle.octets.proofs.Chunks.{step, put-none}
 use Rattle.marks.specs.Packed.{historySize}
 use Rattle.convert.specs.Internal.Recast.{recordSize, recordAt}
 use Rattle.convert.proofs.Turns.{sizes, few-bytes}
-use Rattle.convert.proofs.Stores.{put-end, record-more, record-zero}
+use Rattle.convert.proofs.Stores.{put-end, record-more}
 use borrow.Author.Needs.{needs}
 use Rattle.convert.proofs.recast.records.Statement.{statement}
 use Rattle.convert.proofs.recast.records.Tie as tie
@@ -41,11 +41,10 @@ turn' s k h = step (recordSize (s .args .w) 15 (s .args .front) (s .args .many))
 histories-requires : tie.Need-histories-requires Inv-loop μ-loop
 unfolding part
 histories-requires c κs =
-    let w = c .before .before .before in
     let b = c .before .before .before .before .before .before .before in
     let s = b .before .before .before in
     let h : b .loop .k < s .args .n = search needs in
-    (s .pre .0, omega (arith, turn s (b .loop .k) h), omega (arith, turn' s (b .loop .k) h), record-zero _ _ 15 _ _ _ _ _ (s .pre .3) _ _ h _ _ _ (s .pre .4) (b .loop .inv .1) (w .write .ensures) (s .pre .5))
+    (s .pre .0, omega (arith, turn s (b .loop .k) h), omega (arith, turn' s (b .loop .k) h))
 
 loop-again : tie.Need-loop-again Inv-loop μ-loop
 unfolding part

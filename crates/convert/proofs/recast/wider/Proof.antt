@@ -6,7 +6,7 @@ use lib.Seq.{length-take-le}
 use Rattle.octets.specs.Bytes.{part}
 use Rattle.rules.specs.Layout.{narrow}
 use Rattle.convert.specs.Internal.Recast.{widening, widened}
-use Rattle.convert.proofs.Stores.{put-as, front-put, front-zero, transactor-records, message-records, transactors-done, image-done}
+use Rattle.convert.proofs.Stores.{put-as, front-put, transactor-records, message-records, image-done}
 use borrow.Author.Needs.{needs}
 use Rattle.convert.proofs.recast.wider.Statement.{statement}
 use Rattle.convert.proofs.recast.wider.Tie as tie
@@ -18,24 +18,10 @@ write-requires : tie.Need-write-requires
 write-requires c κs = let s = c .before .before .before .before in omega (arith, s .pre .0, s .pre .1, length-take-le 4 (s .args .source .now) (omega (arith, s .pre .0)))
 
 records-requires : tie.Need-records-requires
-unfolding part
-records-requires c κs =
-    let l = c .before .before .before in
-    let w = l .before .before .before .before in
-    let s = w .before .before .before .before .before in
-    let f = front-put narrow 1 2 false true (s .args .source .now) (s .pre .0) _ _ _ (s .pre .1) (w .write .ensures) (l .store .ensures) in
-    (widening, omega arith, omega arith, search needs, search needs, front-zero narrow 1 2 false true (s .args .source .now) (s .pre .0) _ _ (s .pre .1) f (s .pre .2))
+records-requires c κs = (widening, omega arith, omega arith, search needs, search needs)
 
 records-requires-2 : tie.Need-records-requires-2
-unfolding part
-records-requires-2 c κs =
-    let t = c .before .before .before in
-    let l = t .before .before .before .before in
-    let w = l .before .before .before .before in
-    let s = w .before .before .before .before .before in
-    let f = front-put narrow 1 2 false true (s .args .source .now) (s .pre .0) _ _ _ (s .pre .1) (w .write .ensures) (l .store .ensures) in
-    let g = put-as _ _ _ _ _ (t .records .ensures) (transactor-records narrow 1 2 false true (s .args .source .now) (s .pre .0)) in
-    (widening, omega arith, omega arith, search needs, search needs, transactors-done narrow 1 2 false true _ (s .pre .0) _ _ (s .pre .1) f _ g (s .pre .2))
+records-requires-2 c κs = (widening, omega arith, omega arith, search needs, search needs)
 
 returns : tie.Need-returns
 unfolding part widened

@@ -6,8 +6,19 @@ use Rattle.octets.proofs.Tests.{passed, failed}
 use Rattle.rules.specs.Layout.{base}
 use Rattle.rules.proofs.Bits.{named-all}
 use Rattle.grounds.proofs.Impeding.{withdrawn-state, withdrawn-creation}
+use Rattle.grounds.proofs.Rooms.{room-state, room-creation}
 use Rattle.grounds.proofs.impediment.withdrawn.Statement.{statement}
 use Rattle.grounds.proofs.impediment.withdrawn.Tie as tie
+
+mark-requires : tie.Need-mark-requires
+mark-requires c κs =
+    let n = c .before in
+    (search needs, search needs, search needs, search needs, room-state _ (n .pre .0) (n .args .u) (n .pre .2) (n .args .c) (n .pre .1))
+
+mark-requires-2 : tie.Need-mark-requires-2
+mark-requires-2 c κs =
+    let n = c .before .before .before .before in
+    (search needs, search needs, search needs, search needs, room-creation _ (n .pre .0) (n .args .u) (n .pre .2) (n .args .c) (n .pre .1))
 
 returns : tie.Need-returns
 returns c = withdrawn-state base _ _ _ _ (search needs) (search needs) (named-all 16 _ (search needs)) _ (c .before .before .mark .ensures) (failed (c .before .is-nothing .ensures) (c .if1 .taken))
@@ -27,12 +38,12 @@ withdrawn-spec =
     (λ c. search needs)
     (λ c. search needs)
     (λ c. search needs)
-    (λ c κs. search needs)
+    mark-requires
     (λ c κs. search needs)
     returns
     (λ c. search needs)
     (λ c. search needs)
     (λ c. search needs)
-    (λ c κs. search needs)
+    mark-requires-2
     (λ c κs. search needs)
     returns-2)

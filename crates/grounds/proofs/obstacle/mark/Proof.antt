@@ -5,13 +5,15 @@ use borrow.Author.Needs.{needs}
 use Rattle.octets.proofs.Tests.{passed, failed}
 use Rattle.rules.specs.Layout.{base}
 use Rattle.rules.proofs.Pack.Loads.{read-history}
-use Rattle.rules.proofs.Groups.Ready.{own-count}
-use Rattle.grounds.proofs.Blocking.{mark-absent, mark-dead, mark-member, mark-outside, mark-signed, mark-withdrawn}
+use Rattle.grounds.proofs.Blocking.{mark-absent, mark-dead, mark-member, mark-outside, mark-checkpointed, mark-withdrawn}
+use Rattle.grounds.proofs.Rooms.{room-state}
 use Rattle.grounds.proofs.obstacle.mark.Statement.{statement}
 use Rattle.grounds.proofs.obstacle.mark.Tie as tie
 
-same-as-requires : tie.Need-same-as-requires
-same-as-requires c κs = (search needs, own-count _ (search needs) _ (search needs) _ (c .own .ensures))
+same-in-requires : tie.Need-same-in-requires
+same-in-requires c κs =
+    let n = c .before .before .before .before .before in
+    (search needs, search needs, n .pre .4, room-state _ (n .pre .0) (n .args .u) (n .pre .2) (n .args .u) (n .pre .2))
 
 returns-2 : tie.Need-returns-2
 returns-2 c =
@@ -20,35 +22,31 @@ returns-2 c =
 
 returns-3 : tie.Need-returns-3
 returns-3 c =
-    let o = c .before .before .before .before in
-    let l = o .before in
+    let l = c .before .before .before .before in
     let p = l .before .before in
-    mark-member base _ _ _ _ _ (ap not (sym (p .before .present .ensures)) ∙ p .if1 .left) (passed (l .before .is-live .ensures) (l .if2 .left)) _ (o .own .ensures)
-    (sym (c .before .before .before .same-as .ensures) ∙ c .before .before .if3 .taken) (sym (c .before .is-named .ensures) ∙ c .if4 .taken)
+    mark-member base _ _ _ _ _ (ap not (sym (p .before .present .ensures)) ∙ p .if1 .left) (passed (l .before .is-live .ensures) (l .if2 .left)) _ (sym (read-history base _ _ (search needs) _ (search needs)))
+    (sym (c .before .before .before .same-in .ensures) ∙ c .before .before .if3 .taken) (sym (c .before .is-named .ensures) ∙ c .if4 .taken)
 
 returns-4 : tie.Need-returns-4
 returns-4 c =
-    let o = c .before .before .before .before in
-    let l = o .before in
+    let l = c .before .before .before .before in
     let p = l .before .before in
-    mark-outside base _ _ _ _ _ (ap not (sym (p .before .present .ensures)) ∙ p .if1 .left) (passed (l .before .is-live .ensures) (l .if2 .left)) _ (o .own .ensures)
-    (sym (c .before .before .before .same-as .ensures) ∙ c .before .before .if3 .taken) (sym (c .before .is-named .ensures) ∙ c .if4 .left)
+    mark-outside base _ _ _ _ _ (ap not (sym (p .before .present .ensures)) ∙ p .if1 .left) (passed (l .before .is-live .ensures) (l .if2 .left)) _ (sym (read-history base _ _ (search needs) _ (search needs)))
+    (sym (c .before .before .before .same-in .ensures) ∙ c .before .before .if3 .taken) (sym (c .before .is-named .ensures) ∙ c .if4 .left)
 
 returns-5 : tie.Need-returns-5
 returns-5 c =
-    let o = c .before .before .before .before in
-    let l = o .before in
+    let l = c .before .before .before .before in
     let p = l .before .before in
-    mark-signed base _ _ _ _ _ (ap not (sym (p .before .present .ensures)) ∙ p .if1 .left) (passed (l .before .is-live .ensures) (l .if2 .left)) _ (o .own .ensures)
-    (sym (c .before .before .before .same-as .ensures) ∙ c .before .before .if3 .left) _ (sym (read-history base _ _ (search needs) _ (search needs))) (sym (c .before .checkpointed-in .ensures) ∙ c .if5 .taken)
+    mark-checkpointed base _ _ _ _ _ (ap not (sym (p .before .present .ensures)) ∙ p .if1 .left) (passed (l .before .is-live .ensures) (l .if2 .left)) _ (sym (read-history base _ _ (search needs) _ (search needs)))
+    (sym (c .before .before .before .same-in .ensures) ∙ c .before .before .if3 .left) _ (sym (read-history base _ _ (search needs) _ (search needs))) (sym (c .before .checkpointed-in .ensures) ∙ c .if5 .taken)
 
 returns-6 : tie.Need-returns-6
 returns-6 c =
-    let o = c .before .before .before .before in
-    let l = o .before in
+    let l = c .before .before .before .before in
     let p = l .before .before in
-    mark-withdrawn base _ _ _ _ _ (ap not (sym (p .before .present .ensures)) ∙ p .if1 .left) (passed (l .before .is-live .ensures) (l .if2 .left)) _ (o .own .ensures)
-    (sym (c .before .before .before .same-as .ensures) ∙ c .before .before .if3 .left) _ (sym (read-history base _ _ (search needs) _ (search needs))) (sym (c .before .checkpointed-in .ensures) ∙ c .if5 .left)
+    mark-withdrawn base _ _ _ _ _ (ap not (sym (p .before .present .ensures)) ∙ p .if1 .left) (passed (l .before .is-live .ensures) (l .if2 .left)) _ (sym (read-history base _ _ (search needs) _ (search needs)))
+    (sym (c .before .before .before .same-in .ensures) ∙ c .before .before .if3 .left) _ (sym (read-history base _ _ (search needs) _ (search needs))) (sym (c .before .checkpointed-in .ensures) ∙ c .if5 .left)
 
 pub mark-spec : {M : Type 1} → statement M
 mark-spec =
@@ -60,18 +58,17 @@ mark-spec =
     (λ c. search needs)
     (λ c. search needs)
     returns-2
-    (λ c κs. search needs)
-    same-as-requires
+    (λ c. search needs)
+    (λ c. search needs)
+    (λ c. search needs)
+    (λ c. search needs)
+    (λ c. search needs)
+    same-in-requires
     (λ c κs. search needs)
     returns-3
     (λ c. search needs)
     (λ c. search needs)
     returns-4
-    (λ c. search needs)
-    (λ c. search needs)
-    (λ c. search needs)
-    (λ c. search needs)
-    (λ c. search needs)
     (λ c κs. search needs)
     returns-5
     (λ c. search needs)

@@ -3,25 +3,25 @@ use mathlib.Core.Bool.{not}
 use mathlib.Core.Path.{sym, ap, _∙_}
 use borrow.Author.Needs.{needs}
 use Rattle.rules.specs.Layout.{base}
-use Rattle.rules.proofs.Groups.Needs.{asked-absent, asked-vouched, asked-signed, asked-other}
+use Rattle.rules.proofs.Groups.Needs.{asked-absent, asked-in-group, asked-checkpointed, asked-other}
 use Rattle.group.proofs.needs.asked.Statement.{statement}
 use Rattle.group.proofs.needs.asked.Tie as tie
 
 returns-2 : tie.Need-returns-2
 returns-2 c =
     let p = c .before .before in
-    asked-vouched base _ _ _ (ap not (sym (p .before .present .ensures)) ∙ p .if1 .left) (p .before .before .before .pre .3) (sym (c .before .vouched .ensures) ∙ c .if2 .taken)
+    asked-in-group base _ _ _ (ap not (sym (p .before .present .ensures)) ∙ p .if1 .left) (p .before .before .before .pre .3) (sym (c .before .in-group .ensures) ∙ c .if2 .taken)
 
 returns-3 : tie.Need-returns-3
 returns-3 c =
     let p = c .before .before .before .before in
-    asked-signed base _ _ _ (ap not (sym (p .before .present .ensures)) ∙ p .if1 .left) _ (sym (c .before .signed .ensures) ∙ c .if3 .taken)
+    asked-checkpointed base _ _ _ (ap not (sym (p .before .present .ensures)) ∙ p .if1 .left) _ (sym (c .before .checkpointed .ensures) ∙ c .if3 .taken)
 
 returns-4 : tie.Need-returns-4
 returns-4 c =
     let v = c .before .before in
     let p = v .before .before in
-    asked-other base _ _ _ (ap not (sym (p .before .present .ensures)) ∙ p .if1 .left) (p .before .before .before .pre .3) (sym (v .before .vouched .ensures) ∙ v .if2 .left) (sym (c .before .signed .ensures) ∙ c .if3 .left)
+    asked-other base _ _ _ (ap not (sym (p .before .present .ensures)) ∙ p .if1 .left) (p .before .before .before .pre .3) (sym (v .before .in-group .ensures) ∙ v .if2 .left) (sym (c .before .checkpointed .ensures) ∙ c .if3 .left)
 
 pub asked-spec : {M : Type 1} → statement M
 asked-spec =

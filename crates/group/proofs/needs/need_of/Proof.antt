@@ -19,7 +19,7 @@ abbrev μ-loop : tie.MeasureT-loop
 returns-2 : tie.Need-returns-2 Inv-loop μ-loop
 returns-2 c =
     let n = c .before .before in
-    row-full base _ _ _ _ (passed (n .before .is-named .ensures) (n .if1 .left)) (sym (c .before .is-full .ensures) ∙ c .if2 .taken)
+    row-full base _ _ _ _ (passed (n .before .is-named .ensures) (n .if1 .left)) refl (sym (c .before .is-full .ensures) ∙ c .if2 .taken)
 
 pair-asks-requires : tie.Need-pair-asks-requires Inv-loop μ-loop
 pair-asks-requires c κs =
@@ -31,7 +31,7 @@ returns-3 c =
     let l = c .before .before .before .before in
     let f = l .before in
     let n = f .before .before in
-    row-off base _ _ _ _ (passed (n .before .is-named .ensures) (n .if1 .left)) (sym (f .before .is-full .ensures) ∙ f .if2 .left)
+    row-off base _ _ _ _ (passed (n .before .is-named .ensures) (n .if1 .left)) (sym (f .before .is-full .ensures) ∙ f .if2 .left) refl
     (rowed-off (l .loop .inv) (search needs) _ (c .before .pair-asks .ensures) (c .if3 .taken))
 
 add-need : tie.Need-add-need Inv-loop μ-loop
@@ -57,7 +57,7 @@ need-of-spec =
     Inv-loop
     μ-loop
     (λ c κs. search needs)
-    (λ c. row-unnamed base _ _ _ _ (failed (c .before .is-named .ensures) (c .if1 .taken)))
+    (λ c. row-unnamed base _ _ _ _ refl (failed (c .before .is-named .ensures) (c .if1 .taken)))
     (λ c κs. search needs)
     returns-2
     (λ c. rowed-none base _ _ _)

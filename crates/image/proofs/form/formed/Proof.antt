@@ -11,7 +11,7 @@ use Rattle.image.proofs.form.formed.Tie as tie
 transactors-formed-requires : tie.Need-transactors-formed-requires
 transactors-formed-requires c κs =
     let d = c .before .before in
-    (search needs, search needs, search needs, omega (arith, c .checkpoints .ensures, front-few base _ (ap not (sym (d .before .front-formed .ensures)) ∙ d .if1 .left)))
+    record { long = search needs; many = search needs; most = search needs; within = omega (arith, c .checkpoints .ensures, front-few base _ (ap not (sym (d .before .front-formed .ensures)) ∙ d .if1 .left)) }
 
 returns-2 : tie.Need-returns-2
 returns-2 c =
@@ -23,7 +23,7 @@ messages-formed-requires : tie.Need-messages-formed-requires
 messages-formed-requires c κs =
     let b = c .before .before .before in
     let d = b .before .before in
-    (search needs, search needs, search needs, search needs, search needs, omega (arith, b .checkpoints .ensures, front-few base _ (ap not (sym (d .before .front-formed .ensures)) ∙ d .if1 .left)))
+    (record { long = search needs; many = search needs; most = search needs; within = omega (arith, b .checkpoints .ensures, front-few base _ (ap not (sym (d .before .front-formed .ensures)) ∙ d .if1 .left)) }, search needs, search needs)
 
 returns-3 : tie.Need-returns-3
 returns-3 c =

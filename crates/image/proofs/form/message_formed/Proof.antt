@@ -19,14 +19,14 @@ unfolding formedMessageAt
 returns-3 c =
     let b = c .before .before .before in
     let a = b .before .before in
-    rw (← a .pre .2, ← a .pre .3, lt-leb _ _ (b .if1 .left), eq-eqb _ 8 (c .before .if2 .left), le-ltb _ _ (c .if3 .taken))
+    rw (← a .pre .2, ← a .pre .0 .many, lt-leb _ _ (b .if1 .left), eq-eqb _ 8 (c .before .if2 .left), le-ltb _ _ (c .if3 .taken))
 
 returns-4 : tie.Need-returns-4
 unfolding formedMessageAt
 returns-4 c =
     let b = c .before .before .before .before .before in
     let a = b .before .before in
-    rw (← a .pre .2, ← a .pre .3, ← a .pre .4, lt-leb _ _ (b .if1 .left), eq-eqb _ 8 (c .before .before .before .if2 .left), lt-ltb _ _ (c .before .before .if3 .left), ← c .before .load16 .ensures, le-ltb _ _ (c .if4 .taken))
+    rw (← a .pre .2, ← a .pre .0 .many, ← a .pre .3, lt-leb _ _ (b .if1 .left), eq-eqb _ 8 (c .before .before .before .if2 .left), lt-ltb _ _ (c .before .before .if3 .left), ← c .before .load16 .ensures, le-ltb _ _ (c .if4 .taken))
 
 returns-5 : tie.Need-returns-5
 unfolding formedMessageAt
@@ -34,7 +34,7 @@ returns-5 c =
     let d = c .before .before .before in
     let b = d .before .before .before .before in
     let a = b .before .before in
-    rw (← a .pre .2, ← a .pre .3, ← a .pre .4, lt-leb _ _ (b .if1 .left), eq-eqb _ 8 (d .before .before .if2 .left), lt-ltb _ _ (d .before .if3 .left), ← d .load16 .ensures, lt-ltb _ _ (c .before .before .if4 .left), ← c .before .least .ensures, lt-leb _ _ (c .if5 .taken))
+    rw (← a .pre .2, ← a .pre .0 .many, ← a .pre .3, lt-leb _ _ (b .if1 .left), eq-eqb _ 8 (d .before .before .if2 .left), lt-ltb _ _ (d .before .if3 .left), ← d .load16 .ensures, lt-ltb _ _ (c .before .before .if4 .left), ← c .before .least .ensures, lt-leb _ _ (c .if5 .taken))
 
 returns-6 : tie.Need-returns-6
 unfolding formedMessageAt mapFormed
@@ -42,7 +42,7 @@ returns-6 c =
     let d = c .before .before .before .before in
     let b = d .before .before .before .before in
     let a = b .before .before in
-    rw (← a .pre .2, ← a .pre .3, ← a .pre .4, ← a .pre .5, lt-leb _ _ (b .if1 .left), eq-eqb _ 8 (d .before .before .if2 .left), lt-ltb _ _ (d .before .if3 .left), ← d .load16 .ensures, lt-ltb _ _ (c .before .before .before .if4 .left), ← c .before .before .least .ensures, le-leb _ _ (c .before .if5 .left)) (c .formed .ensures)
+    rw (← a .pre .2, ← a .pre .0 .many, ← a .pre .3, ← a .pre .0 .most, lt-leb _ _ (b .if1 .left), eq-eqb _ 8 (d .before .before .if2 .left), lt-ltb _ _ (d .before .if3 .left), ← d .load16 .ensures, lt-ltb _ _ (c .before .before .before .if4 .left), ← c .before .before .least .ensures, le-leb _ _ (c .before .if5 .left)) (c .formed .ensures)
 
 pub message-formed-spec : {M : Type 1} → statement M
 message-formed-spec =

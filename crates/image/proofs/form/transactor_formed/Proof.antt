@@ -7,29 +7,29 @@ use Rattle.image.proofs.form.transactor_formed.Tie as tie
 
 returns : tie.Need-returns
 unfolding formedTransactorAt
-returns c = rw (← c .before .before .before .pre .2, le-leb _ _ (c .before .if1 .taken)) (c .all-zero .ensures)
+returns c = rw (← c .before .before .before .pre .0 .many, le-leb _ _ (c .before .if1 .taken)) (c .all-zero .ensures)
 
 returns-2 : tie.Need-returns-2
 unfolding formedTransactorAt
-returns-2 c = rw (← c .before .before .before .before .pre .2, lt-leb _ _ (c .before .before .if1 .left), ne-eqb _ 0 (c .if2 .taken))
+returns-2 c = rw (← c .before .before .before .before .pre .0 .many, lt-leb _ _ (c .before .before .if1 .left), ne-eqb _ 0 (c .if2 .taken))
 
 returns-3 : tie.Need-returns-3
 unfolding formedTransactorAt
 returns-3 c =
     let b = c .before .before .before in
-    rw (← b .before .before .pre .2, lt-leb _ _ (b .if1 .left), eq-eqb _ 0 (c .before .if2 .left), eq-eqb _ 0 (c .if3 .taken))
+    rw (← b .before .before .pre .0 .many, lt-leb _ _ (b .if1 .left), eq-eqb _ 0 (c .before .if2 .left), eq-eqb _ 0 (c .if3 .taken))
 
 returns-4 : tie.Need-returns-4
 unfolding formedTransactorAt
 returns-4 c =
     let b = c .before .before .before in
-    rw (← b .before .before .before .before .pre .2, lt-leb _ _ (b .before .before .if1 .left), eq-eqb _ 0 (b .if2 .left), ne-eqb _ 0 (c .before .before .if3 .left), eq-eqb _ 3 (c .before .if4 .taken)) (c .all-zero2 .ensures)
+    rw (← b .before .before .before .before .pre .0 .many, lt-leb _ _ (b .before .before .if1 .left), eq-eqb _ 0 (b .if2 .left), ne-eqb _ 0 (c .before .before .if3 .left), eq-eqb _ 3 (c .before .if4 .taken)) (c .all-zero2 .ensures)
 
 returns-5 : tie.Need-returns-5
 unfolding formedTransactorAt
 returns-5 c =
     let b = c .before .before .before in
-    rw (← b .before .before .before .before .pre .2, lt-leb _ _ (b .before .before .if1 .left), eq-eqb _ 0 (b .if2 .left), ne-eqb _ 0 (c .before .before .if3 .left), ne-eqb _ 3 (c .before .if4 .left)) (c .live-formed .ensures)
+    rw (← b .before .before .before .before .pre .0 .many, lt-leb _ _ (b .before .before .if1 .left), eq-eqb _ 0 (b .if2 .left), ne-eqb _ 0 (c .before .before .if3 .left), ne-eqb _ 3 (c .before .if4 .left)) (c .live-formed .ensures)
 
 pub transactor-formed-spec : {M : Type 1} → statement M
 transactor-formed-spec =

@@ -2,7 +2,7 @@
 use mathlib.Core.Path.{sym, _∙_}
 use borrow.Author.Needs.{needs}
 use borrow.Author.Tests.{not-true, not-false}
-use Rattle.marks.proofs.News.{shows-list, shows-loose, shows-same}
+use Rattle.marks.proofs.News.{shows-list, shows-unstable, shows-same}
 use Rattle.marks.proofs.History.shown_stable.Statement.{statement}
 use Rattle.marks.proofs.History.shown_stable.Tie as tie
 
@@ -12,7 +12,7 @@ returns c = shows-list _ _ (sym (c .before .checkpointed-in .ensures) ∙ c .if1
 returns-2 : tie.Need-returns-2
 returns-2 c =
     let b = c .before .before in
-    shows-loose _ _ (sym (b .before .checkpointed-in .ensures) ∙ b .if1 .left) (not-true _ (c .if2 .taken))
+    shows-unstable _ _ (sym (b .before .checkpointed-in .ensures) ∙ b .if1 .left) (not-true _ (c .if2 .taken))
 
 returns-3 : tie.Need-returns-3
 returns-3 c =

@@ -49,21 +49,21 @@ returns-2 c =
     (accepts-done base _ _ (s .pre .1) _ (s .pre .2) _ (asked .compared .ensures .0) (branch .if1 .left) _ (asked .compared .ensures .1) (told .before .before .enum-told .given .1) _ (asked .compared .ensures .2) (told .enum-told2 .given .1))
     (c .outcome-of2 .ensures) (heard-taken _ (s .pre .0) _ (s .pre .1) _ (s .pre .2) _ (h .hear .ensures) _ (taken .take-in .ensures))
 
-roll-back-requires : tie.Need-roll-back-requires
-roll-back-requires c κs =
+rollback-requires : tie.Need-rollback-requires
+rollback-requires c κs =
     let s = c .before .before .before .before .before .before .before .before .before .before in
     (good-lent _ (s .pre .0) _ (s .pre .1), s .pre .1)
 
 returns-3 : tie.Need-returns-3
 returns-3 c =
-    let fell = c .before .before in
-    let told = fell .before .before .before in
+    let rolled = c .before .before in
+    let told = rolled .before .before .before in
     let branch = told .before .before .before .before in
     let asked = branch .before in
     let s = asked .before .before .before in
     lent-at _ (s .pre .0) _ (s .pre .1) (rollbackOr28 base _)
     (accepts-rollback base _ _ (s .pre .1) _ (s .pre .2) _ (asked .compared .ensures .0) (branch .if1 .left) _ (asked .compared .ensures .1) (told .before .before .enum-told .given .1) _ (asked .compared .ensures .2) (told .receiver .given .1))
-    (fell .roll-back .ensures)
+    (rolled .rollback .ensures)
 
 returns-4 : tie.Need-returns-4
 returns-4 c =
@@ -103,7 +103,7 @@ accept-spec =
     (λ c. search needs)
     (λ c. search needs)
     (λ c. search needs)
-    roll-back-requires
+    rollback-requires
     (λ c. search needs)
     returns-3
     (λ c κs. search needs)

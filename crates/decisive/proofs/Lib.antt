@@ -1,0 +1,3 @@
+mod Comparing
+mod Judging
+pub mod Decisions

@@ -1,0 +1,18 @@
+-- By the two answers.
+use native.Mathlib.Omega.{arith}
+use borrow.Author.Needs.{needs}
+use Rattle.decisive.proofs.Judging.{by-receiver, by-message}
+use Rattle.decisive.proofs.receipt.decided.Statement.{statement}
+use Rattle.decisive.proofs.receipt.decided.Tie as tie
+
+pub decided-spec : {M : Type 1} → statement M
+decided-spec =
+    tie.close
+    (tie.spec
+    (λ c. search needs)
+    (λ c. search needs)
+    (λ c. search needs)
+    (λ c. search needs)
+    (λ c. search needs)
+    (λ c. by-receiver _ _ (c .before .before .before .enum-told .given .1) (c .before .receiver .given .1))
+    (λ c. by-message _ (c .before .before .before .args .answers .own) (c .before .message .given .1)))

@@ -1,0 +1,73 @@
+-- The engine: from step to step by its tables, the step list and the replies given so far; it has no maps.
+use Prim.Native.Nat.{ℕ, zero, suc, _*_, _<_, _≤_}
+use mathlib.Core.Bool.{Bool, not}
+use mathlib.Core.List.{List, [], _++_}
+use lib.ListN.{length, getD}
+use Rattle.octets.specs.Bytes.{_and_, _or_, every, part}
+use Rattle.octets.specs.Numbers.{ofBe}
+use Rattle.rules.specs.Layout.{Layout, Limits}
+use Rattle.rules.specs.declared.Step.{Step}
+use Rattle.rules.specs.Step.{stepBytes, stepAt, packReply}
+use Rattle.rules.specs.Refusals.{groupBits, named}
+use Rattle.rules.specs.Calls.{stepsIn}
+use Rattle.engine_chains.specs.Back.{Told}
+use Rattle.engine_chains.specs.Internal.Tables.{Tables, freshTables, Played, play}
+use Rattle.engine_chains.specs.Internal.Walk.{Walk, walkBack, receiptStart, signStart}
+
+-- what a packed reply says
+unfoldable pub unpackTold : List ℕ → Told
+unpackTold b = record { outcome = getD b 0 0; transactor = getD b 1 0; message = ofBe 2 (part 2 2 b) }
+
+-- reply j of a list
+unfoldable pub toldIn : List ℕ → ℕ → Told
+toldIn b j = unpackTold (part (stepBytes * j) stepBytes b)
+
+-- What the walk reads of the first i steps and of the replies to them is there, and its numbers are in range.
+pub record Walkable (steps replies : List ℕ) (i : ℕ) : Type 0 where
+  pub listed : stepBytes * i ≤ length steps
+  pub replied : stepBytes * i ≤ length replies
+  pub within : (j : ℕ) → j < i → (toldIn replies j .transactor < 16) × (toldIn replies j .message < 1024)
+
+-- every take that g names is frozen
+unfoldable pub allStable : Tables → ℕ → Bool
+allStable T g = every groupBits (λ t. not (named g t) or T .rows t .stable)
+
+-- the walk for the receipt of parcel n by take t, here by its addressee, and that for a signing of volume g, over the first i steps
+abbrev pub receiptBack : List ℕ → List ℕ → ℕ → ℕ → ℕ → Walk
+receiptBack steps replies i n t = walkBack steps (toldIn replies) i (receiptStart n t)
+
+unfoldable pub receiptWalk : Tables → List ℕ → List ℕ → ℕ → ℕ → Walk
+receiptWalk T steps replies i n = receiptBack steps replies i n (T .messages n .addressee)
+
+unfoldable pub signWalk : List ℕ → List ℕ → ℕ → ℕ → Walk
+signWalk steps replies i g = walkBack steps (toldIn replies) i (signStart g)
+
+unfoldable pub readyIn : Tables → List ℕ → List ℕ → ℕ → ℕ → Bool
+readyIn T steps replies i g = allStable T g and not (signWalk steps replies i g .rightSuperseded) and not (signWalk steps replies i g .unallowed)
+
+-- step i, where the tables are T and the replies to those before it are given
+unfoldable pub playStep : Layout → List ℕ → List ℕ → ℕ → Tables → Played
+playStep y steps replies i T =
+    let p : Step = stepAt steps i in
+    play y T p
+    (receiptWalk T steps replies i (p .message) .leftSuperseded)
+    (receiptWalk T steps replies i (p .message) .rightSuperseded)
+    (readyIn T steps replies i (p .message))
+
+-- ---- all steps
+
+-- the tables, and the packed replies so far
+pub record Engine : Type 0 where
+  pub tables : Tables
+  pub replies : List ℕ
+
+unfoldable pub engineAfter : Layout → Limits → List ℕ → ℕ → Engine
+engineAfter y m steps zero = record { tables = freshTables m; replies = [] }
+engineAfter y m steps (suc i) =
+    let x : Engine = engineAfter y m steps i in
+    let r : Played = playStep y steps (x .replies) i (x .tables) in
+    record { tables = r .tables; replies = x .replies ++ packReply (r .reply) }
+
+-- its replies to a list of steps
+unfoldable pub engineReplies : Layout → Limits → List ℕ → List ℕ
+engineReplies y m steps = engineAfter y m steps (stepsIn steps) .replies

@@ -1,0 +1,4 @@
+-- What contracts of internal functions and laws cite, and no call's promise does.
+pub mod Register
+pub mod Guards
+pub mod Turns

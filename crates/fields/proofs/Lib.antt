@@ -1,0 +1,3 @@
+mod Finding
+mod Parts
+pub mod Standing

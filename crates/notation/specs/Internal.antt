@@ -1,4 +1,0 @@
-pub mod Scan
-pub mod Table
-pub mod Parsing
-pub mod Fields

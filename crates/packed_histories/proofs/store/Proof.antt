@@ -1,0 +1,42 @@
+-- The first byte, the number and the places, one after the other.
+use denote.Ref.{now}
+use mathlib.Core.Path.{_∙_}
+use native.Mathlib.Omega.{arith}
+use lib.ListN.{length-set}
+use Rattle.marks.specs.Packed.{width, places}
+use Rattle.marks.proofs.Placed.{put-history}
+use borrow.Author.Needs.{needs}
+use Rattle.packed_histories.proofs.store.Statement.{statement}
+use Rattle.packed_histories.proofs.store.Tie as tie
+
+store-number-requires : tie.Need-store-number-requires
+store-number-requires c κs = simp length-set (omega arith)
+
+store-numbers-requires : tie.Need-store-numbers-requires
+store-numbers-requires c κs = omega (arith, simp length-set at (c .before .before .before .before .store-number .kept .0))
+
+same-length : tie.Need-same-length
+same-length c = c .before .before .store-numbers .kept .0 ∙ simp length-set at (c .before .before .before .before .before .before .before .store-number .kept .0)
+
+returns : tie.Need-returns
+returns c =
+    let s = c .before .before .before .before .before .before .before .before .before .before in
+    let a = s .before .before .args in
+    put-history width places (a .at) (a .h) (s .flag .result) (now (a .image)) _ _ (omega arith) (s .flag .ensures .0) (omega arith) (c .before .before .before .before .before .before .before .store-number .ensures) (c .before .before .store-numbers .ensures)
+
+pub store-spec : {M : Type 1} → statement M
+store-spec =
+    tie.close
+    (tie.spec
+    (λ c κs. search needs)
+    (λ c. search needs)
+    (λ c. search needs)
+    (λ c. search needs)
+    (λ c. search needs)
+    (λ c. search needs)
+    store-number-requires
+    (λ c. search needs)
+    (λ c. search needs)
+    store-numbers-requires
+    same-length
+    returns)

@@ -1,0 +1,40 @@
+-- What print and text_length answer, and what print leaves, for every input.
+use Prim.Native.Nat.{ℕ, _%_}
+use mathlib.Core.Bool.{Bool, not}
+use mathlib.Core.List.{List}
+use lib.Dec.{eqb, ltb}
+use lib.ListN.{length}
+use Rattle.octets.specs.Bytes.{pick, _or_, put}
+use Rattle.rules.specs.Step.{stepBytes}
+use Rattle.rules.specs.Calls.{longest}
+use Rattle.notation.specs.Notation.{text}
+pub use Rattle.printer.specs.declared.Printed.{Printed}
+use Rattle.printer.specs.declared.Printed.the-variants.{Length, Refused}
+
+-- 17, as for a run: the list's length not a multiple of 8, or over 8,192 bytes
+unfoldable pub wrongList : List ℕ → Bool
+wrongList l = not (eqb (length l % stepBytes) 0) or ltb longest (length l)
+
+unfoldable pub lengthAnswer : List ℕ → Printed
+lengthAnswer l = pick (wrongList l) (Refused 17) (Length (length (text l)))
+
+-- 18: no room for the text
+unfoldable pub noRoom : List ℕ → List ℕ → Bool
+noRoom l out = ltb (length out) (length (text l))
+
+unfoldable pub printAnswer : List ℕ → List ℕ → Printed
+printAnswer l out = pick (wrongList l) (Refused 17) (pick (noRoom l out) (Refused 18) (Length (length (text l))))
+
+-- the text stands at the front of out; a refusal changes no byte
+unfoldable pub printedOut : List ℕ → List ℕ → List ℕ
+printedOut l out = pick (wrongList l or noRoom l out) out (put 0 (text l) out)
+
+-- ---- the answers in numbers: the refusal or 0, and the text's length or 0
+
+abbrev pub refusalIn : Printed → ℕ
+refusalIn (Refused n) = n
+refusalIn (Length n) = 0
+
+abbrev pub lengthIn : Printed → ℕ
+lengthIn (Refused n) = 0
+lengthIn (Length n) = n

@@ -1,4 +1,0 @@
-mod Checkpointing
-pub mod Guarding
-mod Rows
-pub mod Views

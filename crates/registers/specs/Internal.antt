@@ -1,3 +1,0 @@
--- What contracts of internal functions and laws cite, and no call's promise does.
-pub mod Register
-pub mod Guards

@@ -1,0 +1,191 @@
+// Replies in words.
+use lines::Line;
+use lists::packed;
+use rules::Reply;
+use rules::numbers;
+ghost use mathlib.Core.Path.{_≡_};
+ghost use Prim.Native.Nat.{_+_, _-_, _≤_, _<_};
+ghost use lib.Dec.{eqb};
+ghost use lib.ListN.{length};
+ghost use Rattle.octets.specs.Bytes.{pick, _and_, _or_, part};
+ghost use Rattle.rules.specs.Step.{stepBytes, receive};
+ghost use Rattle.lines.specs.Lines.{written, plus, Says};
+ghost use Rattle.replies.specs.Replies.{unpackReply, repliesTransactor, repliesMessage, repliesValue, fieldText, fieldsText, isOutcome, refusalText, isRefusal, replyText, replyTextAt};
+
+// The outcomes, eleven bytes each.
+const OUTCOMES: [u8; 66] =
+    *b"done\0\0\0\0\0\0\0held\0\0\0\0\0\0\0dropped\0\0\0\0fallen backvanished\0\0\0not ready\0\0";
+
+// Why a step is refused: 20 to 31, and 23 for a receive; 47 bytes each.
+const SENTENCES: [u8; 611] =
+    *b"kind 13 to 15, or unused or zero bits not zero\0acting take, addressee or named take not openedacting, receiving or named take vanished\0\0\0\0\0\0\0acting take not at work\0\0\0\0\0\0\0\0\0\0\0\0\0\0\0\0\0\0\0\0\0\0\0\0parcel not waiting\0\0\0\0\0\0\0\0\0\0\0\0\0\0\0\0\0\0\0\0\0\0\0\0\0\0\0\0\0no room for a take\0\0\0\0\0\0\0\0\0\0\0\0\0\0\0\0\0\0\0\0\0\0\0\0\0\0\0\0\0no room for a parcel\0\0\0\0\0\0\0\0\0\0\0\0\0\0\0\0\0\0\0\0\0\0\0\0\0\0\0next parcel number is 65535\0\0\0\0\0\0\0\0\0\0\0\0\0\0\0\0\0\0\0\0a signed take would fall from life 65535\0\0\0\0\0\0\0volume empty\0\0\0\0\0\0\0\0\0\0\0\0\0\0\0\0\0\0\0\0\0\0\0\0\0\0\0\0\0\0\0\0\0\0\0a named take has no room for a signing\0\0\0\0\0\0\0\0\0unrelated marks in parcel and receiver\0\0\0\0\0\0\0\0\0receiving take not idle\0\0\0\0\0\0\0\0\0\0\0\0\0\0\0\0\0\0\0\0\0\0\0\0";
+
+// The reply at at.
+fn decode(replies: &[u8], at: usize) -> Reply
+    requires { ⌜ at + stepBytes ≤ length (now replies) ⌝ }
+    ensures { λ r. ⌜ r ≡ unpackReply (part at stepBytes (now (replies .entry))) ⌝ }
+{
+    let message = octets::load16(replies, at + 2);
+    let value = octets::load32(replies, at + 4);
+    Reply {
+        outcome: replies[at],
+        transactor: replies[at + 1],
+        message,
+        value,
+    }
+}
+
+fn replies_transactor(kind: u8) -> bool
+    ensures { λ r. ⌜ r ≡ repliesTransactor kind ⌝ }
+{
+    kind <= numbers::FAIL
+}
+
+fn replies_message(kind: u8) -> bool
+    ensures { λ r. ⌜ r ≡ repliesMessage kind ⌝ }
+{
+    if kind == numbers::LETTER {
+        return true;
+    }
+    if kind == numbers::RECEIVE {
+        return true;
+    }
+    if kind == numbers::SEND {
+        return true;
+    }
+    kind == numbers::LOSE
+}
+
+fn replies_value(kind: u8, outcome: u8) -> bool
+    ensures { λ r. ⌜ r ≡ repliesValue kind outcome ⌝ }
+{
+    if outcome != numbers::DONE {
+        return false;
+    }
+    if kind == numbers::RECEIVE {
+        return true;
+    }
+    kind == numbers::READ
+}
+
+// Whether a field is one that the reply has, or zero.
+fn fits(used: bool, n: u32) -> bool
+    ensures { λ r. ⌜ r ≡ used or eqb n 0 ⌝ }
+{
+    if used {
+        return true;
+    }
+    n == 0
+}
+
+fn is_outcome(kind: u8, r: Reply) -> bool
+    ensures { λ b. ⌜ b ≡ isOutcome kind r ⌝ }
+{
+    if numbers::NOT_READY < r.outcome {
+        return false;
+    }
+    if !fits(replies_transactor(kind), r.transactor as u32) {
+        return false;
+    }
+    if !fits(replies_message(kind), r.message as u32) {
+        return false;
+    }
+    fits(replies_value(kind, r.outcome), r.value)
+}
+
+fn is_refusal(r: Reply) -> bool
+    ensures { λ b. ⌜ b ≡ isRefusal r ⌝ }
+{
+    if r.outcome < numbers::MALFORMED {
+        return false;
+    }
+    if numbers::UNRELATED < r.outcome {
+        return false;
+    }
+    if r.transactor != 0 {
+        return false;
+    }
+    if r.message != 0 {
+        return false;
+    }
+    r.value == 0
+}
+
+// The word w and a number, if the reply has that field.
+fn field(l: Line, used: bool, w: &[u8], n: u32) -> Line
+    ensures { λ r. ⌜ written r ≡ plus (written l) (fieldText used (now (w .entry)) n) ⌝ }
+{
+    if used {
+        return l.word(w).number(n);
+    }
+    l
+}
+
+fn fields(l: Line, kind: u8, r: Reply) -> Line
+    ensures { λ e. ⌜ written e ≡ plus (written l) (fieldsText kind r) ⌝ }
+{
+    let transactors = field(l, replies_transactor(kind), b" take ", r.transactor as u32);
+    let messages = field(
+        transactors,
+        replies_message(kind),
+        b" parcel ",
+        r.message as u32,
+    );
+    field(messages, replies_value(kind, r.outcome), b" text ", r.value)
+}
+
+// The row of a refusal's sentence.
+fn sentence_row(kind: u8, n: u8) -> usize
+    requires { ⌜ (20 ≤ n) × (n ≤ 31) ⌝ }
+    ensures { λ r. ⌜ (r ≡ pick (eqb n 23 and eqb kind receive) 12 (n - 20)) × (r < 13) ⌝ }
+{
+    if n != numbers::WRONG_STATUS {
+        return (n - numbers::MALFORMED) as usize;
+    }
+    if kind != numbers::RECEIVE {
+        return 3;
+    }
+    12
+}
+
+fn refused(l: Line, kind: u8, n: u8) -> Line
+    requires { ⌜ (20 ≤ n) × (n ≤ 31) ⌝ }
+    ensures { λ r. ⌜ written r ≡ plus (written l) (refusalText kind n) ⌝ }
+{
+    let row = sentence_row(kind, n);
+    l.word(b"refused ")
+        .number(n as u32)
+        .word(b": ")
+        .row(&SENTENCES, 47, row)
+}
+
+// The reply at at, to a step of that kind, in words.
+fn reply_at(kind: u8, replies: &[u8], at: usize) -> Line
+    requires { ⌜ at + stepBytes ≤ length (now replies) ⌝ }
+    ensures { λ r. ⌜ Says r (replyText kind (part at stepBytes (now (replies .entry)))) ⌝ }
+{
+    let r = decode(replies, at);
+    if is_outcome(kind, r) {
+        let l = Line::EMPTY.row(&OUTCOMES, 11, r.outcome as usize);
+        return fields(l, kind, r);
+    }
+    if is_refusal(r) {
+        return refused(Line::EMPTY, kind, r.outcome);
+    }
+    let end = at + 8;
+    Line::EMPTY.word(b"raw ").hex(&replies[at..end])
+}
+
+// The reply to step i of a list in words; empty past the last step or reply.
+pub fn reply_line(list: &[u8], replies: &[u8], i: usize) -> Line
+    ensures { λ r. ⌜ Says r (replyTextAt (now (list .entry)) (now (replies .entry)) i) ⌝ }
+{
+    if list.len() / 8 <= i {
+        return Line::EMPTY;
+    }
+    if replies.len() / 8 <= i {
+        return Line::EMPTY;
+    }
+    let p = packed::decode(list, 8 * i);
+    reply_at(p.kind, replies, 8 * i)
+}

@@ -1,0 +1,55 @@
+-- What is left from at on ends where all of it does.
+use Prim.Native.Nat.{_-_}
+use mathlib.Core.Path.{_≡_, refl, sym, _∙_}
+use native.Mathlib.Omega.{arith}
+use lib.ListN.{length}
+use Rattle.notation.specs.Reading.{blank}
+use Rattle.scan.proofs.Walking.{endOf, next-def, run-more, run-stop, run-end}
+use borrow.Author.Needs.{needs}
+use Rattle.scan.proofs.skip.Statement.{statement}
+use Rattle.scan.proofs.skip.Tie as tie
+
+abbrev Inv-loop : tie.InvT-loop
+Inv-loop s from at₀ at = endOf blank s from ≡ endOf blank s at
+
+abbrev μ-loop : tie.MeasureT-loop
+μ-loop s from at₀ at = length s - at
+
+loop-holds : tie.Need-loop-holds Inv-loop μ-loop
+loop-holds c = refl
+
+shared-slice-read-is-blank : tie.Need-shared-slice-read-is-blank Inv-loop μ-loop
+shared-slice-read-is-blank c = search needs
+
+is-blank-requires : tie.Need-is-blank-requires Inv-loop μ-loop
+is-blank-requires c κs = search needs
+
+add-at : tie.Need-add-at Inv-loop μ-loop
+add-at c = search needs
+
+loop-less : tie.Need-loop-less Inv-loop μ-loop
+loop-less c = search needs
+
+loop-again : tie.Need-loop-again Inv-loop μ-loop
+loop-again c = c .before .before .before .before .loop .inv ∙ run-more blank _ _ (omega arith) (sym (c .before .is-blank .ensures) ∙ c .if1 .taken)
+
+returns : tie.Need-returns Inv-loop μ-loop
+returns c = sym (run-stop blank _ _ (omega arith) (sym (c .before .is-blank .ensures) ∙ c .if1 .left)) ∙ sym (c .before .before .before .before .loop .inv) ∙ next-def _ _
+
+returns-2 : tie.Need-returns-2 Inv-loop μ-loop
+returns-2 c = sym (run-end blank _ _ (omega arith)) ∙ sym (c .before .loop .inv) ∙ next-def _ _
+
+pub skip-spec : {M : Type 1} → statement M
+skip-spec =
+    tie.close
+    (tie.spec
+    Inv-loop
+    μ-loop
+    loop-holds
+    shared-slice-read-is-blank
+    is-blank-requires
+    add-at
+    loop-less
+    loop-again
+    returns
+    returns-2)

@@ -1,0 +1,55 @@
+-- What is left from at on ends where all of it does.
+use Prim.Native.Nat.{_-_}
+use mathlib.Core.Path.{_≡_, refl, sym, _∙_}
+use native.Mathlib.Omega.{arith}
+use lib.ListN.{length}
+use Rattle.notation.specs.Reading.{inWord}
+use Rattle.scan.proofs.Walking.{endOf, endOf-def, run-more, run-stop, run-end}
+use borrow.Author.Needs.{needs}
+use Rattle.scan.proofs.word_end.Statement.{statement}
+use Rattle.scan.proofs.word_end.Tie as tie
+
+abbrev Inv-loop : tie.InvT-loop
+Inv-loop s from at₀ at = endOf inWord s from ≡ endOf inWord s at
+
+abbrev μ-loop : tie.MeasureT-loop
+μ-loop s from at₀ at = length s - at
+
+loop-holds : tie.Need-loop-holds Inv-loop μ-loop
+loop-holds c = refl
+
+shared-slice-read-is-word : tie.Need-shared-slice-read-is-word Inv-loop μ-loop
+shared-slice-read-is-word c = search needs
+
+is-word-requires : tie.Need-is-word-requires Inv-loop μ-loop
+is-word-requires c κs = search needs
+
+add-at : tie.Need-add-at Inv-loop μ-loop
+add-at c = search needs
+
+loop-less : tie.Need-loop-less Inv-loop μ-loop
+loop-less c = search needs
+
+loop-again : tie.Need-loop-again Inv-loop μ-loop
+loop-again c = c .before .before .before .before .loop .inv ∙ run-more inWord _ _ (omega arith) (sym (c .before .is-word .ensures) ∙ c .if1 .taken)
+
+returns : tie.Need-returns Inv-loop μ-loop
+returns c = sym (run-stop inWord _ _ (omega arith) (sym (c .before .is-word .ensures) ∙ c .if1 .left)) ∙ sym (c .before .before .before .before .loop .inv) ∙ endOf-def _ _ _
+
+returns-2 : tie.Need-returns-2 Inv-loop μ-loop
+returns-2 c = sym (run-end inWord _ _ (omega arith)) ∙ sym (c .before .loop .inv) ∙ endOf-def _ _ _
+
+pub word-end-spec : {M : Type 1} → statement M
+word-end-spec =
+    tie.close
+    (tie.spec
+    Inv-loop
+    μ-loop
+    loop-holds
+    shared-slice-read-is-word
+    is-word-requires
+    add-at
+    loop-less
+    loop-again
+    returns
+    returns-2)

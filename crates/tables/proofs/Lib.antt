@@ -1,3 +1,0 @@
-mod Applied
-pub mod Outcomes
-mod Refused
