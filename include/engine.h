@@ -2,14 +2,20 @@
  * numbers, and how steps and replies are packed, are in ledger_steps.h; the rules are docs/RULES.md.
  *
  * The library is built by `rt staticlib engine_c` as target/staticlib/libengine_c.a, for x86-64 Linux, and can be linked alone or beside
- * the ledger's. It keeps nothing between calls, allocates nothing and needs only memcpy, memmove and memset; its stack stays under 40 KiB.
+ * the ledger's. It keeps nothing between calls, allocates nothing and needs only memcpy, memmove and memset.
  * It has no maps and no image: where a receipt or a signing depends on chains, it traces them back through the list and the replies given
  * so far. Of the refusals of steps 27, 28 and 31 cannot arise: a list is too short for the first two, and no session from a fresh one meets
  * the third.
  *
  * A buffer is a pointer and its length in bytes. The caller owes, for each call: pointers that are not null (also for a
  * length of 0), as many bytes behind each as its length says, readable, and writable where the pointer is not to const; and
- * that the replies overlap no byte of the list. Every other input is allowed, and refused where the documents refuse it. */
+ * that what is written (the replies) overlaps no other buffer of the call. Every other input is allowed, and refused where the documents
+ * refuse it. A refused call changes no byte.
+ *
+ * Stack of the call in KiB, at most, beside that of memcpy, memmove and memset (tools/stack measures the compiled library):
+ *
+ *     engine_play 12
+ */
 #ifndef ENGINE_H
 #define ENGINE_H
 
@@ -23,8 +29,8 @@ extern "C" {
  * (1 to 32) and checkpoints a transactor at most so often (1 to 15): writes a reply of 8 bytes for each step, the one that ledger_run would
  * write after ledger_begin with these limits, and answers 0, whatever the steps reply: 20 to 30 are replies, and the list goes on.
  * Refused with 17, 18 or 33, in this order: no byte is changed. */
-uint8_t engine_play(const uint8_t *list, size_t list_length, size_t transactors, size_t messages, size_t checkpoints,
-                    uint8_t *replies, size_t replies_length);
+uint8_t engine_play(const uint8_t *list, size_t list_length, uint8_t *replies, size_t replies_length,
+                    size_t transactors, size_t messages, size_t checkpoints);
 
 #ifdef __cplusplus
 }

@@ -8,7 +8,16 @@
  * length of 0), as many bytes behind each as its length says, readable, and writable where the pointer is not to const; and
  * that what is written (image, replies, out or target, refusal) overlaps no other buffer of the call. Buffers that are only read may
  * overlap each other. Every other input is allowed, and refused where the documents refuse it. A refused call changes no byte but
- * *refusal. */
+ * *refusal. Numbers are as wide as a caller may have them, and none is cut off.
+ *
+ * Stack of each call in KiB, at most, beside that of memcpy, memmove and memset (tools/stack measures the compiled library):
+ *
+ *     ledger_version 1      ledger_all_heard_stable 1   ledger_run 3              ledger_thin 45
+ *     ledger_begin 1        ledger_dependents 1         ledger_smallest_group 3   ledger_forward 43
+ *     ledger_offer 1        ledger_obstacle 1           ledger_ready_count 3      ledger_back 1
+ *     ledger_show 1         ledger_impediment 1         ledger_worst_window 1     ledger_decision 2
+ *     ledger_compare 1      ledger_field 1
+ */
 #ifndef LEDGER_H
 #define LEDGER_H
 
@@ -19,7 +28,7 @@ extern "C" {
 #endif
 
 enum {
-    LEDGER_VERSION = 0x020000, /* major, minor and patch number, a byte each; ledger_version() is the library's own */
+    LEDGER_VERSION = 0x030000, /* major, minor and patch number, a byte each; ledger_version() is the library's own */
     LEDGER_IMAGE = 42616,      /* bytes of an image */
     LEDGER_OLD_IMAGE = 22132,  /* bytes of an image of the old form, with incarnation numbers of one byte */
     LEDGER_MAP = 528,          /* bytes of a map */
@@ -76,6 +85,64 @@ struct ledger_impediment {
     uint8_t next;       /* the next from the asked one to it: the asked one rests on its present incarnation; itself where it is in the way */
 };
 
+/* What a receipt would do. */
+enum ledger_decision_kind {
+    LEDGER_UNDECIDED = 0,           /* refused */
+    LEDGER_ACCEPTED = 1,            /* the message is taken in */
+    LEDGER_MESSAGE_SUPERSEDED = 2,  /* it is dropped: its history of transactor is superseded by the receiver's */
+    LEDGER_RECEIVER_SUPERSEDED = 3  /* the receiver rolls back: its history of transactor is superseded by the message's */
+};
+
+struct ledger_decision {
+    size_t kind;
+    size_t transactor; /* the first of which there is such a history; 0 where the message is accepted */
+};
+
+/* Two histories of a transactor compared; of the middle four the named one is the earlier. */
+enum ledger_relation {
+    LEDGER_SAME_INCARNATION = 0,
+    LEDGER_LEFT_CHECKPOINTED = 1,
+    LEDGER_RIGHT_CHECKPOINTED = 2,
+    LEDGER_LEFT_SUPERSEDED = 3,
+    LEDGER_RIGHT_SUPERSEDED = 4,
+    LEDGER_UNRELATED_HISTORIES = 5 /* from two different sessions */
+};
+
+struct ledger_comparison {
+    uint8_t relation;
+    uint8_t newer; /* which one a join keeps: 0 the left one, 1 the right one */
+};
+
+/* What a byte of an image belongs to. */
+enum ledger_field_kind {
+    LEDGER_PAST_IMAGE = 0,
+    LEDGER_FIELD_OPENED = 1,
+    LEDGER_FIELD_NEXT = 2,         /* 2 bytes */
+    LEDGER_FIELD_BLANK = 3,        /* zero */
+    LEDGER_FIELD_MOST_TRANSACTORS = 4,
+    LEDGER_FIELD_MOST_MESSAGES = 5,
+    LEDGER_FIELD_MOST_CHECKPOINTS = 6,
+    LEDGER_FIELD_LIMITS_BLANK = 7, /* zero */
+    LEDGER_FIELD_STATUS = 8,       /* of transactor holder, as far as 10 */
+    LEDGER_FIELD_VALUE = 9,        /* 4 bytes */
+    LEDGER_FIELD_SAVED = 10,       /* 4 bytes */
+    LEDGER_FIELD_ADDRESSEE = 11,   /* of the message in place holder, as far as 13: waiting bit and addressee */
+    LEDGER_FIELD_NUMBER = 12,      /* 2 bytes */
+    LEDGER_FIELD_CONTENT = 13,     /* 4 bytes */
+    LEDGER_FIELD_FLAGS = 14,       /* of the history of transactor ground in a map of holder, as far as 16: present, stable, count */
+    LEDGER_FIELD_INCARNATION = 15, /* 2 bytes */
+    LEDGER_FIELD_CHECKPOINT = 16   /* 2 bytes: that entry of its list, from 0 */
+};
+
+struct ledger_field {
+    uint8_t kind;
+    uint8_t holder; /* the transactor, or the place of the message */
+    uint8_t map;    /* of kinds 14 to 16: 0 state, 1 creation, 2 behaviour, 3 the message's; numbers that a kind does not use are 0 */
+    uint8_t ground;
+    uint8_t entry;
+    uint8_t byte;   /* which byte of the field, from 0, the most significant one */
+};
+
 /* LEDGER_VERSION of the library that is linked. */
 uint32_t ledger_version(void);
 
@@ -107,15 +174,16 @@ size_t ledger_ready_count(const uint8_t *image, size_t image_length, size_t size
  * *refusal is 0. Refused: *refusal is 16, 19, 21 or 22, and the answer is 0. */
 uint8_t ledger_all_heard_stable(const uint8_t *image, size_t image_length, size_t transactor, uint8_t *refusal);
 
-/* What rests on the present incarnation of the transactor: if it falls now, those of resting and through can't be checkpointed any more, but
+/* What rests on the present incarnation of the transactor. In a session grown from a fresh one: if it falls now, those of resting and through can't be checkpointed any more, but
  * for itself, as long as they keep their own; *refusal is 0. Refused: *refusal is 16, 19, 21 or 22, and all four numbers are 0. */
 struct ledger_dependents ledger_dependents(const uint8_t *image, size_t image_length, size_t transactor, uint8_t *refusal);
 
-/* Why the group (its bits, transactor t counting 2^t) can't be checkpointed now: the first reason, LEDGER_NOTHING exactly if it can; *refusal is 0. An unstable transactor
- * comes first; then the maps are looked at, transactor by transactor and entry by entry. With LEDGER_SUPERSEDED no group with that transactor
- * can be checkpointed as long as it keeps its present incarnation. Refused: *refusal is 16, 19, or what the signing would get,
- * 29, 21, 22 or 30, and all three numbers are 0. */
-struct ledger_obstacle ledger_obstacle(const uint8_t *image, size_t image_length, uint16_t members, uint8_t *refusal);
+/* Why the group (its bits, transactor t counting 2^t) can't be checkpointed now: the first reason, LEDGER_NOTHING exactly if it can; *refusal
+ * is 0. An unstable transactor comes first; then the maps are looked at, transactor by transactor and entry by entry. With
+ * LEDGER_SUPERSEDED no group with that transactor can be checkpointed as long as it keeps its present incarnation. Refused: *refusal is 16,
+ * 19, or what the signing would get, 29, 21, 22 or 30, and all three numbers are 0. A number past 16 bits names a transactor that no session
+ * opens: 21. */
+struct ledger_obstacle ledger_obstacle(const uint8_t *image, size_t image_length, size_t members, uint8_t *refusal);
 
 /* Why no group with the transactor could be checkpointed now: LEDGER_NO_IMPEDIMENT exactly if one could, that is, if ledger_smallest_group
  * gives one; *refusal is 0. The hopeless come first, then the exhausted, then the unstable; of each the lowest. Asked about next, the answer is
@@ -127,8 +195,7 @@ struct ledger_impediment ledger_impediment(const uint8_t *image, size_t image_le
 /* The short list of the steps of list from byte start up to byte end: without those that a run from the image refuses, and without
  * the reads whose map is emptied unused. Run from the same image it leaves the same image, and each of its steps has its earlier
  * reply. It is written to out, with zero bytes after it, and the answer is how many steps it has; *refusal is 0. The image is only
- * read. Refused: *refusal is 16, 17, 18 or 19, no byte of out is changed, and the answer is 0. The call needs
- * some 48 kilobytes of stack. */
+ * read. Refused: *refusal is 16, 17, 18 or 19, no byte of out is changed, and the answer is 0. */
 size_t ledger_thin(const uint8_t *image, size_t image_length,
                    const uint8_t *list, size_t list_length, size_t start, size_t end,
                    uint8_t *out, size_t out_length, uint8_t *refusal);
@@ -138,8 +205,7 @@ size_t ledger_thin(const uint8_t *image, size_t image_length,
 struct ledger_part ledger_show(const uint8_t *image, size_t image_length, size_t number, uint8_t *refusal);
 
 /* Writes source, an image of the old form, in target as one that the other calls take, with the limits 16, 32 and 15, and answers 0.
- * Refused with 16 (source not LEDGER_OLD_IMAGE bytes, or target not LEDGER_IMAGE) or 19 (source ill-formed): no byte is changed.
- * Needs some 43 kilobytes of stack. */
+ * Refused with 16 (source not LEDGER_OLD_IMAGE bytes, or target not LEDGER_IMAGE) or 19 (source ill-formed): no byte is changed. */
 uint8_t ledger_forward(const uint8_t *source, size_t source_length, uint8_t *target, size_t target_length);
 
 /* Writes source, an image, in target in the old form, and answers 0: ledger_forward gives source again. Refused with 16 (source not
@@ -150,6 +216,17 @@ uint8_t ledger_back(const uint8_t *source, size_t source_length, uint8_t *target
  * is one window, and an empty list gives 0 at 0; *refusal is 0. Refused: *refusal is 17 or 35, and both numbers are 0.
  * It reads a list of replies alone, wherever they come from, and no image. */
 struct ledger_window ledger_worst_window(const uint8_t *replies, size_t replies_length, size_t width, uint8_t *refusal);
+
+/* What the receipt of the waiting message with this number would do now, and whose histories decide it; *refusal is 0. The image is only read.
+ * Refused: *refusal is 16, 19, or what the receipt would get, 24, 22, 23, 31 or 28, and both numbers are 0. */
+struct ledger_decision ledger_decision(const uint8_t *image, size_t image_length, size_t number, uint8_t *refusal);
+
+/* Two packed histories of one transactor, LEDGER_HISTORY bytes each, compared; *refusal is 0. Refused: *refusal is 16 where one has another
+ * length, 19 where one is absent or ill-formed, and both numbers are 0. */
+struct ledger_comparison ledger_compare(const uint8_t *left, size_t left_length, const uint8_t *right, size_t right_length, uint8_t *refusal);
+
+/* What byte at of an image belongs to; past the image all numbers are 0. Each byte of an image has an answer of its own. */
+struct ledger_field ledger_field(size_t at);
 
 #ifdef __cplusplus
 }

@@ -56,11 +56,11 @@ enum ledger_outcome {
     LEDGER_VANISHED = 4,
     LEDGER_NOT_READY = 5,
     /* calls */
-    LEDGER_WRONG_LENGTH = 16, /* image, or an image to be converted or its target, not of its length */
+    LEDGER_WRONG_LENGTH = 16, /* image, an image to be converted or its target, or a history, not of its length */
     LEDGER_WRONG_PART = 17,   /* part not inside the list, its length not a multiple of 8, or over 8,192 */
     LEDGER_WRONG_ROOM = 18,   /* replies, or out, not as long as the part */
-    LEDGER_ILL_FORMED = 19,   /* image ill-formed */
-    /* steps; 21 and 22 also of queries about a transactor, 24 of show, 29, 21, 22 and 30 of obstacle */
+    LEDGER_ILL_FORMED = 19,   /* image, or a history, ill-formed */
+    /* steps; 21 and 22 also of queries about a transactor, 24 of show, 29, 21, 22 and 30 of obstacle, 24, 22, 23, 31 and 28 of decision */
     LEDGER_MALFORMED = 20,    /* kind 13 to 15, or an unused field or the zero bits not zero */
     LEDGER_UNOPENED = 21,     /* acting transactor, addressee or named one not opened */
     LEDGER_GONE = 22,         /* acting, receiving or named transactor annihilated */

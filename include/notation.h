@@ -5,8 +5,14 @@
  * the ledger's. It keeps nothing between calls, allocates nothing and needs only memcpy, memmove and memset.
  *
  * A buffer is a pointer and its length in bytes. The caller owes, for each call: pointers that are not null (also for a length of 0), as
- * many bytes behind each as its length says, readable, and writable where the pointer is not to const; and that out overlaps no byte of the
- * other buffers. Every other input is allowed. A refused call changes no byte of out. No text is ended by a zero byte. */
+ * many bytes behind each as its length says, readable, and writable where the pointer is not to const; and that what is written (out, line,
+ * column, expected) overlaps no other buffer of the call. Buffers that are only read may overlap each other. Every other input is allowed. A
+ * refused call changes no byte of out. No text is ended by a zero byte.
+ *
+ * Stack of each call in KiB, at most, beside that of memcpy, memmove and memset (tools/stack measures the compiled library):
+ *
+ *     notation_parse 1   notation_reply 3   notation_length 4   notation_step 4   notation_print 4   notation_image 6
+ */
 #ifndef NOTATION_H
 #define NOTATION_H
 

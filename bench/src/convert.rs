@@ -98,11 +98,10 @@ fn widen(old: &[u8], new: &mut [u8], front: usize) {
     let (marks, _) = old[front..].as_chunks::<OLD_MARK>();
     let (wide, _) = new[front..].as_chunks_mut::<MARK>();
     for (w, m) in wide.iter_mut().zip(marks) {
+        // Numbers by value first, so that they are widened and written as one.
+        let numbers: [[u8; 2]; 16] = std::array::from_fn(|i| (m[1 + i] as u16).to_be_bytes());
         w[0] = m[0];
-        for i in 0..16 {
-            w[1 + 2 * i] = 0;
-            w[2 + 2 * i] = m[1 + i];
-        }
+        w[1..].copy_from_slice(numbers.as_flattened());
     }
 }
 
@@ -111,10 +110,10 @@ fn narrow(new: &[u8], old: &mut [u8], front: usize) {
     let (marks, _) = new[front..].as_chunks::<MARK>();
     let (small, _) = old[front..].as_chunks_mut::<OLD_MARK>();
     for (s, m) in small.iter_mut().zip(marks) {
+        let (pairs, _) = m[1..].as_chunks::<2>();
+        let numbers: [u8; 16] = std::array::from_fn(|i| u16::from_be_bytes(pairs[i]) as u8);
         s[0] = m[0];
-        for i in 0..16 {
-            s[1 + i] = m[2 + 2 * i];
-        }
+        s[1..].copy_from_slice(&numbers);
     }
 }
 

@@ -917,7 +917,7 @@ pub enum Obstacle {
     Withdrawn(u8, u8),
 }
 
-pub fn obstacle(image: &[u8], volume: u16) -> Result<Obstacle, u8> {
+pub fn obstacle(image: &[u8], volume: usize) -> Result<Obstacle, u8> {
     if image.len() != IMAGE {
         return Err(16);
     }
@@ -928,9 +928,10 @@ pub fn obstacle(image: &[u8], volume: u16) -> Result<Obstacle, u8> {
     if volume == 0 {
         return Err(29);
     }
-    if (volume as u32) >> image.opened != 0 {
+    if volume >> image.opened != 0 {
         return Err(21);
     }
+    let volume = volume as u16;
     let (mut vanished, mut full, mut unfrozen) = (0, 0, 0);
     for t in 0..image.opened as usize {
         let head = image.present(t).head;
@@ -980,6 +981,96 @@ impl Image {
         }
         None
     }
+}
+
+/// Why no volume with a take could be signed: the take in the way, for hopeless also the one of which it has a withdrawn life, and the next take
+/// on the chain to it.
+#[derive(Clone, Copy, Debug, PartialEq)]
+pub enum Impediment {
+    Nothing,
+    Hopeless(u8, u8, u8),
+    Exhausted(u8, u8),
+    NotFrozen(u8, u8),
+}
+
+/// The takes to which chains lead from one: each take of a chain holds the present life of the next.
+struct Chains {
+    reached: u16,
+    /// The next take on the chain to each.
+    next: [u8; TAKES],
+    /// Those with a mark of a withdrawn life.
+    hopeless: u16,
+    /// For each of those, the first take of which it has one.
+    lost: [u8; TAKES],
+}
+
+impl Chains {
+    /// Take w is passed: what it holds is reached. Which of that was not before.
+    #[inline(always)]
+    fn pass(&mut self, image: &Image, w: usize) -> u16 {
+        let take = &image.takes[w];
+        let (mut held, mut lost) = (0u16, 0u16);
+        for u in 0..image.opened() {
+            let own = image.present(u);
+            for m in [&take.state[u], &take.creation[u]] {
+                if m.is_of(own) {
+                    held |= 1 << u;
+                } else if m.head != 0 && !m.signed(own) {
+                    lost |= 1 << u;
+                }
+            }
+        }
+        if lost != 0 {
+            self.hopeless |= 1 << w;
+            self.lost[w] = lost.trailing_zeros() as u8;
+        }
+        let new = held & !self.reached;
+        self.reached |= new;
+        new
+    }
+
+    /// From take t, with one take more to pass at a time: a take is reached where the greatest that must be passed on the way is take m, and the next on the
+    /// way to it is the next on the way to m.
+    fn from(image: &Image, t: usize) -> Chains {
+        let next = std::array::from_fn(|c| c as u8);
+        let mut chains = Chains { reached: 1 << t, next, hopeless: 0, lost: [0; TAKES] };
+        chains.pass(image, t);
+        let mut passed = 1 << t;
+        for m in 0..image.opened() {
+            let mut open = chains.reached & !passed & 1 << m;
+            while open != 0 {
+                let w = open.trailing_zeros() as usize;
+                passed |= 1 << w;
+                let new = chains.pass(image, w);
+                for c in (0..TAKES).filter(|c| new >> c & 1 == 1) {
+                    chains.next[c] = chains.next[m];
+                }
+                open = (open | new) & !passed & ((2u32 << m) - 1) as u16;
+            }
+        }
+        chains
+    }
+}
+
+pub fn impediment(image: &[u8], take: usize) -> Result<Impediment, u8> {
+    let image = asked(image, take)?;
+    let chains = Chains::from(image, take);
+    let (mut exhausted, mut unfrozen) = (0, 0);
+    for t in 0..image.opened() {
+        let head = image.present(t).head;
+        exhausted |= ((head & COUNT >= image.limits.signings) as u16) << t;
+        unfrozen |= ((head & FROZEN == 0) as u16) << t;
+    }
+    let lowest = |set: u16| (set & chains.reached != 0).then(|| (set & chains.reached).trailing_zeros() as usize);
+    Ok(if let Some(c) = lowest(chains.hopeless) {
+        Impediment::Hopeless(c as u8, chains.lost[c], chains.next[c])
+    } else if let Some(c) = lowest(exhausted) {
+        Impediment::Exhausted(c as u8, chains.next[c])
+    } else if let Some(c) = lowest(unfrozen) {
+        Impediment::NotFrozen(c as u8, chains.next[c])
+    } else {
+        Impediment::Nothing
+    })
 }
 
 /// The greatest number of outcomes 3 and 4 in a window, and the first place that has it.

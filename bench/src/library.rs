@@ -1,7 +1,7 @@
 //! The proved library, as include/ledger.h and include/engine.h declare it, behind safe functions. No call of it has a precondition besides
 //! valid slices, so nothing is tested here before a call.
 
-use crate::ledger::{Dependents, Obstacle};
+use crate::ledger::{Dependents, Impediment, Obstacle};
 
 /// The number that stands for "no parcel": a parcel's is at most 65,534.
 const NONE: u16 = 65_535;
@@ -25,6 +25,14 @@ struct Reason {
     ground: u8,
 }
 
+#[repr(C)]
+struct Cause {
+    kind: u8,
+    take: u8,
+    ground: u8,
+    next: u8,
+}
+
 extern "C" {
     fn ledger_begin(image: *mut u8, image_length: usize, takes: usize, parcels: usize, signings: usize) -> u8;
     fn ledger_run(
@@ -41,7 +49,8 @@ extern "C" {
     fn ledger_smallest_group(image: *const u8, image_length: usize, take: usize, refusal: *mut u8) -> u16;
     fn ledger_all_heard_stable(image: *const u8, image_length: usize, take: usize, refusal: *mut u8) -> u8;
     fn ledger_dependents(image: *const u8, image_length: usize, take: usize, refusal: *mut u8) -> Dependents;
-    fn ledger_obstacle(image: *const u8, image_length: usize, volume: u16, refusal: *mut u8) -> Reason;
+    fn ledger_obstacle(image: *const u8, image_length: usize, volume: usize, refusal: *mut u8) -> Reason;
+    fn ledger_impediment(image: *const u8, image_length: usize, take: usize, refusal: *mut u8) -> Cause;
     fn ledger_ready_count(image: *const u8, image_length: usize, size: usize, refusal: *mut u8) -> usize;
     fn ledger_thin(
         image: *const u8,
@@ -65,11 +74,11 @@ extern "C" {
     fn engine_play(
         list: *const u8,
         list_length: usize,
+        replies: *mut u8,
+        replies_length: usize,
         takes: usize,
         parcels: usize,
         signings: usize,
-        replies: *mut u8,
-        replies_length: usize,
     ) -> u8;
 }
 
@@ -124,7 +133,7 @@ pub fn dependents(image: &[u8], take: usize) -> Result<Dependents, u8> {
     Ok(answer)
 }
 
-pub fn obstacle(image: &[u8], volume: u16) -> Result<Obstacle, u8> {
+pub fn obstacle(image: &[u8], volume: usize) -> Result<Obstacle, u8> {
     let mut refusal = 255;
     let Reason { kind, take, ground } = unsafe { ledger_obstacle(image.as_ptr(), image.len(), volume, &mut refusal) };
     if refusal != 0 {
@@ -137,6 +146,23 @@ pub fn obstacle(image: &[u8], volume: u16) -> Result<Obstacle, u8> {
         (2, t, u) => Ok(Obstacle::Outside(t, u)),
         (3, t, u) => Ok(Obstacle::Withdrawn(t, u)),
         other => panic!("no obstacle has the numbers {other:?}"),
+    }
+}
+
+pub fn impediment(image: &[u8], take: usize) -> Result<Impediment, u8> {
+    let mut refusal = 255;
+    let Cause { kind, take, ground, next } =
+        unsafe { ledger_impediment(image.as_ptr(), image.len(), take, &mut refusal) };
+    if refusal != 0 {
+        assert_eq!((kind, take, ground, next), (0, 0, 0, 0), "a refused query gives an impediment");
+        return Err(refusal);
+    }
+    match (kind, take, ground, next) {
+        (0, 0, 0, 0) => Ok(Impediment::Nothing),
+        (1, c, u, x) => Ok(Impediment::Hopeless(c, u, x)),
+        (2, c, 0, x) => Ok(Impediment::Exhausted(c, x)),
+        (3, c, 0, x) => Ok(Impediment::NotFrozen(c, x)),
+        other => panic!("no impediment has the numbers {other:?}"),
     }
 }
 
@@ -193,5 +219,5 @@ pub fn worst_window(replies: &[u8], width: usize) -> Result<(usize, usize), u8> 
 #[cfg(feature = "engine")]
 pub fn play(list: &[u8], takes: usize, parcels: usize, signings: usize, replies: &mut [u8]) -> u8 {
     let (r, m) = (replies.as_mut_ptr(), replies.len());
-    unsafe { engine_play(list.as_ptr(), list.len(), takes, parcels, signings, r, m) }
+    unsafe { engine_play(list.as_ptr(), list.len(), r, m, takes, parcels, signings) }
 }

@@ -1,8 +1,8 @@
-//! The two queries read as they stand, from the bytes of a well-formed image: lives as lists, takes as sets, nothing left out for speed. Shares with
+//! The three queries read as they stand, from the bytes of a well-formed image: lives as lists, takes as sets, nothing left out for speed. Shares with
 //! the Rust ledger only the answers' types.
 
 use crate::generate::{self, parcel_at, take_at, MAP, MARK, PARCEL, STATE};
-use crate::ledger::{Dependents, Obstacle, TAKES};
+use crate::ledger::{Dependents, Impediment, Obstacle, TAKES};
 use std::collections::BTreeSet;
 
 /// A mark without its frozen flag: n and L.
@@ -88,4 +88,48 @@ pub fn obstacle(image: &[u8], volume: u16) -> Obstacle {
         }
     }
     Obstacle::Nothing
+}
+
+/// R of docs/RULES.md, 9.5, to the letter: at each k, whether a chain leads from w to c through some of the first k takes.
+fn chains(image: &[u8]) -> Vec<[[bool; TAKES]; TAKES]> {
+    let held: [_; TAKES] = std::array::from_fn(|c| holders(image, c, &[0, 1]));
+    let mut tables = vec![std::array::from_fn(|c| std::array::from_fn(|w| w == c || held[c].contains(&w)))];
+    for k in 0..TAKES {
+        let r: &[[bool; TAKES]; TAKES] = &tables[k];
+        tables.push(std::array::from_fn(|c| std::array::from_fn(|w| r[c][w] || r[c][k] && r[k][w])));
+    }
+    tables
+}
+
+/// N there.
+fn next(tables: &[[[bool; TAKES]; TAKES]], k: usize, c: usize, w: usize) -> u8 {
+    match k {
+        0 => c as u8,
+        _ if tables[k - 1][c][w] => next(tables, k - 1, c, w),
+        _ => next(tables, k - 1, k - 1, w),
+    }
+}
+
+/// The first take of which take c has a mark that is neither present nor signed.
+fn lost(image: &[u8], c: usize) -> Option<usize> {
+    let withdrawn = |u: usize, l: &Life| present(image, u).as_ref() != Some(l) && !signed(image, u, l);
+    (0..TAKES).find(|u| (0..2).filter_map(|map| entry(image, c, map, *u)).any(|l| withdrawn(*u, &l)))
+}
+
+/// Of a live take.
+pub fn impediment(image: &[u8], t: usize) -> Impediment {
+    let tables = chains(image);
+    let ways = || (0..TAKES).filter(|c| tables[TAKES][*c][t]);
+    let next = |c: usize| next(&tables, TAKES, c, t);
+    if let Some((c, u)) = ways().find_map(|c| lost(image, c).map(|u| (c, u))) {
+        return Impediment::Hopeless(c as u8, u as u8, next(c));
+    }
+    let signings = |c: usize| present(image, c).unwrap().list.len();
+    if let Some(c) = ways().find(|c| signings(*c) >= image[6] as usize) {
+        return Impediment::Exhausted(c as u8, next(c));
+    }
+    match ways().find(|c| !generate::frozen(image, *c)) {
+        Some(c) => Impediment::NotFrozen(c as u8, next(c)),
+        None => Impediment::Nothing,
+    }
 }

@@ -6,16 +6,15 @@
 
 enum { NAMES, PAGE_1, PAGE_2, TAKES };
 
-enum { ROOT = 0, LETTER = 1, RECEIVE = 2, SEND = 4, WRITE = 6, FREEZE = 7, DONE = 8, FAIL = 10 };
-
 static const char *const word[TAKES] = {"names", "page 1", "page 2"};
 
 static uint8_t image[LEDGER_IMAGE];
 
-static void step(unsigned kind, unsigned take, unsigned other, unsigned parcel) {
-    const uint8_t packed[8] = {(uint8_t)(kind << 4 | take), (uint8_t)(other << 4), (uint8_t)(parcel >> 8), (uint8_t)parcel, 0, 0, 0, 0};
-    uint8_t reply[8];
-    if (ledger_run(image, sizeof image, packed, sizeof packed, 0, sizeof packed, reply, sizeof reply) != LEDGER_DONE || reply[0] >= 20) exit(1);
+static void step(enum ledger_kind kind, unsigned take, unsigned other, unsigned parcel) {
+    uint8_t packed[LEDGER_STEP], reply[LEDGER_STEP];
+    ledger_step(packed, kind, take, other, parcel, 0);
+    if (ledger_run(image, sizeof image, packed, sizeof packed, 0, sizeof packed, reply, sizeof reply) != LEDGER_DONE) exit(1);
+    if (ledger_reply_outcome(reply) >= LEDGER_MALFORMED) exit(1);
 }
 
 static void print_volume(unsigned volume) {
@@ -47,7 +46,7 @@ static void who_rests_on(unsigned take) {
 
 static void why_not(unsigned volume) {
     uint8_t refusal;
-    struct ledger_obstacle o = ledger_obstacle(image, sizeof image, (uint16_t)volume, &refusal);
+    struct ledger_obstacle o = ledger_obstacle(image, sizeof image, volume, &refusal);
     printf("why not sign ");
     print_volume(volume);
     if (refusal != 0) printf("  refused with %d\n", refusal);
@@ -57,25 +56,47 @@ static void why_not(unsigned volume) {
     else printf("  %s rests on a withdrawn life of %s\n", word[o.transactor], word[o.ground]);
 }
 
+/* The chain from the take to what is in the way, one call a link. */
+static void why_none_with(unsigned take) {
+    uint8_t refusal;
+    struct ledger_impediment i = ledger_impediment(image, sizeof image, take, &refusal);
+    printf("why is no volume with %s ready?\n", word[take]);
+    if (refusal != 0) {
+        printf("  refused with %d\n", refusal);
+        return;
+    }
+    while (i.kind != LEDGER_NO_IMPEDIMENT && i.next != take) {
+        printf("  %s rests on %s\n", word[take], word[i.next]);
+        take = i.next;
+        i = ledger_impediment(image, sizeof image, take, &refusal);
+    }
+    if (i.kind == LEDGER_NO_IMPEDIMENT) printf("  nothing is in the way\n");
+    else if (i.kind == LEDGER_HOPELESS) printf("  %s rests on a withdrawn life of %s: no volume ever, in this life\n", word[take], word[i.ground]);
+    else if (i.kind == LEDGER_EXHAUSTED) printf("  %s has all its signings\n", word[take]);
+    else printf("  %s: not frozen\n", word[take]);
+}
+
 int main(void) {
     if (ledger_begin(image, sizeof image, LEDGER_TRANSACTORS, LEDGER_MESSAGES, LEDGER_CHECKPOINTS) != LEDGER_DONE) return 1;
-    for (unsigned t = 0; t < TAKES; t++) step(ROOT, 0, 0, 0);
-    step(LETTER, NAMES, 0, 0), step(RECEIVE, 0, 0, 0);
-    step(SEND, NAMES, PAGE_1, 0), step(RECEIVE, 0, 0, 1), step(WRITE, PAGE_1, 0, 0), step(DONE, PAGE_1, 0, 0);
+    for (unsigned t = 0; t < TAKES; t++) step(LEDGER_ROOT, 0, 0, 0);
+    step(LEDGER_LETTER, NAMES, 0, 0), step(LEDGER_RECEIVE, 0, 0, 0);
+    step(LEDGER_SEND, NAMES, PAGE_1, 0), step(LEDGER_RECEIVE, 0, 0, 1), step(LEDGER_WRITE, PAGE_1, 0, 0), step(LEDGER_FINISH, PAGE_1, 0, 0);
     /* page 1 sends without reading again: the parcel holds its life and not the names' */
-    step(LETTER, PAGE_1, 0, 0), step(RECEIVE, 0, 0, 2);
-    step(SEND, PAGE_1, PAGE_2, 0), step(RECEIVE, 0, 0, 3), step(WRITE, PAGE_2, 0, 0);
+    step(LEDGER_LETTER, PAGE_1, 0, 0), step(LEDGER_RECEIVE, 0, 0, 2);
+    step(LEDGER_SEND, PAGE_1, PAGE_2, 0), step(LEDGER_RECEIVE, 0, 0, 3), step(LEDGER_WRITE, PAGE_2, 0, 0);
     for (unsigned t = 0; t < TAKES; t++) who_rests_on(t);
     why_not(1 << PAGE_2);
     puts("both pages freeze");
-    step(FREEZE, PAGE_1, 0, 0), step(FREEZE, PAGE_2, 0, 0);
+    step(LEDGER_FREEZE, PAGE_1, 0, 0), step(LEDGER_FREEZE, PAGE_2, 0, 0);
     why_not(1 << PAGE_2);
     why_not(1 << PAGE_1 | 1 << PAGE_2);
     why_not(1 << NAMES | 1 << PAGE_1 | 1 << PAGE_2);
+    why_none_with(PAGE_2);
     puts("the names are withdrawn");
-    step(FAIL, NAMES, 0, 0);
+    step(LEDGER_FAIL, NAMES, 0, 0);
     why_not(1 << PAGE_1 | 1 << PAGE_2);
     why_not(1 << NAMES | 1 << PAGE_1 | 1 << PAGE_2);
+    why_none_with(PAGE_2);
     who_rests_on(NAMES);
     return 0;
 }

@@ -6,7 +6,7 @@
  *     ledger run TEXT [IMAGE]    plays the list from a fresh session: each step with its reply; IMAGE takes the image
  *     ledger show IMAGE          an image as text
  *     ledger why IMAGE TAKE..    why the volume of these takes can't be signed; of one take, why no volume with it can
- *     ledger who IMAGE TAKE      who rests on a take
+ *     ledger who IMAGE TAKE      who rests on a take, itself among them
  *     ledger diff IMAGE IMAGE    the first line in which two images differ, as text
  *
  * Exit status: 0 done, or yes; 1 the file or the question was turned back, or no; 2 wrong use, or a file can't be read or written. A
@@ -154,8 +154,14 @@ static int play(const char *name, const char *to) {
     return 0;
 }
 
+/* A refusal in the library's words, as a signing would get it; it has none for those of a call. */
 static int refused(const char *name, unsigned number) {
-    fprintf(stderr, "ledger: %s: turned back with %u\n", name, number);
+    uint8_t step[LEDGER_STEP], reply[LEDGER_STEP] = {(uint8_t)number}, said[NOTATION_LINE];
+    ledger_step(step, LEDGER_SIGN, 0, 0, 0, 0);
+    size_t n = notation_reply(step, sizeof step, reply, sizeof reply, 0, said, sizeof said).length;
+    if (number == LEDGER_WRONG_LENGTH) fprintf(stderr, "ledger: %s: refused %u: image not %d bytes\n", name, number, LEDGER_IMAGE);
+    else if (number == LEDGER_ILL_FORMED) fprintf(stderr, "ledger: %s: refused %u: image ill-formed\n", name, number);
+    else fprintf(stderr, "ledger: %s: %.*s\n", name, (int)n, (const char *)said);
     return 1;
 }
 
@@ -192,11 +198,13 @@ static unsigned take_of(const char *word) {
     return (unsigned)n;
 }
 
+/* A volume as the text of its signing has it, braces and LF. */
 static void members(const char *what, unsigned group) {
-    printf("%s:", what);
-    for (unsigned t = 0; t < LEDGER_TRANSACTORS; t++)
-        if (group >> t & 1) printf(" %u", t);
-    printf("\n");
+    uint8_t step[LEDGER_STEP], line[NOTATION_LINE];
+    ledger_step(step, LEDGER_SIGN, 0, 0, group, 0);
+    size_t n = notation_step(step, sizeof step, 0, line, sizeof line).length, word = strlen("sign ");
+    if (group == 0) printf("%s: nobody\n", what);
+    else printf("%s: %.*s", what, (int)(n - word), (const char *)line + word);
 }
 
 static int who(const char *name, const char *word) {
@@ -230,16 +238,15 @@ static int why_none(const char *name, struct bytes image, unsigned take) {
 static int why(const char *name, int count, char **words) {
     struct bytes image = load(name);
     if (count == 1) return why_none(name, image, take_of(words[0]));
-    unsigned group = 0;
+    size_t group = 0;
     for (int i = 0; i < count; i++) {
         unsigned t = take_of(words[i]);
-        if (t >= LEDGER_TRANSACTORS) return refused(name, LEDGER_UNOPENED);
-        group |= 1u << t;
+        group |= (size_t)1 << (t < 63 ? t : 63); /* past the last bit: the last, which names a take that is never opened */
     }
     uint8_t refusal;
-    struct ledger_obstacle o = ledger_obstacle(image.at, image.length, (uint16_t)group, &refusal);
+    struct ledger_obstacle o = ledger_obstacle(image.at, image.length, group, &refusal);
     if (refusal) return refused(name, refusal);
-    if (o.kind == LEDGER_NOTHING) return members("can be signed", group), 0;
+    if (o.kind == LEDGER_NOTHING) return members("can be signed", (unsigned)group), 0;
     if (o.kind == LEDGER_UNSTABLE) printf("take %u is not frozen\n", o.transactor);
     if (o.kind == LEDGER_OUTSIDE) printf("take %u rests on take %u, which is not in the volume\n", o.transactor, o.ground);
     if (o.kind == LEDGER_SUPERSEDED) printf("take %u rests on a withdrawn life of take %u\n", o.transactor, o.ground);

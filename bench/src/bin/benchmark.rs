@@ -8,7 +8,7 @@
 
 use bench::convert::{self, OLD_IMAGE};
 use bench::generate::{self, packed, Random, MAP, MARK, STATE};
-use bench::ledger::{self, Dependents, Obstacle, IMAGE, PARCELS, SIGNINGS, STEP, TAKES};
+use bench::ledger::{self, Dependents, Impediment, Obstacle, IMAGE, PARCELS, SIGNINGS, STEP, TAKES};
 use bench::library;
 use std::hint::black_box;
 use std::time::{Duration, Instant};
@@ -22,7 +22,8 @@ struct Calls {
     ready_count: fn(&[u8], usize) -> Result<usize, u8>,
     all_heard: fn(&[u8], usize) -> Result<bool, u8>,
     dependents: fn(&[u8], usize) -> Result<Dependents, u8>,
-    obstacle: fn(&[u8], u16) -> Result<Obstacle, u8>,
+    obstacle: fn(&[u8], usize) -> Result<Obstacle, u8>,
+    impediment: fn(&[u8], usize) -> Result<Impediment, u8>,
     thin: fn(&[u8], &[u8], usize, usize, &mut [u8]) -> Result<usize, u8>,
     show: for<'a> fn(&'a [u8], u16) -> Result<&'a [u8], u8>,
     forward: fn(&[u8], &mut [u8]) -> u8,
@@ -40,6 +41,7 @@ const LIBRARY: Calls = Calls {
     all_heard: library::all_heard,
     dependents: library::dependents,
     obstacle: library::obstacle,
+    impediment: library::impediment,
     thin: library::thin,
     show: library::show,
     forward: library::forward,
@@ -56,6 +58,7 @@ const RUST: Calls = Calls {
     all_heard: ledger::all_heard,
     dependents: ledger::dependents,
     obstacle: ledger::obstacle,
+    impediment: ledger::impediment,
     thin: ledger::thin,
     show: ledger::show,
     forward: convert::forward,
@@ -74,7 +77,8 @@ enum Call {
     ReadyCount(usize),
     AllHeard(usize),
     Dependents(usize),
-    Obstacle(u16),
+    Obstacle(usize),
+    Impediment(usize),
     Show(u16),
     /// Conversions: the image is the source, the replies are the destination.
     Forward,
@@ -125,6 +129,12 @@ impl Work {
                 Call::Obstacle(v) => match (by.obstacle)(image, *v).unwrap() {
                     Obstacle::Nothing => 7,
                     Obstacle::NotFrozen(t) | Obstacle::Outside(t, _) | Obstacle::Withdrawn(t, _) => t as u64,
+                },
+                Call::Impediment(t) => match (by.impediment)(image, *t).unwrap() {
+                    Impediment::Nothing => 7,
+                    Impediment::Hopeless(c, _, x) | Impediment::Exhausted(c, x) | Impediment::NotFrozen(c, x) => {
+                        (c ^ x) as u64
+                    }
                 },
                 Call::Show(n) => (by.show)(image, *n).unwrap()[0] as u64,
                 Call::Forward => (by.forward)(image, replies) as u64,
@@ -491,6 +501,10 @@ fn rows() -> Vec<Row> {
         row("obstacle, session, not frozen", "call", many(&session, Call::Obstacle(1 << first_live))),
         row("obstacle of 16 takes, full image, none", "call", many(&alone(), Call::Obstacle(0xffff))),
         row("obstacle of 16 takes, the last mark", "call", many(&spoilt(&signing, 15), Call::Obstacle(0xffff))),
+        row("impediment, session, itself not frozen", "call", many(&session, Call::Impediment(first_live))),
+        row("impediment, full image, nothing", "call", many(&alone(), Call::Impediment(15))),
+        row("impediment, full image, all on each other", "call", many(&bound(), Call::Impediment(15))),
+        row("impediment, 16 takes in a chain", "call", many(&spoilt(&chain(), 0), Call::Impediment(15))),
         row("forward, session", "call", many(&session_old, Call::Forward)),
         row("forward, full image", "call", many(&old, Call::Forward)),
         row("back, session", "call", many(&session, Call::Back)),

@@ -7,7 +7,7 @@
 //! Each round has a seed of its own; with ROUND that one alone is run.
 
 use bench::generate::{self, Random};
-use bench::ledger::{self, Dependents, Obstacle, IMAGE, LONGEST, PARCELS, SIGNINGS, STEP, TAKES};
+use bench::ledger::{self, Dependents, Impediment, Obstacle, IMAGE, LONGEST, PARCELS, SIGNINGS, STEP, TAKES};
 use bench::{library, reading};
 use std::process::exit;
 
@@ -18,7 +18,7 @@ struct Test {
     /// The image as the Rust ledger leaves it, and as the library does: the same before and after each call.
     ours: Vec<u8>,
     theirs: Vec<u8>,
-    calls: [[u64; 36]; 11], // those of CALLS, by answer
+    calls: [[u64; 36]; 12], // those of CALLS, by answer
     steps: [[u64; 32]; 16], // by kind and outcome or refusal
     offered: u64,
     named: [u64; 17], // smallest volumes by size, 0 for none
@@ -30,7 +30,9 @@ struct Test {
     rested: [u64; 4], // dependents with others in resting, with more in through, with takes at work, with parcels
     withdrawn: u64,
     hindered: [u64; 4],  // obstacles: nothing, not frozen, outside, withdrawn
-    read: [u64; 2],      // of both, held to the plain reading
+    impeded: [u64; 4],   // impediments: nothing, hopeless, exhausted, not frozen
+    chained: [u64; 3],   // of these, with the take in the way asked about, next to it, behind others
+    read: [u64; 3],      // of the three, held to the plain reading
     exchanged: [u64; 4], // pairs by how many of the two steps are refused; refused calls
     left_out: [u64; 16], // by the kind that empties the map of a read; 0 for refused steps, 5 for reads that are kept
     damaged: u64,
@@ -41,8 +43,20 @@ struct Test {
     long: [[u64; 2]; 2],
 }
 
-const CALLS: [&str; 11] =
-    ["begin", "run", "offer", "show", "smallest", "all heard", "window", "thin", "ready", "dependents", "obstacle"];
+const CALLS: [&str; 12] = [
+    "begin",
+    "run",
+    "offer",
+    "show",
+    "smallest",
+    "all heard",
+    "window",
+    "thin",
+    "ready",
+    "dependents",
+    "obstacle",
+    "impediment",
+];
 
 impl Test {
     fn fail(&self, what: &str) -> ! {
@@ -238,13 +252,15 @@ impl Test {
         self.heard[yes as usize] += 1;
     }
 
-    /// Who rests on the take and on some others, and why some volumes are not ready.
+    /// Who rests on the take and on some others, why some volumes are not ready, and why there is none.
     fn grounds(&mut self, take: usize) {
         self.dependents(take);
+        self.impediment(take);
         for _ in 0..4 {
             let other = self.r.below(TAKES) % self.ours.first().map_or(16, |n| (*n as usize).clamp(1, TAKES));
             self.dependents(other);
             self.obstacle();
+            self.impediment(other);
         }
     }
 
@@ -301,8 +317,9 @@ impl Test {
     fn obstacle(&mut self) {
         let volume = self.volume();
         let before = self.ours.clone();
-        let (a, b) = (library::obstacle(&self.theirs, volume), ledger::obstacle(&self.ours, volume));
-        self.expect(a == b, &format!("obstacle of {volume:b}: {a:?}, and {b:?} in the Rust ledger"));
+        let number = if self.r.one_in(50) { self.past(volume) } else { usize::from(volume) };
+        let (a, b) = (library::obstacle(&self.theirs, number), ledger::obstacle(&self.ours, number));
+        self.expect(a == b, &format!("obstacle of {number:b}: {a:?}, and {b:?} in the Rust ledger"));
         self.calls[10][a.err().unwrap_or(0) as usize] += 1;
         self.expect(self.theirs == before, "a query changed the image");
         if let Ok(o) = a {
@@ -314,9 +331,14 @@ impl Test {
             };
             self.hindered[kind] += 1;
         }
-        if !matches!(a, Err(16 | 19)) && self.r.one_in(20) {
+        if number < 65_536 && !matches!(a, Err(16 | 19)) && self.r.one_in(20) {
             self.sign_and_read(volume, a);
         }
+    }
+
+    /// The volume and a take from 16 on, for which a signing's field has no bit.
+    fn past(&mut self, volume: u16) -> usize {
+        usize::from(volume) | 1 << (16 + self.r.next() % 48)
     }
 
     /// By the signing itself, on a copy, and by the plain reading.
@@ -335,6 +357,57 @@ impl Test {
             obstacle == plain,
             &format!("obstacle of {volume:b}: {obstacle:?}, by the plain reading {plain:?}"),
         );
+    }
+
+    fn impediment(&mut self, take: usize) {
+        let before = self.ours.clone();
+        let (a, b) = (library::impediment(&self.theirs, take), ledger::impediment(&self.ours, take));
+        self.expect(a == b, &format!("impediment of {take}: {a:?}, and {b:?} in the Rust ledger"));
+        self.calls[11][a.err().unwrap_or(0) as usize] += 1;
+        self.expect(self.theirs == before, "a query changed the image");
+        let Ok(i) = a else { return };
+        let (kind, way) = match i {
+            Impediment::Nothing => (0, None),
+            Impediment::Hopeless(c, _, x) => (1, Some((c, x))),
+            Impediment::Exhausted(c, x) => (2, Some((c, x))),
+            Impediment::NotFrozen(c, x) => (3, Some((c, x))),
+        };
+        self.impeded[kind] += 1;
+        if let Some((c, x)) = way {
+            self.chained[if c as usize == take { 0 } else { 1 + (c != x) as usize }] += 1;
+        }
+        if self.r.one_in(20) {
+            self.read[2] += 1;
+            let plain = reading::impediment(&self.ours, take);
+            self.expect(i == plain, &format!("impediment of {take}: {i:?}, by the plain reading {plain:?}"));
+            self.follow(take, i);
+        }
+    }
+
+    /// Nothing exactly if there is a smallest volume; else each take of the chain rests on the next, the answer there is the same but for the next, and the
+    /// chain ends at the take in the way.
+    fn follow(&self, take: usize, i: Impediment) {
+        let none = library::smallest(&self.theirs, take) == Ok(None);
+        self.expect(none == (i != Impediment::Nothing), &format!("impediment of {take}: {i:?}, smallest none {none}"));
+        let without = |i: Impediment| match i {
+            Impediment::Nothing => (i, None),
+            Impediment::Hopeless(c, u, x) => (Impediment::Hopeless(c, u, 0), Some((c as usize, x as usize))),
+            Impediment::Exhausted(c, x) => (Impediment::Exhausted(c, 0), Some((c as usize, x as usize))),
+            Impediment::NotFrozen(c, x) => (Impediment::NotFrozen(c, 0), Some((c as usize, x as usize))),
+        };
+        let (mut at, mut here) = (take, i);
+        for _ in 0..TAKES {
+            let (reason, Some((c, next))) = without(here) else { return };
+            if at == c {
+                return self.expect(next == c, &format!("impediment of {at}: {here:?}"));
+            }
+            let rests = library::dependents(&self.theirs, next).is_ok_and(|d| d.resting >> at & 1 == 1);
+            self.expect(rests, &format!("impediment of {at}: {here:?}, but it does not rest on {next}"));
+            let Ok(there) = library::impediment(&self.theirs, next) else { self.fail("a take of a chain is refused") };
+            self.expect(without(there).0 == reason, &format!("impediments of {at} and {next}: {here:?}, {there:?}"));
+            (at, here) = (next, there);
+        }
+        self.fail(&format!("the chain from {take} has no end: {i:?}"));
     }
 
     /// The image, or a fresh one where it is ill-formed or of another length: what steps are drawn for.
@@ -754,6 +827,7 @@ impl Test {
             "dependents of some sort were never seen",
         );
         self.expect(self.hindered.iter().all(|n| *n > 0), "no obstacle was of some sort");
+        self.expect(self.impeded.iter().chain(&self.chained).all(|n| *n > 0), "no impediment was of some sort");
         self.expect(self.exchanged.iter().all(|n| *n > 0), "no two edits of some sort were exchanged");
         self.thin_covered();
         let outcome = |n: usize| self.steps.iter().map(|kind| kind[n]).sum::<u64>();
@@ -765,7 +839,7 @@ impl Test {
         }
         let query: &[usize] = &[0, 16, 19, 21, 22];
         let run: &[usize] = &[0, 16, 17, 18, 19];
-        let answers: [&[usize]; 11] = [
+        let answers: [&[usize]; 12] = [
             &[0, 16, 33],
             run,
             query,
@@ -777,6 +851,7 @@ impl Test {
             &[0, 16, 19, 34],
             query,
             &[0, 16, 19, 21, 22, 29, 30],
+            query,
         ];
         for (call, wanted) in answers.iter().enumerate() {
             for n in *wanted {
@@ -806,11 +881,13 @@ impl Test {
         let [others, through, working, parcels] = self.rested;
         println!("dependents: others resting {others}, more through others {through}, at work {working}, in parcels {parcels}");
         println!(
-            "dependents read plainly {}, takes withdrawn {}; obstacles read plainly {}",
-            self.read[0], self.withdrawn, self.read[1]
+            "dependents read plainly {}, takes withdrawn {}; obstacles read plainly {}, impediments {}",
+            self.read[0], self.withdrawn, self.read[1], self.read[2]
         );
         let [nothing, unfrozen, outside, withdrawn] = self.hindered;
         println!("obstacles: nothing {nothing}, not frozen {unfrozen}, outside {outside}, withdrawn {withdrawn}");
+        let ([nothing, hopeless, exhausted, unfrozen], [own, next, behind]) = (self.impeded, self.chained);
+        println!("impediments: nothing {nothing}, hopeless {hopeless}, exhausted {exhausted}, not frozen {unfrozen}; in the way itself {own}, the next {next}, others between {behind}");
         let [none, one, both, calls] = self.exchanged;
         println!("edits exchanged: none refused {none}, one {one}, both {both}; in refused calls {calls}");
         println!(
@@ -841,7 +918,7 @@ fn main() {
         r: Random(0),
         ours: Vec::new(),
         theirs: Vec::new(),
-        calls: [[0; 36]; 11],
+        calls: [[0; 36]; 12],
         steps: [[0; 32]; 16],
         offered: 0,
         named: [0; 17],
@@ -853,7 +930,9 @@ fn main() {
         rested: [0; 4],
         withdrawn: 0,
         hindered: [0; 4],
-        read: [0; 2],
+        impeded: [0; 4],
+        chained: [0; 3],
+        read: [0; 3],
         exchanged: [0; 4],
         left_out: [0; 16],
         damaged: 0,

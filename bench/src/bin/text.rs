@@ -1,8 +1,9 @@
 //! Compares the text of lists, of replies and of images with what is written here from docs/NOTATION.md: every byte and answer, that a refusal
 //! leaves the buffer, that a list is read back from its text and from a looser one, that random bytes are a fault or whole steps, and that
-//! an image can be read back from its text.
+//! an image is read back from its text. Every line looks at the whole image, so all 1,330 are asked of WHOLE images, and of each of IMAGES more
+//! a few that are picked at random; these are read back from the text that is written here.
 //!
-//!     text [SEED [LISTS [IMAGES]]]
+//!     text [SEED [LISTS [WHOLE [IMAGES]]]]
 
 use bench::generate::{self, Random};
 use bench::ledger::{self, IMAGE, LONGEST, STEP};
@@ -115,6 +116,58 @@ fn reply(kind: u8, bytes: &[u8]) -> String {
         return format!("refused {outcome}: {sentence}");
     }
     format!("raw {r:016x}")
+}
+
+// ---- images
+
+fn mark_text(m: &[u8]) -> String {
+    let number = |at: usize| u16::from_be_bytes([m[at], m[at + 1]]).to_string();
+    let list: Vec<String> = (0..m[0] as usize & 15).map(|i| number(3 + 2 * i)).collect();
+    let list = if list.is_empty() { String::from("empty") } else { list.join(",") };
+    format!("({list}; {}){}", number(1), if m[0] & 64 != 0 { " frozen" } else { "" })
+}
+
+/// Sixteen lines for the map at `map`.
+fn map_lines(image: &[u8], map: usize, name: &str, lines: &mut [String]) {
+    for (t, line) in lines.iter_mut().enumerate() {
+        let m = &image[map + generate::MARK * t..][..generate::MARK];
+        if m[0] & 128 != 0 {
+            *line = format!("  {name}: take {t} {}\n", mark_text(m));
+        }
+    }
+}
+
+/// Every line of a well-formed image, by its number.
+fn image_lines(image: &[u8]) -> Vec<String> {
+    let text = |at: usize| u32::from_be_bytes(image[at..at + 4].try_into().unwrap());
+    let number = |at: usize| u16::from_be_bytes(image[at..at + 2].try_into().unwrap());
+    let mut lines = vec![String::new(); LINES];
+    lines[0] = format!("limits: takes {}, parcels {}, signings {}\n", image[4], image[5], image[6]);
+    lines[1] = format!("opened {}, next parcel {}\n", image[0], number(1));
+    for t in 0..16 {
+        let at = generate::take_at(t);
+        let first = 2 + 49 * t;
+        let held = |word: &str| format!("take {t}: {word}, text {}, saved {}\n", text(at + 1), text(at + 5));
+        lines[first] = match image[at] >> 6 {
+            0 => String::new(),
+            1 => held("idle"),
+            2 => held("at work"),
+            _ => format!("take {t}: vanished\n"),
+        };
+        for (m, name) in ["state", "creation", "behaviour"].iter().enumerate() {
+            let from = first + 1 + 16 * m;
+            map_lines(image, at + generate::STATE + generate::MAP * m, name, &mut lines[from..from + 16]);
+        }
+    }
+    for k in 0..32 {
+        let at = generate::parcel_at(k);
+        let first = 786 + 17 * k;
+        if image[at] & 128 != 0 {
+            lines[first] = format!("parcel {} to {}, text {}\n", number(at + 1), image[at] & 15, text(at + 3));
+            map_lines(image, at + 7, "map", &mut lines[first + 1..first + 17]);
+        }
+    }
+    lines
 }
 
 // ---- images, read back
@@ -373,41 +426,49 @@ fn replies(r: &mut Random, count: usize) {
     }
 }
 
-fn images(r: &mut Random, count: usize) -> usize {
+/// An image, most of them well-formed, and the refusal that it calls for.
+fn any_image(r: &mut Random) -> (Vec<u8>, u8) {
+    let mut image = if r.one_in(2) { generate::full_image(r) } else { generate::image(r) };
+    if r.one_in(20) {
+        generate::damage(r, &mut image);
+    }
+    if r.one_in(50) {
+        image.truncate(r.below(IMAGE));
+    }
+    let refusal = match image.len() {
+        IMAGE if ledger::formed(&image) => 0,
+        IMAGE => 19,
+        _ => 16,
+    };
+    (image, refusal)
+}
+
+/// Which lines to ask of an image: all, or a few of those that say something, and one of all.
+fn asked(r: &mut Random, all: bool, lines: &[String]) -> Vec<usize> {
+    if all {
+        return (0..LINES + 1).collect();
+    }
+    let said: Vec<usize> = (0..lines.len()).filter(|n| !lines[*n].is_empty()).collect();
+    let mut few: Vec<usize> = (0..4).filter_map(|_| r.pick(&said)).collect();
+    few.push(r.below(LINES + 2));
+    few
+}
+
+fn images(r: &mut Random, count: usize, all: bool) -> usize {
     let mut accepted = 0;
     for _ in 0..count {
-        let mut image = if r.one_in(2) { generate::full_image(r) } else { generate::image(r) };
-        if r.one_in(20) {
-            generate::damage(r, &mut image);
-        }
-        if r.one_in(50) {
-            image.truncate(r.below(IMAGE));
-        }
-        let want = if image.len() != IMAGE {
-            16
-        } else if ledger::formed(&image) {
-            0
-        } else {
-            19
-        };
-        let mut text = Vec::new();
-        for n in 0..LINES + 1 {
-            match given(r, LINE, |out, len| unsafe { notation_image(image.as_ptr(), image.len(), n, out, len) }) {
-                Err(refusal) => {
-                    assert_eq!(refusal, want);
-                    break;
-                }
-                Ok(line) => {
-                    assert!(
-                        want == 0 && (line.is_empty() || line.iter().position(|b| *b == 10) == Some(line.len() - 1))
-                    );
-                    assert!(n < LINES || line.is_empty());
-                    text.extend(line);
-                }
+        let (image, refusal) = any_image(r);
+        let lines = if refusal == 0 { image_lines(&image) } else { vec![] };
+        for n in asked(r, all, &lines) {
+            let got = given(r, LINE, |out, len| unsafe { notation_image(image.as_ptr(), image.len(), n, out, len) });
+            let want = lines.get(n).cloned().unwrap_or_default().into_bytes();
+            assert_eq!(got, if refusal == 0 { Ok(want) } else { Err(refusal) }, "line {n}");
+            if refusal != 0 {
+                break;
             }
         }
-        if want == 0 {
-            assert!(image_of(std::str::from_utf8(&text).unwrap()) == image, "an image is not read back from its text");
+        if refusal == 0 {
+            assert!(image_of(&lines.concat()) == image, "an image is not read back from its text");
             accepted += 1;
         }
     }
@@ -418,13 +479,16 @@ fn main() {
     let mut args = std::env::args().skip(1).map(|a| a.parse::<usize>().expect("a number"));
     let mut r = Random(args.next().unwrap_or(1) as u64);
     let many = args.next().unwrap_or(1_000_000);
-    let few = args.next().unwrap_or(1_000);
+    let whole = args.next().unwrap_or(1_000);
+    let few = args.next().unwrap_or(50_000);
     let steps = lists(&mut r, many);
     println!("{many} lists of {steps} steps: the same text and answers, read back, and no byte changed by a refusal");
     let faults = noise(&mut r, many);
     println!("{many} texts of random bytes: {faults} faults, no byte changed; the others whole steps");
     replies(&mut r, many);
     println!("{many} replies: the same words");
-    let accepted = images(&mut r, few);
-    println!("{few} images, {accepted} well-formed: each read back from its text; the others refused");
+    let accepted = images(&mut r, whole, true);
+    println!("{whole} images, {accepted} well-formed: all lines the same, read back from the text; the others refused");
+    let accepted = images(&mut r, few, false);
+    println!("{few} images more, {accepted} well-formed: five lines the same, read back; the others refused");
 }
