@@ -319,7 +319,7 @@ static int query(const struct node *file, const struct node *test) {
 static int play(const struct node *test) {
     struct bytes list = words(get(test, "list"), number(test, "list_length", -1)), out = filled(number(test, "room", list.length), BLANK);
     const struct node *limits = get(test, "limits")->child;
-    uint8_t refusal = engine_play(list.at, list.length, limits->number, limits->next->number, limits->next->next->number, out.at, out.length);
+    uint8_t refusal = engine_play(list.at, list.length, out.at, out.length, limits->number, limits->next->number, limits->next->next->number);
     if (differs("refusal", refusal, number(test, "refusal", 0))) return 1;
     if (refusal) return blank(out) ? 0 : snprintf(told, sizeof told, "replies changed by a refused call");
     return replies_differ(list, out, words(get(test, "replies"), -1));

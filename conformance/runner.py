@@ -29,14 +29,14 @@ CALLS = {  # by the documents' names: the function, what it gives, its arguments
     "ready_count": ("ledger_ready_count", size, BUFFER + [size, place]),
     "all_heard_frozen": ("ledger_all_heard_stable", byte, BUFFER + [size, place]),
     "dependents": ("ledger_dependents", structure(word, "resting", "through", "unfinished", "carried"), BUFFER + [size, place]),
-    "obstacle": ("ledger_obstacle", structure(byte, "kind", "take", "ground"), BUFFER + [word, place]),
+    "obstacle": ("ledger_obstacle", structure(byte, "kind", "take", "ground"), BUFFER + [size, place]),
     "impediment": ("ledger_impediment", structure(byte, "kind", "take", "ground", "next"), BUFFER + [size, place]),
     "show": ("ledger_show", structure(size, "offset", "length"), BUFFER + [size, place]),
     "thin": ("ledger_thin", size, BUFFER * 2 + [size] * 2 + BUFFER + [place]),
     "forward": ("ledger_forward", byte, BUFFER * 2),
     "back": ("ledger_back", byte, BUFFER * 2),
     "worst_window": ("ledger_worst_window", structure(size, "count", "place"), BUFFER + [size, place]),
-    "play": ("engine_play", byte, BUFFER + [size] * 3 + BUFFER),
+    "play": ("engine_play", byte, BUFFER * 2 + [size] * 3),
 }
 NONE = {"offer": 65535, "smallest_volume": 0}
 
@@ -225,7 +225,7 @@ def check_play(library, file, test):
     steps = words(test["list"], test.get("list_length"))
     replies = bytearray([BLANK] * test.get("room", len(steps)))
     blank = bytearray(replies)
-    refusal = library("play", steps, *test["limits"], replies)
+    refusal = library("play", steps, replies, *test["limits"])
     found = differs_answer("refusal", refusal, test["refusal"])
     return found + (untouched("replies", replies, blank) if refusal else differs_replies(steps, replies, words(test["replies"])))
 

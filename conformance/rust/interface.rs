@@ -72,7 +72,7 @@ unsafe extern "C" fn ledger_dependents(i: Bytes, n: usize, take: usize, refusal:
 }
 
 #[no_mangle]
-unsafe extern "C" fn ledger_obstacle(i: Bytes, n: usize, members: u16, refusal: Room) -> Reason {
+unsafe extern "C" fn ledger_obstacle(i: Bytes, n: usize, members: usize, refusal: Room) -> Reason {
     match answered(ledger::obstacle(lent(i, n), members), Obstacle::Nothing, refusal) {
         Obstacle::Nothing => Reason(0, 0, 0),
         Obstacle::NotFrozen(t) => Reason(1, t, 0),
@@ -133,11 +133,11 @@ unsafe extern "C" fn ledger_worst_window(r: Bytes, n: usize, width: usize, refus
 unsafe extern "C" fn engine_play(
     l: Bytes,
     n: usize,
+    r: Room,
+    m: usize,
     takes: usize,
     parcels: usize,
     signings: usize,
-    r: Room,
-    m: usize,
 ) -> u8 {
     engine::play(lent(l, n), takes, parcels, signings, room(r, m))
 }

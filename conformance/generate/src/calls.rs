@@ -182,8 +182,14 @@ fn others_asked(b: &mut Builder) {
     volume("29: empty.", "small", IMAGE, 0);
     volume("21 comes before 22.", "small", IMAGE, 12);
     volume("21: take 15.", "small", IMAGE, 1 << 15);
+    volume("21: 65,536 names take 16, and is not empty.", "small", IMAGE, 1 << 16);
+    volume("21: 65,538 is not the volume of take 1.", "small", IMAGE, 1 << 16 | 2);
+    volume("21: 4,294,967,298 is not the volume of take 1.", "small", IMAGE, 1 << 32 | 2);
+    volume("21, of take 16, comes before 22.", "small", IMAGE, 1 << 16 | 4);
     volume("22.", "small", IMAGE, 4);
     volume("22 with others.", "small", IMAGE, 7);
+    volume("16 comes before 21.", "small", 7, 1 << 16);
+    volume("19 comes before 21.", "ill", IMAGE, 1 << 16);
     volume("16 comes before 29.", "small", 7, 0);
     volume("19 comes before 29.", "ill", IMAGE, 0);
 }

@@ -121,7 +121,7 @@ impl Kit {
             }
             "show" => shown(image, of),
             "dependents" => dependents(image, of),
-            "obstacle" => obstacle(image, of as u16),
+            "obstacle" => obstacle(image, of),
             "impediment" => why_none(image, of),
             _ => panic!("no query: {call}"),
         };
@@ -191,9 +191,9 @@ fn dependents(image: &[u8], take: usize) -> Result<Json, u8> {
 }
 
 /// 0 nothing; 1 not frozen; 2 rests on the present life of one that is not named; 3 on a withdrawn life; the take, and the one it rests on.
-fn obstacle(image: &[u8], volume: u16) -> Result<Json, u8> {
+fn obstacle(image: &[u8], volume: usize) -> Result<Json, u8> {
     let o = agree("obstacle", library::obstacle(image, volume), ledger::obstacle(image, volume))?;
-    agree("obstacle", o, reading::obstacle(image, volume));
+    agree("obstacle", o, reading::obstacle(image, volume as u16));
     let numbers = match o {
         Obstacle::Nothing => [0, 0, 0],
         Obstacle::NotFrozen(t) => [1, t, 0],

@@ -136,7 +136,11 @@ struct Builder<'a> {
 impl Builder<'_> {
     fn ask(&mut self, name: &str, image: &[u8], call: &'static str, of: usize) {
         let (refusal, answer) = self.kit.ask(call, image, of);
-        let told = if refusal == 0 { told(call, of, &answer) } else { format!("{}: refused with {refusal}.", about(call, of)) };
+        let told = if refusal == 0 {
+            told(call, of, &answer)
+        } else {
+            format!("{}: refused with {refusal}.", about(call, of))
+        };
         self.add(name, call, of, &told, refusal, answer);
     }
 
