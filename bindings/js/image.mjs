@@ -1,8 +1,8 @@
-// An image for display: unpacks the packed form (docs/ARCHITECTURE.md, "The image"). Format only, no rule.
+// An image for display: unpacks the packed form (docs/ARCHITECTURE.md, "The image"). Format only, no rule; which field a byte belongs to, and
+// whether two marks are of one life, the library says.
+import { compare, field } from "./ledger.mjs";
 
 const HEAD = 8, MARK = 33, MAP = 16 * MARK, TAKE = 9 + 3 * MAP, PARCEL = 7 + MAP, PARCELS = HEAD + 16 * TAKE;
-const NUMBER = "next parcel number";
-const HEAD_FIELDS = ["takes opened", NUMBER, NUMBER, "zero byte", "limit of takes", "limit of parcels", "limit of signings", "zero byte"];
 export const STATUSES = ["unused", "idle", "at work", "vanished"];
 export const MAPS = ["state", "creation", "behaviour"];
 
@@ -118,58 +118,40 @@ export function readImage(image) {
 }
 
 /**
- * The image with nothing but take u's mark in the map of its waiting parcel of that number.
- * @param {Uint8Array} image
- * @param {number} number
- * @param {number} u
+ * A mark in its packed form.
+ * @param {Mark} mark
  * @returns {Uint8Array}
  */
-export function withLoneMark(image, number, u) {
-  const copy = image.slice(), k = readParcels(image).findIndex(p => p.number === number), map = placeAt(k) + 7;
-  copy.fill(0, map, map + MARK * u);
-  copy.fill(0, map + MARK * (u + 1), map + MAP);
-  return copy;
+export function packMark({ frozen, n, list }) {
+  const bytes = new Uint8Array(MARK);
+  bytes[0] = 128 + (frozen ? 64 : 0) + list.length;
+  [n, ...list].forEach((value, i) => bytes.set([value >> 8, value & 255], 1 + 2 * i));
+  return bytes;
 }
 
 /**
- * Byte o of a mark in words.
- * @param {number} o
- * @returns {string}
+ * Whether two marks of a take are of one life.
+ * @param {Mark} a
+ * @param {Mark} b
+ * @returns {boolean}
  */
-function markField(o) {
-  if (o === 0) return "presence, frozen flag and count of signings";
-  if (o < 3) return "life number";
-  return `entry ${Math.floor((o - 3) / 2) + 1} of its list`;
-}
+export const sameLife = (a, b) => compare(packMark(a), packMark(b)).relation === "same life";
+
+const FRONT = ["", "takes opened", "next parcel number", "zero byte", "limit of takes", "limit of parcels", "limit of signings", "zero byte"];
+const IN_TAKE = ["status", "text", "signed text"], IN_PARCEL = ["whether a parcel waits, and its addressee", "number", "text"];
+const STATUS = 8, WAITING = 11, FLAGS = 14, ENTRY = 16;
+
+/** @typedef {import("./ledger.mjs").Field} Field */
 
 /**
- * @param {number} o a place in a map
+ * A field of a mark in words.
+ * @param {Field} field
  * @returns {string}
  */
-const mapField = o => `mark of take ${Math.floor(o / MARK)}, ${markField(o % MARK)}`;
-
-/**
- * @param {number} t
- * @param {number} o a place in a take
- * @returns {string}
- */
-function takeField(t, o) {
-  if (o === 0) return `take ${t}, status`;
-  if (o < 5) return `take ${t}, text`;
-  if (o < 9) return `take ${t}, signed text`;
-  return `take ${t}, ${MAPS[Math.floor((o - 9) / MAP)]} map, ${mapField((o - 9) % MAP)}`;
-}
-
-/**
- * @param {number} k
- * @param {number} o a place in a parcel
- * @returns {string}
- */
-function parcelField(k, o) {
-  const name = `parcel place ${k + 1}`;
-  if (o === 0) return `${name}, whether a parcel waits, and its addressee`;
-  if (o < 3) return `${name}, number`;
-  return o < 7 ? `${name}, text` : `${name}, map, ${mapField(o - 7)}`;
+function markField({ kind, holder, map, ground, entry }) {
+  const where = map < MAPS.length ? `take ${holder}, ${MAPS[map]} map` : `parcel place ${holder + 1}, map`;
+  const what = kind === ENTRY ? `entry ${entry + 1} of its list` : ["presence, frozen flag and count of signings", "life number"][kind - FLAGS];
+  return `${where}, mark of take ${ground}, ${what}`;
 }
 
 /**
@@ -178,21 +160,24 @@ function parcelField(k, o) {
  * @returns {string}
  */
 export function fieldAt(offset) {
-  if (offset < HEAD) return HEAD_FIELDS[offset];
-  if (offset < PARCELS) return takeField(Math.floor((offset - HEAD) / TAKE), (offset - HEAD) % TAKE);
-  return parcelField(Math.floor((offset - PARCELS) / PARCEL), (offset - PARCELS) % PARCEL);
+  const found = field(offset), { kind, holder } = found;
+  if (kind < STATUS) return FRONT[kind];
+  if (kind < WAITING) return `take ${holder}, ${IN_TAKE[kind - STATUS]}`;
+  return kind < FLAGS ? `parcel place ${holder + 1}, ${IN_PARCEL[kind - WAITING]}` : markField(found);
 }
 
 /**
- * The address of the mark that has this byte of an image, or -1.
+ * The first byte of the field with this byte; of a field of a mark, the mark's first.
  * @param {number} offset
  * @returns {number}
  */
-function markAround(offset) {
-  const inTake = (offset - HEAD) % TAKE - 9, inParcel = (offset - PARCELS) % PARCEL - 7;
-  if (offset < HEAD) return -1;
-  const within = offset < PARCELS ? inTake : inParcel;
-  return within < 0 ? -1 : offset - (within % MAP) % MARK;
+function startOf(offset) {
+  const { kind, holder, map, ground } = field(offset);
+  for (let at = offset; at > 0; at--) {
+    const before = field(at - 1), marks = kind >= FLAGS && before.kind >= FLAGS;
+    if (!(marks || before.kind === kind) || before.holder !== holder || before.map !== map || before.ground !== ground) return at;
+  }
+  return 0;
 }
 
 /**
@@ -211,14 +196,13 @@ export function markWords(mark) {
  * @returns {string}
  */
 function valueAt(image, offset) {
-  const mark = markAround(offset);
-  if (mark >= 0) return markWords(readMark(image, mark));
-  const field = fieldAt(offset), take = (offset - HEAD) % TAKE, parcel = (offset - PARCELS) % PARCEL;
-  if (offset < HEAD) return String(field === NUMBER ? at16(image, 1) : image[offset]);
-  if (field.endsWith("status")) return STATUSES[image[offset] >> 6];
-  if (offset < PARCELS) return String(at32(image, offset - take + (take < 5 ? 1 : 5)));
-  if (parcel === 0) return image[offset] & 128 ? `waits for take ${image[offset] & 15}` : "no parcel";
-  return String(parcel < 3 ? at16(image, offset - parcel + 1) : at32(image, offset - parcel + 3));
+  const at = startOf(offset), { kind } = field(offset);
+  if (kind >= FLAGS) return markWords(readMark(image, at));
+  if (kind === STATUS) return STATUSES[image[at] >> 6];
+  if (kind === WAITING) return image[at] & 128 ? `waits for take ${image[at] & 15}` : "no parcel";
+  let end = at;
+  while (end < image.length && startOf(end) === at) end++;
+  return String(image.slice(at, end).reduce((n, byte) => n * 256 + byte, 0));
 }
 
 /**

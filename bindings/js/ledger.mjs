@@ -1,7 +1,7 @@
 // The take ledger for JavaScript: the proved library as WebAssembly. Every answer is the library's; nothing here decides.
 // Bytes are Uint8Array, a volume is a number (take t counts 2 ** t), a refused call throws Refusal.
 import { memory, accepted } from "./modules.mjs";
-import { wide, short } from "./memory.mjs";
+import { wide } from "./memory.mjs";
 
 export { load } from "./modules.mjs";
 export { Refusal, REFUSALS, OUTCOMES, nameOf } from "./refusals.mjs";
@@ -12,12 +12,17 @@ export const STEP = 8;
 export const LONGEST = 8192;
 const NO_PARCEL = 65535;
 const OBSTACLES = ["nothing", "not frozen", "outside", "withdrawn"];
+const DECISIONS = ["nothing", "taken in", "dropped", "falls"];
+const RELATIONS = ["same life", "left signed", "right signed", "left withdrawn", "right withdrawn", "unrelated"];
 const IMPEDIMENTS = ["nothing", "withdrawn", "all signed", "not frozen"];
 
 /** @typedef {import("./memory.mjs").Memory} Memory */
 /** @typedef {{takes: number, parcels: number, signings: number}} Limits */
 /** @typedef {{kind: "nothing" | "not frozen" | "outside" | "withdrawn", take: number, ground: number}} Obstacle */
 /** @typedef {{kind: "nothing" | "withdrawn" | "all signed" | "not frozen", take: number, ground: number, next: number}} Impediment */
+/** @typedef {{kind: "taken in" | "dropped" | "falls", take: number}} Decision */
+/** @typedef {{relation: "same life" | "left signed" | "right signed" | "left withdrawn" | "right withdrawn" | "unrelated", newer: "left" | "right"}} Comparison */
+/** @typedef {{kind: number, holder: number, map: number, ground: number, entry: number, byte: number}} Field */
 /** @typedef {{resting: number, through: number, unfinished: number, carried: number}} Dependents */
 
 /**
@@ -52,12 +57,13 @@ export class Session {
   /**
    * A fresh session.
    * @param {Partial<Limits>} [limits]
+   * @param {number} [length] of the room that is lent for the image
    */
-  static begin(limits = {}) {
+  static begin(limits = {}, length = IMAGE) {
     const { takes, parcels, signings } = { ...GREATEST, ...limits };
-    const m = memory("ledger"), at = m.room(IMAGE);
-    accepted(m.calls.ledger_begin(at, wide(IMAGE), wide(takes), wide(parcels), wide(signings)));
-    return new Session(m.copy(at, IMAGE));
+    const m = memory("ledger"), at = m.room(length);
+    accepted(m.calls.ledger_begin(at, wide(length), wide(takes), wide(parcels), wide(signings)));
+    return new Session(m.copy(at, length));
   }
 
   /**
@@ -84,10 +90,11 @@ export class Session {
    * @param {Uint8Array} list
    * @param {number} [start]
    * @param {number} [end]
+   * @param {number} [room] for the replies, in bytes
    * @returns {Uint8Array} a reply of eight bytes for each
    */
-  run(list, start = 0, end = list.length) {
-    const room = Math.max(0, end - start), m = memory("ledger");
+  run(list, start = 0, end = list.length, room = Math.max(0, end - start)) {
+    const m = memory("ledger");
     const image = m.lend(this.#image), steps = m.lend(list), replies = m.room(room);
     accepted(m.calls.ledger_run(image, wide(this.#image.length), steps, wide(list.length), wide(start), wide(end), replies, wide(room)));
     this.#image = m.copy(image, this.#image.length);
@@ -177,7 +184,7 @@ export class Session {
    * @returns {Obstacle}
    */
   obstacle(volume) {
-    const packed = query(this.#image, (c, at, length, refusal) => c.ledger_obstacle(at, length, short(volume), refusal));
+    const packed = query(this.#image, (c, at, length, refusal) => c.ledger_obstacle(at, length, wide(volume), refusal));
     const kind = /** @type {Obstacle["kind"]} */ (OBSTACLES[packed & 255]);
     return { kind, take: (packed >> 8) & 255, ground: (packed >> 16) & 255 };
   }
@@ -192,6 +199,20 @@ export class Session {
     const packed = query(this.#image, (c, at, length, refusal) => c.ledger_impediment(at, length, wide(take), refusal));
     const kind = /** @type {Impediment["kind"]} */ (IMPEDIMENTS[packed & 255]);
     return { kind, take: (packed >> 8) & 255, ground: (packed >> 16) & 255, next: (packed >> 24) & 255 };
+  }
+
+  /**
+   * What the receipt of a waiting parcel would do now, and the take whose marks decide it: dropped, the parcel's mark of that take is stale;
+   * falls, the addressee's. Refused as the receipt would be.
+   * @param {number} parcel
+   * @returns {Decision}
+   */
+  decision(parcel) {
+    return query(this.#image, (c, at, length, refusal, m) => {
+      const answer = m.room(16);
+      c.ledger_decision(answer, at, length, wide(parcel), refusal);
+      return { kind: /** @type {Decision["kind"]} */ (DECISIONS[m.word(answer)]), take: m.word(answer + 8) };
+    });
   }
 
   /**
@@ -212,11 +233,12 @@ export class Session {
    * @param {Uint8Array} list
    * @param {number} [start]
    * @param {number} [end]
+   * @param {number} [room] for the short list, in bytes
    * @returns {Uint8Array}
    */
-  thin(list, start = 0, end = list.length) {
+  thin(list, start = 0, end = list.length, room = Math.max(0, end - start)) {
     return query(this.#image, (c, at, length, refusal, m) => {
-      const room = Math.max(0, end - start), steps = m.lend(list), out = m.room(room);
+      const steps = m.lend(list), out = m.room(room);
       const kept = Number(c.ledger_thin(at, length, steps, wide(list.length), wide(start), wide(end), out, wide(room), refusal));
       return m.copy(out, STEP * kept);
     });
@@ -238,16 +260,42 @@ function converted(call, source, length) {
 /**
  * An image of the old form in the ledger's.
  * @param {Uint8Array} old
+ * @param {number} [length] of the room that is lent for it
  * @returns {Uint8Array}
  */
-export const forward = old => converted("ledger_forward", old, IMAGE);
+export const forward = (old, length = IMAGE) => converted("ledger_forward", old, length);
 
 /**
  * An image in the old form.
  * @param {Uint8Array} image
+ * @param {number} [length] of the room that is lent for it
  * @returns {Uint8Array}
  */
-export const back = image => converted("ledger_back", image, OLD_IMAGE);
+export const back = (image, length = OLD_IMAGE) => converted("ledger_back", image, length);
+
+/**
+ * Two packed marks of one take compared: of the middle four the named one is the earlier; the newer is the one that joining takes.
+ * @param {Uint8Array} left
+ * @param {Uint8Array} right
+ * @returns {Comparison}
+ */
+export function compare(left, right) {
+  const m = memory("ledger"), a = m.lend(left), b = m.lend(right), refusal = m.room(1);
+  const packed = m.calls.ledger_compare(a, wide(left.length), b, wide(right.length), refusal);
+  accepted(m.byte(refusal));
+  return { relation: /** @type {Comparison["relation"]} */ (RELATIONS[packed & 255]), newer: (packed >> 8) & 255 ? "right" : "left" };
+}
+
+/**
+ * What a byte of an image belongs to, in the numbers of include/ledger.h, and which byte of it; past the image all are 0.
+ * @param {number} offset
+ * @returns {Field}
+ */
+export function field(offset) {
+  const packed = memory("ledger").calls.ledger_field(wide(offset));
+  const [kind, holder, map, ground, entry, byte] = [0n, 8n, 16n, 24n, 32n, 40n].map(by => Number((packed >> by) & 255n));
+  return { kind, holder, map, ground, entry, byte };
+}
 
 /**
  * Of the windows of so many replies the first with most falls.
@@ -266,11 +314,12 @@ export function worstWindow(replies, width) {
  * The replies to a whole list from a fresh session, by the engine without maps.
  * @param {Uint8Array} list
  * @param {Partial<Limits>} [limits]
+ * @param {number} [room] for the replies, in bytes
  * @returns {Uint8Array}
  */
-export function play(list, limits = {}) {
+export function play(list, limits = {}, room = list.length) {
   const { takes, parcels, signings } = { ...GREATEST, ...limits };
-  const m = memory("engine"), steps = m.lend(list), replies = m.room(list.length), length = wide(list.length);
-  accepted(m.calls.engine_play(steps, length, wide(takes), wide(parcels), wide(signings), replies, length));
-  return m.copy(replies, list.length);
+  const m = memory("engine"), steps = m.lend(list), replies = m.room(room), length = wide(list.length);
+  accepted(m.calls.engine_play(steps, length, replies, wide(room), wide(takes), wide(parcels), wide(signings)));
+  return m.copy(replies, room);
 }

@@ -10,16 +10,6 @@ export function wide(n) {
   return BigInt(n);
 }
 
-/**
- * A number of 16 bits, so that a greater one is not cut off.
- * @param {number} n
- * @returns {number}
- */
-export function short(n) {
-  if (!Number.isSafeInteger(n) || n < 0 || n > 65535) throw new RangeError(`${n} is not a whole number from 0 to 65535`);
-  return n;
-}
-
 const aligned = (/** @type {number} */ n) => (n + 15) & ~15;
 
 export class Memory {

@@ -33,7 +33,7 @@ async function hostile({ browser, check, url, shots }) {
 }
 
 async function long({ browser, check, url, root, shots }) {
-  const input = readFileSync(`${root}crates/compare/stdin`), list = input.subarray(8, 8200);
+  const input = readFileSync(`${root}crates/test_engine/stdin`), list = input.subarray(8, 8200);
   await check("1,024 steps are played and drawn in under 200 ms, a step chosen in under 50", async () => {
     await browser.go(`${url}#list=${list.toString("base64url")}`);
     assert.equal(await browser.eval(`document.querySelectorAll("#course-rows li").length`), 1024);
@@ -92,11 +92,19 @@ async function reading({ browser, check, url, shots }) {
       await browser.size(1500, 950);
     });
   }
+  await check("five takes fit a window of 1,400 without scrolling sideways", async () => {
+    await browser.size(1400, 900);
+    await browser.go(`${url}#lesson=98-a-house&step=24`);
+    const [room, wide] = await browser.eval(`(({ clientWidth, scrollWidth }) => [clientWidth, scrollWidth])(document.querySelector("#course-rows"))`);
+    assert.equal(await browser.eval(`document.querySelectorAll("#course-rows .lane-name").length`), 5);
+    assert.ok(wide <= room, `${wide} in ${room}`);
+    await browser.size(1500, 950);
+  });
   await check("print: the picture and the tables, without the buttons", async () => {
     await browser.go(`${url}#lesson=10-frozen-is-not-signed&step=26`);
     await browser.send("Emulation.setEmulatedMedia", { media: "print" });
     const seen = async selector => (await browser.place(selector)).height > 0;
-    for (const selector of ["#editor", "#course-steps", "nav", ".bar"]) assert.equal(await seen(selector), false, selector);
+    for (const selector of ["#editor", "#course-steps", "nav", ".bar", ".falls-words input"]) assert.equal(await seen(selector), false, selector);
     for (const selector of ["#story h2", ".legend-entry", "#course-rows", "#course-moment"]) assert.equal(await seen(selector), true, selector);
     await browser.size(800, 1130);
     await browser.shot(`${shots}print.png`);

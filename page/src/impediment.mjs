@@ -1,5 +1,6 @@
 // Why no volume with a take could be signed now: what is in the way, and the takes from the one asked about to it, each resting on the
 // next. The answers are the library's.
+import { Refusal } from "../../bindings/js/ledger.mjs";
 import { packStep, readReply } from "../../bindings/js/packed.mjs";
 
 /** kind: nothing, withdrawn (with the ground), all signed, or not frozen; path: from the take to the one that is in the way. */
@@ -7,19 +8,22 @@ export function impediment(session, take) {
   const found = session.impediment(take), path = [take];
   if (found.kind === "nothing") return { kind: "nothing", path: [] };
   while (path.at(-1) !== found.take) {
-    const direct = found.kind === "withdrawn" ? withdrawnGround(session, path.at(-1)) : null;
-    if (direct !== null) return { kind: found.kind, ground: direct, path };
+    const ground = found.kind === "withdrawn" ? namedGround(session, path.at(-1)) : null;
+    if (ground !== null) return { kind: found.kind, ground, path };
     path.push(session.impediment(path.at(-1)).next);
   }
   return { kind: found.kind, ground: found.ground, path };
 }
 
-/** A ground of the take itself, where the ledger names a withdrawn life of it before anything else; or null. */
-function withdrawnGround(session, take) {
-  const copy = session.copy();
-  freeze(copy, take);
-  const { kind, ground } = copy.obstacle(1 << take);
-  return kind === "withdrawn" ? ground : null;
+/** A ground of the take itself that the ledger names as withdrawn; null where it names something else first, or the take has all its signings. */
+function namedGround(session, take) {
+  try {
+    const { kind, ground } = session.obstacle(1 << take);
+    return kind === "withdrawn" ? ground : null;
+  } catch (e) {
+    if (!(e instanceof Refusal)) throw e;
+    return null;
+  }
 }
 
 /** Freezes a take of a copy: "frozen", "started" after a letter where it is idle, or null where the ledger does not let it. */

@@ -6,19 +6,20 @@ import { fates } from "./parcels.mjs";
 import { kindOf, takesIn, tone, FALLEN_BACK } from "./words.mjs";
 
 export const ROW = 26;
-const LEFT = 60, BAND = 64, LONGEST_LABEL = 15, ARRIVED = ["taken", "dropped", "fell"];
+const LEFT = 60, RIGHT = 10, BAND = 64, LONGEST_LABEL = 15, SHORTEST_LABEL = 6, LETTER = 6, ARRIVED = ["taken", "dropped", "fell"];
 
 // Pictures are numbered, so that each has arrowheads of its own.
 let pictures = 0;
 
-/** How wide the lanes of so many takes are: narrower where there are many. */
-export function laneWidth(count) {
-  return count < 4 ? 122 : 104;
+/** How wide the lanes of so many takes are: narrower where there are many, so that they fit the room; a phone's is scrolled sideways. */
+export function laneWidth(count, room) {
+  const most = count < 4 ? 122 : 104;
+  return room < 300 ? most : Math.max(40, Math.min(most, Math.floor((room - LEFT - RIGHT) / count)));
 }
 
-/** Where the lanes of so many takes stand. */
-export function lanesOf(count) {
-  return t => LEFT + laneWidth(count) * t;
+/** Where lanes so wide stand. */
+export function lanesOf(wide) {
+  return t => LEFT + wide * t;
 }
 
 const rowY = i => ROW * (i - 0.5);
@@ -27,8 +28,8 @@ const rowY = i => ROW * (i - 0.5);
  * The first so many steps of a record, all rows high: lanes and arrows, and over them the events in bands, so that a long list is laid
  * out only where it is looked at.
  */
-export function picture(record, names, shown) {
-  const lanes = record.heads[shown].length, x = lanesOf(lanes), width = x(Math.max(lanes, 1)) + 10, own = `picture${++pictures}`;
+export function picture(record, names, shown, wide) {
+  const lanes = record.heads[shown].length, x = lanesOf(wide), width = x(Math.max(lanes, 1)) + RIGHT, own = `picture${++pictures}`;
   const ground = sheet(width, ROW * Math.max(record.length, 1), arrowheads(own));
   for (let t = 0; t < lanes; t++) ground.append(...stretches(record, t, shown, x(t)));
   for (const parcel of fates(record)) if (parcel.made <= shown) ground.append(arrow(parcel, shown, own, x));
@@ -117,13 +118,19 @@ function labelOf(step, reply, head, names) {
   return LABELS[kindOf(step)]?.(step, head, names) ?? "";
 }
 
+/** As much of a label as a lane has room for; nothing where that is too little to read. */
+function cutTo(label, lane) {
+  const most = Math.min(LONGEST_LABEL, Math.floor((lane - 16) / LETTER));
+  if (label.length <= most) return label;
+  return most < SHORTEST_LABEL ? "" : `${label.slice(0, most - 1)}\u2026`;
+}
+
 /** What a step did on its lanes. */
 function events(record, i, names, x, y) {
   const { step, reply } = record.before(i), kind = kindOf(step);
   if (kind === "letter") return [];
   return takesIn(step, reply).flatMap(t => {
-    const label = labelOf(step, reply, record.heads[i][t], names);
-    const cut = label.length > LONGEST_LABEL ? `${label.slice(0, LONGEST_LABEL - 1)}\u2026` : label;
+    const cut = cutTo(labelOf(step, reply, record.heads[i][t], names), x(1) - x(0));
     const words = cut && svg("text", { class: `label ${tone(reply)} ${kind}`, x: x(t) + 12, y: y + 4 }, cut);
     return [SHAPES[shapeOf(kind, reply)](x(t), y), words].filter(Boolean);
   });

@@ -1,7 +1,6 @@
 // Why a volume is not ready and what would help, and which mark decided at a receipt, in sentences. The answers are the library's.
-import { Session } from "../../bindings/js/ledger.mjs";
-import { packStep, readReply, takesOf } from "../../bindings/js/packed.mjs";
-import { life, readHead, readTake, readParcels, readMap, withLoneMark } from "../../bindings/js/image.mjs";
+import { takesOf } from "../../bindings/js/packed.mjs";
+import { life, readHead, readTake, readMap, sameLife } from "../../bindings/js/image.mjs";
 import { impediment, freeze } from "./impediment.mjs";
 import { listed, braces, capital } from "./names.mjs";
 import { DROPPED, tone } from "./words.mjs";
@@ -55,10 +54,10 @@ export function lost(takes, image, names) {
 /** The step at which a life of the ground that the take rests on fell, or null. */
 function fallOf(record, count, ground, take) {
   const { state, creation } = readTake(record.at(count).image, take);
-  const lives = [state[ground], creation[ground]].filter(Boolean).map(life);
+  const marks = [state[ground], creation[ground]].filter(Boolean);
   for (let i = count - 1; i >= 0; i--) {
     const reply = record.replies[i], before = record.heads[i][ground]?.mark;
-    if (tone(reply) === "fell" && reply.take === ground && before && lives.includes(life(before))) return i + 1;
+    if (tone(reply) === "fell" && reply.take === ground && before && marks.some(mark => sameLife(mark, before))) return i + 1;
   }
   return null;
 }
@@ -86,15 +85,11 @@ function outside(session, volume, names) {
   };
 }
 
-/** The take whose mark alone, of those in the parcel's map, gives this receipt its outcome, with both sides' marks; or null. */
+/** The take whose marks decided a receipt, with both sides' marks of it. */
 function deciding(record, count) {
-  const { step, reply } = record.before(count), image = record.at(count - 1).image;
-  const carried = readParcels(image).find(p => p.number === step.parcel).map, receive = packStep("receive", { parcel: step.parcel });
-  const alone = u => readReply(Session.fromImage(withLoneMark(image, step.parcel, u)).run(receive), 0).outcome;
-  const u = carried.findIndex((mark, t) => mark && alone(t) === reply.outcome);
-  if (u < 0) return null;
-  const { state, creation } = readTake(image, reply.take), held = [["state", state[u]], ["creation", creation[u]]];
-  return { take: u, carried: carried[u], held: held.filter(([, mark]) => mark) };
+  const { step, reply } = record.before(count), session = record.at(count - 1), { take } = session.decision(step.parcel);
+  const { state, creation } = readTake(session.image, reply.take), held = [["state", state[take]], ["creation", creation[take]]];
+  return { take, carried: readMap(session.show(step.parcel))[take], held: held.filter(([, mark]) => mark) };
 }
 
 /** At a receipt: the mark that decided, in sentences. */
@@ -102,7 +97,6 @@ export function receiptReason(record, count, names) {
   const { reply } = record.before(count), addressee = names.take(reply.take);
   if (reply.outcome === 0) return accepted(record.at(count - 1).show(reply.parcel));
   const found = deciding(record, count);
-  if (!found) return "";
   const theirs = found.held.map(([map, mark]) => `${life(mark)} in its ${map} map`).join(" and ");
   const mark = `The mark of ${names.take(found.take)} decided: the parcel carries ${life(found.carried)}, ${addressee} has ${theirs}.`;
   if (reply.outcome === DROPPED) return `${mark} The parcel's life is the withdrawn one.`;

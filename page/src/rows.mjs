@@ -25,14 +25,15 @@ export class Rows {
     this.record = record;
     this.shown = shown;
     replace(this.list, lines.map((line, i) => this.row(line, i + 1)));
-    this.showNames(record.heads[shown].length, names);
-    replace(this.lanes, picture(record, names, shown));
+    const count = record.heads[shown].length, wide = laneWidth(count, this.scroller.clientWidth - this.list.offsetWidth);
+    this.showNames(count, names, wide);
+    replace(this.lanes, picture(record, names, shown, wide));
     this.mark(Math.min(this.count, shown));
   }
 
   /** The takes over their lanes, with a gap between them. */
-  showNames(count, names) {
-    const x = lanesOf(count), wide = laneWidth(count) - 10;
+  showNames(count, names, lane) {
+    const x = lanesOf(lane), wide = lane - 10;
     replace(this.names, el("span", { class: "corner" }, "step and reply"), Array.from({ length: count }, (_, t) => {
       const name = el("span", { class: "lane-name", title: names.numbered(t) }, names.numbered(t));
       Object.assign(name.style, { left: `calc(var(--rows) + ${x(t) - wide / 2}px)`, width: `${wide}px` });

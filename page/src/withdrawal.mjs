@@ -1,7 +1,7 @@
 // What it would cost to withdraw a take: who rests on its present life, directly and through others, who is at work with it, and
 // which waiting parcels carry it. The sets are the library's.
 import { takesOf } from "../../bindings/js/packed.mjs";
-import { life, readHead, readParcels } from "../../bindings/js/image.mjs";
+import { readHead, readParcels, sameLife } from "../../bindings/js/image.mjs";
 import { listed, capital } from "./names.mjs";
 import { lost } from "./reasons.mjs";
 
@@ -14,8 +14,8 @@ export function cost(session, take) {
 
 /** The waiting parcels whose map has the take's present life. */
 function carriers(image, take) {
-  const own = life(readHead(image, take).mark);
-  return readParcels(image).filter(p => p.map[take] && life(p.map[take]) === own).map(p => p.number);
+  const own = readHead(image, take).mark;
+  return readParcels(image).filter(p => p.map[take] && sameLife(p.map[take], own)).map(p => p.number);
 }
 
 /** The same in sentences. */

@@ -2,9 +2,9 @@
 import { test } from "node:test";
 import assert from "node:assert/strict";
 import { loadFrom } from "../node.mjs";
-import { Session, forward, back, worstWindow, OLD_IMAGE } from "../ledger.mjs";
+import { Session, forward, back, worstWindow, field, compare, IMAGE, OLD_IMAGE } from "../ledger.mjs";
 import { packStep, joined } from "../packed.mjs";
-import { readImage, readMap, fieldAt, firstDifference, withLoneMark, readMark, life } from "../image.mjs";
+import { readImage, readMap, fieldAt, firstDifference, packMark, life } from "../image.mjs";
 import { toSteps, toText, replyText, imageText } from "../notation.mjs";
 
 await loadFrom();
@@ -138,12 +138,60 @@ test("the field of a byte, and the first difference", () => {
   assert.deepEqual(firstDifference(a.image, b.image), { offset: 17, field, left: "(empty; 0)", right: "(empty; 0) frozen" });
 });
 
-test("a parcel's map with a lone mark", () => {
-  const session = grounds();
-  session.run(steps("letter to 3 text 1\nreceive 4\nsend 3 to 2 text 4\n"));
-  assert.ok(readMap(Session.fromImage(withLoneMark(session.image, 5, 0)).show(5)).every(m => m === null));
-  const own = readMark(session.image, 8 + 1593 * 3 + 9 + 33 * 3);
-  assert.deepEqual(readMap(Session.fromImage(withLoneMark(session.image, 5, 3)).show(5))[3], own);
+test("every byte of an image has a field of its own, and none past it", () => {
+  const none = { kind: 0, holder: 0, map: 0, ground: 0, entry: 0, byte: 0 }, said = new Set();
+  assert.deepEqual(field(2), { ...none, kind: 2, byte: 1 });
+  assert.deepEqual(field(8 + 1593 * 15), { ...none, kind: 8, holder: 15 });
+  assert.deepEqual(field(8 + 1593 * 2 + 8), { ...none, kind: 10, holder: 2, byte: 3 });
+  assert.deepEqual(field(8 + 1593 + 9 + 528 * 2 + 33 * 4 + 3), { kind: 16, holder: 1, map: 2, ground: 4, entry: 0, byte: 0 });
+  assert.deepEqual(field(IMAGE - 1), { kind: 16, holder: 31, map: 3, ground: 15, entry: 14, byte: 1 });
+  for (const past of [IMAGE, 2 ** 40]) assert.deepEqual(field(past), none);
+  for (let o = 0; o < IMAGE; o++) said.add(Object.values(field(o)).join(" "));
+  assert.equal(said.size, IMAGE);
+});
+
+/** (L; n), frozen if so said. */
+const mark = (list, n, frozen = false) => packMark({ frozen, n, list });
+
+test("two marks compared: document 01's edges", () => {
+  const says = (a, b, relation, newer) => assert.deepEqual(compare(a, b), { relation, newer });
+  says(mark([], 0), mark([], 1), "left withdrawn", "right");
+  says(mark([], 0), mark([0], 0), "left signed", "right");
+  says(mark([0], 0), mark([0, 1], 0), "left withdrawn", "right");
+  says(mark([0], 1), mark([0, 1], 0), "left signed", "right");
+  says(mark([0], 0), mark([0], 0, true), "same life", "right");
+  says(mark([0], 0, true), mark([0], 0), "same life", "left");
+  says(mark([0, 1], 0), mark([0], 5), "unrelated", "left");
+  says(mark([], 1), mark([0], 0), "unrelated", "right");
+  says(mark([0], 4), mark([0], 3), "right withdrawn", "left");
+  says(mark([2, 7], 0), mark([2], 7), "right signed", "left");
+  for (const bytes of [mark([], 0).subarray(1), new Uint8Array(34)]) assert.throws(() => compare(bytes, mark([], 0)), e => e.number === 16);
+  for (const wrong of [new Uint8Array(33), mark([], 0).fill(1, 5, 6), mark([], 0).fill(144, 0, 1)]) assert.throws(() => compare(mark([], 0), wrong), e => e.number === 19);
+});
+
+// Take 2 is signed, sends parcel 2, falls, and sends parcel 4, which shows that the life behind parcel 2 fell.
+const TWO_LIVES = `root text 1\nroot text 2\nroot text 3
+letter to 2 text 0\nreceive 0\nfreeze 2\nsign {2}
+letter to 2 text 0\nreceive 1\nsend 2 to 1 text 8\nfail 2
+letter to 2 text 0\nreceive 3\nsend 2 to 1 text 9
+`;
+
+test("what a receipt would do, and whose mark decides", () => {
+  const session = Session.begin(), refused = (number, parcel, on = session) => assert.throws(() => on.decision(parcel), e => e.number === number);
+  session.run(steps(TWO_LIVES));
+  for (const parcel of [2, 4]) assert.deepEqual(session.decision(parcel), { kind: "taken in", take: 0 });
+  refused(24, 0);
+  const [older, newer] = [session.copy(), session.copy()];
+  older.run(steps("receive 4\nwrite 1 text 5\n"));
+  refused(23, 2, older);
+  older.run(steps("done 1\n"));
+  assert.deepEqual(older.decision(2), { kind: "dropped", take: 2 });
+  newer.run(steps("receive 2\nwrite 1 text 5\ndone 1\n"));
+  assert.deepEqual(newer.decision(4), { kind: "falls", take: 2 });
+  session.run(steps("fail 1\n"));
+  refused(22, 2);
+  assert.throws(() => new Session(new Uint8Array(9)).decision(0), e => e.number === 16);
+  assert.throws(() => new Session(new Uint8Array(IMAGE)).decision(0), e => e.number === 19);
 });
 
 test("text to steps and back", () => {

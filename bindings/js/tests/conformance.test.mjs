@@ -1,5 +1,4 @@
-// The conformance kit, whole: every test of conformance/vectors through these bindings. Tests that lend a room of another length than asked
-// for, or a number wider than a call takes, can't be said here, since the bindings make the rooms themselves; they are counted.
+// The conformance kit, whole: every test of conformance/vectors through these bindings.
 import { test } from "node:test";
 import assert from "node:assert/strict";
 import { existsSync, readdirSync, readFileSync } from "node:fs";
@@ -11,7 +10,6 @@ import { toSteps } from "../notation.mjs";
 
 await loadFrom();
 const FOLDER = process.env.CONFORMANCE ?? fileURLToPath(new URL("../../../conformance/vectors/", import.meta.url));
-const UNSAID = Symbol("can't be said through the bindings");
 const OBSTACLES = ["nothing", "not frozen", "outside", "withdrawn"];
 const IMPEDIMENTS = ["nothing", "withdrawn", "all signed", "not frozen"];
 const numbers = (kinds, { kind, ...rest }) => [kinds.indexOf(kind), ...Object.values(rest)];
@@ -57,9 +55,8 @@ const limitsOf = t => ({ takes: t.limits[0], parcels: t.limits[1], signings: t.l
 
 function checkRun(file, t) {
   const list = words(t.list, t.list_length), start = t.start ?? 0, end = t.end ?? list.length;
-  if (t.room !== undefined && t.room !== Math.max(0, end - start)) return UNSAID;
   const session = t.image === undefined ? Session.begin(limitsOf(t)) : new Session(imageOf(file, t)), before = session.image;
-  const { refusal, value } = answered(() => session.run(list, start, end));
+  const { refusal, value } = answered(() => session.run(list, start, end, t.room));
   assert.equal(refusal, t.refusal);
   if (t.text) assert.deepEqual(toSteps(t.text.join("\n")).steps, list);
   if (refusal) return assert.deepEqual(session.image, before);
@@ -68,8 +65,7 @@ function checkRun(file, t) {
 }
 
 function checkBegin(file, t) {
-  if (t.length !== undefined && t.length !== IMAGE) return UNSAID;
-  const { refusal, value } = answered(() => Session.begin(limitsOf(t)));
+  const { refusal, value } = answered(() => Session.begin(limitsOf(t), t.length));
   assert.equal(refusal, t.refusal);
   return refusal ? undefined : sameImage(t, value.image);
 }
@@ -86,7 +82,6 @@ const QUERIES = {
 };
 
 function checkQuery(file, t) {
-  if ((t.volume ?? 0) > 65535) return UNSAID;
   const image = imageOf(file, t), { refusal, value } = answered(() => QUERIES[t.call](new Session(image), t));
   assert.equal(refusal, t.refusal);
   if (refusal) return undefined;
@@ -96,16 +91,14 @@ function checkQuery(file, t) {
 
 function checkThin(file, t) {
   const list = words(t.list, t.list_length), start = t.start ?? 0, end = t.end ?? list.length;
-  if (t.room !== undefined && t.room !== Math.max(0, end - start)) return UNSAID;
-  const { refusal, value } = answered(() => new Session(imageOf(file, t)).thin(list, start, end));
+  const { refusal, value } = answered(() => new Session(imageOf(file, t)).thin(list, start, end, t.room));
   assert.equal(refusal, t.refusal);
   return refusal ? undefined : assert.deepEqual(value, words(t.out, 8 * t.answer));
 }
 
 function checkConvert(file, t) {
   const isForward = t.call === "forward";
-  if (t.target_length !== (isForward ? IMAGE : OLD_IMAGE)) return UNSAID;
-  const { refusal, value } = answered(() => (isForward ? forward : back)(imageOf(file, t, isForward ? OLD_IMAGE : IMAGE)));
+  const { refusal, value } = answered(() => (isForward ? forward : back)(imageOf(file, t, isForward ? OLD_IMAGE : IMAGE), t.target_length));
   assert.equal(refusal, t.refusal);
   return refusal ? undefined : sameImage(t, value);
 }
@@ -118,8 +111,7 @@ function checkWindow(file, t) {
 
 function checkPlay(file, t) {
   const list = words(t.list, t.list_length);
-  if (t.room !== undefined && t.room !== list.length) return UNSAID;
-  const { refusal, value } = answered(() => play(list, limitsOf(t)));
+  const { refusal, value } = answered(() => play(list, limitsOf(t), t.room));
   assert.equal(refusal, t.refusal);
   return refusal ? undefined : assert.deepEqual(value, words(t.replies));
 }
@@ -132,17 +124,14 @@ test("the conformance kit", { skip: existsSync(FOLDER) ? false : "conformance/ve
     const file = JSON.parse(readFileSync(`${FOLDER}/${name}`, "utf8"));
     await context.test(`${file.subject}: ${file.tests.length} tests`, () => {
       assert.equal(file.version, 1);
-      let unsaid = 0;
       for (const t of file.tests) {
         try {
-          if ((CHECKS[t.call] ?? checkQuery)(file, t) === UNSAID) unsaid++;
+          (CHECKS[t.call] ?? checkQuery)(file, t);
         } catch (e) {
           e.message = `${file.subject} ${t.number}, ${t.comment}: ${e.message}`;
           throw e;
         }
       }
-      if (unsaid) console.log(`# ${file.subject}: ${unsaid} can't be said through the bindings`);
-      assert.ok(unsaid < file.tests.length);
     });
   }
 });

@@ -71,7 +71,7 @@ function adler32(bytes) {
 }
 
 test("20,000 mixed steps: each part's last reply and the sums of its replies and of the image", () => {
-  const list = new Uint8Array(file("mixed/stdin")), expected = file("mixed/stdout").toString().trim().split("\n");
+  const list = new Uint8Array(file("test_mixed/stdin")), expected = file("test_mixed/stdout").toString().trim().split("\n");
   assert.equal(expected.length, 80);
   let session = Session.begin();
   expected.forEach((line, i) => {
@@ -90,7 +90,7 @@ function withNextParcel(session, number) {
 }
 
 test("24 lists of 1,024 steps with limits of all kinds: sums of replies and image, ledger and engine", () => {
-  const sums = JSON.parse(readFileSync(new URL("sums.json", import.meta.url), "utf8")), input = new Uint8Array(file("compare/stdin"));
+  const sums = JSON.parse(readFileSync(new URL("sums.json", import.meta.url), "utf8")), input = new Uint8Array(file("test_engine/stdin"));
   sums.forEach((sum, i) => {
     const list = input.slice(8200 * i + 8, 8200 * (i + 1)), session = Session.begin(sum.limits), replies = session.run(list);
     assert.equal(sha(replies), sum.replies);
