@@ -1,9 +1,5 @@
 // The ledger's calls for programs in other languages, as include/ledger.h declares them: a slice is a pointer and a length, a
 // lent number a pointer. None has a precondition, and each promises what the call of crate ledger, or thin, promises.
-use decisive::Compared;
-use decisive::Decision;
-use decisive::receipt;
-use fields::Field;
 use image::layout::DEPENDENCES;
 use image::layout::FIRST_MESSAGE;
 use image::layout::MESSAGE;
@@ -23,11 +19,8 @@ ghost use Rattle.rules.specs.Obstacle.{obstacleRefusal, obstacleAnswer};
 ghost use Rattle.rules.specs.Impediment.{impedimentAnswer};
 ghost use Rattle.thin.specs.Thin.{thinRefusal, thinOut, thinCount};
 ghost use Rattle.convert.specs.Convert.{forwardAnswer, forwardImage, backAnswer, backImage};
-ghost use Rattle.fields.specs.Field.{fieldOf};
-ghost use Rattle.decisive.specs.Compared.{ComparePromise};
-ghost use Rattle.decisive.specs.Decision.{decisionRefusal, decisionAnswer};
 ghost use Rattle.window.specs.Window.{windowRefusal, worstWindow};
-ghost use Rattle.ledger_c.specs.Interface.{version, offeredBy, groupOf, numberFor, reasonFor, causeFor, verdictFor, shownPart};
+ghost use Rattle.ledger_c.specs.Interface.{version, offeredBy, groupOf, numberFor, reasonFor, causeFor, shownPart};
 
 // The number that stands for no message.
 pub const NONE: u16 = 65535;
@@ -41,13 +34,6 @@ const HOPELESS: u8 = 1;
 const EXHAUSTED: u8 = 2;
 
 const NOT_STABLE: u8 = 3;
-
-// The kinds of what a receipt would do.
-const ACCEPTED: usize = 1;
-
-const DROPPED: usize = 2;
-
-const ROLLED_BACK: usize = 3;
 
 // A part of the image.
 #[repr(C)]
@@ -73,13 +59,6 @@ pub struct Cause {
     pub transactor: u8,
     pub ground: u8,
     pub next: u8,
-}
-
-// What a receipt would do, in numbers: the kind, 0 nothing, 1 taken in, 2 dropped, 3 a fall; and the transactor whose histories decide it.
-#[repr(C)]
-pub struct Verdict {
-    pub kind: usize,
-    pub transactor: usize,
 }
 
 // The version of this library.
@@ -299,47 +278,4 @@ pub extern "C" fn ledger_worst_window(replies: &[u8], width: usize, refusal: &mu
     ensures { λ r. ⌜ (now (refusal .exit) ≡ windowRefusal (now (replies .entry)) width) × (r ≡ worstWindow (now (replies .entry)) width) ⌝ }
 {
     window::worst_window(replies, width, refusal)
-}
-
-// What the receipt of the waiting message would do now, and the first transactor whose histories decide it. The lent number takes the
-// refusal, 16, 19, or what the receipt would get, 24, 22, 23, 31 or 28, or 0; refused, both numbers are 0.
-#[no_mangle]
-pub extern "C" fn ledger_decision(image: &[u8], number: usize, refusal: &mut u8) -> Verdict
-    ensures { λ r. ⌜ (now (refusal .exit) ≡ decisionRefusal base (now (image .entry)) number) × (r ≡ verdictFor (decisionAnswer base (now (image .entry)) number)) ⌝ }
-{
-    match receipt::decide(image, number, refusal) {
-        Decision::Nothing => Verdict {
-            kind: 0,
-            transactor: 0,
-        },
-        Decision::Accepted => Verdict {
-            kind: ACCEPTED,
-            transactor: 0,
-        },
-        Decision::MessageSuperseded(u) => Verdict {
-            kind: DROPPED,
-            transactor: u,
-        },
-        Decision::ReceiverSuperseded(u) => Verdict {
-            kind: ROLLED_BACK,
-            transactor: u,
-        },
-    }
-}
-
-// Two packed histories of one transactor compared. The lent number takes the refusal, 16 where one is not as long as a history, 19 where one
-// is absent or ill-formed, or 0; refused, both numbers are 0.
-#[no_mangle]
-pub extern "C" fn ledger_compare(left: &[u8], right: &[u8], refusal: &mut u8) -> Compared
-    ensures { λ r. ⌜ ComparePromise (now (left .entry)) (now (right .entry)) (now (refusal .exit)) r ⌝ }
-{
-    decisive::compare(left, right, refusal)
-}
-
-// The field that byte at of an image belongs to; past the image, all are 0.
-#[no_mangle]
-pub extern "C" fn ledger_field(at: usize) -> Field
-    ensures { λ r. ⌜ r ≡ fieldOf base at ⌝ }
-{
-    fields::field_at(at)
 }

@@ -1,9 +1,9 @@
 -- The numbers of each answer.
 use mathlib.Core.Path.{sym, ap, _∙_}
 use borrow.Author.Needs.{needs}
-use Rattle.ledger_c.specs.Interface.{verdictFor}
-use Rattle.ledger_c.proofs.ledger_decision.Statement.{statement}
-use Rattle.ledger_c.proofs.ledger_decision.Tie as tie
+use Rattle.looking_c.specs.Interface.{verdictFor}
+use Rattle.looking_c.proofs.looking_decision.Statement.{statement}
+use Rattle.looking_c.proofs.looking_decision.Tie as tie
 
 returns : tie.Need-returns
 returns c =
@@ -25,8 +25,8 @@ returns-4 c =
     let f = c .before .before .before .decide .ensures in
     (f .0, ap verdictFor (sym (c .before .u2 .given .1) ∙ f .1))
 
-pub ledger-decision-spec : {M : Type 1} → statement M
-ledger-decision-spec =
+pub looking-decision-spec : {M : Type 1} → statement M
+looking-decision-spec =
     tie.close
     (tie.spec
     (λ c κs. search needs)
