@@ -15,8 +15,7 @@
  *     ledger_version 1      ledger_all_heard_stable 1   ledger_run 3              ledger_thin 45
  *     ledger_begin 1        ledger_dependents 1         ledger_smallest_group 3   ledger_forward 43
  *     ledger_offer 1        ledger_obstacle 1           ledger_ready_count 3      ledger_back 1
- *     ledger_show 1         ledger_impediment 1         ledger_worst_window 1     ledger_decision 2
- *     ledger_compare 1      ledger_field 1
+ *     ledger_show 1         ledger_impediment 1         ledger_worst_window 1
  */
 #ifndef LEDGER_H
 #define LEDGER_H
@@ -83,64 +82,6 @@ struct ledger_impediment {
     uint8_t transactor; /* the one that is in the way: the asked one, or one that it rests on, directly or through others */
     uint8_t ground;
     uint8_t next;       /* the next from the asked one to it: the asked one rests on its present incarnation; itself where it is in the way */
-};
-
-/* What a receipt would do. */
-enum ledger_decision_kind {
-    LEDGER_UNDECIDED = 0,           /* refused */
-    LEDGER_ACCEPTED = 1,            /* the message is taken in */
-    LEDGER_MESSAGE_SUPERSEDED = 2,  /* it is dropped: its history of transactor is superseded by the receiver's */
-    LEDGER_RECEIVER_SUPERSEDED = 3  /* the receiver rolls back: its history of transactor is superseded by the message's */
-};
-
-struct ledger_decision {
-    size_t kind;
-    size_t transactor; /* the first of which there is such a history; 0 where the message is accepted */
-};
-
-/* Two histories of a transactor compared; of the middle four the named one is the earlier. */
-enum ledger_relation {
-    LEDGER_SAME_INCARNATION = 0,
-    LEDGER_LEFT_CHECKPOINTED = 1,
-    LEDGER_RIGHT_CHECKPOINTED = 2,
-    LEDGER_LEFT_SUPERSEDED = 3,
-    LEDGER_RIGHT_SUPERSEDED = 4,
-    LEDGER_UNRELATED_HISTORIES = 5 /* from two different sessions */
-};
-
-struct ledger_comparison {
-    uint8_t relation;
-    uint8_t newer; /* which one a join keeps: 0 the left one, 1 the right one */
-};
-
-/* What a byte of an image belongs to. */
-enum ledger_field_kind {
-    LEDGER_PAST_IMAGE = 0,
-    LEDGER_FIELD_OPENED = 1,
-    LEDGER_FIELD_NEXT = 2,         /* 2 bytes */
-    LEDGER_FIELD_BLANK = 3,        /* zero */
-    LEDGER_FIELD_MOST_TRANSACTORS = 4,
-    LEDGER_FIELD_MOST_MESSAGES = 5,
-    LEDGER_FIELD_MOST_CHECKPOINTS = 6,
-    LEDGER_FIELD_LIMITS_BLANK = 7, /* zero */
-    LEDGER_FIELD_STATUS = 8,       /* of transactor holder, as far as 10 */
-    LEDGER_FIELD_VALUE = 9,        /* 4 bytes */
-    LEDGER_FIELD_SAVED = 10,       /* 4 bytes */
-    LEDGER_FIELD_ADDRESSEE = 11,   /* of the message in place holder, as far as 13: waiting bit and addressee */
-    LEDGER_FIELD_NUMBER = 12,      /* 2 bytes */
-    LEDGER_FIELD_CONTENT = 13,     /* 4 bytes */
-    LEDGER_FIELD_FLAGS = 14,       /* of the history of transactor ground in a map of holder, as far as 16: present, stable, count */
-    LEDGER_FIELD_INCARNATION = 15, /* 2 bytes */
-    LEDGER_FIELD_CHECKPOINT = 16   /* 2 bytes: that entry of its list, from 0 */
-};
-
-struct ledger_field {
-    uint8_t kind;
-    uint8_t holder; /* the transactor, or the place of the message */
-    uint8_t map;    /* of kinds 14 to 16: 0 state, 1 creation, 2 behaviour, 3 the message's; numbers that a kind does not use are 0 */
-    uint8_t ground;
-    uint8_t entry;
-    uint8_t byte;   /* which byte of the field, from 0, the most significant one */
 };
 
 /* LEDGER_VERSION of the library that is linked. */
@@ -216,17 +157,6 @@ uint8_t ledger_back(const uint8_t *source, size_t source_length, uint8_t *target
  * is one window, and an empty list gives 0 at 0; *refusal is 0. Refused: *refusal is 17 or 35, and both numbers are 0.
  * It reads a list of replies alone, wherever they come from, and no image. */
 struct ledger_window ledger_worst_window(const uint8_t *replies, size_t replies_length, size_t width, uint8_t *refusal);
-
-/* What the receipt of the waiting message with this number would do now, and whose histories decide it; *refusal is 0. The image is only read.
- * Refused: *refusal is 16, 19, or what the receipt would get, 24, 22, 23, 31 or 28, and both numbers are 0. */
-struct ledger_decision ledger_decision(const uint8_t *image, size_t image_length, size_t number, uint8_t *refusal);
-
-/* Two packed histories of one transactor, LEDGER_HISTORY bytes each, compared; *refusal is 0. Refused: *refusal is 16 where one has another
- * length, 19 where one is absent or ill-formed, and both numbers are 0. */
-struct ledger_comparison ledger_compare(const uint8_t *left, size_t left_length, const uint8_t *right, size_t right_length, uint8_t *refusal);
-
-/* What byte at of an image belongs to; past the image all numbers are 0. Each byte of an image has an answer of its own. */
-struct ledger_field ledger_field(size_t at);
 
 #ifdef __cplusplus
 }
