@@ -47,7 +47,7 @@ const sha256 = (bytes, form) => createHash("sha256").update(bytes).digest(form);
 
 function data() {
   const modules = {}, sums = {};
-  for (const name of ["ledger", "engine", "notation"]) {
+  for (const name of ["ledger", "looking", "engine", "notation"]) {
     const bytes = readFileSync(join(wasm, `${name}.wasm`));
     modules[name] = bytes.toString("base64");
     sums[name] = sha256(bytes, "hex");

@@ -36,10 +36,11 @@ export const GREATEST = { takes: 16, parcels: 32, signings: 15 };
  * @template T
  * @param {Uint8Array} image
  * @param {(calls: any, at: number, length: bigint, refusal: number, m: Memory) => T} ask
+ * @param {"ledger" | "looking"} [module]
  * @returns {T}
  */
-function query(image, ask) {
-  const m = memory("ledger"), at = m.lend(image), refusal = m.room(1);
+function query(image, ask, module = "ledger") {
+  const m = memory(module), at = m.lend(image), refusal = m.room(1);
   const answer = ask(m.calls, at, wide(image.length), refusal, m);
   accepted(m.byte(refusal));
   return answer;
@@ -210,9 +211,9 @@ export class Session {
   decision(parcel) {
     return query(this.#image, (c, at, length, refusal, m) => {
       const answer = m.room(16);
-      c.ledger_decision(answer, at, length, wide(parcel), refusal);
+      c.looking_decision(answer, at, length, wide(parcel), refusal);
       return { kind: /** @type {Decision["kind"]} */ (DECISIONS[m.word(answer)]), take: m.word(answer + 8) };
-    });
+    }, "looking");
   }
 
   /**
@@ -280,19 +281,19 @@ export const back = (image, length = OLD_IMAGE) => converted("ledger_back", imag
  * @returns {Comparison}
  */
 export function compare(left, right) {
-  const m = memory("ledger"), a = m.lend(left), b = m.lend(right), refusal = m.room(1);
-  const packed = m.calls.ledger_compare(a, wide(left.length), b, wide(right.length), refusal);
+  const m = memory("looking"), a = m.lend(left), b = m.lend(right), refusal = m.room(1);
+  const packed = m.calls.looking_compare(a, wide(left.length), b, wide(right.length), refusal);
   accepted(m.byte(refusal));
   return { relation: /** @type {Comparison["relation"]} */ (RELATIONS[packed & 255]), newer: (packed >> 8) & 255 ? "right" : "left" };
 }
 
 /**
- * What a byte of an image belongs to, in the numbers of include/ledger.h, and which byte of it; past the image all are 0.
+ * What a byte of an image belongs to, in the numbers of include/looking.h, and which byte of it; past the image all are 0.
  * @param {number} offset
  * @returns {Field}
  */
 export function field(offset) {
-  const packed = memory("ledger").calls.ledger_field(wide(offset));
+  const packed = memory("looking").calls.looking_field(wide(offset));
   const [kind, holder, map, ground, entry, byte] = [0n, 8n, 16n, 24n, 32n, 40n].map(by => Number((packed >> by) & 255n));
   return { kind, holder, map, ground, entry, byte };
 }

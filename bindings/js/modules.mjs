@@ -2,7 +2,7 @@
 import { Memory } from "./memory.mjs";
 import { Refusal } from "./refusals.mjs";
 
-/** @typedef {"ledger" | "engine" | "notation"} Name */
+/** @typedef {"ledger" | "looking" | "engine" | "notation"} Name */
 
 /** @type {Map<string, Memory>} */
 const loaded = new Map();

@@ -11,6 +11,6 @@ export const FOLDER = fileURLToPath(new URL("../../target/wasm/", import.meta.ur
  * @param {string} [folder]
  */
 export async function loadFrom(folder = FOLDER) {
-  const [ledger, engine, notation] = ["ledger", "engine", "notation"].map(name => readFileSync(join(folder, `${name}.wasm`)));
-  await load({ ledger, engine, notation });
+  const [ledger, looking, engine, notation] = ["ledger", "looking", "engine", "notation"].map(name => readFileSync(join(folder, `${name}.wasm`)));
+  await load({ ledger, looking, engine, notation });
 }

@@ -1,9 +1,10 @@
-// all [PART ..]: every check of the page, or those of some parts (course, desk, compare, manners), one after the other; ends with 'N passed, 0 failed'.
+// all [PART ..]: every check of the page, or those of some parts (course, desk, habits, compare, manners), one after the other; ends with 'N passed, 0 failed'.
 import { mkdirSync } from "node:fs";
 import { fileURLToPath } from "node:url";
 import { Browser } from "./browser.mjs";
 import { courseChecks } from "./course.mjs";
 import { deskChecks } from "./desk.mjs";
+import { habitsChecks } from "./habits.mjs";
 import { compareChecks } from "./compare.mjs";
 import { mannersChecks } from "./manners.mjs";
 
@@ -25,7 +26,7 @@ async function check(name, body) {
 
 try {
   await check("the page starts", () => browser.go(url));
-  const parts = { course: courseChecks, desk: deskChecks, compare: compareChecks, manners: mannersChecks }, asked = process.argv.slice(2);
+  const parts = { course: courseChecks, desk: deskChecks, habits: habitsChecks, compare: compareChecks, manners: mannersChecks }, asked = process.argv.slice(2);
   const chosen = failed ? [] : asked.length ? asked.map(name => parts[name]) : Object.values(parts);
   for (const checks of chosen) await checks({ browser, check, url, root, shots });
   if (failed) console.log(browser.troubles().join("\n"));

@@ -9,15 +9,17 @@ const SENTENCES = [
   ["00-a-first-session", 10, "Page 12 rests on the names: neither signed, nor in this volume, nor frozen."],
   ["00-a-first-session", 10, "What would help: freeze the names, then sign {0,1} (the names and page 12)."],
   ["10-frozen-is-not-signed", 18, "held. Frozen: page 12; no fall."],
-  ["10-frozen-is-not-signed", 19, "Page 12 rests on the names: neither signed, nor in this volume, nor frozen."],
+  ["10-frozen-is-not-signed", 19, "Page 12 rests on the names: its life since the last signing is neither signed, nor in this volume, nor frozen."],
   ["10-frozen-is-not-signed", 25, "Page 12 rests on the names, withdrawn at step 21."],
   ["10-frozen-is-not-signed", 25, "Page 12 must fall before it can be signed, and loses its text since its last signing."],
+  ["10-frozen-is-not-signed", 25, "What would help: receive parcel 5."],
   ["10-frozen-is-not-signed", 33, "{0,1}, the names and page 12, is the smallest volume with page 12 that can be signed now."],
   ["10-frozen-is-not-signed", 26, "The mark of the names decided: the parcel carries (0; 1), page 12 has (0; 0) in its state map."],
   ["20-what-a-withdrawal-reaches", 18, "Page 12 rests on it directly. Page 40 rests on it through others."],
   ["20-what-a-withdrawal-reaches", 20, "Page 40 rests on page 12, which rests on the names, withdrawn at step 19."],
-  ["20-what-a-withdrawal-reaches", 20, "Page 12 and page 40 can never be signed: they vanish when they fall."],
-  ["20-what-a-withdrawal-reaches", 18, "If it falls, page 12 and page 40 can never be signed: they vanish when they fall."],
+  ["20-what-a-withdrawal-reaches", 20, "Page 12 and page 40 can't be signed, and must stay frozen: a ground that vanished sends no parcel by which they would fall."],
+  ["20-what-a-withdrawal-reaches", 20, "What would help: open another take for these pages."],
+  ["20-what-a-withdrawal-reaches", 18, "If it falls, page 12 and page 40 can't be signed, and must stay frozen: a ground that vanished"],
   ["20-what-a-withdrawal-reaches", 21, "Page 12 rests on the names, withdrawn at step 19."],
   ["30-the-count-restarts", 18, "The ledger says: done, and the mark is (0,2; 0)."],
   ["30-the-count-restarts", 27, "The mark of the names decided: the parcel carries (0; 1), page 12 has (0,2; 0) in its state map."],
@@ -47,6 +49,7 @@ export async function courseChecks(context) {
   await editing(context);
   await choosing(context);
   await links(context);
+  await own(context);
 }
 
 async function lessons({ browser, check, url, shots }) {
@@ -66,7 +69,7 @@ async function lessons({ browser, check, url, shots }) {
     }
   }
   await check("every lesson has its outcomes, and every sentence its lesson", async () => {
-    const names = await browser.eval(`[...document.querySelectorAll("#lesson option")].map(o => o.value).filter(Boolean)`);
+    const names = await browser.eval(`[...document.querySelectorAll("#lesson option:not([hidden])")].map(o => o.value).filter(Boolean)`);
     assert.deepEqual(names, Object.keys(outcomes));
     assert.ok(SENTENCES.every(s => s[0] in outcomes));
   });
@@ -79,7 +82,7 @@ async function questions({ browser, check, url, shots }) {
     const replies = () => browser.all("#course-rows .reply");
     assert.equal((await replies())[18], "?");
     await browser.click("#course-rows li[data-i='21']");
-    assert.equal(await browser.text("#announcement"), "answer the question first");
+    assert.match(await browser.text("#course-notice"), /Answer the question before step 19 first\./);
     await browser.press(".question", "show the ledger's reply");
     assert.match(await browser.text(".answered"), /The ledger says: vanished\./);
     assert.match(await browser.text(".question:not(.answered)"), /Page 40 never saw the names/);
@@ -94,6 +97,11 @@ async function questions({ browser, check, url, shots }) {
     assert.match(await browser.text(".question:not(.answered)"), /Would it help/);
     await browser.click(`.question [data-outcome="5"]`);
     assert.match(await browser.text(".answered"), /Right\. The ledger says: not ready\./);
+    assert.match(await browser.text(".answered .next"), /Next question: before step 25\./);
+    assert.match(await browser.eval(`document.activeElement.className`), /answered/);
+    await browser.press(".answered", "go to it");
+    assert.match(await browser.text(".question:not(.answered)"), /Before step 25/);
+    assert.equal(await browser.eval(`document.activeElement.className`), "question");
     await browser.click("#reveal");
     assert.ok(!(await browser.all("#course-rows .reply")).includes("?"));
   });
@@ -181,5 +189,53 @@ async function links({ browser, check, url }) {
   await check("a link that holds no list says so at its place", async () => {
     await browser.go(`${url}#text=${encodeURIComponent("root text 1\nnonsense")}`);
     assert.match(await browser.text("#fault"), /line 2, column 1/);
+  });
+}
+
+// Addresses that ask for what there is not, and what is said.
+const NO_SUCH = [
+  ["lesson=nosuch&step=3", /There is no lesson called “nosuch”\./],
+  ["list=AAAA", /The address holds no whole list of steps\./],
+  ["list=!", /The address holds no whole list of steps\./],
+  ["step=abc", /The address names no step\./],
+  ["lesson=00-a-first-session&step=NaN", /The address names no step\./],
+  ["lesson=00-a-first-session&step=999", /There is no step 999\./],
+  ["text=root%20text%201&limits=99,1,1", /The address's limits are none that a session can have\./],
+];
+
+async function own({ browser, check, url }) {
+  for (const [asked, words] of NO_SUCH) {
+    await check(`an address that asks for nothing: ${asked}`, async () => {
+      await browser.go(`${url}#${asked}`);
+      assert.match(await browser.text("#course-notice"), words);
+      assert.ok(await browser.eval(`document.querySelectorAll("#course-rows li").length`) > 0);
+    });
+  }
+  await check("a list of one's own is kept while a lesson is looked at, and after a reload", async () => {
+    const text = "root text 7 # mine\n", value = () => browser.eval(`document.querySelector("#text").value`);
+    await browser.go(`${url}#lesson=20-what-a-withdrawal-reaches`);
+    await browser.fill("#text", text);
+    await browser.fill("#lesson", "00-a-first-session");
+    assert.notEqual(await value(), text);
+    await browser.fill("#lesson", "");
+    assert.equal(await value(), text);
+    await browser.go(url);
+    await browser.fill("#lesson", "");
+    assert.equal(await value(), text);
+    await browser.fill("#lesson", "00-a-first-session");
+    await browser.fill("#text", "root text 8\n");
+    for (const list of [text, "root text 8\n"]) {
+      await browser.fill("#lesson", "earlier");
+      assert.equal(await value(), list);
+    }
+  });
+  await check("after a fault the lesson's question is gone", async () => {
+    await browser.go(`${url}#lesson=20-what-a-withdrawal-reaches`);
+    await browser.fill("#text", "rot\n");
+    assert.equal(await browser.text(".question"), null);
+  });
+  await check("a reply in a comment is no name", async () => {
+    await browser.go(`${url}#text=${encodeURIComponent("\ufeffroot text 7 # done take 0\nroot text 8 # page 12\n")}`);
+    assert.deepEqual(await browser.all("#course-rows .lane-name"), ["take 0", "1 page 12"]);
   });
 }

@@ -11,7 +11,7 @@ export async function deskChecks(context) {
 }
 
 /** Hands for the desk. */
-function hands(browser) {
+export function hands(browser) {
   const act = async (kind, where = "", fields = {}) => {
     for (const [selector, value] of Object.entries(fields)) await browser.fill(selector, value);
     await browser.click(`#desk-steps [data-kind=${kind}]${where}`);

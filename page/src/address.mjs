@@ -25,16 +25,19 @@ function limitsFrom(word) {
   return numbers.length === 3 && numbers.every(Number.isInteger) ? { takes: numbers[0], parcels: numbers[1], signings: numbers[2] } : null;
 }
 
-/** What an address asks for. */
+/** What an address asks for; wrong: whether it names a step, list or limits that are none. */
 export function readAddress(hash) {
   const asked = new URLSearchParams(hash.replace(/^#/, "").replaceAll("+", "%2B")), step = asked.get("step");
+  const list = asked.has("list") ? fromBase64(asked.get("list")) : null, limits = limitsFrom(asked.get("limits"));
+  const whole = step !== null && /^\d{1,9}$/.test(step), wrong = { step: step !== null && !whole, list: asked.has("list") && !list };
   return {
     view: asked.get("view"),
     lesson: asked.get("lesson"),
     text: asked.get("text"),
-    list: asked.has("list") ? fromBase64(asked.get("list")) : null,
-    limits: limitsFrom(asked.get("limits")),
-    step: step === null ? null : Number(step),
+    list,
+    limits,
+    step: whole ? Number(step) : null,
+    wrong: { ...wrong, limits: asked.has("limits") && !limits },
   };
 }
 

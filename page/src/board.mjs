@@ -1,23 +1,23 @@
 // The state of a hearing at its end: what can be signed now, what stands in the way of the rest, and what waits for whom.
 import { el, replace, button, heading } from "./dom.mjs";
-import { packStep, readStep } from "../../bindings/js/packed.mjs";
-import { readHeads } from "../../bindings/js/image.mjs";
+import { packStep, readReply, readStep } from "../../bindings/js/packed.mjs";
+import { readTake } from "../../bindings/js/image.mjs";
 import { whyNot } from "./reasons.mjs";
 import { fates, waitingAt } from "./parcels.mjs";
-import { trial } from "./offered.mjs";
+import { present, trial } from "./offered.mjs";
 import { braces, counted, capital } from "./names.mjs";
-import { effect, kindOf, takesIn, tone, WRONG_STATUS } from "./words.mjs";
+import { effect, tone, FALLEN_BACK, WRONG_STATUS } from "./words.mjs";
 
 /** add(bytes) is told of a step that was chosen. */
 export function showBoard(host, record, names, add) {
-  const session = record.end, heads = readHeads(session.image), live = heads.map((_, t) => t).filter(t => heads[t].status !== "vanished");
+  const session = record.end, live = present(session.image);
   const smallest = new Map(live.map(take => [take, session.smallestVolume(take)]));
   replace(
     host,
     heading("Can be signed now"),
     ready(session, smallest, names, add),
     heading("What stands in the way"),
-    hindered(record, live.filter(t => !smallest.get(t) && !unchanged(record, t)), names),
+    hindered(record, live.filter(t => !smallest.get(t) && !settled(session, t)), names),
     heading("What is waiting for whom"),
     waiting(record, names, add),
   );
@@ -35,16 +35,11 @@ function ready(session, smallest, names, add) {
   ];
 }
 
-const CHANGES = ["root", "new", "write", "freeze", "sign"];
-
-/** Whether the last thing that happened to the take's text was its signing. */
-function unchanged(record, take) {
-  const { steps, replies } = record, done = i => replies[i].outcome === 0 && CHANGES.includes(kindOf(steps[i]));
-  for (let i = record.length - 1; i >= 0; i--) {
-    const touched = done(i) || tone(replies[i]) === "fell";
-    if (touched && takesIn(steps[i], replies[i]).includes(take)) return kindOf(steps[i]) === "sign";
-  }
-  return false;
+/** Whether nothing of the take is to be signed: tried on a copy, it falls back to the same text, resting on the same. */
+function settled(session, take) {
+  const copy = session.copy(), reply = readReply(copy.run(packStep("fail", { take })), 0);
+  const rests = image => (({ text, state }) => JSON.stringify([text, state.toSpliced(take, 1)]))(readTake(image, take));
+  return reply.outcome === FALLEN_BACK && rests(session.image) === rests(copy.image);
 }
 
 function hindered(record, takes, names) {
@@ -62,7 +57,7 @@ function waiting(record, names, add) {
   const row = p => el("tr", {},
     el("th", { scope: "row" }, names.numbered(p.to)),
     el("td", {}, p.number),
-    el("td", {}, p.from === null ? "outside" : names.take(p.from)),
+    el("td", {}, p.made ? (p.from === null ? "outside" : names.take(p.from)) : "not known"),
     el("td", { class: "words" }, names.bare(p.text)),
     receipt(record, p, names, add));
   return el("table", {}, el("thead", {}, head), el("tbody", {}, parcels.map(row)));

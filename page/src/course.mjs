@@ -12,11 +12,12 @@ import { showMoment } from "./moment.mjs";
 import { readText, namesFrom } from "./listing.mjs";
 import { readLesson } from "./lessons.mjs";
 import { questionPart } from "./questions.mjs";
-import { address, limitsWord, toBase64 } from "./address.mjs";
-import { save, opener, recognize } from "./files.mjs";
+import { moreOf } from "./coursebar.mjs";
+import { recognize } from "./files.mjs";
+import { keepList, keptList } from "./store.mjs";
 import { effect, verdict } from "./words.mjs";
 
-const LARGEST = 4294967295;
+const LARGEST = 4294967295, EARLIER = "earlier";
 
 export class Course {
   constructor(lessons) {
@@ -24,7 +25,7 @@ export class Course {
     this.limits = { ...GREATEST };
     this.answered = new Map();
     this.editor = new Editor(byId("editor"), () => this.edited(), line => this.atLine(line));
-    this.rows = new Rows(byId("course-rows"), count => this.choose(count));
+    this.rows = new Rows(byId("course-rows"), count => this.choose(count), () => this.closed());
     this.falls = new Falls(byId("course-falls"));
     const textField = el("input", { type: "number", min: 0, max: LARGEST, value: 1, "aria-label": "text of the next step" });
     const textOf = () => Math.min(Math.max(0, Math.trunc(Number(textField.value) || 0)), LARGEST);
@@ -35,65 +36,81 @@ export class Course {
 
   fillBar() {
     const lessons = this.lessons.map(l => el("option", { value: l.name }, l.title));
-    lessons.push(el("option", { value: "" }, "a list of your own"));
+    this.earlier = el("option", { value: EARLIER, hidden: keptList(true) === null }, "your list before that");
+    lessons.push(el("option", { value: "" }, "a list of your own"), this.earlier);
     this.picker = el("select", { id: "lesson", "aria-label": "lesson", onchange: () => this.openLesson(this.picker.value) }, lessons);
-    const more = el("details", {}, el("summary", {}, "limits, files, link"), this.limitFields(), this.fileButtons(), this.linkButtons());
-    replace(byId("course-bar"), el("label", {}, "Lesson ", this.picker), more);
+    replace(byId("course-bar"), el("label", {}, "Lesson ", this.picker), moreOf(this));
     byId("course-legend").append(legend());
     byId("course-list").open = !matchMedia("(max-width: 600px)").matches;
   }
 
-  limitFields() {
-    const range = name => ({ type: "number", min: 1, max: GREATEST[name], value: GREATEST[name] });
-    const field = name => el("input", { ...range(name), id: `limit-${name}`, onchange: () => this.limited() });
-    return el("p", {}, Object.keys(GREATEST).map(name => [el("label", {}, `${name} `, field(name)), " "]));
-  }
-
-  fileButtons() {
-    return el("p", {},
-      opener("open a file", (name, bytes) => this.openFile(name, bytes), "course-open"), " ",
-      button("save text", () => save("session.steps", this.editor.text, "text/plain")), " ",
-      button("save packed list", () => save("session.list", this.record.list)), " ",
-      button("save image at this step", () => save("session.image", this.record.at(this.rows.count).image)));
-  }
-
-  linkButtons() {
-    const text = button("link with the text", () => this.share("text"));
-    const packed = button("link with packed steps", () => this.share("list"));
-    const link = el("input", { id: "link", readonly: true, "aria-label": "link to this list", hidden: true });
-    return [el("p", {}, text, " ", packed, " ", button("print", () => print())), link];
-  }
-
   openLesson(name) {
-    const lesson = this.lessons.find(l => l.name === name) ?? null;
+    const lesson = this.lessons.find(l => l.name === name);
+    if (!lesson) return this.openOwn(name === EARLIER);
     this.lesson = lesson;
-    this.picker.value = lesson?.name ?? "";
+    this.mine = false;
+    this.picker.value = lesson.name;
     this.answered.clear();
-    const reveal = lesson?.questions.length ? el("p", {}, button("show all replies", () => this.reveal(), { id: "reveal" })) : null;
-    replace(byId("story"), lesson && el("h2", { class: "on-paper" }, lesson.title), lesson?.story.map(p => el("p", {}, p)), reveal);
-    if (lesson) this.editor.text = lesson.text;
-    this.refresh(lesson?.questions[0] ? lesson.questions[0].at - 1 : Infinity);
+    const reveal = lesson.questions.length ? el("p", {}, button("show all replies", () => this.reveal(), { id: "reveal" })) : null;
+    replace(byId("story"), el("h2", { class: "on-paper" }, lesson.title), lesson.story.map(p => el("p", {}, p)), reveal);
+    this.editor.text = lesson.text;
+    return this.refresh(lesson.questions[0] ? lesson.questions[0].at - 1 : Infinity);
+  }
+
+  /** The list that was edited last, here or before a reload; where there is none, the lesson's. The earlier one changes places with it. */
+  openOwn(earlier) {
+    const last = this.own ?? keptList();
+    this.editor.text = (earlier ? keptList(true) : last) ?? this.editor.text;
+    this.mine = !earlier && this.editor.text === keptList();
+    this.leaveLesson();
+    if (earlier) this.keepOwn();
+    if (!this.refresh(Infinity)) this.drawAgain();
+  }
+
+  /** Keeps the list that is being edited; the one that was kept before becomes the earlier one. */
+  keepOwn() {
+    const before = this.mine ? null : keptList();
+    if (before?.trim() && before !== this.editor.text) this.earlier.hidden = keepList(before, true) !== null;
+    keepList(this.own = this.editor.text);
+    this.mine = true;
+  }
+
+  leaveLesson() {
+    this.lesson = null;
+    this.picker.value = "";
+    replace(byId("story"), el("p", {}, "A list of your own. What follows # on a line that opens a take is its name."));
+  }
+
+  /** The first question without an answer. */
+  openQuestion() {
+    return this.lesson?.questions.find(q => !this.answered.has(q.at));
   }
 
   /** How many replies are shown: up to the first question without an answer. */
   shown() {
-    const open = this.lesson?.questions.find(q => !this.answered.has(q.at));
+    const open = this.openQuestion();
     return open ? Math.min(open.at - 1, this.record.length) : this.record.length;
   }
 
   reveal() {
     for (const q of this.lesson.questions) if (!this.answered.has(q.at)) this.answered.set(q.at, null);
+    const pressed = document.activeElement?.id === "reveal";
     byId("reveal")?.parentElement.remove();
     this.refresh(this.rows.count);
+    if (pressed) this.rows.list.focus({ preventScroll: true });
   }
 
   edited() {
-    if (this.lesson) {
-      this.lesson = null;
-      this.picker.value = "";
-      replace(byId("story"), el("p", {}, "A list of your own. What follows # on a line that opens a take is its name."));
-    }
-    this.refresh(Infinity);
+    const asking = this.lesson && this.record;
+    this.keepOwn();
+    if (this.lesson) this.leaveLesson();
+    if (!this.refresh(Infinity) && asking) this.drawAgain();
+  }
+
+  /** The picture as it was, beside a text that has a fault. */
+  drawAgain() {
+    this.draw(this.rows.count);
+    this.editor.markLine(null);
   }
 
   limited() {
@@ -101,21 +118,30 @@ export class Course {
     this.refresh(this.rows.count);
   }
 
-  /** Reads the text, plays it and draws it; a fault leaves the picture as it was. */
+  /** Reads the text, plays it and draws it; a fault leaves the picture as it was, or empty. Whether it was played. */
   refresh(count) {
     const read = readText(this.editor.text);
     this.editor.showFault(read.fault);
-    if (read.fault) return this.editor.markLine(null);
-    const start = this.begin();
-    if (!start) return null;
-    this.places = read.places;
-    this.record = new Record(start, read.steps);
-    this.lines = toText(read.steps).split("\n").slice(0, -1);
-    this.names = namesFrom(this.record, read.comments);
+    if (read.fault) this.editor.markLine(null);
+    const start = !(read.fault && this.record) && this.begin(this.limits);
+    if (!start) return false;
+    this.play(start, read.fault ? readText("") : read);
+    this.draw(count);
+    return true;
+  }
+
+  play(start, { places, steps, comments }) {
+    this.places = places;
+    this.record = new Record(start, steps);
+    this.lines = toText(steps).split("\n").slice(0, -1);
+    this.names = namesFrom(this.record, comments);
+  }
+
+  draw(count) {
     this.rows.show(this.record, this.lines, this.names, this.shown());
     this.rows.pick(Math.min(count, this.shown()));
     this.falls.show(this.record, this.shown());
-    return this.offer();
+    this.offer();
   }
 
   /** The buttons for the next step, where somebody looks at them. */
@@ -123,9 +149,10 @@ export class Course {
     if (byId("course-add").open && this.record) this.stepper.show(this.record.end, this.names);
   }
 
-  begin() {
+  /** A session with these limits; null, and the reason shown, where there is none. */
+  begin(limits) {
     try {
-      return Session.begin(this.limits);
+      return Session.begin(limits);
     } catch (e) {
       if (!(e instanceof Refusal) && !(e instanceof RangeError)) throw e;
       replace(this.editor.fault, el("strong", {}, e.message));
@@ -133,7 +160,26 @@ export class Course {
     }
   }
 
+  /** Says something over the picture, until a step is chosen. */
+  say(words, ...more) {
+    const host = byId("course-notice");
+    replace(host, el("div", { class: "notice", role: "status" }, words, " ", more, " ", button("close", () => replace(host))));
+  }
+
+  /** Somebody asked for a reply that stays hidden for now. */
+  closed() {
+    const open = this.openQuestion();
+    this.say(`Answer the question before step ${open.at} first.`, button("go to it", () => this.goTo(open)));
+  }
+
+  /** To a question without an answer. */
+  goTo(question) {
+    this.rows.pick(question.at - 1);
+    byId("course-moment").querySelector(".question:not(.answered)")?.focus();
+  }
+
   choose(count) {
+    replace(byId("course-notice"));
     showMoment(byId("course-moment"), this.record, count, this.lines[count - 1], this.names, this.asked(count));
     this.editor.markLine(count ? this.places[count - 1] : null);
     const before = this.record.before(count), said = before && `${verdict(before.reply)}, ${effect(before.step, before.reply, this.names)}`;
@@ -144,7 +190,8 @@ export class Course {
   asked(count) {
     const { record, lines, answered } = this, questions = this.lesson?.questions ?? [];
     const question = questions.find(q => q.at === count + 1 && !answered.has(q.at)), past = questions.find(q => q.at === count);
-    return questionPart({ question, past, answered, record, lines, answer: (q, choice) => this.answer(q, choice) });
+    const answer = (q, choice) => this.answer(q, choice), go = q => this.goTo(q);
+    return questionPart({ question, past, next: this.openQuestion(), answered, record, lines, answer, go });
   }
 
   answer(question, choice) {
@@ -152,6 +199,7 @@ export class Course {
     this.rows.show(this.record, this.lines, this.names, this.shown());
     this.falls.show(this.record, this.shown());
     this.rows.pick(question.at);
+    byId("course-moment").querySelector(".answered")?.focus();
   }
 
   atLine(line) {
@@ -165,18 +213,9 @@ export class Course {
     this.edited();
   }
 
-  share(form) {
-    const link = byId("link"), limits = limitsWord(this.limits) === limitsWord(GREATEST) ? null : limitsWord(this.limits);
-    const body = form === "text" ? { text: this.editor.text } : { list: toBase64(this.record.list) };
-    link.value = address({ view: "course", ...body, limits, step: this.rows.count });
-    link.hidden = false;
-    link.select();
-    history.replaceState(null, "", link.value);
-  }
-
   openFile(name, bytes) {
     const found = recognize(bytes, name);
-    if (found.text && found.kind !== "desk") return this.openText(found.text, Infinity);
+    if (typeof found.text === "string" && found.kind !== "desk") return this.openText(found.text, Infinity);
     if (found.kind === "list") return this.openText(toText(found.list), Infinity);
     const reason = found.kind === "unknown" ? found.reason : "open it at the desk: the course plays lists from a fresh session";
     return replace(this.editor.fault, el("strong", {}, `${name}: ${reason}`));
@@ -184,9 +223,9 @@ export class Course {
 
   openText(text, step, limits = null) {
     if (limits) for (const name of Object.keys(limits)) byId(`limit-${name}`).value = this.limits[name] = limits[name];
-    this.editor.text = text;
-    this.lesson = {};
-    this.edited();
-    if (this.record) this.rows.pick(Math.min(step, this.record.length));
+    this.own = this.editor.text = text.replace(/^\ufeff/, "");
+    this.mine = false;
+    this.leaveLesson();
+    if (!this.refresh(step)) this.drawAgain();
   }
 }

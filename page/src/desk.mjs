@@ -1,7 +1,8 @@
 // The desk: a hearing of one's own, kept by names and words, stepped by buttons.
-import { el, replace, byId, button, announce } from "./dom.mjs";
+import { el, replace, byId, focusIn, announce } from "./dom.mjs";
 import { play, GREATEST, LONGEST } from "../../bindings/js/ledger.mjs";
 import { joined, readReply, readStep, sameBytes } from "../../bindings/js/packed.mjs";
+import { readImage } from "../../bindings/js/image.mjs";
 import { toText } from "../../bindings/js/notation.mjs";
 import { Record } from "./record.mjs";
 import { Rows } from "./rows.mjs";
@@ -14,9 +15,9 @@ import { Names, counted } from "./names.mjs";
 import { readText, namesFrom } from "./listing.mjs";
 import { emptyHearing, begun, toFile, fromFile, textNumber, Unreadable } from "./hearing.mjs";
 import { keep, kept, putAside } from "./store.mjs";
-import { showAside, confirmFall, confirmEmpty, confirmName, confirmOpening, tell } from "./notices.mjs";
+import { showAside, confirmFall, confirmReceipt, confirmEmpty, confirmName, confirmOpening, tell } from "./notices.mjs";
 import { recognize } from "./files.mjs";
-import { effect, verdict, kindOf, REFUSED } from "./words.mjs";
+import { effect, verdict, kindOf, REFUSED, WITH_TEXT } from "./words.mjs";
 
 function field(id, label, placeholder, list = null) {
   return el("input", { type: "text", id, "aria-label": label, placeholder, list });
@@ -59,9 +60,10 @@ export class Desk {
     }
   }
 
-  /** The numbers of texts that steps of this hearing use. */
+  /** The numbers of texts that this hearing has: in its steps, and in the image that it started from. */
   used() {
-    return new Set(this.record.steps.map(s => s.text));
+    const { takes, parcels } = readImage(this.record.at(0).image);
+    return new Set([...this.record.steps, ...takes, ...parcels].map(s => s.text).concat(takes.map(t => t.saved)));
   }
 
   refresh(count) {
@@ -69,13 +71,13 @@ export class Desk {
     this.names = new Names(this.hearing.takes, this.hearing.texts);
     this.lines = this.record.steps.map((step, i) => this.said(step, this.record.replies[i], i));
     this.rows.show(this.record, this.lines, this.names, this.record.length);
-    this.rows.pick(Math.min(count, this.record.length));
     this.stepper.show(this.record.end, this.names);
     byId("desk-steps").prepend(el("p", { class: "fields" }, el("label", {}, "name ", this.takeName)), this.knownWords());
     this.falls.show(this.record);
     showBoard(byId("desk-board"), this.record, this.names, bytes => this.append(bytes));
     showBar(this);
     byId("desk-heading").textContent = this.hearing.title;
+    this.rows.pick(Math.min(count, this.record.length));
     const trouble = this.stuck ?? keep(toFile(this.hearing));
     if (trouble) tell(trouble);
   }
@@ -95,9 +97,10 @@ export class Desk {
   }
 
   /** What is asked before a step: what a withdrawal costs, words for a text, a name that no take has yet. */
-  confirm(kind, { take }, go) {
+  confirm(kind, { take, parcel }, go) {
     const name = this.takeName.value.trim(), known = name ? this.hearing.takes.indexOf(name) : -1;
     if (kind === "fall" || kind === "fail") confirmFall(this, kind, take, go);
+    else if (kind === "receive" && this.record.end.decision(parcel).kind === "falls") confirmReceipt(this, parcel, go);
     else if (kind === "write" && this.words.value.trim() === "") confirmEmpty(this, take, go);
     else if (["root", "new"].includes(kind) && known >= 0) confirmName(name, known, go);
     else go();
@@ -110,15 +113,30 @@ export class Desk {
       this.hearing.takes[reply.take] = this.takeName.value.trim();
       this.takeName.value = "";
     }
-    this.words.value = "";
+    if (WITH_TEXT.has(kindOf(step)) && reply.outcome === 0) this.words.value = "";
     this.hearing.list = joined([this.hearing.list, bytes]);
+    const focused = focusIn(byId("desk"));
     replace(byId("desk-confirm"));
     this.refresh(Infinity);
+    focused(this.words);
     announce(`${verdict(reply)}: ${effect(step, reply, this.names)}`);
   }
 
+  /** Takes back the last step, or a letter without words together with its receipt, and the names and words that came with it. */
   undo() {
-    this.hearing.list = this.hearing.list.slice(0, -8);
+    const { steps, replies, length } = this.record, back = startsWork(this.record) ? 2 : 1, last = steps[length - 1];
+    const opened = ["root", "new"].includes(kindOf(last)) && replies[length - 1].outcome < REFUSED;
+    if (opened) this.hearing.takes.length = Math.min(this.hearing.takes.length, replies[length - 1].take);
+    this.hearing.list = this.hearing.list.slice(0, -8 * back);
+    const focused = focusIn(byId("desk"));
+    this.refresh(Infinity);
+    if (WITH_TEXT.has(kindOf(last)) && !this.used().has(last.text)) this.forget(last.text);
+    focused(this.words);
+  }
+
+  /** Forgets the words of a text that nothing has any more. */
+  forget(text) {
+    delete this.hearing.texts[text];
     this.refresh(Infinity);
   }
 
@@ -174,6 +192,13 @@ export class Desk {
     this.hearing = hearing;
     this.refresh(Infinity);
   }
+}
+
+/** Whether the last two steps are a letter without words and its receipt, as "start work" makes them. */
+function startsWork({ steps, replies, length }) {
+  const [letter, receipt] = steps.slice(-2);
+  if (length < 2 || kindOf(letter) !== "letter" || kindOf(receipt) !== "receive" || letter.text !== 0) return false;
+  return replies[length - 2].outcome < REFUSED && replies[length - 2].parcel === receipt.parcel;
 }
 
 function hearingFrom(found) {

@@ -1,6 +1,7 @@
 // The desk's bar: title, names of takes, files, limits of a new hearing.
 import { el, replace, byId, button } from "./dom.mjs";
 import { back, GREATEST, Refusal } from "../../bindings/js/ledger.mjs";
+import { readImage } from "../../bindings/js/image.mjs";
 import { toText, imageText } from "../../bindings/js/notation.mjs";
 import { save, opener } from "./files.mjs";
 import { toFile } from "./hearing.mjs";
@@ -17,7 +18,7 @@ export function showBar(desk) {
   const undo = button("undo the last step", () => desk.undo(), { id: "desk-undo", disabled: !record.length });
   const shorter = "Leaves out refused steps, and reads that nothing used; what the ledger holds stays as it is.";
   const thin = button("leave out refused steps", () => desk.thin(), { id: "desk-thin", title: shorter, hidden: !mayThin(record) });
-  const [takes, parcels, signings] = record.at(0).image.subarray(4, 7);
+  const { takes, parcels, signings } = readImage(record.at(0).image).limits;
   const room = `room for ${counted(takes, "take")}, ${counted(parcels, "parcel")}, ${counted(signings, "signing")}`;
   replace(
     byId("desk-bar"),

@@ -42,3 +42,12 @@ export function heading(text, level = 3) {
 export function announce(text) {
   byId("announcement").textContent = text;
 }
+
+/** Notes which button or field of a host has the cursor; to be called with a field once the host is drawn anew: the same one, or that field. */
+export function focusIn(host) {
+  const from = document.activeElement, within = from !== document.body && host.contains(from), data = Object.entries(from?.dataset ?? {});
+  const same = data.length ? data.map(([name, value]) => `[data-${name}="${CSS.escape(value)}"]`).join("") : from?.id && `#${CSS.escape(from.id)}`;
+  return field => {
+    if (within) ((same && host.querySelector(`${same}:enabled`)) || field).focus({ preventScroll: true });
+  };
+}

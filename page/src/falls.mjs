@@ -32,7 +32,8 @@ export class Falls {
     try {
       const worst = worstWindow(replies, Math.trunc(Number(this.width.value)));
       const wide = Number(this.width.value), last = Math.min(worst.place + wide, this.shown);
-      const found = `Most falls within ${wide} replies: ${worst.count}, in steps ${worst.place + 1} to ${last}.`;
+      const steps = last > worst.place + 1 ? `steps ${worst.place + 1} to ${last}` : `step ${last}`;
+      const found = `Most falls within ${counted(wide, "reply", "replies")}: ${worst.count}, in ${steps}.`;
       this.words.textContent = worst.count ? found : "No falls.";
       return worst;
     } catch (e) {

@@ -1,5 +1,5 @@
 // A step list written as text: its packed steps, the line of each, and the names that comments give to takes.
-import { toSteps } from "../../bindings/js/notation.mjs";
+import { replyText, toSteps } from "../../bindings/js/notation.mjs";
 import { kindOf, REFUSED } from "./words.mjs";
 import { Names } from "./names.mjs";
 
@@ -20,12 +20,17 @@ export function readText(text) {
 
 const opens = (step, reply) => ["root", "new"].includes(kindOf(step)) && reply.outcome < REFUSED;
 
+/** Whether a comment is the reply to its step, as the program listing writes it. */
+function repeats({ list, packedReplies }, i, comment) {
+  return comment === replyText(list.subarray(8 * i, 8 * i + 8), packedReplies.subarray(8 * i, 8 * i + 8), 0).trim();
+}
+
 /** A comment after an opening is the name of the take that it opened. */
 export function namesFrom(record, comments) {
   const takes = [];
   record.steps.forEach((step, i) => {
     const reply = record.replies[i];
-    if (opens(step, reply)) takes[reply.take] = comments[i];
+    if (opens(step, reply)) takes[reply.take] = repeats(record, i, comments[i]) ? "" : comments[i];
   });
   return new Names(takes);
 }

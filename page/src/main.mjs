@@ -1,5 +1,5 @@
 // Loads the library, and opens the view that the address asks for.
-import { load } from "../../bindings/js/ledger.mjs";
+import { load, Refusal } from "../../bindings/js/ledger.mjs";
 import { byId } from "./dom.mjs";
 import { Course } from "./course.mjs";
 import { Desk } from "./desk.mjs";
@@ -41,13 +41,37 @@ function tabs() {
 function follow() {
   const asked = readAddress(location.hash), course = views.course;
   show(VIEWS.includes(asked.view) ? asked.view : "course");
-  if (asked.text !== null) course.openText(asked.text, asked.step ?? Infinity, asked.limits);
-  else if (asked.list) course.openText(toText(asked.list), asked.step ?? Infinity, asked.limits);
-  else if (asked.lesson !== null || !course.record) course.openLesson(asked.lesson ?? course.lessons[0].name);
-  if (asked.lesson !== null && asked.step !== null) {
+  const known = course.lessons.some(l => l.name === asked.lesson), text = asked.text ?? listText(asked.list);
+  const limits = asked.limits && course.begin(asked.limits) ? asked.limits : null;
+  if (text !== null) course.openText(text, asked.step ?? Infinity, limits);
+  else if (known || !course.record) course.openLesson(known ? asked.lesson : course.lessons[0].name);
+  if (text === null && known && asked.step !== null) {
     course.reveal();
     course.rows.pick(asked.step);
   }
+  const sentences = troubles(asked, text, known, limits);
+  if (sentences.length) course.say(sentences.join(" "));
+}
+
+/** The text of packed steps, or null where they are none. */
+function listText(list) {
+  try {
+    return list && toText(list);
+  } catch (e) {
+    if (!(e instanceof Refusal)) throw e;
+    return null;
+  }
+}
+
+/** What the address asked for and can't be had, in sentences. */
+function troubles({ lesson, list, wrong, step, limits }, text, known, taken) {
+  const found = [], without = known || lesson === null || text !== null;
+  if (!without) found.push(`There is no lesson called \u201c${lesson}\u201d.`);
+  if (wrong.list || (list && text === null)) found.push("The address holds no whole list of steps.");
+  if (wrong.limits || (limits && !taken)) found.push("The address's limits are none that a session can have.");
+  if (wrong.step) found.push("The address names no step.");
+  else if (step !== null && step > views.course.record.length) found.push(`There is no step ${step}.`);
+  return found;
 }
 
 /** bundled: the library's modules in base64, their sums, and the lessons. */

@@ -37,7 +37,11 @@ function ask(label, paragraphs, yes, go, id) {
     replace(host);
     from?.focus();
   });
-  const done = button(yes, () => { replace(host); go(); }, { id });
+  const done = button(yes, () => {
+    from?.focus();
+    replace(host);
+    go();
+  }, { id });
   const notice = { class: "notice", role: "alertdialog", "aria-label": label };
   replace(host, el("div", notice, paragraphs, el("p", {}, done, " ", leave)));
   leave.focus();
@@ -62,6 +66,15 @@ export function confirmFall(desk, kind, take, go) {
   const title = el("strong", {}, TITLES[kind](names.take(take)));
   const words = [el("p", {}, title, held ? HELD[kind] : textWords(reply, head, names)), costs && el("p", { class: "cost-words" }, costs)];
   ask("what a withdrawal costs", words, YES[kind], go, "confirm-fall");
+}
+
+/** Before a receipt by which the addressee falls. */
+export function confirmReceipt(desk, parcel, go) {
+  const { names, record } = desk, reply = trial(record.end, packStep("receive", { parcel })), head = readHead(record.end.image, reply.take);
+  const title = el("strong", {}, `Receive parcel ${parcel}? `), shows = `It shows that a ground of ${names.take(reply.take)} was withdrawn: it falls. `;
+  const costs = costWords(record.end, reply.take, names).join(" ");
+  const words = [el("p", {}, title, shows, textWords(reply, head, names)), el("p", { class: "cost-words" }, costs)];
+  ask("what a receipt costs", words, "receive", go, "confirm-receipt");
 }
 
 /** Before a text without words is written. */

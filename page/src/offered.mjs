@@ -11,12 +11,18 @@ export function trial(session, bytes) {
   return readReply(session.copy().run(bytes), 0);
 }
 
+/** The takes that are opened and have not vanished. */
+export function present(image) {
+  const heads = readHeads(image);
+  return heads.map((_, t) => t).filter(t => heads[t].status !== "vanished");
+}
+
 const accepted = (session, kind, fields) => trial(session, packStep(kind, fields)).outcome < REFUSED;
 
 /** For the session: whether a take can be opened; for each live take its kinds; for each waiting parcel receive and lose. */
 export function offered(session) {
   const image = session.image, fields = (kind, take) => (kind === "send" ? { take, other: take } : { take });
-  const takes = readHeads(image).map((_, take) => ({ take, kinds: OF_A_TAKE.filter(kind => accepted(session, kind, fields(kind, take))) }));
+  const takes = present(image).map(take => ({ take, kinds: OF_A_TAKE.filter(kind => accepted(session, kind, fields(kind, take))) }));
   const parcels = readParcels(image).map(({ number, to, text }) => {
     return { number, to, text, kinds: OF_A_PARCEL.filter(kind => accepted(session, kind, { parcel: number })) };
   });

@@ -22,6 +22,10 @@ export function lanesOf(wide) {
   return t => LEFT + wide * t;
 }
 
+export function pictureWidth(lanes, wide) {
+  return lanesOf(wide)(Math.max(lanes, 1)) + RIGHT;
+}
+
 const rowY = i => ROW * (i - 0.5);
 
 /**
@@ -29,7 +33,7 @@ const rowY = i => ROW * (i - 0.5);
  * out only where it is looked at.
  */
 export function picture(record, names, shown, wide) {
-  const lanes = record.heads[shown].length, x = lanesOf(wide), width = x(Math.max(lanes, 1)) + RIGHT, own = `picture${++pictures}`;
+  const lanes = record.heads[shown].length, x = lanesOf(wide), width = pictureWidth(lanes, wide), own = `picture${++pictures}`;
   const ground = sheet(width, ROW * Math.max(record.length, 1), arrowheads(own));
   for (let t = 0; t < lanes; t++) ground.append(...stretches(record, t, shown, x(t)));
   for (const parcel of fates(record)) if (parcel.made <= shown) ground.append(arrow(parcel, shown, own, x));

@@ -1,9 +1,10 @@
 // Why a volume is not ready and what would help, and which mark decided at a receipt, in sentences. The answers are the library's.
 import { takesOf } from "../../bindings/js/packed.mjs";
-import { life, readHead, readTake, readMap, sameLife } from "../../bindings/js/image.mjs";
+import { life, readTake, readMap, sameLife } from "../../bindings/js/image.mjs";
 import { impediment, freeze } from "./impediment.mjs";
-import { listed, braces, capital } from "./names.mjs";
-import { DROPPED, tone } from "./words.mjs";
+import { fallsOf, lost, outcomeOf, wayOut } from "./ways.mjs";
+import { braces, capital } from "./names.mjs";
+import { DROPPED, FALLEN_BACK, tone } from "./words.mjs";
 
 const WORST_FIRST = ["withdrawn", "all signed", "not frozen", "nothing"];
 
@@ -14,7 +15,7 @@ export function whyNot(record, count, volume, names, alone = false) {
   const reasons = {
     withdrawn: () => withdrawn(record, count, worst, names),
     "all signed": () => ({ why: [`${resting(worst.path, names)}signed as often as this session allows.`], help: ["Nothing helps in this session."] }),
-    "not frozen": () => ({ why: [notFrozen(worst.path, volume, names, alone)], help: freezing(session, worst.take, names) }),
+    "not frozen": () => ({ why: [notFrozen(session, worst.path, volume, names, alone)], help: freezing(session, worst.take, names) }),
     nothing: () => outside(session, volume, names),
   };
   const { why, help } = reasons[worst.kind]();
@@ -30,25 +31,17 @@ function chain([first, ...grounds]) {
   return [first, grounds.map(g => `rests on ${g}`).join(", which ")].filter(Boolean).join(" ");
 }
 
-function notFrozen(path, volume, names, alone) {
-  const within = (volume >> path.at(-1)) & 1, lacks = alone ? "neither signed nor frozen" : "neither signed, nor in this volume, nor frozen";
-  return `${resting(path, names)}${path.length === 1 ? "not frozen" : within ? "in this volume, but not frozen" : lacks}.`;
+function notFrozen(session, path, volume, names, alone) {
+  const last = path.at(-1), within = (volume >> last) & 1, since = outcomeOf(session, last) === FALLEN_BACK ? "its life since the last signing is " : "";
+  const lacks = alone ? "neither signed nor frozen" : "neither signed, nor in this volume, nor frozen";
+  return `${resting(path, names)}${path.length === 1 ? "not frozen" : within ? "in this volume, but not frozen" : `${since}${lacks}`}.`;
 }
 
 function withdrawn(record, count, { path, ground }, names) {
   const at = fallOf(record, count, ground, path.at(-1)), when = at === null ? "withdrawn" : `withdrawn at step ${at}`;
   const why = [`${chain([...path, ground].map(t => names.take(t)))}, ${when}.`];
-  return { why, help: lost([...path].reverse(), record.at(count).image, names).map(words => `${words}.`) };
-}
-
-/** What becomes of takes that rest on a withdrawn life: those never signed vanish when they fall. */
-export function lost(takes, image, names) {
-  const signed = takes.filter(t => readHead(image, t).mark?.list.length), never = takes.filter(t => !signed.includes(t)), found = [];
-  const say = list => listed(list.map(t => names.take(t))), [vanish, lose] = [never.length === 1, signed.length === 1];
-  if (never.length) found.push(`${say(never)} can never be signed: ${vanish ? "it vanishes when it falls" : "they vanish when they fall"}`);
-  const [they, since] = lose ? ["it", "loses its text since its"] : ["they", "lose their texts since their"];
-  if (signed.length) found.push(`${say(signed)} must fall before ${they} can be signed, and ${since} last signing`);
-  return found;
+  const falls = fallsOf(record.at(count), ground, [...path].reverse(), names);
+  return { why, help: [...lost(falls, names).map(words => `${words}.`), ...wayOut(falls)] };
 }
 
 /** The step at which a life of the ground that the take rests on fell, or null. */

@@ -1,15 +1,20 @@
 // The rows beside the picture: a list of the steps with their replies, in which one is chosen with mouse or keys.
-import { el, replace, announce } from "./dom.mjs";
+import { el, replace } from "./dom.mjs";
 import { nameOf } from "../../bindings/js/refusals.mjs";
-import { picture, ROW, laneWidth, lanesOf } from "./picture.mjs";
+import { picture, ROW, laneWidth, lanesOf, pictureWidth } from "./picture.mjs";
 import { tone, REFUSED } from "./words.mjs";
 
+// Lanes so narrow have the number alone.
+const NARROW = 64;
 const KEYS = { ArrowDown: 1, j: 1, ArrowUp: -1, k: -1, PageDown: 10, PageUp: -10, Home: -Infinity, End: Infinity };
 
+// A line so long may be cut, and is shown whole to the mouse.
+const LONG = 24;
+
 export class Rows {
-  /** host: an empty element; chosen(count) is told which moment was chosen. */
-  constructor(host, chosen) {
-    this.chosen = chosen;
+  /** host: an empty element; chosen(count) is told which moment was chosen, closed() that somebody asked for one that is not shown yet. */
+  constructor(host, chosen, closed = () => {}) {
+    Object.assign(this, { chosen, closed });
     this.count = 0;
     this.names = el("div", { class: "lane-names", "aria-hidden": "true" });
     const said = { role: "listbox", tabindex: "0", "aria-label": "steps with their replies" };
@@ -33,9 +38,10 @@ export class Rows {
 
   /** The takes over their lanes, with a gap between them. */
   showNames(count, names, lane) {
-    const x = lanesOf(lane), wide = lane - 10;
+    const x = lanesOf(lane), wide = lane - 10, called = t => (lane < NARROW ? String(t) : names.numbered(t));
+    this.names.style.width = `calc(var(--rows) + ${pictureWidth(count, lane)}px)`;
     replace(this.names, el("span", { class: "corner" }, "step and reply"), Array.from({ length: count }, (_, t) => {
-      const name = el("span", { class: "lane-name", title: names.numbered(t) }, names.numbered(t));
+      const name = el("span", { class: "lane-name", title: names.numbered(t) }, called(t));
       Object.assign(name.style, { left: `calc(var(--rows) + ${x(t) - wide / 2}px)`, width: `${wide}px` });
       return name;
     }));
@@ -46,12 +52,12 @@ export class Rows {
     const word = hidden ? "?" : outcome >= REFUSED ? `${outcome} ${nameOf(outcome)}` : nameOf(outcome);
     const said = { role: "option", "aria-selected": "false", id: `${this.scroller.id}-${i}` };
     return el("li", { ...said, class: hidden ? "hidden" : tone(reply), "data-i": i },
-      el("span", { class: "number" }, i), el("span", { class: "line" }, line), el("span", { class: "reply" }, word));
+      el("span", { class: "number" }, i), el("span", { class: "line", title: line.length > LONG ? line : null }, line), el("span", { class: "reply" }, word));
   }
 
   click(event) {
     const row = event.target.closest("li");
-    if (row && Number(row.dataset.i) > this.shown) announce("answer the question first");
+    if (row && Number(row.dataset.i) > this.shown) this.closed();
     else if (row) this.pick(Number(row.dataset.i));
   }
 

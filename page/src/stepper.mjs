@@ -1,12 +1,9 @@
 // Buttons for the steps that the ledger accepts now.
 import { el, replace, button } from "./dom.mjs";
 import { packStep, readReply, joined, takesOf, volumeOf } from "../../bindings/js/packed.mjs";
-import { readHeads } from "../../bindings/js/image.mjs";
-import { offered, trial } from "./offered.mjs";
+import { offered, present, trial } from "./offered.mjs";
 import { braces } from "./names.mjs";
-import { REFUSED, HINTS } from "./words.mjs";
-
-const WITH_TEXT = new Set(["root", "write", "new", "send", "letter"]);
+import { REFUSED, HINTS, WITH_TEXT } from "./words.mjs";
 
 export class Stepper {
   /**
@@ -41,7 +38,7 @@ export class Stepper {
 
   /** The send button with its own choice of an addressee, which stays as it was chosen last; null where there is no other take. */
   sender(take) {
-    const { session, names } = this, takes = readHeads(session.image).map((_, t) => t).filter(t => t !== take);
+    const { session, names } = this, takes = present(session.image).filter(t => t !== take);
     const to = takes.filter(other => trial(session, packStep("send", { take, other })).outcome < REFUSED);
     if (!to.length) return null;
     const option = t => el("option", { value: t, selected: this.lastTo.get(take) === t }, names.numbered(t));
@@ -86,7 +83,7 @@ export class Stepper {
 
   /** A box for each take, and the signing of those ticked, where the ledger accepts it. */
   signing() {
-    const heads = readHeads(this.session.image), live = heads.map((_, t) => t).filter(t => heads[t].status !== "vanished");
+    const live = present(this.session.image);
     const go = button("sign", () => this.add(packStep("sign", { parcel: this.ticked() })), { "data-kind": "sign", disabled: true });
     const box = t => el("input", { type: "checkbox", value: t, "data-sign": t, onchange: () => this.weigh(go) });
     this.boxes = el("span", {}, live.map(t => el("label", { class: "tick" }, box(t), ` ${this.names.numbered(t)} `)));

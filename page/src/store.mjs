@@ -1,8 +1,10 @@
-// What the browser keeps of the desk: the hearing's file after each step. What can't be read again is kept aside as it is. A browser that
-// keeps nothing is told of once, by `keep`.
+// What the browser keeps: of the desk the hearing's file after each step, of the course the list that was edited.
+// What can't be read again is kept aside as it is. A browser that keeps nothing is told of once, by `keep`.
 
 const KEY = "take-ledger.desk";
 const ASIDE = "take-ledger.desk.aside";
+const LIST = "take-ledger.course";
+const EARLIER = "take-ledger.course.earlier";
 
 function stored(key) {
   try {
@@ -30,6 +32,16 @@ export function keep(text) {
 /** The file that was kept, or null. */
 export function kept() {
   return stored(KEY);
+}
+
+/** Keeps the list of one's own that was edited in the course, or the one before it. */
+export function keepList(text, earlier = false) {
+  return store(earlier ? EARLIER : LIST, text);
+}
+
+/** The list that was kept, or null. */
+export function keptList(earlier = false) {
+  return stored(earlier ? EARLIER : LIST);
 }
 
 /** The texts that were put aside. */

@@ -1,9 +1,10 @@
 // What it would cost to withdraw a take: who rests on its present life, directly and through others, who is at work with it, and
 // which waiting parcels carry it. The sets are the library's.
-import { takesOf } from "../../bindings/js/packed.mjs";
+import { packStep, takesOf } from "../../bindings/js/packed.mjs";
 import { readHead, readParcels, sameLife } from "../../bindings/js/image.mjs";
 import { listed, capital } from "./names.mjs";
-import { lost } from "./reasons.mjs";
+import { fallsOf, lost, outcomeOf } from "./ways.mjs";
+import { FALLEN_BACK, VANISHED } from "./words.mjs";
 
 /** The parts of the answer, without the take itself. */
 export function cost(session, take) {
@@ -28,13 +29,16 @@ export function costWords(session, take, names) {
   const numbers = listed(parcels.map(String)), sent = one(parcels, "was", "were");
   if (parcels.length) words.push(`${one(parcels, "parcel", "parcels")} ${numbers}, still waiting, ${sent} sent on the ground of this life.`);
   if (!words.length) return [nothing(session, take)];
-  const reached = [...direct, ...indirect], fate = lost(reached, session.image, names);
+  const copy = session.copy();
+  copy.run(packStep("fail", { take }));
+  const fate = lost(fallsOf(copy, take, [...direct, ...indirect], names), names);
   if (fate.length) words.push(`If it falls, ${fate.join("; ")}.`);
   return words.map(capital);
 }
 
-/** Nothing rests on it: what rests on lives that were signed stays. */
+/** Nothing rests on it: what rests on lives that were signed stays, where there are any to fall back to. */
 function nothing(session, take) {
-  const signed = readHead(session.image, take).mark.list.length;
-  return signed ? "Nothing rests on its present life. What rests on its signed lives stays." : "Nothing else rests on it.";
+  const outcome = outcomeOf(session, take);
+  if (outcome === VANISHED) return "Nothing else rests on it.";
+  return `Nothing rests on its present life.${outcome === FALLEN_BACK ? " What rests on its signed lives stays." : ""}`;
 }

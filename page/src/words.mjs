@@ -10,6 +10,9 @@ export const WRONG_STATUS = 23;
 // From here on a reply is a refusal.
 export const REFUSED = 20;
 
+// The kinds of step that have a text.
+export const WITH_TEXT = new Set(["root", "write", "new", "send", "letter"]);
+
 export function kindOf(step) {
   return KINDS[step.kind] ?? "raw";
 }
