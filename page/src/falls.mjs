@@ -9,7 +9,7 @@ const WIDE = 640, HIGH = 34;
 export class Falls {
   constructor(host) {
     const label = "width of the window, in replies";
-    this.width = el("input", { type: "number", min: 1, max: 256, value: 8, "aria-label": label, oninput: () => this.draw() });
+    this.width = el("input", { type: "number", min: 1, value: 8, "aria-label": label, oninput: () => this.draw() });
     this.words = el("span", { role: "status" });
     this.strip = el("div", { class: "strip" });
     const width = el("label", {}, "in windows of ", this.width, " replies. ");
