@@ -21,7 +21,7 @@ ghost use Rattle.rules.specs.Layout.{narrow, base, imageBytes};
 ghost use Rattle.convert.specs.Internal.Recast.{Widths, recordSize, recordAt, recast, widened};
 
 // The histories (document 01: marks) of a transactor's three maps.
-const MARKS: usize = 3 * maps::ENTRIES;
+const HISTORIES: usize = 3 * maps::ENTRIES;
 
 // A number of v bytes.
 fn number(s: &[u8], at: usize, v: usize) -> u16
@@ -152,7 +152,7 @@ pub fn wider(source: &[u8], target: &mut [u8])
         FIRST_TRANSACTOR,
         2,
         STATE,
-        MARKS,
+        HISTORIES,
         TRANSACTORS,
     );
     records(
@@ -182,7 +182,7 @@ pub fn narrower(source: &[u8], target: &mut [u8])
         HEAD,
         1,
         STATE,
-        MARKS,
+        HISTORIES,
         TRANSACTORS,
     );
     records(

@@ -1,6 +1,6 @@
 // Why no group with a transactor could be checkpointed (document 01: no volume with a take could be signed).
 use crate::obstacle::is_nothing;
-use crate::obstacle::mark;
+use crate::obstacle::history;
 use crate::ways::Reach;
 use crate::ways::reach_of;
 use group::is_full;
@@ -33,18 +33,18 @@ const UNSTABLE: u8 = 3;
 const ALL: u16 = 65535;
 
 // Whether transactor c has such a history of transactor u in its state or creation map.
-fn withdrawn(image: &[u8], c: usize, u: usize) -> bool
+fn superseded(image: &[u8], c: usize, u: usize) -> bool
     requires { ⌜ Good (now image) × (c < base .transactors) × (u < base .transactors) ⌝ }
     ensures { λ r. ⌜ r ≡ withdrawnBy (unpack base (now (image .entry))) c u ⌝ }
 {
     let at = FIRST_TRANSACTOR + TRANSACTOR * c;
     let state = at + STATE + marks::SIZE * u;
-    let o = mark(image, ALL, c, u, state);
+    let o = history(image, ALL, c, u, state);
     if !is_nothing(o) {
         return true;
     }
     let creation = at + CREATION + marks::SIZE * u;
-    let p = mark(image, ALL, c, u, creation);
+    let p = history(image, ALL, c, u, creation);
     !is_nothing(p)
 }
 
@@ -55,7 +55,7 @@ fn lost_ground(image: &[u8], c: usize) -> usize
 {
     let mut u: usize = 0;
     while u < TRANSACTORS {
-        if withdrawn(image, c, u) {
+        if superseded(image, c, u) {
             return u;
         }
         u += 1;

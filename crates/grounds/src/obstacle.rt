@@ -47,7 +47,7 @@ fn unstable(image: &[u8], group: u16, t: usize) -> Obstacle
 }
 
 // What the history at at, if there is one, of transactor u in a map of transactor t keeps from being checkpointed.
-pub fn mark(image: &[u8], group: u16, t: usize, u: usize, at: usize) -> Obstacle
+pub fn history(image: &[u8], group: u16, t: usize, u: usize, at: usize) -> Obstacle
     requires { ⌜ Good (now image) × (t < base .transactors) × (u < base .transactors) × (at + historyBytes base ≤ imageBytes base)
         × Roomy (base .places) (historyIn (base .width) (base .places) (now image) at) ⌝ }
     ensures { λ r. ⌜ r ≡ markObstacle base (now (image .entry)) group t u at ⌝ }
@@ -78,12 +78,12 @@ fn entry(image: &[u8], group: u16, t: usize, u: usize) -> Obstacle
 {
     let at = FIRST_TRANSACTOR + TRANSACTOR * t;
     let state = at + STATE + marks::SIZE * u;
-    let o = mark(image, group, t, u, state);
+    let o = history(image, group, t, u, state);
     if !is_nothing(o) {
         return o;
     }
     let creation = at + CREATION + marks::SIZE * u;
-    mark(image, group, t, u, creation)
+    history(image, group, t, u, creation)
 }
 
 // The maps of transactor t, if it is named: left at the first entry that is one.
@@ -122,7 +122,7 @@ fn first_unstable(image: &[u8], group: u16) -> Obstacle
 }
 
 // The first history that is one, transactor by transactor.
-fn first_mark(image: &[u8], group: u16) -> Obstacle
+fn first_history(image: &[u8], group: u16) -> Obstacle
     requires { ⌜ Good (now image) ⌝ }
     ensures { λ r. ⌜ r ≡ firstOf (mapObstacle base (unpack base (now (image .entry))) group) 0 (base .transactors) ⌝ }
 {
@@ -146,5 +146,5 @@ pub fn obstacle_of(image: &[u8], group: u16) -> Obstacle
     if !is_nothing(o) {
         return o;
     }
-    first_mark(image, group)
+    first_history(image, group)
 }

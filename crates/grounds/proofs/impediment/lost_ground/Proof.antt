@@ -17,10 +17,10 @@ abbrev μ-loop : tie.MeasureT-loop
 μ-loop image c u₀ u = base .transactors - u
 
 returns : tie.Need-returns Inv-loop μ-loop
-returns c = lost-found base _ _ (passed-found (c .before .before .before .loop .inv) (search needs) (sym (c .before .withdrawn .ensures) ∙ c .if1 .taken))
+returns c = lost-found base _ _ (passed-found (c .before .before .before .loop .inv) (search needs) (sym (c .before .superseded .ensures) ∙ c .if1 .taken))
 
 loop-again : tie.Need-loop-again Inv-loop μ-loop
-loop-again c = passed-more (c .before .before .before .loop .inv) (search needs) (sym (c .before .withdrawn .ensures) ∙ c .if1 .left)
+loop-again c = passed-more (c .before .before .before .loop .inv) (search needs) (sym (c .before .superseded .ensures) ∙ c .if1 .left)
 
 returns-2 : tie.Need-returns-2 Inv-loop μ-loop
 returns-2 c = lost-found base _ _ (passed-all (c .before .loop .inv) (search needs))

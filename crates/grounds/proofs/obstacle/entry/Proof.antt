@@ -8,23 +8,23 @@ use Rattle.grounds.proofs.Rooms.{room-state, room-creation}
 use Rattle.grounds.proofs.obstacle.entry.Statement.{statement}
 use Rattle.grounds.proofs.obstacle.entry.Tie as tie
 
-mark-requires : tie.Need-mark-requires
-mark-requires c κs =
+history-requires : tie.Need-history-requires
+history-requires c κs =
     let n = c .before in
     (search needs, search needs, search needs, search needs, room-state _ (n .pre .0) (n .args .u) (n .pre .2) (n .args .t) (n .pre .1))
 
-mark-requires-2 : tie.Need-mark-requires-2
-mark-requires-2 c κs =
+history-requires-2 : tie.Need-history-requires-2
+history-requires-2 c κs =
     let n = c .before .before .before .before in
     (search needs, search needs, search needs, search needs, room-creation _ (n .pre .0) (n .args .u) (n .pre .2) (n .args .t) (n .pre .1))
 
 returns : tie.Need-returns
-returns c = entry-state base _ _ _ _ (search needs) (search needs) _ (c .before .before .mark .ensures) (failed (c .before .is-nothing .ensures) (c .if1 .taken))
+returns c = entry-state base _ _ _ _ (search needs) (search needs) _ (c .before .before .history .ensures) (failed (c .before .is-nothing .ensures) (c .if1 .taken))
 
 returns-2 : tie.Need-returns-2
 returns-2 c =
     let n = c .before .before in
-    c .mark2 .ensures ∙ entry-creation base _ _ _ _ (search needs) (search needs) _ (n .before .mark .ensures) (passed (n .is-nothing .ensures) (c .before .if1 .left))
+    c .history2 .ensures ∙ entry-creation base _ _ _ _ (search needs) (search needs) _ (n .before .history .ensures) (passed (n .is-nothing .ensures) (c .before .if1 .left))
 
 pub entry-spec : {M : Type 1} → statement M
 entry-spec =
@@ -35,11 +35,11 @@ entry-spec =
     (λ c. search needs)
     (λ c. search needs)
     (λ c. search needs)
-    mark-requires
+    history-requires
     (λ c κs. search needs)
     returns
     (λ c. search needs)
     (λ c. search needs)
     (λ c. search needs)
-    mark-requires-2
+    history-requires-2
     returns-2)

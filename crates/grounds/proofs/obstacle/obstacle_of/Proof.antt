@@ -13,7 +13,7 @@ returns c = obstacle-first base _ _ _ (c .before .before .first-unstable .ensure
 returns-2 : tie.Need-returns-2
 returns-2 c =
     let n = c .before .before in
-    c .first-mark .ensures ∙ obstacle-next base _ _ _ (n .before .first-unstable .ensures) (passed (n .is-nothing .ensures) (c .before .if1 .left))
+    c .first-history .ensures ∙ obstacle-next base _ _ _ (n .before .first-unstable .ensures) (passed (n .is-nothing .ensures) (c .before .if1 .left))
 
 pub obstacle-of-spec : {M : Type 1} → statement M
 obstacle-of-spec =

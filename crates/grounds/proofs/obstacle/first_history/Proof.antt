@@ -6,8 +6,8 @@ use Rattle.rules.specs.Layout.{base}
 use Rattle.rules.specs.Pack.{unpack}
 use Rattle.rules.specs.Obstacle.{mapObstacle}
 use Rattle.grounds.proofs.Blocking.{Sought, sought-none, sought-found, sought-more, sought-all}
-use Rattle.grounds.proofs.obstacle.first_mark.Statement.{statement}
-use Rattle.grounds.proofs.obstacle.first_mark.Tie as tie
+use Rattle.grounds.proofs.obstacle.first_history.Statement.{statement}
+use Rattle.grounds.proofs.obstacle.first_history.Tie as tie
 
 abbrev Inv-loop : tie.InvT-loop
 Inv-loop image group t₀ t = Sought (mapObstacle base (unpack base image) group) (base .transactors) t
@@ -25,8 +25,8 @@ loop-again c =
     let l = c .before .before .before .before in
     sought-more (l .loop .inv) (search needs) _ (c .before .before .maps-of .ensures) (passed (c .before .is-nothing .ensures) (c .if1 .left))
 
-pub first-mark-spec : {M : Type 1} → statement M
-first-mark-spec =
+pub first-history-spec : {M : Type 1} → statement M
+first-history-spec =
     tie.close
     (tie.spec
     Inv-loop

@@ -7,8 +7,8 @@ use Rattle.rules.specs.Layout.{base}
 use Rattle.rules.proofs.Pack.Loads.{read-history}
 use Rattle.grounds.proofs.Blocking.{mark-absent, mark-dead, mark-member, mark-outside, mark-checkpointed, mark-withdrawn}
 use Rattle.grounds.proofs.Rooms.{room-state}
-use Rattle.grounds.proofs.obstacle.mark.Statement.{statement}
-use Rattle.grounds.proofs.obstacle.mark.Tie as tie
+use Rattle.grounds.proofs.obstacle.history.Statement.{statement}
+use Rattle.grounds.proofs.obstacle.history.Tie as tie
 
 same-in-requires : tie.Need-same-in-requires
 same-in-requires c κs =
@@ -48,8 +48,8 @@ returns-6 c =
     mark-withdrawn base _ _ _ _ _ (ap not (sym (p .before .present .ensures)) ∙ p .if1 .left) (passed (l .before .is-live .ensures) (l .if2 .left)) _ (sym (read-history base _ _ (search needs) _ (search needs)))
     (sym (c .before .before .before .same-in .ensures) ∙ c .before .before .if3 .left) _ (sym (read-history base _ _ (search needs) _ (search needs))) (sym (c .before .checkpointed-in .ensures) ∙ c .if5 .left)
 
-pub mark-spec : {M : Type 1} → statement M
-mark-spec =
+pub history-spec : {M : Type 1} → statement M
+history-spec =
     tie.close
     (tie.spec
     (λ c κs. search needs)
