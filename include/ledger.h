@@ -115,7 +115,7 @@ size_t ledger_ready_count(const uint8_t *image, size_t image_length, size_t size
  * *refusal is 0. Refused: *refusal is 16, 19, 21 or 22, and the answer is 0. */
 uint8_t ledger_all_heard_stable(const uint8_t *image, size_t image_length, size_t transactor, uint8_t *refusal);
 
-/* What rests on the present incarnation of the transactor. In a session grown from a fresh one: if it falls now, those of resting and through can't be checkpointed any more, but
+/* What rests on the present incarnation of the transactor. In a session grown from a fresh one: if it rolls back now, those of resting and through can't be checkpointed any more, but
  * for itself, as long as they keep their own; *refusal is 0. Refused: *refusal is 16, 19, 21 or 22, and all four numbers are 0. */
 struct ledger_dependents ledger_dependents(const uint8_t *image, size_t image_length, size_t transactor, uint8_t *refusal);
 

@@ -64,12 +64,12 @@ enum ledger_outcome {
     LEDGER_MALFORMED = 20,    /* kind 13 to 15, or an unused field or the zero bits not zero */
     LEDGER_UNOPENED = 21,     /* acting transactor, addressee or named one not opened */
     LEDGER_GONE = 22,         /* acting, receiving or named transactor annihilated */
-    LEDGER_WRONG_STATUS = 23, /* receive when not idle; kinds 3 to 9 when not at work */
+    LEDGER_WRONG_STATUS = 23, /* receive when not idle; kinds 3 to 9 when not busy */
     LEDGER_NOT_WAITING = 24,  /* message not waiting */
     LEDGER_ALL_OPENED = 25,   /* as many transactors opened as the session's limit */
     LEDGER_ALL_WAITING = 26,  /* as many messages waiting as the session's limit */
     LEDGER_ALL_NUMBERED = 27, /* next message number is 65,535 */
-    LEDGER_LAST_INCARNATION = 28, /* a checkpointed transactor would fall from incarnation 65,535 */
+    LEDGER_LAST_INCARNATION = 28, /* a checkpointed transactor would roll back from incarnation 65,535 */
     LEDGER_EMPTY_GROUP = 29,  /* group empty */
     LEDGER_ALL_CHECKPOINTED = 30, /* a named transactor has as many checkpoints as the session's limit */
     LEDGER_UNRELATED = 31,    /* receive: histories of one transactor from two different sessions */
@@ -94,6 +94,10 @@ static inline void ledger_step(uint8_t *at, unsigned kind, unsigned transactor, 
     at[6] = (uint8_t)(value >> 8 & 255u);
     at[7] = (uint8_t)(value & 255u);
 }
+
+/* Transactor t as a member of a group, 2^t; a group is its members put together by |. Past 15: 2^16, which is in no group and fits no step;
+ * ledger_obstacle refuses it with 21. */
+static inline unsigned ledger_member(size_t t) { return t < LEDGER_TRANSACTORS ? 1u << t : 1u << LEDGER_TRANSACTORS; }
 
 /* The fields of a reply. */
 static inline unsigned ledger_reply_outcome(const uint8_t *reply) { return reply[0]; }

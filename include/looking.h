@@ -1,8 +1,12 @@
 /* For a program that looks on and must not know a rule: what a receipt would do, two histories compared, what a byte of an image belongs to.
  *
- * The calls are proved (crates fields, decisive, looking_c; docs/PROVED.md). The library is liblooking_c.a, alone or beside the others. It keeps nothing
- * between calls and allocates nothing. Pointers are valid, and *refusal overlaps no other buffer; every other input is allowed, and refused where the
- * documents refuse it. No byte is written but *refusal.
+ * The library is built by `rt staticlib looking_c` as target/staticlib/liblooking_c.a, for x86-64 Linux, and can be linked alone or beside
+ * the ledger's. It keeps nothing between calls, allocates nothing and needs only memcpy, memmove and memset.
+ *
+ * A buffer is a pointer and its length in bytes. The caller owes, for each call: pointers that are not null (also for a
+ * length of 0), as many bytes behind each as its length says, readable, and writable where the pointer is not to const; and
+ * that what is written (refusal) overlaps no other buffer of the call. Buffers that are only read may overlap each other. Every other input
+ * is allowed, and refused where the documents refuse it. A call changes no byte but *refusal.
  *
  * Stack of each call in KiB, at most, beside that of memcpy, memmove and memset (tools/stack measures the compiled library):
  *

@@ -17,9 +17,9 @@ static void pack(uint8_t list[BYTES]) {
     STEP(LEDGER_RECEIVE, 0, 0, 1, 0);
     STEP(LEDGER_WRITE, 1, 0, 0, 10);
     STEP(LEDGER_FREEZE, 1, 0, 0, 0);
-    STEP(LEDGER_SIGN, 0, 0, 1 << 1, 0);
+    STEP(LEDGER_SIGN, 0, 0, ledger_member(1), 0);
     STEP(LEDGER_FREEZE, 0, 0, 0, 0);
-    STEP(LEDGER_SIGN, 0, 0, 1 << 0 | 1 << 1, 0);
+    STEP(LEDGER_SIGN, 0, 0, ledger_member(0) | ledger_member(1), 0);
     STEP(LEDGER_FAIL, 0, 0, 0, 0);
 #undef STEP
 }

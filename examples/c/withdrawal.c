@@ -10,6 +10,8 @@ static const char *const word[TAKES] = {"names", "page 1", "page 2"};
 
 static uint8_t image[LEDGER_IMAGE];
 
+static unsigned pages(void) { return ledger_member(PAGE_1) | ledger_member(PAGE_2); }
+
 static void step(enum ledger_kind kind, unsigned take, unsigned other, unsigned parcel) {
     uint8_t packed[LEDGER_STEP], reply[LEDGER_STEP];
     ledger_step(packed, kind, take, other, parcel, 0);
@@ -20,7 +22,7 @@ static void step(enum ledger_kind kind, unsigned take, unsigned other, unsigned 
 static void print_volume(unsigned volume) {
     const char *between = "";
     for (unsigned t = 0; t < TAKES; t++) {
-        if (volume >> t & 1) {
+        if (volume & ledger_member(t)) {
             printf("%s%s", between, word[t]);
             between = ", ";
         }
@@ -85,17 +87,17 @@ int main(void) {
     step(LEDGER_LETTER, PAGE_1, 0, 0), step(LEDGER_RECEIVE, 0, 0, 2);
     step(LEDGER_SEND, PAGE_1, PAGE_2, 0), step(LEDGER_RECEIVE, 0, 0, 3), step(LEDGER_WRITE, PAGE_2, 0, 0);
     for (unsigned t = 0; t < TAKES; t++) who_rests_on(t);
-    why_not(1 << PAGE_2);
+    why_not(ledger_member(PAGE_2));
     puts("both pages freeze");
     step(LEDGER_FREEZE, PAGE_1, 0, 0), step(LEDGER_FREEZE, PAGE_2, 0, 0);
-    why_not(1 << PAGE_2);
-    why_not(1 << PAGE_1 | 1 << PAGE_2);
-    why_not(1 << NAMES | 1 << PAGE_1 | 1 << PAGE_2);
+    why_not(ledger_member(PAGE_2));
+    why_not(pages());
+    why_not(ledger_member(NAMES) | pages());
     why_none_with(PAGE_2);
     puts("the names are withdrawn");
     step(LEDGER_FAIL, NAMES, 0, 0);
-    why_not(1 << PAGE_1 | 1 << PAGE_2);
-    why_not(1 << NAMES | 1 << PAGE_1 | 1 << PAGE_2);
+    why_not(pages());
+    why_not(ledger_member(NAMES) | pages());
     why_none_with(PAGE_2);
     who_rests_on(NAMES);
     return 0;

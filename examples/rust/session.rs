@@ -15,11 +15,16 @@ fn step(kind: u64, take: u64, other: u64, parcel: u64, text: u64) -> [u8; 8] {
     (kind << 60 | take << 56 | other << 52 | parcel << 32 | text).to_be_bytes()
 }
 
+/// A volume of these takes: take t counts 2^t.
+fn volume(takes: &[u32]) -> u64 {
+    takes.iter().map(|t| 1 << t).sum()
+}
+
 fn main() {
     let list = [
         step(0, 0, 0, 0, 7), step(0, 0, 0, 0, 8), step(1, 0, 0, 0, 5), step(2, 0, 0, 0, 0), step(6, 0, 0, 0, 9),
-        step(4, 0, 1, 0, 9), step(2, 0, 0, 1, 0), step(6, 1, 0, 0, 10), step(7, 1, 0, 0, 0), step(12, 0, 0, 2, 0),
-        step(7, 0, 0, 0, 0), step(12, 0, 0, 3, 0), step(10, 0, 0, 0, 0),
+        step(4, 0, 1, 0, 9), step(2, 0, 0, 1, 0), step(6, 1, 0, 0, 10), step(7, 1, 0, 0, 0), step(12, 0, 0, volume(&[1]), 0),
+        step(7, 0, 0, 0, 0), step(12, 0, 0, volume(&[0, 1]), 0), step(10, 0, 0, 0, 0),
     ].concat();
     let (mut image, mut replies) = (vec![0; 42_616], vec![0; list.len()]);
     let begun = unsafe { ledger_begin(image.as_mut_ptr(), image.len(), 16, 32, 15) };

@@ -239,10 +239,7 @@ static int why(const char *name, int count, char **words) {
     struct bytes image = load(name);
     if (count == 1) return why_none(name, image, take_of(words[0]));
     size_t group = 0;
-    for (int i = 0; i < count; i++) {
-        unsigned t = take_of(words[i]);
-        group |= (size_t)1 << (t < 63 ? t : 63); /* past the last bit: the last, which names a take that is never opened */
-    }
+    for (int i = 0; i < count; i++) group |= ledger_member(take_of(words[i]));
     uint8_t refusal;
     struct ledger_obstacle o = ledger_obstacle(image.at, image.length, group, &refusal);
     if (refusal) return refused(name, refusal);
