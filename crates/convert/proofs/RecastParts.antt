@@ -22,7 +22,7 @@ use Rattle.rules.specs.Internal.Well.{DependencesOk, TransactorOk, MessageOk}
 use Rattle.convert.specs.Internal.Widths.{resized}
 use Rattle.maps.specs.Internal.Recast.{recastMap}
 use Rattle.convert.specs.Internal.Recast.{recastPart, recastTransactor, recastMessage}
-use Rattle.octets.proofs.Runs.{joined, behind}
+use Rattle.octets.proofs.Runs.{joined, behind-whole}
 use Rattle.maps.proofs.Recast.{length-recastMap, unpack-recastMap, recastMap-back, recastMap-pack}
 
 -- ---- runs of two and of four
@@ -30,9 +30,6 @@ use Rattle.maps.proofs.Recast.{length-recastMap, unpack-recastMap, recastMap-ba
 module _ (a m : ℕ) (A B : List ℕ) (n : length A ≡ a) (k : length B ≡ m) where
   pub front-two : (i j : ℕ) → i + j ≤ a → part i j (A ++ B) ≡ part i j A
   front-two i j h = part-left i j A B (omega arith)
-
-  pub back-two : part a m (A ++ B) ≡ B
-  back-two = behind a m A B n ∙ part-whole m B k
 
   pub length-two : length (A ++ B) ≡ a + m
   length-two = rw (length-append, n, k)
@@ -57,13 +54,13 @@ module _ (a m : ℕ) (A B C D : List ℕ) (n : length A ≡ a) (k : length B ≡
   four-1 =
       front-two (a + m + m) m (A ++ B ++ C) D three p a m (omega arith)
       ∙ front-two (a + m) m (A ++ B) C two l a m (omega arith)
-      ∙ back-two a m A B n k
+      ∙ behind-whole a m A B n k
 
   pub four-2 : part (a + m) m (A ++ B ++ C ++ D) ≡ C
-  four-2 = front-two (a + m + m) m (A ++ B ++ C) D three p (a + m) m (omega arith) ∙ back-two (a + m) m (A ++ B) C two l
+  four-2 = front-two (a + m + m) m (A ++ B ++ C) D three p (a + m) m (omega arith) ∙ behind-whole (a + m) m (A ++ B) C two l
 
   pub four-3 : part (a + m + m) m (A ++ B ++ C ++ D) ≡ D
-  four-3 = back-two (a + m + m) m (A ++ B ++ C) D three p
+  four-3 = behind-whole (a + m + m) m (A ++ B ++ C) D three p
 
 pub first-same : (a b : List ℕ) → part 0 1 a ≡ part 0 1 b → getD a 0 0 ≡ getD b 0 0
 first-same a b e = sym (getD-part 0 1 a 0 (omega arith)) ∙ ap (λ (x : List ℕ). getD x 0 0) e ∙ getD-part 0 1 b 0 (omega arith)
@@ -214,7 +211,7 @@ module _ (y : Layout) (v w : ℕ) (old new : Bool) (b : List ℕ) (n : length b 
       ∙ ap (λ (k : ℕ). part k j b) (zero-add i)
 
   e-m : part dependencesAt (mapBytes (resized y w new)) (recastMessage (resized y v old) w b) ≡ recastPart (resized y v old) w dependencesAt b
-  e-m = ap (part dependencesAt (mapBytes (resized y w new))) (message-def (resized y v old) w b) ∙ back-two dependencesAt (mapBytes (resized y w new)) (part 0 dependencesAt b) (recastPart (resized y v old) w dependencesAt b) m-0 m-1
+  e-m = ap (part dependencesAt (mapBytes (resized y w new))) (message-def (resized y v old) w b) ∙ behind-whole dependencesAt (mapBytes (resized y w new)) (part 0 dependencesAt b) (recastPart (resized y v old) w dependencesAt b) m-0 m-1
 
   pub first-recastMessage : getD (recastMessage (resized y v old) w b) 0 0 ≡ getD b 0 0
   first-recastMessage = first-same (recastMessage (resized y v old) w b) b (front-message 0 1 (omega arith))
@@ -248,7 +245,7 @@ module _ (y : Layout) (v w : ℕ) (old new : Bool) (more : bound v ≤ bound w) 
       let n : length f ≡ dependencesAt = simp (length-append, length-be) in
       let k : length (packDependences s (m .dependences)) ≡ mapBytes s = length-packMap v (y .places) (y .transactors) (m .dependences) in
       let p0 : part 0 dependencesAt b ≡ f = ap (part 0 dependencesAt) (pack-message-def s m) ∙ front-two dependencesAt (mapBytes s) f (packDependences s (m .dependences)) n k 0 dependencesAt (omega arith) ∙ part-whole dependencesAt f n in
-      let p1 : part dependencesAt (mapBytes s) b ≡ packDependences s (m .dependences) = ap (part dependencesAt (mapBytes s)) (pack-message-def s m) ∙ back-two dependencesAt (mapBytes s) f (packDependences s (m .dependences)) n k in
+      let p1 : part dependencesAt (mapBytes s) b ≡ packDependences s (m .dependences) = ap (part dependencesAt (mapBytes s)) (pack-message-def s m) ∙ behind-whole dependencesAt (mapBytes s) f (packDependences s (m .dependences)) n k in
       message-def s w b
       ∙ (rw (p0, piece-pack y v w old new more dependencesAt b (o .dependences) p1) (sym (pack-message-def (resized y w new) m)))
 

@@ -1,14 +1,13 @@
 -- The loop over the list: after i turns the register, the rows and the slots are the engine's tables, and its replies are put.
-use Prim.Native.Nat.{ℕ, zero, suc, _+_, _*_, _/_, _≤_, _<_}
+use Prim.Native.Nat.{ℕ, suc, _+_, _*_, _/_, _≤_, _<_}
 use mathlib.Core.Bool.{Bool, true, false}
-use mathlib.Core.Path.{_≡_, refl, ap, sym, _∙_, subst}
-use mathlib.Core.List.{List, [], _∷_, _++_}
+use mathlib.Core.Path.{_≡_, ap, sym, _∙_, subst}
+use mathlib.Core.List.{List, _++_}
 use mathlib.Core.Logic.{⊎-elim}
 use native.Mathlib.Numerals.{add-one}
 use native.Mathlib.Omega.{arith}
-use lib.Dec.{eqb, leb}
+use lib.Dec.{eqb}
 use lib.ListN.{length, getD, set, replicate, length-set, length-replicate, getD-replicate, List·getD-eq-default}
-use borrow.Author.Tests.{le-leb, lt-leb, leb-false}
 use Rattle.octets.specs.Bytes.{pick, put, Octets}
 use Rattle.octets.proofs.Chunks.{sides}
 use Rattle.octets.proofs.Put.{put-nil, put-behind, put-whole}
@@ -37,9 +36,11 @@ use Rattle.engine_tables.specs.declared.turns.Operands.{Operands}
 use Rattle.engine_tables.specs.declared.turns.Turn.{Turn}
 use Rattle.engine_tables.specs.declared.turns.GroupTurn.{GroupTurn}
 use Rattle.engine_tables.specs.Internal.Register.{rowAt, viewOf, freshRegister}
+use Rattle.engine_tables.specs.Internal.Places.{most, slotAt, placed}
 use Rattle.engine_tables.specs.Internal.Turns.{placeOf, subjectOf, operandsOf, Holds, playedOf}
+use Rattle.engine_tables.proofs.Placing.{placed-below, placed-past, placed-within}
 use Rattle.engine_tables.proofs.Views.{same-at}
-use Rattle.engine.specs.Internal.Advance.{most, slotAt, placed, playAt, Advances, AdvancesGroup, Unstale, Ahead}
+use Rattle.engine.specs.Internal.Advance.{playAt, Advances, AdvancesGroup, Unstale, Ahead}
 use Rattle.engine.proofs.Ranges.{Ranged, waits-below}
 use Rattle.engine.proofs.Steps.{ranged, replies-long, walkable, receipt-same, step-same}
 
@@ -72,25 +73,7 @@ playing-none a b c steps start rows r slots e = record {
   slots-long = ap length e ∙ length-replicate (most + 1) emptySlot;
 }
 
--- ---- the place of a parcel number
-
--- within an array it does not matter what stands past its end
-pub read-within : {A : Type 0} (l : List A) (n : ℕ) (d e : A) → n < length l → getD l n d ≡ getD l n e
-read-within [] n d e h = absurd (omega arith)
-read-within (z ∷ l) zero d e h = refl
-read-within (z ∷ l) (suc n) d e h = read-within l n d e (omega arith)
-
-placed-below : (k : ℕ) → k < most → placed k ≡ k
-unfolding placed
-placed-below k h = rw (lt-leb most k h)
-
-placed-past : (k : ℕ) → most ≤ k → placed k ≡ most
-unfolding placed
-placed-past k h = rw (le-leb most k h)
-
-pub placed-within : (k : ℕ) → placed k ≤ most
-unfolding placed
-placed-within k = pick-view (λ n. n ≤ most) (leb most k) most k (λ e. omega arith) (λ e. omega (arith, leb-false most k e))
+-- ---- one turn
 
 module _ (m : Limits) (range : inRange base m ≡ true) (steps : List ℕ) (octets : Octets steps) (start : List ℕ) where
   module _ {i : ℕ} {x : Register} {rows : List Row} {slots : List Slot} {replies : List ℕ} (now : Playing m steps start i x rows slots replies) where

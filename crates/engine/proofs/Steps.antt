@@ -25,7 +25,7 @@ use Rattle.engine_chains.specs.Internal.Walk.{Walk, walkBack, receiptStart, sig
 use Rattle.engine_chains.specs.Internal.Engine.{unpackTold, toldIn, Walkable, receiptWalk, signWalk, readyIn, playStep, Engine, engineAfter}
 use Rattle.engine_chains.proofs.Walks.{walk-replies}
 use Rattle.engine_chains.proofs.Engine.{told-packed, replies-fit-bytes}
-use Rattle.engine.specs.Internal.Advance.{most}
+use Rattle.engine_tables.specs.Internal.Places.{most}
 use Rattle.engine.proofs.Ranges.{Ranged, Fine, ranged-fresh, ranged-step}
 
 -- ---- replies in a longer list

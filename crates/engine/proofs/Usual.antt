@@ -21,7 +21,7 @@ use Rattle.engine_chains.specs.declared.words.Told.{Told}
 use Rattle.engine_chains.specs.Internal.Tables.{Tables, seenIn, Played, playReceive, playLocal, playApplied, playRefusal, play}
 use Rattle.engine_chains.specs.Internal.Engine.{toldIn, playStep, engineAfter, engineReplies}
 use Rattle.engine_chains.proofs.Engine.{engine-fresh, replies-fit-bytes}
-use Rattle.engine.specs.Internal.Advance.{most}
+use Rattle.engine_tables.specs.Internal.Places.{most}
 use Rattle.engine.proofs.Ranges.{Ranged, local-small, receive-small}
 use Rattle.engine.proofs.Steps.{told-left, told-last, ranged, replies-long}
 use Rattle.engine.specs.Play.{Usual}

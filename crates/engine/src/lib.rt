@@ -1,14 +1,13 @@
 // The engine without maps (document 02, W11): the replies to a list of steps from a fresh session, by tables and by walks back over the
 // list.
 use engine_chains::rows::Row;
-use engine_chains::rows::Slot;
 use engine_tables::effects;
 use engine_tables::guards;
+use engine_tables::places;
 use engine_tables::register::Register;
 use engine_tables::turns::GroupTurn;
 use engine_tables::turns::Operands;
 use engine_tables::turns::Turn;
-use engine_walk::NUMBERS;
 use lists::STEP;
 use lists::fields;
 use lists::limits;
@@ -17,53 +16,13 @@ use rules::Step;
 use rules::numbers;
 ghost use mathlib.Core.Path.{_≡_};
 ghost use mathlib.Core.Bool.{false};
-ghost use Rattle.octets.specs.Bytes.{pick};
 ghost use Rattle.rules.specs.Layout.{base, limitsOf};
 ghost use Rattle.rules.specs.Step as kinds;
-ghost use Rattle.rules.specs.Refusals.{sends, malformed};
+ghost use Rattle.rules.specs.Refusals.{malformed};
 ghost use Rattle.rules.specs.Calls.{freshImage, ranReplies};
 ghost use Rattle.engine_chains.specs.Internal.Engine.{Walkable};
-ghost use Rattle.engine_tables.specs.Internal.Turns.{subjectOf};
 ghost use Rattle.engine.specs.Play.{playAnswer, playReplies};
-ghost use Rattle.engine.specs.Internal.Advance.{placed, Advances, AdvancesGroup, Ahead, Playable};
-
-// A place for each message number, and one, where no message ever waits, for all numbers that no message can have.
-const PLACES: usize = NUMBERS + 1;
-
-// Where the slot of the message number that a step looks at stands.
-fn place(next: u16, p: Step) -> usize
-    ensures { λ r. ⌜ r ≡ placed (pick (sends (p .kind)) next (p .message)) ⌝ }
-{
-    let kind = p.kind;
-    if kind == numbers::LETTER {
-        return within(next);
-    }
-    if kind == numbers::SEND {
-        return within(next);
-    }
-    within(p.message)
-}
-
-// The place of message number n.
-fn within(n: u16) -> usize
-    ensures { λ r. ⌜ r ≡ placed n ⌝ }
-{
-    let at = n as usize;
-    if NUMBERS <= at {
-        return NUMBERS;
-    }
-    at
-}
-
-// Whose row a step looks at, by the slot that it looks at.
-fn subject(p: Step, slot: Slot) -> usize
-    ensures { λ r. ⌜ r ≡ subjectOf p slot ⌝ }
-{
-    if p.kind == numbers::RECEIVE {
-        return slot.addressee as usize;
-    }
-    p.transactor as usize
-}
+ghost use Rattle.engine.specs.Internal.Advance.{Advances, AdvancesGroup, Ahead, Playable};
 
 // A receipt: the walk is done only where the table would not refuse it otherwise, and for no letter, which rests on nothing.
 fn receive(list: &[u8], replies: &[u8], i: usize, x: Operands, p: Step) -> Turn
@@ -137,7 +96,7 @@ fn play_steps(list: &[u8], transactors: u8, messages: u8, checkpoints: u8, repli
     let n = list.len() / STEP;
     let mut x = Register::fresh(transactors, messages, checkpoints);
     let mut rows = [effects::UNUSED; 16];
-    let mut slots = [engine_tables::turns::EMPTY; PLACES];
+    let mut slots = [engine_tables::turns::EMPTY; places::PLACES];
     let mut i: usize = 0;
     while i < n {
         let from = STEP * i;
@@ -149,9 +108,9 @@ fn play_steps(list: &[u8], transactors: u8, messages: u8, checkpoints: u8, repli
             let reply = u.reply;
             packed::encode(replies, from, reply);
         } else {
-            let k = place(x.next, p);
+            let k = places::place(x.next, p);
             let slot = slots[k];
-            let t = subject(p, slot);
+            let t = places::subject(p, slot);
             let row = rows[t];
             let o = Operands::of(x, t, row, slot);
             let u = advance(list, replies, i, o, p);

@@ -2,7 +2,7 @@ pub mod Seek
 pub mod Exact
 pub mod BookSets
 pub mod Forward
-pub mod Newest
+pub mod Meets
 pub mod Maps
 pub mod Replies
 pub mod Replied

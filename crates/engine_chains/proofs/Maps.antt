@@ -1,19 +1,17 @@
 -- Document 02, W11: the ledger's maps and tests by the way back over the steps, for every list of steps from a fresh session.
 use Prim.Native.Nat.{ℕ, zero, suc, _≤_, _<_}
 use mathlib.Core.Bool.{Bool, true, false≢true}
-use mathlib.Core.Path.{_≡_, refl, ap, sym, _∙_, subst}
+use mathlib.Core.Path.{_≡_, refl, subst}
 use mathlib.Core.List.{List, _∷_, _++_, List·Memᴰ·append-cases, Memᴰ·append-left, Memᴰ·append-right}
 use mathlib.Core.Logic.{_⊎_, inl, inr, ⊎-elim, _↔_}
-use mathlib.Core.Option.{Option, none, some}
+use mathlib.Core.Option.{none}
 use native.Mathlib.Omega.{arith}
 use lib.Dec.{eqb}
 use borrow.Author.Tests.{eqb-true, eq-eqb}
 use Rattle.octets.specs.Bytes.{Octets}
 use Rattle.octets.specs.Numbers.{bound}
-use Rattle.marks.specs.Incarnation.{Incarnation, Superseded, Checkpointed}
+use Rattle.marks.specs.Incarnation.{Incarnation, Checkpointed}
 use Rattle.marks.specs.History.{HistoryView}
-use Rattle.marks.proofs.Order.{precedes-antisym}
-use Rattle.maps.specs.Internal.View.{MapView, SupersededView, superseded-entry}
 use Rattle.rules.specs.Layout.{Layout, Limits, Fitting}
 use Rattle.rules.specs.State.{State}
 use Rattle.rules.specs.Step.{stepAt}
@@ -23,46 +21,23 @@ use Rattle.rules.specs.Internal.Well.{WellFormed}
 use Rattle.rules.specs.Calls.{stateAfter}
 use Rattle.rules.proofs.Keep.Run.{stepOk-at}
 use Rattle.rules.proofs.Keep.Step.{keeps-after}
-use Rattle.session.specs.Provenance.{Live, Incarnations, In, Provenance, emptyProvenance, find}
+use Rattle.session.specs.Provenance.{Live, In, Provenance, emptyProvenance, find}
 use Rattle.session.specs.Grounds.{from-start}
 use Rattle.session.specs.Grounds as grounds
 use Rattle.session.specs.Fed as book
 use Rattle.session.specs.Fed.{ProvenanceSteps}
-use Rattle.engine_chains.specs.Chain.{Places, messageAlone, groundOf, Event, back, newest}
+use Rattle.engine_chains.specs.Chain.{Places, messageAlone, groundOf, Event, back}
 use Rattle.engine_chains.specs.Internal.Sets.{Reached, by-state, by-creation, by-behaviour, by-message, setsOf, Met, Traced, here, further}
 use Rattle.engine_chains.specs.Internal.Book.{eventsOf}
-use Rattle.session.proofs.Model.{Ledger, own, findMessage, knownMap, view}
-use Rattle.session.proofs.Sets.{SetRel, set-join, cell-has, cell-some, cell-none}
+use Rattle.session.proofs.Model.{Ledger, own, view}
+use Rattle.session.proofs.Sets.{cell-has}
 use Rattle.session.proofs.Relation.{present, Rel, own-history}
 use Rattle.session.proofs.Locals.{live-opened}
-use Rattle.session.proofs.Messages.{find-rel}
 use Rattle.session.proofs.Sign.{EntryReady, Ready, Settled, settled}
 use Rattle.session.proofs.Step.{Stepped, step-right}
-use Rattle.session.proofs.ViewRules.{droppedAt, rolledBackAt, dropped-test, rolledBack-test}
 use Rattle.session.proofs.ViewStep.{readyAt, ready-at}
 use Rattle.engine_chains.proofs.BookSets.{book-traced}
 use Rattle.engine_chains.proofs.Forward.{step-forward, step-opened}
-use Rattle.engine_chains.proofs.Newest.{Grown, start, step, newest-none, newest-met, newest-last}
-
--- the life of a mark, if there is one
-unfoldable pub incarnationIf : Option HistoryView → Option Incarnation
-incarnationIf none = none
-incarnationIf (some m) = some (m .incarnation)
-
--- ---- a map, and a way back that meets the lives of its set
-
-module _ {es : List Event} {now : ℕ → HistoryView} (incarnations : Grown es now) (Q : Places) where
-  pub map-first : (M : MapView) (X : Incarnations) → SetRel now M X → ((u : ℕ) (a : Incarnation) → In u a X ↔ Traced es Q u a) → (u : ℕ) → incarnationIf (M u) ≡ newest es Q u
-  unfolding incarnationIf
-  map-first M X r same u = go (newest es Q u) refl
-    where
-      go : (o : Option Incarnation) → newest es Q u ≡ o → incarnationIf (M u) ≡ o
-      go none e = ap incarnationIf (cell-none (λ a i. newest-none es Q u e a (same u a .0 i)) (r u))
-      go (some a) e =
-          let i = same u a .1 (newest-met es Q u a e) in
-          let k = cell-some a i (r u) in
-          let q : k .0 .incarnation ≡ a = precedes-antisym (newest-last incarnations Q u a e (k .0 .incarnation) (same u (k .0 .incarnation) .0 (k .2 .has))) (k .2 .top a i) in
-          ap incarnationIf (k .1) ∙ ap some q
 
 -- ---- the two ways back of a receipt
 
@@ -87,45 +62,6 @@ module _ (b : Provenance) where
       from (by-creation k q i) = Memᴰ·append-right (b .holders t .state) (subst (λ z. In u a (b .holders z .creation)) (eqb-true k t q) i)
       from (by-behaviour k q i) = absurd (false≢true q)
       from (by-message k q i) = absurd (false≢true q)
-
--- ---- beside a ledger
-
-module _ {y : Layout} {m : Limits} {steps : List ℕ} {i : ℕ} {b : Provenance} (τ : ProvenanceSteps y (emptyProvenance m) steps i b) (l : Ledger) (r : Rel l b) (incarnations : Grown (eventsOf τ) (present (b .holders))) where
-  pub message-first : (n u : ℕ) → incarnationIf (findMessage n (l .messages) .dependences u) ≡ newest (eventsOf τ) (messageAlone n) u
-  message-first n = map-first incarnations (messageAlone n) (findMessage n (l .messages) .dependences) (find n (b .messages) .incarnations) (find-rel n (r .messages) .incarnations)
-      (λ u a. let p = message-reached b n u a in let q = book-traced τ (messageAlone n) u a in (λ x. q .0 (p .0 x), λ x. p .1 (q .1 x)))
-
-  pub ground-first : (t u : ℕ) → incarnationIf (knownMap (l .nodes t) u) ≡ newest (eventsOf τ) (groundOf (λ k. eqb k t)) u
-  ground-first t = map-first incarnations (groundOf (λ k. eqb k t)) (knownMap (l .nodes t)) (b .holders t .state ++ b .holders t .creation)
-      (set-join (present (b .holders)) (l .nodes t .state) (l .nodes t .creation) (b .holders t .state) (b .holders t .creation) (r .holders t .state) (r .holders t .creation))
-      (λ u a. let p = ground-reached b t u a in let q = book-traced τ (groundOf (λ k. eqb k t)) u a in (λ x. q .0 (p .0 x), λ x. p .1 (q .1 x)))
-
--- ---- the tests at a receipt
-
--- the first life met of some take along the one way back is stale by the first one met along the other
-pub data SupersededBack (es : List Event) (Q R : Places) : Type 0 where
-  superseded-back : (u : ℕ) (a c : Incarnation) → newest es Q u ≡ some a → newest es R u ≡ some c → Superseded a c → SupersededBack es Q R
-
-entry-some : (o : Option HistoryView) (a : Incarnation) → incarnationIf o ≡ some a → (m : HistoryView) × (o ≡ some m) × (m .incarnation ≡ a)
-unfolding incarnationIf
-entry-some none a e = let z : _≡_ {A = ℕ} 0 1 = cc in absurd (omega arith)
-entry-some (some m) a e = let q : m .incarnation ≡ a = cc in (m, refl, q)
-
-entry-of : (o : Option HistoryView) (m : HistoryView) → o ≡ some m → incarnationIf o ≡ some (m .incarnation)
-unfolding incarnationIf
-entry-of o m e = ap incarnationIf e
-
-superseded-exact : (es : List Event) (Q R : Places) (M N : MapView) → ((u : ℕ) → incarnationIf (M u) ≡ newest es Q u) → ((u : ℕ) → incarnationIf (N u) ≡ newest es R u) → SupersededView M N ↔ SupersededBack es Q R
-superseded-exact es Q R M N p q = (to, from)
-  where
-    to : SupersededView M N → SupersededBack es Q R
-    to (superseded-entry u a c e f s) = superseded-back u (a .incarnation) (c .incarnation) (sym (p u) ∙ entry-of (M u) a e) (sym (q u) ∙ entry-of (N u) c f) s
-
-    from : SupersededBack es Q R → SupersededView M N
-    from (superseded-back u a c e f s) =
-        let x = entry-some (M u) a (p u ∙ e) in
-        let z = entry-some (N u) c (q u ∙ f) in
-        superseded-entry u (x .0) (z .0) (x .1) (z .1) (rw (x .2, z .2) s)
 
 -- ---- the test at a signing
 
@@ -176,7 +112,6 @@ pub record TracedRun (y : Layout) (m : Limits) (s : State) (steps : List ℕ) (i
   pub after : Provenance
   pub fed : ProvenanceSteps y (emptyProvenance m) steps i after
   pub rel : Rel (view (stateAfter y s steps i)) after
-  pub incarnations : Grown (eventsOf fed) (present (after .holders))
   -- every take met is opened
   pub below : (Q : Places) (u : ℕ) (a : Incarnation) → Traced (eventsOf fed) Q u a → u < after .opened
 
@@ -186,12 +121,12 @@ module _ {y : Layout} {m : Limits} (z : Fitting y) {s : State} (well : WellForme
   traced-more i before =
       let ok = stepOk-at steps octets i in
       let k : Stepped y (stateAfter y s steps i) (before .after) (stepAt steps i) = step-right z (keeps-after z well steps octets i) (before .rel) ok in
-      let f = step-forward (view (stateAfter y s steps i)) (before .rel) (ok .message) (k .right .provenance) in
-      record { after = k .after; fed = book.more (before .fed) (k .right .provenance); rel = k .rel; incarnations = step (before .incarnations) (f .grow) (f .meets); below = met-below (before .below) (step-opened (k .right .provenance)) (λ Q u a x. live-opened (view (stepOf y (stateAfter y s steps i) (stepAt steps i) .state)) (k .after) (k .rel) u (f .alive Q u a x)) }
+      let f = step-forward (view (stateAfter y s steps i)) (before .rel) (k .right .provenance) in
+      record { after = k .after; fed = book.more (before .fed) (k .right .provenance); rel = k .rel; below = met-below (before .below) (step-opened (k .right .provenance)) (λ Q u a x. live-opened (view (stepOf y (stateAfter y s steps i) (stepAt steps i) .state)) (k .after) (k .rel) u (f .meets Q u a x .1)) }
 
   unfoldable pub traced-run : (i : ℕ) → TracedRun y m s steps i
   unfolding stateAfter
-  traced-run zero = record { after = emptyProvenance m; fed = book.none; rel = r; incarnations = start; below = λ Q u a x. elim x [ ] }
+  traced-run zero = record { after = emptyProvenance m; fed = book.none; rel = r; below = λ Q u a x. elim x [ ] }
   traced-run (suc i) = traced-more i (traced-run i)
 
   module _ (i : ℕ) where
@@ -205,27 +140,6 @@ module _ {y : Layout} {m : Limits} (z : Fitting y) {s : State} (well : WellForme
 
     ok : WellFormed y now
     ok = keeps-after z well steps octets i
-
-    -- "For a receipt it needs the newest mark that a chain carries for each take"
-    pub dropped-back : (n : ℕ) → (droppedAt y now n ≡ true) ↔ SupersededBack events (messageAlone n) (groundOf (λ k. eqb k (findMessage n (view now .messages) .addressee)))
-    unfolding events
-    dropped-back n =
-        let τ = traced-run i in
-        let p = dropped-test ok n in
-        let q = superseded-exact (eventsOf (τ .fed)) (messageAlone n) (groundOf (λ k. eqb k (findMessage n (view now .messages) .addressee)))
-        (findMessage n (view now .messages) .dependences) (knownMap (view now .nodes (findMessage n (view now .messages) .addressee)))
-        (message-first (τ .fed) (view now) (τ .rel) (τ .incarnations) n) (ground-first (τ .fed) (view now) (τ .rel) (τ .incarnations) (findMessage n (view now .messages) .addressee)) in
-        (λ e. q .0 (p .0 e), λ e. p .1 (q .1 e))
-
-    pub rolledBack-back : (n : ℕ) → (rolledBackAt y now n ≡ true) ↔ SupersededBack events (groundOf (λ k. eqb k (findMessage n (view now .messages) .addressee))) (messageAlone n)
-    unfolding events
-    rolledBack-back n =
-        let τ = traced-run i in
-        let p = rolledBack-test ok n in
-        let q = superseded-exact (eventsOf (τ .fed)) (groundOf (λ k. eqb k (findMessage n (view now .messages) .addressee))) (messageAlone n)
-        (knownMap (view now .nodes (findMessage n (view now .messages) .addressee))) (findMessage n (view now .messages) .dependences)
-        (ground-first (τ .fed) (view now) (τ .rel) (τ .incarnations) (findMessage n (view now .messages) .addressee)) (message-first (τ .fed) (view now) (τ .rel) (τ .incarnations) n) in
-        (λ e. q .0 (p .0 e), λ e. p .1 (q .1 e))
 
     -- "for a signing, the lives"
     pub ready-back : (g : ℕ) → g < bound 2 → (readyAt y now g ≡ true) ↔ ReadyBack (view now) events (named g)

@@ -1,19 +1,18 @@
 -- The way back by the replies and by the lives after the last step: the same as by the book's steps.
-use Prim.Native.Nat.{ℕ, _+_, _-_, _≤_}
+use Prim.Native.Nat.{ℕ, _≤_}
 use mathlib.Core.Bool.{Bool, true, false, true≢false, false≢true}
-use mathlib.Core.Path.{_≡_, refl, ap, sym, _∙_, subst}
-use mathlib.Core.List.{List, [], _∷_, _++_}
+use mathlib.Core.Path.{_≡_, refl, ap, sym, _∙_}
+use mathlib.Core.List.{[], _++_}
 use mathlib.Core.Option.{Option, none, some}
 use native.Mathlib.Omega.{arith}
 use lib.Dec.{eqb}
 use borrow.Author.Tests.{eq-eqb, eqb-true, ne-eqb}
 use Rattle.octets.specs.Bytes.{pick, _and_}
 use Rattle.octets.proofs.Zero.{both}
-use Rattle.marks.specs.Incarnation.{Incarnation, initialIncarnation, nextIncarnation, checkpointIncarnation, beforeRollback, beforeCheckpoint}
+use Rattle.marks.specs.Incarnation.{Incarnation, initialIncarnation, nextIncarnation, checkpointIncarnation}
 use Rattle.marks.specs.History.{initialView}
-use Rattle.marks.proofs.Before.{before-checkpoint}
 use Rattle.octets.specs.Table.{updated}
-use Rattle.octets.proofs.Tables.{updated-view, updated-same, updated-other}
+use Rattle.octets.proofs.Tables.{updated-view, updated-same}
 use Rattle.rules.specs.declared.Step.{Step}
 use Rattle.rules.specs.Step.{done, held, dropped, fallenBack, vanished, notReady, root, letter, receive, new, send, read, write, freeze, finish, fall, lose, sign}
 use Rattle.rules.specs.Refusals.{named}
@@ -21,9 +20,8 @@ use Rattle.session.specs.Provenance.{idle, annihilated, one, Holder, WaitingMes
 use Rattle.session.specs.Steps.{anew, carried, isNil, rolledBackHolder, reads, writes, freezes, finishes, rollsBackOrFinishes, rollsBackOrStays, acted, isDropped, isRolledBack, received, receives, opensRoot, opensChild, checkpointedAt, applied, signs}
 use Rattle.engine_chains.specs.Chain as chain
 use Rattle.engine_chains.specs.Internal.Sets as sets
-use Rattle.engine_chains.specs.Chain.{Places, Event, back, metOf, newest}
-use Rattle.engine_chains.specs.Back.{Told, rollbackFrom, receiptFrom, localFrom, eventFrom, undo}
-use Rattle.engine_chains.specs.Internal.Sets.{Met, in-later, in-earlier, Traced, here, further}
+use Rattle.engine_chains.specs.Chain.{Places, Event, back, metOf}
+use Rattle.engine_chains.specs.Back.{Told, rollbackFrom, receiptFrom, localFrom, eventFrom}
 use Rattle.engine_chains.specs.Internal.Walk.{wasRolledBack, wasCheckpointed}
 use Rattle.engine_chains.specs.Internal.Book.{rollbackEvent, actedEvent, receiptEvent, appliedEvent, signEvent, incarnationsIn}
 use Rattle.engine_chains.proofs.Walked.{Turned, stays, rolled-back, checkpointed-now}
@@ -37,11 +35,6 @@ pub data Alike : Event → Event → Type 0 where
   alike-renewed : {v : ℕ → Bool} {a c : ℕ → Incarnation} → ((u : ℕ) → v u ≡ true → a u ≡ c u) → Alike (chain.renewed v a) (chain.renewed v c)
   alike-later : {d e f : Event} → Alike e f → Alike (chain.successive d e) (chain.successive d f)
 
-pub alike-sym : {e f : Event} → Alike e f → Alike f e
-alike-sym alike-same = alike-same
-alike-sym (alike-renewed k) = alike-renewed (λ u q. sym (k u q))
-alike-sym (alike-later x) = alike-later (alike-sym x)
-
 pub alike-back : {e f : Event} → Alike e f → (Q : Places) → back e Q ≡ back f Q
 unfolding back
 alike-back alike-same Q = refl
@@ -54,29 +47,6 @@ alike-metOf alike-same Q u = refl
 alike-metOf (alike-renewed {v} {a} {c} k) Q u =
     pick-both (λ (x y : Option Incarnation). x ≡ y) (v u and Q .state u) (v u and Q .state u) refl (some (a u)) none (some (c u)) none (λ e. ap some (k u (both (v u) (Q .state u) e .0))) (λ e. refl)
 alike-metOf (alike-later {d} {e} {f} x) Q u = rw (alike-metOf x Q u, alike-back x Q)
-
-pub alike-met : {e f : Event} {Q : Places} {u : ℕ} {a : Incarnation} → Alike e f → Met e Q u a → Met f Q u a
-alike-met alike-same x = x
-alike-met {Q = Q} {u = u} (alike-renewed {v} {a} {c} k) (sets.anew i q) = subst (λ z. Met (chain.renewed v c) Q u z) (sym (k u i)) (sets.anew i q)
-alike-met (alike-later x) (in-later y) = in-later (alike-met x y)
-alike-met {Q = Q} {u = u} {a = a} (alike-later {d} x) (in-earlier y) = in-earlier (subst (λ z. Met d z u a) (alike-back x Q) y)
-
-pub data AllAlike : List Event → List Event → Type 0 where
-  all-none : AllAlike [] []
-  all-more : {e f : Event} {es fs : List Event} → Alike e f → AllAlike es fs → AllAlike (e ∷ es) (f ∷ fs)
-
-pub all-sym : {es fs : List Event} → AllAlike es fs → AllAlike fs es
-all-sym all-none = all-none
-all-sym (all-more x k) = all-more (alike-sym x) (all-sym k)
-
-pub all-first : {es fs : List Event} → AllAlike es fs → (Q : Places) (u : ℕ) → newest es Q u ≡ newest fs Q u
-unfolding newest
-all-first all-none Q u = refl
-all-first (all-more {e} {f} {es} {fs} x k) Q u = rw (alike-metOf x Q u, alike-back x Q, all-first k (back f Q) u)
-
-pub all-traced : {es fs : List Event} {Q : Places} {u : ℕ} {a : Incarnation} → AllAlike es fs → Traced es Q u a → Traced fs Q u a
-all-traced (all-more x k) (here y) = here (alike-met x y)
-all-traced {Q = Q} {u = u} {a = a} (all-more {fs = fs} x k) (further y) = further (subst (λ z. Traced fs z u a) (alike-back x Q) (all-traced k y))
 
 -- ---- what the book would reply
 
@@ -185,7 +155,6 @@ module _ (b : Provenance) (p : Step) (other : p .kind ≡ sign → ⊥) (first :
 
   pub record Replied (w : Told) (c : Provenance) (e : Event) : Type 0 where
     pub event : Alike (eventFrom p w (incarnationsIn c)) e
-    pub incarnations : (u : ℕ) → undo p w (incarnationsIn c) u ≡ incarnationsIn b u
     pub turned : (u : ℕ) → Turned (wasRolledBack w u) (wasCheckpointed p w u) (incarnationsIn b u) (incarnationsIn c u)
     pub small : w .outcome ≤ notReady
 
@@ -197,34 +166,16 @@ module _ (b : Provenance) (p : Step) (other : p .kind ≡ sign → ⊥) (first :
   unfolding wasRolledBack
   not-rolledBack w u e = rw e
 
-  undo-none : (w : Told) (L : ℕ → Incarnation) (u : ℕ) → eqb (w .outcome) fallenBack ≡ false → undo p w L u ≡ L u
-  unfolding undo
-  undo-none w L u e = rw (e, ne-eqb (p .kind) sign other)
-
-  undo-rollback : (w : Told) (L : ℕ → Incarnation) (u : ℕ) → eqb (w .outcome) fallenBack ≡ true → undo p w L u ≡ updated L (w .transactor) (beforeRollback (L (w .transactor))) u
-  unfolding undo
-  undo-rollback w L u e = rw e
-
   put-told : (o t n : ℕ) (k : Holder) (e : Event) (F : ℕ → (ℕ → Incarnation) → Event) → ((L : ℕ → Incarnation) → eventFrom p (tell o t n) L ≡ F o L) → OneTold t (H t) F o k e → Replied (tell o t n) (withHolder b t k) e
   unfolding wasRolledBack
   put-told o t n k e F f z = record {
     event = rw (f L) (z .event L (ap (λ w. w .history .incarnation) (updated-same H t k)));
-    incarnations = λ u. go (eqb o fallenBack) refl u;
     turned = λ u. turn (eqb o fallenBack) refl u;
     small = z .small;
   }
     where
       L : ℕ → Incarnation
       L u = updated H t k u .history .incarnation
-
-      at : L t ≡ k .history .incarnation
-      at = ap (λ w. w .history .incarnation) (updated-same H t k)
-
-      less : (a c : Incarnation) → a ≡ nextIncarnation c → beforeRollback a ≡ c
-      less a c e = rw e (λ i. record { checkpoints = c .checkpoints; number = minus i })
-        where
-          minus : c .number + 1 - 1 ≡ c .number
-          minus = omega arith
 
       fallen : (u : ℕ) → eqb o fallenBack ≡ true → wasRolledBack (tell o t n) u ≡ eqb t u
       fallen u q = rw q
@@ -235,16 +186,10 @@ module _ (b : Provenance) (p : Step) (other : p .kind ≡ sign → ⊥) (first :
       turn false q = updated-view (λ u w. Turned (wasRolledBack (tell o t n) u) (wasCheckpointed p (tell o t n) u) (H u .history .incarnation) (w .history .incarnation)) H t k
           (stays (not-rolledBack (tell o t n) t q) (no-group (tell o t n) t) (z .kept q)) (λ u d. stays (not-rolledBack (tell o t n) u q) (no-group (tell o t n) u) refl)
 
-      go : (q : Bool) → eqb o fallenBack ≡ q → (u : ℕ) → undo p (tell o t n) L u ≡ H u .history .incarnation
-      go true q u = undo-rollback (tell o t n) L u q ∙
-          updated-view (λ u a. a ≡ H u .history .incarnation) L t (beforeRollback (L t)) (less (L t) (H t .history .incarnation) (at ∙ z .rolled-back q)) (λ u d. ap (λ w. w .history .incarnation) (updated-other H t k u d)) u
-      go false q u = undo-none (tell o t n) L u q ∙ updated-view (λ u w. w .history .incarnation ≡ H u .history .incarnation) H t k (z .kept q) (λ u d. refl) u
-
   -- no life changes
   still-told : (w : Told) (c : Provenance) (e : Event) → w .outcome ≡ done → ((u : ℕ) → incarnationsIn c u ≡ incarnationsIn b u) → Alike (eventFrom p w (incarnationsIn c)) e → Replied w c e
   still-told w c e o k z = record {
     event = z;
-    incarnations = λ u. undo-none w (incarnationsIn c) u (rw o) ∙ k u;
     turned = λ u. stays (not-rolledBack w u (rw o)) (no-group w u) (k u);
     small = rw o (omega arith);
   }
@@ -279,7 +224,7 @@ module _ (b : Provenance) (p : Step) (other : p .kind ≡ sign → ⊥) (first :
       pick-three Replied (eqb k receive) (tell (receiptOutcome (H (q .addressee)) q) (q .addressee) n) _ (receives b n) _ (receiptEvent n (q .addressee) (H (q .addressee)) q) _
       (λ e. let z = put-told (receiptOutcome (H (q .addressee)) q) (q .addressee) n (received (q .addressee) (H (q .addressee)) q) (receiptEvent n (q .addressee) (H (q .addressee)) q)
       (λ o L. receiptFrom (tell o (q .addressee) n) L) (λ L. rw (e0, e1, e)) (receipt-told (q .addressee) (H (q .addressee)) (first (q .addressee)) n q) in
-      record { event = z .event; incarnations = z .incarnations; turned = z .turned; small = z .small }) λ e2.
+      record { event = z .event; turned = z .turned; small = z .small }) λ e2.
       pick-three Replied (eqb k new) (tell done (b .opened) 0) _ (opensChild b t) _ (chain.opens t (b .opened) (H t .history .incarnation)) _
       (λ e. still-told (tell done (b .opened) 0) (opensChild b t) (chain.opens t (b .opened) (H t .history .incarnation)) refl (child-incarnations t) (rw (e0, e1, e2, e, child-incarnations t t) alike-same)) λ e3.
       pick-three Replied (eqb k send) (tell done t (b .next)) _ (withWaitingMessage b (p .other) (carried t (H t))) _ (chain.sent (b .next) t (H t .history .incarnation)) _
@@ -303,15 +248,6 @@ module _ (b : Provenance) (p : Step) (k : p .kind ≡ sign) where
   unfolding eventFrom signEvent
   sign-alike = rw k (alike-renewed (λ u e. checkpointed-incarnation u e))
 
-  pub sign-incarnations : (u : ℕ) → undo p done0 (incarnationsIn (signs b (p .message))) u ≡ incarnationsIn b u
-  unfolding undo checkpointedAt
-  sign-incarnations u = rw k (go (named (p .message) u))
-    where
-      go : (c : Bool) → pick c (beforeCheckpoint (pick c (anew u (record { stable = false; incarnation = checkpointIncarnation (incarnationsIn b u) })) (b .holders u) .history .incarnation))
-          (pick c (anew u (record { stable = false; incarnation = checkpointIncarnation (incarnationsIn b u) })) (b .holders u) .history .incarnation) ≡ incarnationsIn b u
-      go true = before-checkpoint (incarnationsIn b u)
-      go false = refl
-
   pub sign-turned : (u : ℕ) → Turned (wasRolledBack done0 u) (wasCheckpointed p done0 u) (incarnationsIn b u) (incarnationsIn (signs b (p .message)) u)
   unfolding wasRolledBack wasCheckpointed checkpointedAt
   sign-turned u = rw k (go (named (p .message) u))
@@ -328,7 +264,3 @@ module _ (b : Provenance) (p : Step) (k : p .kind ≡ sign) where
   pub unready-alike : (L : ℕ → Incarnation) → Alike (eventFrom p (tell notReady 0 0) L) chain.nothing
   unfolding eventFrom
   unready-alike L = rw k alike-same
-
-  pub unready-incarnations : (L : ℕ → Incarnation) (u : ℕ) → undo p (tell notReady 0 0) L u ≡ L u
-  unfolding undo
-  unready-incarnations L u = rw k

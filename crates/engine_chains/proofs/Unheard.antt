@@ -14,9 +14,8 @@ use Rattle.octets.specs.Table.{updated}
 use Rattle.rules.specs.Layout.{Layout, Limits, inRange, base, Fitting}
 use Rattle.rules.specs.State.{Transactor, Message, State, transactorAt, messageAt, withTransactor, withoutMessage, placeOf, fresh}
 use Rattle.rules.specs.declared.Step.{Step}
-use Rattle.rules.specs.declared.Reply.{Reply}
 use Rattle.rules.specs.Step.{stepBytes, stepAt, packReply}
-use Rattle.rules.specs.Rules.{Effect, Result, rollback, messageSuperseded, receiverSuperseded, receiveBy, groupReady, applyReceive, stepOf}
+use Rattle.rules.specs.Rules.{Effect, Result, messageSuperseded, receiverSuperseded, receiveBy, groupReady, applyReceive, stepOf}
 use Rattle.rules.specs.Pack.{pack, unpack}
 use Rattle.rules.specs.Calls.{beginAnswer, freshImage, beginImage, stateAfter, stepsIn, runAnswer, ranImage, ranReplies, runImage, runReplies}
 use Rattle.rules.specs.Internal.Well.{StepOk, WellFormed}
@@ -27,7 +26,7 @@ use Rattle.rules.proofs.Keep.Run.{stepOk-at}
 use Rattle.rules.proofs.Keep.State.{well-fresh}
 use Rattle.rules.proofs.Keep.Step.{keeps, fitting-base}
 use Rattle.session.specs.Provenance.{Provenance, emptyProvenance, find}
-use Rattle.session.specs.Steps.{isDropped, isRolledBack, ProvenanceStep}
+use Rattle.session.specs.Steps.{isDropped, isRolledBack}
 use Rattle.session.specs.Fed.{Call, run, none}
 use Rattle.session.specs.Trace.{Answer, ran, refusalIn, Performed, beginning, running, offering, naming, hearing, counting, depending, hindering, blocking, showing, Trace, opened, called}
 use Rattle.session.specs.Silent.{receiveSilently, applySilently, stepSilently, silentAfter, silentCall, silentIn}
@@ -36,11 +35,11 @@ use Rattle.octets.proofs.Tests.{pick-view, pick-both}
 use Rattle.octets.proofs.Tables.{updated-both}
 use Rattle.session.proofs.Relation.{Rel, fresh-rel}
 use Rattle.session.proofs.Kept.{Kept, provenance-determined}
-use Rattle.session.proofs.Step.{StepRight, Stepped, step-right, ready-exact}
+use Rattle.session.proofs.Step.{Stepped, step-right, ready-exact}
 use Rattle.session.proofs.Run.{reply-part}
 use Rattle.session.proofs.ViewState.{view-fresh}
 use Rattle.session.proofs.Silent.{place, case, is-receive, is-accepted, keeps-silently, kept-silently, own-receipt, reply-silently}
-use Rattle.engine_chains.specs.Internal.Tables.{Tables, Played, play, freshTables}
+use Rattle.engine_chains.specs.Internal.Tables.{Tables, play, freshTables}
 use Rattle.engine_chains.proofs.BookSets.{NumberedBook, step-numbered, steps-numbered}
 use Rattle.engine_chains.proofs.Tells.{Tells, SlotRel, transactor-with}
 use Rattle.engine_chains.proofs.Plays.{step-plays}

@@ -16,7 +16,7 @@ use Rattle.octets.proofs.Tests.{or-off, and-off, true-or-false, and-of, or-to, 
 use Rattle.engine_chains.specs.Chain.{Places, Event, back, metOf}
 use Rattle.engine_chains.specs.Internal.Sets.{Met, Traced, here, further}
 use Rattle.engine_chains.specs.Internal.Walk.{isMet, meets}
-use Rattle.engine_chains.proofs.Newest.{met-some, met-none}
+use Rattle.engine_chains.proofs.Meets.{met-some, met-none}
 
 -- ---- tests
 

@@ -29,7 +29,7 @@ use Rattle.session.specs.Provenance.{Live, Incarnations, In, Holder, WaitingMes
 use Rattle.session.specs.Steps.{isDropped, isRolledBack}
 use Rattle.session.proofs.Sets.{SupersededSet, superseded-set, supersededSet-test}
 use Rattle.session.proofs.Model.{Ledger, own, view}
-use Rattle.session.proofs.Relation.{live-or-not, present-live, own-history, Rel}
+use Rattle.session.proofs.Relation.{live-or-not, own-history, Rel}
 use Rattle.session.proofs.ViewStep.{readyAt}
 use Rattle.session.proofs.Step.{Stepped, step-right}
 use Rattle.engine_chains.specs.Chain as chain
@@ -44,7 +44,7 @@ use Rattle.engine_chains.proofs.WayBack.{Followed, followed, toldAt}
 use Rattle.engine_chains.proofs.Forward.{step-forward}
 use Rattle.engine_chains.specs.Internal.Sets.{setsOf, Reached, by-state, by-creation, by-behaviour, by-message, Traced, here}
 use Rattle.engine_chains.proofs.BookSets.{book-traced}
-use Rattle.engine_chains.proofs.Newest.{met-either}
+use Rattle.engine_chains.proofs.Meets.{met-either}
 
 -- ---- events that differ in the lives alone
 
@@ -264,9 +264,7 @@ module _ {y : Layout} {m : Limits} (z : Fitting y) {s : State} (well : WellForme
   unfolding traced-run traced-more view
   course = record {
     turned = λ i u. step-followed i .turned u;
-    own = λ i Q u a x.
-        let f = step-forward (view (stateAfter y s steps i)) (run i .rel) (stepOk-at steps octets i .message) (stepped i .right .provenance) in
-        f .meets Q u a x ∙ ap (λ (h : HistoryView). h .incarnation) (present-live (stepped i .after .holders u .status) (stepped i .after .holders u .history) (f .alive Q u a x));
+    own = λ i Q u a x. step-forward (view (stateAfter y s steps i)) (run i .rel) (stepped i .right .provenance) .meets Q u a x .0;
     few = λ i Q u a x.
         let h = run (suc i) .below Q u a (here x) in
         let e = run (suc i) .rel .opened in

@@ -24,7 +24,7 @@ use Rattle.octets.specs.Table.{updated}
 use Rattle.octets.proofs.Tables.{updated-is}
 use Rattle.octets.proofs.Tests.{or-none, and-true, and-false}
 use lib.Seq.{getD-set-same, getD-set-other}
-use Rattle.engine_chains.proofs.Newest.{met-either}
+use Rattle.engine_chains.proofs.Meets.{met-either}
 
 -- ---- bits
 

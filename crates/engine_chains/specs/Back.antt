@@ -1,13 +1,11 @@
 -- Document 02, W11: what each step did to the places, from the step list, the replies to it and the present lives of the takes.
-use Prim.Native.Nat.{ℕ, zero, suc}
-use mathlib.Core.List.{List, [], _∷_}
+use Prim.Native.Nat.{ℕ}
 use lib.Dec.{eqb}
-use Rattle.octets.specs.Bytes.{pick, _and_}
-use Rattle.marks.specs.Incarnation.{Incarnation, beforeRollback, beforeCheckpoint}
-use Rattle.octets.specs.Table.{updated}
+use Rattle.octets.specs.Bytes.{pick}
+use Rattle.marks.specs.Incarnation.{Incarnation}
 use Rattle.rules.specs.declared.Step.{Step}
 use Rattle.rules.specs.declared.Reply.{Reply}
-use Rattle.rules.specs.Step.{stepAt, done, held, dropped, fallenBack, vanished, root, letter, receive, new, send, read, write, freeze, finish, fall, lose, sign, isRefusal}
+use Rattle.rules.specs.Step.{done, held, dropped, vanished, root, letter, receive, new, send, read, write, freeze, finish, fall, lose, sign}
 use Rattle.rules.specs.Refusals.{named}
 use Rattle.engine_chains.specs.Chain.{Event, nothing, cleared, sent, taken, opens, reads, writes, finishes, renewed, annihilated, successive}
 -- Of a reply: outcome, take acted on or opened, parcel made, received or lost. A struct of the code, passed by value.
@@ -49,18 +47,3 @@ eventFrom p w L =
     (pick (eqb (p .kind) lose) (cleared (w .message))
     (pick (eqb (p .kind) sign) (pick (eqb (w .outcome) done) (renewed (named (p .message)) L) nothing)
     (localFrom (p .kind) (w .outcome) t L)))))))
-
--- ---- the lives before a step, from those after it
-
-unfoldable pub undo : Step → Told → (ℕ → Incarnation) → ℕ → Incarnation
-undo p w L =
-    pick (eqb (w .outcome) fallenBack) (updated L (w .transactor) (beforeRollback (L (w .transactor))))
-    (pick (eqb (p .kind) sign and eqb (w .outcome) done) (λ u. pick (named (p .message) u) (beforeCheckpoint (L u)) (L u)) L)
-
--- ---- the first i steps, the last one first; L: the lives after them
-
-unfoldable pub eventsBack : List ℕ → (ℕ → Told) → ℕ → (ℕ → Incarnation) → List Event
-eventsBack steps replies zero L = []
-eventsBack steps replies (suc i) L =
-    pick (isRefusal (replies i .outcome)) nothing (eventFrom (stepAt steps i) (replies i) L)
-    ∷ eventsBack steps replies i (pick (isRefusal (replies i .outcome)) L (undo (stepAt steps i) (replies i) L))

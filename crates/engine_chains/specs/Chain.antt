@@ -1,12 +1,11 @@
 -- Document 02, W11: "traces chains back through at most 1,024 steps from a fresh session". What a step does to the places at which
 -- lives stand, and, going back over it, where to look before the step and which lives are met.
 use Prim.Native.Nat.{ℕ}
-use mathlib.Core.Bool.{Bool, true, false}
-use mathlib.Core.List.{List, [], _∷_}
+use mathlib.Core.Bool.{Bool, false}
 use mathlib.Core.Option.{Option, none, some}
 use lib.Dec.{eqb}
-use Rattle.octets.specs.Bytes.{pick, _and_, _or_, any, every}
-use Rattle.marks.specs.Incarnation.{Incarnation, initialIncarnation, supersededBy}
+use Rattle.octets.specs.Bytes.{pick, _and_, _or_}
+use Rattle.marks.specs.Incarnation.{Incarnation, initialIncarnation}
 use Rattle.octets.specs.Table.{updated}
 
 -- ---- where a chain is followed
@@ -113,29 +112,3 @@ metOf (finishes t) Q u = none
 metOf (renewed v a) Q u = pick (v u and Q .state u) (some (a u)) none
 metOf (annihilated t) Q u = none
 metOf (successive e f) Q u = orElse (metOf f Q u) (metOf e (back f Q) u)
-
--- ---- through all steps, the last one first
-
--- for a receipt "the newest mark that a chain carries for each take", without its flag: the first life of take u that is met
-unfoldable pub newest : List Event → Places → ℕ → Option Incarnation
-newest [] Q u = none
-newest (e ∷ es) Q u = orElse (metOf e Q u) (newest es (back e Q) u)
-
--- the one life is stale by the other, where there are both
-unfoldable pub supersededOf : Option Incarnation → Option Incarnation → Bool
-supersededOf none y = false
-supersededOf (some a) none = false
-supersededOf (some a) (some c) = supersededBy a c
-
--- of some take below n, the newest life carried to the places Q is stale by that carried to R
-unfoldable pub anySupersededBack : ℕ → List Event → Places → Places → Bool
-anySupersededBack n es Q R = any n (λ u. supersededOf (newest es Q u) (newest es R u))
-
-unfoldable pub holdsOf : (Incarnation → Bool) → Option Incarnation → Bool
-holdsOf f none = true
-holdsOf f (some a) = f a
-
--- "for a signing, the lives": every life that is carried to the places Q, of the takes below n, satisfies f
-unfoldable pub allMet : ℕ → (ℕ → Incarnation → Bool) → List Event → Places → Bool
-allMet n f [] Q = true
-allMet n f (e ∷ es) Q = every n (λ u. holdsOf (f u) (metOf e Q u)) and allMet n f es (back e Q)

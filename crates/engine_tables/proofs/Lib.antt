@@ -1,5 +1,6 @@
 mod Checkpointing
 pub mod Guarding
+pub mod Placing
 mod Rows
 pub mod Views
 mod Applied

@@ -2,5 +2,6 @@
 // function a kind of step.
 pub mod effects;
 pub mod guards;
+pub mod places;
 pub mod register;
 pub mod turns;

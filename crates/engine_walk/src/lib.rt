@@ -7,7 +7,7 @@ use engine_chains::words::Event;
 use engine_chains::words::Told;
 use engine_chains::words::Walker;
 use kept::WORDS;
-use lists::LONGEST;
+use lists::NUMBERS;
 use lists::STEP;
 use lists::packed;
 ghost use mathlib.Core.Path.{_≡_};
@@ -18,9 +18,6 @@ ghost use Rattle.octets.specs.Bytes.{_and_, part};
 ghost use Rattle.rules.specs.Step.{stepBytes, stepAt};
 ghost use Rattle.engine_chains.specs.Internal.Engine.{unpackTold, toldIn, receiptBack, signWalk, Walkable};
 ghost use Rattle.engine_chains.specs.Internal.Words.{following, followerOver, followerStep, followBack, walkerFrom, walkerIn};
-
-// Message numbers that a list can give: one for each step at most.
-pub const NUMBERS: usize = LONGEST / STEP;
 
 // Every transactor.
 const ALL: u16 = 65535;

@@ -1,9 +1,9 @@
 -- The field of a byte, case by case as the code finds it.
-use Prim.Native.Nat.{ℕ, _+_, _-_, _*_, _/_, _%_, _≤_, _<_}
-use mathlib.Core.Path.{_≡_, _∙_}
+use Prim.Native.Nat.{ℕ, _-_, _/_, _%_, _≤_, _<_}
+use mathlib.Core.Path.{_≡_}
 use native.Mathlib.Omega.{arith}
 use borrow.Author.Tests.{lt-ltb, le-ltb}
-use Rattle.rules.specs.Layout.{base, historyBytes, mapBytes, valueAt, savedAt, stateAt, dependencesAt, transactorBytes, messageBytes, transactorAddress, messageAddress, imageBytes}
+use Rattle.rules.specs.Layout.{base}
 use Rattle.fields.specs.declared.Field.{Field}
 use Rattle.fields.specs.Field.{plain, inHistory, frontField, historyField, mapField, transactorField, messageField, fieldOf}
 

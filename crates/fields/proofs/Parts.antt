@@ -4,27 +4,29 @@ use mathlib.Core.Bool.{Bool, true, false}
 use mathlib.Core.Path.{_≡_, refl, sym, ap, _∙_}
 use mathlib.Core.Logic.{⊎-elim}
 use mathlib.Core.List.{List, _++_}
-use native.Mathlib.Nat.{add-zero}
 use native.Mathlib.Omega.{arith}
 use lib.Dec.{ltb}
-use lib.ListN.{length, getD, length-append, List·getD-eq-default}
+use lib.ListN.{length, getD, length-append}
 use borrow.Author.Tests.{lt-ltb, le-ltb}
-use Rattle.octets.specs.Bytes.{pick, part, chunks, zeros}
+use Rattle.octets.specs.Bytes.{part, chunks, zeros}
 use Rattle.octets.specs.Numbers.{be}
-use Rattle.octets.proofs.Put.{part-left, part-right, part-whole, part-part, getD-part}
+use Rattle.octets.proofs.Put.{part-left, part-right, part-whole, part-part}
 use Rattle.octets.proofs.Numbers.{length-be, be-zero}
-use Rattle.octets.proofs.Zero.{length-zeros, part-zeros}
-use Rattle.octets.proofs.Chunks.{length-chunks, part-chunks, step, sides}
+use Rattle.octets.proofs.Zero.{part-zeros}
+use Rattle.octets.proofs.Runs.{behind-whole}
+use Rattle.octets.proofs.Chunks.{step, sides}
 use Rattle.marks.specs.declared.History.{History}
-use Rattle.marks.specs.Packed.{bit, historySize, packHistory, packNumberAt}
-use Rattle.marks.proofs.Packed.{length-packNumberAt}
+use Rattle.marks.specs.Packed.{bit, historySize}
+use Rattle.marks.proofs.Packed.{number-part, place-part}
+use Rattle.marks.proofs.Recast.{pack-front}
 use Rattle.maps.specs.declared.DependenceMap.{DependenceMap}
 use Rattle.maps.specs.Map.{heldAt, historyAt}
-use Rattle.maps.specs.Packed.{packEntry, packEntryAt, entryBytes, packMap}
+use Rattle.maps.specs.Packed.{packEntry, packEntryAt, entryBytes}
 use Rattle.maps.proofs.Packed.{length-packMap, entry-packMap}
 use Rattle.rules.specs.Layout.{Layout, base, historyBytes, mapBytes, stateAt, creationAt, behaviourAt, dependencesAt, transactorBytes, messageBytes, transactorAddress, messageAddress}
-use Rattle.rules.specs.State.{Transactor, Message, State, noMessage, transactorAt, messageAt}
+use Rattle.rules.specs.State.{Transactor, Message, State, transactorAt, messageAt}
 use Rattle.rules.specs.Pack.{packDependences, packTransactor, packMessage, packTransactorAt, packMessageAt, packHead, packLimits, packFront, pack, transactorPart, messagePart}
+use Rattle.rules.proofs.Pack.Messages.{no-message}
 use Rattle.rules.proofs.Pack.Sizes.{length-packHead, length-packFront}
 use Rattle.rules.proofs.Pack.Stores.{at-waiting, at-free}
 use Rattle.rules.proofs.Pack.RoundTrip.{transactorPart-pack, messagePart-pack}
@@ -36,61 +38,27 @@ use Rattle.fields.specs.Field.{ofHistory, mapOf}
 left : (at n : ℕ) (p q b : List ℕ) → at + n ≤ length p → part at n p ≡ b → part at n (p ++ q) ≡ b
 left at n p q b h e = part-left at n p q h ∙ e
 
--- the right list itself
-last : (at n : ℕ) (p b : List ℕ) → length p ≡ at → length b ≡ n → part at n (p ++ b) ≡ b
-last at n p b e h =
-    let z : length p + 0 ≡ at = omega arith in
-    rw z at (part-right 0 n p b) ∙ part-whole n b h
-
 -- a part of a part
 pub inner : (l b c : List ℕ) (at m i n : ℕ) → i + n ≤ m → part at m l ≡ b → part i n b ≡ c → part (at + i) n l ≡ c
 inner l b c at m i n h e f = sym (part-part i n at m l h) ∙ ap (part i n) e ∙ f
 
 -- ---- a mark
 
-module _ (w l : ℕ) (h : History) where
-  abbrev flags : List ℕ
-  flags = be 1 (128 + 64 * bit (h .stable) + h .count)
-
-  abbrev list : List ℕ
-  list = chunks l (packNumberAt w (h .checkpoints))
-
-  two : length (flags ++ be w (h .incarnation)) ≡ 1 + w
-  two = simp (length-append, length-be)
-
-  history-flags : part 0 1 (packHistory w l h) ≡ flags
-  unfolding packHistory
-  history-flags =
-      left 0 1 (flags ++ be w (h .incarnation)) list flags (omega (arith, two))
-      (left 0 1 flags (be w (h .incarnation)) flags (omega (arith, length-be 1 (128 + 64 * bit (h .stable) + h .count))) (part-whole 1 flags (length-be 1 (128 + 64 * bit (h .stable) + h .count))))
-
-  history-number : part 1 w (packHistory w l h) ≡ be w (h .incarnation)
-  unfolding packHistory
-  history-number =
-      left 1 w (flags ++ be w (h .incarnation)) list (be w (h .incarnation)) (omega (arith, two))
-      (last 1 w flags (be w (h .incarnation)) (length-be 1 (128 + 64 * bit (h .stable) + h .count)) (length-be w (h .incarnation)))
-
-  history-entry : (i : ℕ) → i < l → part (1 + w + w * i) w (packHistory w l h) ≡ be w (getD (h .checkpoints) i 0)
-  unfolding packHistory packNumberAt
-  history-entry i below =
-      let e : part (length (flags ++ be w (h .incarnation)) + w * i) w ((flags ++ be w (h .incarnation)) ++ list) ≡ part (w * i) w list = part-right (w * i) w (flags ++ be w (h .incarnation)) list in
-      rw two at e ∙ part-chunks w (packNumberAt w (h .checkpoints)) (length-packNumberAt w (h .checkpoints)) l i below
-
 -- one that may be absent
 module _ (w l : ℕ) (h : History) where
   pub entry-flags : (p : Bool) → part 0 1 (packEntry w l p h) ≡ ofHistory p 1 (128 + 64 * bit (h .stable) + h .count)
   unfolding packEntry
-  entry-flags true = history-flags w l h
+  entry-flags true = pack-front w l h
   entry-flags false = part-zeros 0 1 (historySize w l) (omega arith)
 
   pub entry-number : (p : Bool) → part 1 w (packEntry w l p h) ≡ ofHistory p w (h .incarnation)
   unfolding packEntry
-  entry-number true = history-number w l h
+  entry-number true = number-part w l h
   entry-number false = part-zeros 1 w (historySize w l) (omega arith)
 
   pub entry-checkpoint : (i : ℕ) → i < l → (p : Bool) → part (1 + w + w * i) w (packEntry w l p h) ≡ ofHistory p w (getD (h .checkpoints) i 0)
   unfolding packEntry
-  entry-checkpoint i below true = history-entry w l h i below
+  entry-checkpoint i below true = place-part w l h i below
   entry-checkpoint i below false = part-zeros (1 + w + w * i) w (historySize w l) (omega (arith, step w i l below))
 
 -- ---- a map
@@ -149,27 +117,27 @@ module _ (y : Layout) (x : Transactor) where
   pub transactor-value : part 1 4 (packTransactor y x) ≡ be 4 (x .value)
   transactor-value =
       front 1 4 (be 4 (x .value)) (omega arith)
-      (left 1 4 five (be 4 (x .saved)) (be 4 (x .value)) (omega (arith, length-five)) (last 1 4 one (be 4 (x .value)) (length-be 1 (64 * x .status)) (length-be 4 (x .value))))
+      (left 1 4 five (be 4 (x .saved)) (be 4 (x .value)) (omega (arith, length-five)) (behind-whole 1 4 one (be 4 (x .value)) (length-be 1 (64 * x .status)) (length-be 4 (x .value))))
 
   pub transactor-saved : part 5 4 (packTransactor y x) ≡ be 4 (x .saved)
-  transactor-saved = front 5 4 (be 4 (x .saved)) (omega arith) (last 5 4 five (be 4 (x .saved)) length-five (length-be 4 (x .saved)))
+  transactor-saved = front 5 4 (be 4 (x .saved)) (omega arith) (behind-whole 5 4 five (be 4 (x .saved)) length-five (length-be 4 (x .saved)))
 
   pub transactor-state : part stateAt (mapBytes y) (packTransactor y x) ≡ packDependences y (x .state)
   unfolding packTransactor
   transactor-state =
       left stateAt (mapBytes y) creation (packDependences y (x .behaviour)) (packDependences y (x .state)) (omega (arith, length-creation))
       (left stateAt (mapBytes y) state (packDependences y (x .creation)) (packDependences y (x .state)) (omega (arith, length-state))
-      (last stateAt (mapBytes y) nine (packDependences y (x .state)) length-nine (size (x .state))))
+      (behind-whole stateAt (mapBytes y) nine (packDependences y (x .state)) length-nine (size (x .state))))
 
   pub transactor-creation : part (creationAt y) (mapBytes y) (packTransactor y x) ≡ packDependences y (x .creation)
   unfolding packTransactor
   transactor-creation =
       left (creationAt y) (mapBytes y) creation (packDependences y (x .behaviour)) (packDependences y (x .creation)) (omega (arith, length-creation))
-      (last (creationAt y) (mapBytes y) state (packDependences y (x .creation)) length-state (size (x .creation)))
+      (behind-whole (creationAt y) (mapBytes y) state (packDependences y (x .creation)) length-state (size (x .creation)))
 
   pub transactor-behaviour : part (behaviourAt y) (mapBytes y) (packTransactor y x) ≡ packDependences y (x .behaviour)
   unfolding packTransactor
-  transactor-behaviour = last (behaviourAt y) (mapBytes y) creation (packDependences y (x .behaviour)) length-creation (size (x .behaviour))
+  transactor-behaviour = behind-whole (behaviourAt y) (mapBytes y) creation (packDependences y (x .behaviour)) length-creation (size (x .behaviour))
 
 -- ---- a parcel place
 
@@ -200,24 +168,20 @@ module _ (y : Layout) (m : Message) where
   unfolding packMessage
   message-number =
       left 1 2 seven (packDependences y (m .dependences)) (be 2 (m .number)) (omega (arith, length-seven))
-      (left 1 2 three (be 4 (m .value)) (be 2 (m .number)) (omega (arith, length-three)) (last 1 2 first (be 2 (m .number)) (length-be 1 (128 + m .addressee)) (length-be 2 (m .number))))
+      (left 1 2 three (be 4 (m .value)) (be 2 (m .number)) (omega (arith, length-three)) (behind-whole 1 2 first (be 2 (m .number)) (length-be 1 (128 + m .addressee)) (length-be 2 (m .number))))
 
   message-value : part 3 4 (packMessage y m) ≡ be 4 (m .value)
   unfolding packMessage
   message-value =
       left 3 4 seven (packDependences y (m .dependences)) (be 4 (m .value)) (omega (arith, length-seven))
-      (last 3 4 three (be 4 (m .value)) length-three (length-be 4 (m .value)))
+      (behind-whole 3 4 three (be 4 (m .value)) length-three (length-be 4 (m .value)))
 
   message-map : part dependencesAt (mapBytes y) (packMessage y m) ≡ packDependences y (m .dependences)
   unfolding packMessage
-  message-map = last dependencesAt (mapBytes y) seven (packDependences y (m .dependences)) length-seven (length-packMap (y .width) (y .places) (y .transactors) (m .dependences))
+  message-map = behind-whole dependencesAt (mapBytes y) seven (packDependences y (m .dependences)) length-seven (length-packMap (y .width) (y .places) (y .transactors) (m .dependences))
 
 -- place k, whether or not a parcel waits there
 module _ (y : Layout) (s : State) (k : ℕ) where
-  nobody : length (s .messages) ≤ k → messageAt s k ≡ noMessage
-  unfolding messageAt
-  nobody h = List·getD-eq-default (s .messages) noMessage h
-
   -- by cases: what is packed, or zeros
   either : (at n : ℕ) (b : List ℕ) → at + n ≤ messageBytes y → (k < length (s .messages) → part at n (packMessage y (messageAt s k)) ≡ b)
       → (length (s .messages) ≤ k → zeros n ≡ b) → part at n (packMessageAt y s k) ≡ b
@@ -232,10 +196,10 @@ module _ (y : Layout) (s : State) (k : ℕ) where
       (λ p. rw (le-ltb k (length (s .messages)) p) refl)
 
   pub place-number : part 1 2 (packMessageAt y s k) ≡ be 2 (messageAt s k .number)
-  place-number = either 1 2 (be 2 (messageAt s k .number)) (omega arith) (λ p. message-number y (messageAt s k)) (λ p. rw (nobody p) (sym (be-zero 2)))
+  place-number = either 1 2 (be 2 (messageAt s k .number)) (omega arith) (λ p. message-number y (messageAt s k)) (λ p. rw (no-message s k p) (sym (be-zero 2)))
 
   pub place-value : part 3 4 (packMessageAt y s k) ≡ be 4 (messageAt s k .value)
-  place-value = either 3 4 (be 4 (messageAt s k .value)) (omega arith) (λ p. message-value y (messageAt s k)) (λ p. rw (nobody p) (sym (be-zero 4)))
+  place-value = either 3 4 (be 4 (messageAt s k .value)) (omega arith) (λ p. message-value y (messageAt s k)) (λ p. rw (no-message s k p) (sym (be-zero 4)))
 
   pub place-entry : (u : ℕ) → u < y .transactors → part (dependencesAt + historyBytes y * u) (historyBytes y) (packMessageAt y s k)
       ≡ packEntry (y .width) (y .places) (heldAt (messageAt s k .dependences) u) (historyAt (messageAt s k .dependences) u)
@@ -246,7 +210,7 @@ module _ (y : Layout) (s : State) (k : ℕ) where
       either (dependencesAt + historyBytes y * u) (historyBytes y) (packEntry (y .width) (y .places) (heldAt (m .dependences) u) (historyAt (m .dependences) u)) (omega (arith, fits))
       (λ p. inner (packMessage y m) (packDependences y (m .dependences)) (packEntry (y .width) (y .places) (heldAt (m .dependences) u) (historyAt (m .dependences) u))
       dependencesAt (mapBytes y) (historyBytes y * u) (historyBytes y) (omega (arith, fits)) (message-map y m) (entry-part y (m .dependences) u below))
-      (λ p. rw (nobody p) refl)
+      (λ p. rw (no-message s k p) refl)
 
 -- ---- the head and the limits
 
@@ -280,13 +244,13 @@ module _ (s : State) where
   unfolding packHead
   front-next =
       let m : length head ≡ 3 = simp (length-append, length-be) in
-      in-head 1 2 (be 2 (s .next)) (omega arith) (left 1 2 head (be 1 0) (be 2 (s .next)) (omega (arith, m)) (last 1 2 (be 1 (s .opened)) (be 2 (s .next)) (length-be 1 (s .opened)) (length-be 2 (s .next))))
+      in-head 1 2 (be 2 (s .next)) (omega arith) (left 1 2 head (be 1 0) (be 2 (s .next)) (omega (arith, m)) (behind-whole 1 2 (be 1 (s .opened)) (be 2 (s .next)) (length-be 1 (s .opened)) (length-be 2 (s .next))))
 
   pub front-blank : part 3 1 (pack base s) ≡ be 1 0
   unfolding packHead
   front-blank =
       let m : length head ≡ 3 = simp (length-append, length-be) in
-      in-head 3 1 (be 1 0) (omega arith) (last 3 1 head (be 1 0) m (length-be 1 0))
+      in-head 3 1 (be 1 0) (omega arith) (behind-whole 3 1 head (be 1 0) m (length-be 1 0))
 
   -- behind the head
   in-limits : (at n : ℕ) (b : List ℕ) → at + n ≤ 4 → part at n (packLimits base (s .limits)) ≡ b → part (4 + at) n (pack base s) ≡ b
@@ -318,18 +282,18 @@ module _ (s : State) where
       in-limits 1 1 b (omega arith)
       (left 1 1 (limits ++ be 1 (s .limits .checkpoints)) (be 1 0) b (omega (arith, length-three-limits))
       (left 1 1 limits (be 1 (s .limits .checkpoints)) b (omega (arith, length-limits))
-      (last 1 1 (be 1 (s .limits .transactors)) b (length-be 1 (s .limits .transactors)) (length-be 1 (s .limits .messages)))))
+      (behind-whole 1 1 (be 1 (s .limits .transactors)) b (length-be 1 (s .limits .transactors)) (length-be 1 (s .limits .messages)))))
 
   pub front-checkpoints : part 6 1 (pack base s) ≡ be 1 (s .limits .checkpoints)
   unfolding packLimits
   front-checkpoints =
       let b : List ℕ = be 1 (s .limits .checkpoints) in
       in-limits 2 1 b (omega arith)
-      (left 2 1 (limits ++ be 1 (s .limits .checkpoints)) (be 1 0) b (omega (arith, length-three-limits)) (last 2 1 limits b length-limits (length-be 1 (s .limits .checkpoints))))
+      (left 2 1 (limits ++ be 1 (s .limits .checkpoints)) (be 1 0) b (omega (arith, length-three-limits)) (behind-whole 2 1 limits b length-limits (length-be 1 (s .limits .checkpoints))))
 
   pub front-end : part 7 1 (pack base s) ≡ be 1 0
   unfolding packLimits
-  front-end = in-limits 3 1 (be 1 0) (omega arith) (last 3 1 (limits ++ be 1 (s .limits .checkpoints)) (be 1 0) length-three-limits (length-be 1 0))
+  front-end = in-limits 3 1 (be 1 0) (omega arith) (behind-whole 3 1 (limits ++ be 1 (s .limits .checkpoints)) (be 1 0) length-three-limits (length-be 1 0))
 
   -- ---- takes and parcels
 

@@ -1,14 +1,14 @@
 -- Every byte of an image is the byte of the field that is answered for it.
 use Prim.Native.Nat.{ℕ, zero, suc, _+_, _-_, _*_, _/_, _%_, _≤_, _<_}
 use mathlib.Core.Bool.{Bool, true, false}
-use mathlib.Core.Path.{_≡_, refl, sym, ap, _∙_, subst}
+use mathlib.Core.Path.{_≡_, refl, sym, _∙_, subst}
 use mathlib.Core.Logic.{⊎-elim}
 use mathlib.Core.List.{List}
 use native.Mathlib.Omega.{arith}
 use lib.Dec.{ltb}
 use borrow.Author.Tests.{lt-ltb}
 use lib.ListN.{length, getD}
-use Rattle.octets.specs.Bytes.{pick, part, zeros}
+use Rattle.octets.specs.Bytes.{part}
 use Rattle.octets.specs.Numbers.{be}
 use Rattle.octets.proofs.Put.{getD-part}
 use Rattle.octets.proofs.Numbers.{length-be}
@@ -19,11 +19,11 @@ use Rattle.marks.specs.Packed.{bit}
 use Rattle.maps.specs.declared.DependenceMap.{DependenceMap}
 use Rattle.maps.specs.Map.{heldAt, historyAt}
 use Rattle.maps.specs.Packed.{packEntry}
-use Rattle.rules.specs.Layout.{base, widest, historyBytes, mapBytes, stateAt, dependencesAt, transactorBytes, messageBytes, transactorAddress, messageAddress, imageBytes}
+use Rattle.rules.specs.Layout.{base, widest, historyBytes, mapBytes, stateAt, dependencesAt, transactorAddress, messageAddress, imageBytes}
 use Rattle.rules.specs.State.{State, transactorAt, messageAt, fresh}
 use Rattle.rules.specs.Pack.{packDependences, packTransactor, packMessageAt, pack}
 use Rattle.fields.specs.declared.Field.{Field}
-use Rattle.fields.specs.Field.{plain, inHistory, Place, from, ofHistory, mapOf, mapAddress, frontField, historyField, mapField, transactorField, messageField, fieldOf, historyPlace, messagePlace, transactorPlace, fieldPlace, Stands}
+use Rattle.fields.specs.Field.{plain, inHistory, from, ofHistory, mapOf, mapAddress, frontField, historyField, mapField, transactorField, messageField, fieldOf, historyPlace, messagePlace, transactorPlace, fieldPlace, Stands}
 use Rattle.fields.proofs.Finding as finding
 use Rattle.fields.proofs.Parts as parts
 

@@ -4,7 +4,7 @@ use mathlib.Core.Bool.{Bool, true, false, not, false≢true}
 use mathlib.Core.Path.{_≡_, refl, sym, ap, _∙_, subst}
 use mathlib.Core.List.{List}
 use native.Mathlib.Omega.{arith}
-use Rattle.octets.specs.Bytes.{pick, _and_, _or_, part}
+use Rattle.octets.specs.Bytes.{pick, _and_, part}
 use Rattle.marks.specs.declared.History.{History}
 use Rattle.marks.specs.Incarnation.{sameIncarnation, checkpointedIn}
 use Rattle.marks.specs.History.{incarnationOf}

@@ -2,7 +2,6 @@
 use Prim.Native.Nat.{ℕ, _+_, _*_, _<_}
 use mathlib.Core.Path.{_≡_, sym, subst}
 use mathlib.Core.List.{List}
-use lib.ListN.{length}
 use Rattle.marks.specs.History.{Roomy}
 use Rattle.marks.specs.Packed.{historyIn}
 use Rattle.maps.specs.declared.DependenceMap.{DependenceMap}

@@ -1,12 +1,11 @@
 -- 17: the test's last answer, and what it says of a part that passes.
-use Prim.Native.Nat.{ℕ, _-_, _%_, _≤_, _<_}
-use mathlib.Core.Bool.{Bool, true, false, not}
+use Prim.Native.Nat.{ℕ, _-_, _%_, _≤_}
+use mathlib.Core.Bool.{false, not}
 use mathlib.Core.Path.{_≡_}
 use mathlib.Core.List.{List}
 use lib.Dec.{eqb, ltb}
 use lib.ListN.{length}
 use borrow.Author.Tests.{le-ltb, ltb-false, eq-eqb, eqb-true, not-false}
-use Rattle.octets.specs.Bytes.{_or_}
 use Rattle.octets.proofs.Tests.{or-off}
 use Rattle.rules.specs.Step.{stepBytes}
 use Rattle.rules.specs.Calls.{longest, wrongPart}

@@ -14,6 +14,9 @@ pub const STEP: usize = 8;
 // A run's longest part.
 pub const LONGEST: usize = 8192;
 
+// Message numbers that it can give: one for each step at most.
+pub const NUMBERS: usize = LONGEST / STEP;
+
 // 17: the bytes from start up to end are no part of the list, no whole steps, or too many.
 pub fn wrong_part(list: &[u8], start: usize, end: usize) -> bool
     ensures { λ r. ⌜ r ≡ wrongPart (now (list .entry)) start end ⌝ }

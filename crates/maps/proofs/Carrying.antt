@@ -6,7 +6,7 @@ use mathlib.Core.List.{List}
 use native.Mathlib.Omega.{arith}
 use lib.ListN.{length}
 use Rattle.octets.specs.Bytes.{put, part}
-use Rattle.octets.proofs.Put.{length-part, length-put, part-put, part-put-before, put-put, put-part, put-inside}
+use Rattle.octets.proofs.Put.{length-part, part-put, part-put-before, put-put, put-part, put-inside}
 use Rattle.octets.proofs.Chunks.{step}
 use Rattle.marks.specs.declared.History.{History}
 use Rattle.marks.specs.Packed.{historySize, packHistory, unpackHistory, presentIn, historyIn}

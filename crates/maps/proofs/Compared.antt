@@ -10,7 +10,8 @@ use Rattle.marks.specs.declared.Relation.the-variants.{Same, LeftSuperseded, Ri
 use Rattle.marks.specs.History.{incarnationOf}
 use Rattle.marks.specs.Relation.{turned, relationOf, isLeftSuperseded, isUnrelated}
 use Rattle.maps.specs.declared.DependenceMap.{DependenceMap}
-use Rattle.maps.specs.Map.{supersededAt, firstSuperseded, unrelatedAt, anyUnrelated, relationEntry}
+use Rattle.maps.specs.Map.{supersededAt, firstSuperseded, unrelatedAt, anyUnrelated}
+use Rattle.maps.specs.Internal.Comparing.{relationEntry}
 use Rattle.maps.proofs.Map.{Entry}
 use Rattle.maps.proofs.Loops.{firstRest, first-all, first-back, first-end}
 use Rattle.maps.proofs.Unrelated.{superseded-left, superseded-right, unrelated-reads, anyRest, any-all, any-back, any-end}

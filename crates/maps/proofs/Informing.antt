@@ -11,7 +11,8 @@ use Rattle.octets.proofs.Put.{length-put, part-put-before, part-put-after, put-
 use Rattle.octets.proofs.Chunks.{step}
 use Rattle.marks.specs.declared.History.{History}
 use Rattle.marks.specs.History.{incarnationOf, viewOf, stabilized}
-use Rattle.marks.specs.News.{showsStable, mayShow, informed}
+use Rattle.marks.specs.News.{showsStable, informed}
+use Rattle.marks.specs.Internal.News.{mayShow}
 use Rattle.marks.specs.Packed.{countBound, historySize, packHistory, unpackHistory, presentIn}
 use Rattle.marks.proofs.News.{may-none, may-some, informed-stable}
 use Rattle.marks.proofs.Packed.{length-unpack, unpack-count}

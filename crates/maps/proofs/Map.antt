@@ -5,7 +5,7 @@ use mathlib.Core.Path.{_≡_, refl, sym, ap, _∙_}
 use mathlib.Core.List.{[]}
 use mathlib.Core.Logic.{_⊎_, inl, inr, ⊎-elim, _↔_}
 use native.Mathlib.Omega.{arith}
-use lib.ListN.{length, replicate, length-set, length-replicate, getD-replicate, List·getD-eq-default}
+use lib.ListN.{replicate, length-set, length-replicate, getD-replicate, List·getD-eq-default}
 use lib.Seq.{getD-set-same, getD-set-other}
 use borrow.Author.Tests.{not-true}
 use Rattle.octets.specs.Bytes.{pick, _or_}
@@ -13,7 +13,7 @@ use Rattle.octets.proofs.Tests.{or-none}
 use Rattle.octets.proofs.Chunks.{sides, length-tabulate, getD-tabulate, tabulate-same, tabulate-getD}
 use Rattle.octets.proofs.Zero.{every-all, every-at}
 use Rattle.marks.specs.declared.History.{History}
-use Rattle.marks.specs.History.{initialHistory, newerOf, isOlder, Newer}
+use Rattle.marks.specs.History.{initialHistory, newerOf, isOlder}
 use Rattle.marks.proofs.Histories.{newer-view, newer-idem}
 use Rattle.maps.specs.declared.DependenceMap.{DependenceMap}
 use Rattle.maps.specs.Map.{heldAt, historyAt, emptyMap, withEntry, singleton, isEmpty, joinedHistory, choosesRight, joinedHeldAt, joinedHistoryAt, joinOf, Sized, Joined, both, left, right, neither}

@@ -14,7 +14,8 @@ use Rattle.marks.specs.Relation.{turned, relationOf, isLeftSuperseded, isUnrela
 use Rattle.marks.proofs.Histories.{newer-which}
 use Rattle.marks.proofs.Related.{superseded-reads, relation-turned}
 use Rattle.maps.specs.declared.DependenceMap.{DependenceMap}
-use Rattle.maps.specs.Map.{heldAt, historyAt, joinOf, supersededEntry, unrelatedEntry, unrelatedAt, anyUnrelated, relationEntry, Joined, both, left, right, neither}
+use Rattle.maps.specs.Map.{heldAt, historyAt, joinOf, supersededEntry, unrelatedEntry, unrelatedAt, anyUnrelated, Joined, both, left, right, neither}
+use Rattle.maps.specs.Internal.Comparing.{relationEntry}
 use Rattle.maps.proofs.Map.{join-view}
 
 -- ---- one entry: each test is a reading of one comparison

@@ -9,8 +9,6 @@ use Rattle.octets.specs.Bytes.{pick, _and_, _or_, tabulate, every, any}
 use Rattle.marks.specs.declared.History.{History}
 use Rattle.marks.specs.History.{incarnationOf, initialHistory, isOlder, Roomy, Newer}
 use Rattle.marks.specs.Incarnation.{supersededBy}
-use Rattle.marks.specs.declared.Relation.{Relation}
-use Rattle.marks.specs.declared.Relation.the-variants.{Same}
 use Rattle.marks.specs.Relation.{relationOf, isUnrelated}
 use Rattle.maps.specs.declared.DependenceMap.{DependenceMap}
 use Rattle.maps.specs.declared.Comparison.{Comparison}
@@ -98,10 +96,6 @@ unrelatedAt a b i = unrelatedEntry (heldAt a i) (historyAt a i) (heldAt b i) (hi
 -- some take has unrelated marks in a and in b
 unfoldable pub anyUnrelated : ℕ → DependenceMap → DependenceMap → Bool
 anyUnrelated n a b = any n (unrelatedAt a b)
-
--- what the comparison of two entries says: the same where one is not held
-unfoldable pub relationEntry : Bool → History → Bool → History → Relation
-relationEntry p x q y = pick (p and q) (relationOf (incarnationOf x) (incarnationOf y)) Same
 
 -- ---- for theorems
 

@@ -1,6 +1,5 @@
 pub mod Trail
 pub mod Order
-pub mod Before
 pub mod Tests
 pub mod Related
 mod Compare

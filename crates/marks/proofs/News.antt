@@ -11,11 +11,12 @@ use Rattle.octets.specs.Bytes.{pick, _and_, _or_}
 use Rattle.octets.proofs.Tests.{pick-view}
 use Rattle.octets.proofs.Zero.{both}
 use Rattle.marks.specs.declared.History.{History}
-use Rattle.marks.specs.Incarnation.{Incarnation, sameIncarnation, checkpointedIn, beginsWith, sameList, Checkpointed}
+use Rattle.marks.specs.Incarnation.{Incarnation, sameIncarnation, checkpointedIn, beginsWith, sameList}
 use Rattle.marks.specs.History.{HistoryView, incarnationOf, viewOf, stabilized, stabilizedView, Roomy}
 use Rattle.marks.specs.Relation.{relationOf, isSame, isLeftCheckpointed}
 use Rattle.marks.specs.Packed.{Packable}
-use Rattle.marks.specs.News.{showsStable, mayShow, informed, Shows, by-stable, by-list}
+use Rattle.marks.specs.News.{showsStable, informed, Shows, by-stable, by-list}
+use Rattle.marks.specs.Internal.News.{mayShow}
 use Rattle.marks.proofs.Compare.{checkpointed-short}
 use Rattle.marks.proofs.Order.{checkpointed-up, checkpointed-ne}
 use Rattle.marks.proofs.Tests.{checkpointed-test, same-test}

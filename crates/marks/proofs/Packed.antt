@@ -89,11 +89,11 @@ module _ (w l : ℕ) (h : History) where
   unfolding packHistory
   first-byte p = rw (be-one (headOf h) (head-fits (h .stable) (h .count) p))
 
-  number-part : part 1 w (packHistory w l h) ≡ be w (h .incarnation)
+  pub number-part : part 1 w (packHistory w l h) ≡ be w (h .incarnation)
   unfolding packHistory
   number-part = part-mid 1 w (be 1 (headOf h)) (be w (h .incarnation)) (numbers w l h) (length-be 1 (headOf h)) (length-be w (h .incarnation))
 
-  place-part : (i : ℕ) → i < l → part (1 + w + w * i) w (packHistory w l h) ≡ be w (getD (h .checkpoints) i 0)
+  pub place-part : (i : ℕ) → i < l → part (1 + w + w * i) w (packHistory w l h) ≡ be w (getD (h .checkpoints) i 0)
   unfolding packHistory packNumberAt
   place-part i p = further (1 + w) (w * i) w (front w h) (numbers w l h) length-front
       ∙ part-chunks w (packNumberAt w (h .checkpoints)) (length-packNumberAt w (h .checkpoints)) l i p

@@ -19,7 +19,7 @@ use Rattle.octets.proofs.Chunks.{step, sides, tabulate-same, getD-tabulate, fil
 use Rattle.octets.proofs.Tests.{and-true}
 use Rattle.octets.proofs.Zero.{allZero-append}
 use Rattle.marks.specs.declared.History.{History}
-use Rattle.marks.specs.News.{mayShow}
+use Rattle.marks.specs.Internal.News.{mayShow}
 use Rattle.marks.proofs.Packed.{headOf, head-fits, front, numbers, length-packNumberAt, length-front, length-numbers}
 use Rattle.marks.specs.Packed.{countBound, historySize, restSize, bit, packNumberAt, packHistory, unpackHistory, loadNumberAt, historyIn, presentIn, formedHistory}
 

@@ -21,7 +21,7 @@ pack-def : (w l : ℕ) (h : History) → packHistory w l h ≡ be 1 (128 + 64 * 
 unfolding packHistory
 pack-def w l h = refl
 
-pack-front : (w l : ℕ) (h : History) → part 0 1 (packHistory w l h) ≡ be 1 (128 + 64 * bit (h .stable) + h .count)
+pub pack-front : (w l : ℕ) (h : History) → part 0 1 (packHistory w l h) ≡ be 1 (128 + 64 * bit (h .stable) + h .count)
 unfolding packHistory
 pack-front w l h =
     let a : List ℕ = be 1 (128 + 64 * bit (h .stable) + h .count) in

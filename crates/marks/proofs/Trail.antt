@@ -7,7 +7,7 @@ use native.Mathlib.Decide.{decLt, decLe}
 use native.Mathlib.Omega.{arith}
 use lib.ListN.{length}
 use Rattle.marks.specs.Incarnation.{Incarnation, Superseded, lower, passed, Checkpointed, begins}
-use Rattle.marks.specs.Order.{Along, same, next, more, Trails, Under, Precedes}
+use Rattle.marks.specs.Order.{Along, same, next, more, Trails}
 
 -- ---- two relations
 

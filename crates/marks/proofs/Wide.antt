@@ -1,20 +1,19 @@
 -- Packed histories compared many bytes at a time: the bytes of a place are the same exactly if its numbers are.
 use Prim.Native.Nat.{ℕ, _+_, _-_, _*_, _/_, _%_, _≤_, _<_}
 use mathlib.Core.Bool.{Bool, true, false}
-use mathlib.Core.Path.{_≡_, refl, sym, ap, _∙_}
+use mathlib.Core.Path.{_≡_, sym, ap, _∙_}
 use mathlib.Core.List.{List}
 use mathlib.Core.Logic.{_⊎_, inl, inr}
 use native.Mathlib.Omega.{arith}
 use lib.ListN.{length, take, getD}
 use lib.Seq.{getD-take}
 use Rattle.octets.specs.Bytes.{_and_, part, alike, Octets}
-use Rattle.octets.specs.Numbers.{ofBe}
 use Rattle.octets.proofs.Put.{octet}
-use Rattle.octets.proofs.Numbers.{ofBe-first, ofBe-more}
+use Rattle.octets.proofs.Numbers.{two-bytes}
 use Rattle.octets.proofs.Chunks.{sides, tabulate-same, tabulate-take, tabulate-getD}
 use Rattle.octets.proofs.Zero.{both}
 use Rattle.octets.proofs.Tests as tests
-use Rattle.octets.proofs.Alike.{alike-there, alike-made, alike-add}
+use Rattle.octets.proofs.Alike.{alike-there, alike-made, alike-add, digit}
 use Rattle.marks.specs.declared.History.{History}
 use Rattle.marks.specs.Incarnation.{Incarnation, sameList, sameIncarnation}
 use Rattle.marks.specs.History.{incarnationOf, Roomy}
@@ -24,22 +23,12 @@ use Rattle.marks.proofs.Packed.{length-unpack}
 use Rattle.marks.proofs.Placed.{number-here, place-here}
 
 module _ (s : List ℕ) where
-  -- the number in two bytes
-  two : (at : ℕ) → ofBe 2 (part at 2 s) ≡ getD s at 0 * 256 + getD s (at + 1) 0
-  two at = sym (ofBe-more at 2 1 (getD s at 0) (getD s (at + 1) 0) s (omega arith) (ofBe-first at 2 (getD s at 0) s (omega arith) refl) refl)
-
   module _ (a : ℕ) (h : a + historySize width places ≤ length s) where
-    list : List ℕ
-    list = historyIn width places s a .checkpoints
-
     place-is : (i : ℕ) → i < places → getD (historyIn width places s a .checkpoints) i 0 ≡ getD s (a + 1 + width + width * i) 0 * 256 + getD s (a + 1 + width + width * i + 1) 0
-    place-is i p = sym (place-here width places a s h i p) ∙ two (a + 1 + width + width * i)
+    place-is i p = sym (place-here width places a s h i p) ∙ two-bytes (a + 1 + width + width * i) s
 
     number-is : historyIn width places s a .incarnation ≡ getD s (a + 1) 0 * 256 + getD s (a + 1 + 1) 0
-    number-is = sym (number-here width places a s h) ∙ two (a + 1)
-
-digit : (x y p q : ℕ) → p < 256 → q < 256 → x * 256 + p ≡ y * 256 + q → (x ≡ y) × (p ≡ q)
-digit x y p q h k e = (omega arith, omega arith)
+    number-is = sym (number-here width places a s h) ∙ two-bytes (a + 1) s
 
 module _ (s : List ℕ) (octets : Octets s) (a b : ℕ) (ha : a + historySize width places ≤ length s) (hb : b + historySize width places ≤ length s) where
   abbrev left : History

@@ -11,7 +11,8 @@ use borrow.Author.Tests.{leb-true, le-leb, eqb-true, eq-eqb}
 use Rattle.octets.specs.Bytes.{part, every, Octets}
 use Rattle.octets.specs.Numbers.{ofBe}
 use Rattle.octets.proofs.Tests.{same-test}
-use Rattle.octets.proofs.Put.{getD-part, octet}
+use Rattle.octets.proofs.Put.{octet}
+use Rattle.octets.proofs.Numbers.{two-bytes}
 use Rattle.octets.proofs.Zero.{both, every-all, every-at, every-same}
 use Rattle.octets.proofs.Chunks.{sides, getD-tabulate}
 use Rattle.octets.proofs.Runs.{every-add}
@@ -26,14 +27,6 @@ high : (a b : ℕ) → b < 256 → leb (a * 256 + b) 255 ≡ eqb a 0
 high a b h = same-test (leb (a * 256 + b) 255) (eqb a 0)
     (λ (e : leb (a * 256 + b) 255 ≡ true). let p : a * 256 + b ≤ 255 = leb-true (a * 256 + b) 255 e in eq-eqb a 0 (omega arith))
     (λ (e : eqb a 0 ≡ true). let p : a ≡ 0 = eqb-true a 0 e in le-leb (a * 256 + b) 255 (omega arith))
-
-two-bytes : (at : ℕ) (b : List ℕ) → ofBe 2 (part at 2 b) ≡ getD b at 0 * 256 + getD b (at + 1) 0
-unfolding ofBe
-two-bytes at b =
-    let x : getD (part at 2 b) 0 0 ≡ getD b (at + 0) 0 = getD-part at 2 b 0 (omega arith) in
-    let z : getD (part at 2 b) 1 0 ≡ getD b (at + 1) 0 = getD-part at 2 b 1 (omega arith) in
-    let k : getD b (at + 0) 0 ≡ getD b at 0 = ap (λ (i : ℕ). getD b i 0) (omega arith) in
-    omega arith
 
 -- the first byte of number i of a mark
 abbrev pub firstZero : List ℕ → ℕ → Bool

@@ -1,5 +1,5 @@
 -- Document 01, "Lives and marks": incarnations (lives), over lists of any length and numbers of any width.
-use Prim.Native.Nat.{ℕ, _+_, _-_, _<_}
+use Prim.Native.Nat.{ℕ, _+_, _<_}
 use mathlib.Core.Bool.{Bool, true, false}
 use mathlib.Core.Path.{_≡_}
 use mathlib.Core.List.{List, [], _∷_, _++_}
@@ -23,17 +23,6 @@ nextIncarnation a = record { checkpoints = a .checkpoints; number = a .number + 
 -- Signing appends n to L, then n = 0.
 abbrev pub checkpointIncarnation : Incarnation → Incarnation
 checkpointIncarnation a = record { checkpoints = a .checkpoints ++ (a .number ∷ []); number = 0 }
-
--- The life before a fall, which gave n + 1, same L.
-abbrev pub beforeRollback : Incarnation → Incarnation
-beforeRollback a = record { checkpoints = a .checkpoints; number = a .number - 1 }
-
--- The life before a signing, which appended n to L.
-abbrev pub beforeCheckpoint : Incarnation → Incarnation
-beforeCheckpoint a = record {
-  checkpoints = take (length (a .checkpoints) - 1) (a .checkpoints);
-  number = getD (a .checkpoints) (length (a .checkpoints) - 1) 0;
-}
 
 -- ---- tests
 

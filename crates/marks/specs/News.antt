@@ -1,8 +1,7 @@
 -- Document 02, W4, "News of a freeze": "A recorded unfrozen mark becomes frozen when the parcel shows that this same life was frozen,
 -- either by a frozen mark of that life or by a longer list that begins with this mark's list and whose next entry is its n."
-use mathlib.Core.Bool.{Bool, not, true}
+use mathlib.Core.Bool.{Bool, true}
 use mathlib.Core.Path.{_≡_}
-use lib.Dec.{ltb}
 use Rattle.octets.specs.Bytes.{pick, _and_, _or_}
 use Rattle.marks.specs.declared.History.{History}
 use Rattle.marks.specs.Incarnation.{Incarnation, sameIncarnation, checkpointedIn, Checkpointed}
@@ -11,11 +10,6 @@ use Rattle.marks.specs.History.{HistoryView, incarnationOf, viewOf, stab
 -- the parcel's mark p shows that life a of the same take was frozen
 unfoldable pub showsStable : Incarnation → HistoryView → Bool
 showsStable a p = (sameIncarnation a (p .incarnation) and p .stable) or checkpointedIn a (p .incarnation)
-
--- What the first bytes leave open: the recorded mark x, if p, is unfrozen, and that of the parcel, y if q, is frozen or has the longer
--- list. Else nothing is shown.
-unfoldable pub mayShow : Bool → History → Bool → History → Bool
-mayShow p x q y = (p and not (x .stable)) and ((q and y .stable) or ltb (x .count) (y .count))
 
 -- the recorded mark x after that of the parcel, y
 unfoldable pub informed : History → History → History

@@ -1,7 +1,7 @@
 -- Two runs of bytes that are alike, byte by byte or as numbers.
 use Prim.Native.Nat.{ℕ, _+_, _-_, _*_, _≤_, _<_}
 use mathlib.Core.Bool.{Bool, true, false}
-use mathlib.Core.Path.{_≡_, refl, sym, ap, _∙_}
+use mathlib.Core.Path.{_≡_, sym, ap, _∙_}
 use mathlib.Core.List.{List}
 use native.Mathlib.Omega.{arith}
 use native.Mathlib.Nat.{add-zero}
@@ -51,7 +51,7 @@ alike-add l a b n m = every-add n m f ∙ ap (λ (t : Bool). every n f and t) (e
 
 -- ---- as numbers
 
-digit : (x y p q : ℕ) → p < 256 → q < 256 → x * 256 + p ≡ y * 256 + q → (x ≡ y) × (p ≡ q)
+pub digit : (x y p q : ℕ) → p < 256 → q < 256 → x * 256 + p ≡ y * 256 + q → (x ≡ y) × (p ≡ q)
 digit x y p q h k e = (omega arith, omega arith)
 
 module _ (l : List ℕ) (octets : Octets l) where

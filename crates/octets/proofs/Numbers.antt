@@ -70,6 +70,9 @@ pub ofBe-more : (at n w r x : ℕ) (l : List ℕ) → w < n → r ≡ ofBe w (pa
 unfolding ofBe
 ofBe-more at n w r x l h e f = rw (add-one, e, f, getD-part at n l w h)
 
+pub two-bytes : (at : ℕ) (l : List ℕ) → ofBe 2 (part at 2 l) ≡ getD l at 0 * 256 + getD l (at + 1) 0
+two-bytes at l = sym (ofBe-more at 2 1 (getD l at 0) (getD l (at + 1) 0) l (omega arith) (ofBe-first at 2 (getD l at 0) l (omega arith) refl) refl)
+
 -- two bytes, read with the first as the lower one and turned round
 pub ofBe-turned : (at x : ℕ) (l : List ℕ) → getD l at 0 < 256 → x ≡ getD l (at + 1) 0 * 256 + getD l at 0 → x % 256 * 256 + x / 256 ≡ ofBe 2 (part at 2 l)
 ofBe-turned at x l o e =

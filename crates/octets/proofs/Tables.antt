@@ -1,9 +1,10 @@
 -- Tables that change at one place.
-use Prim.Native.Nat.{ℕ, _<_}
+use Prim.Native.Nat.{ℕ, zero, suc, _<_}
 use mathlib.Core.Bool.{Bool, true, false}
 use mathlib.Core.Path.{_≡_, refl, sym, subst}
-use mathlib.Core.List.{List}
+use mathlib.Core.List.{List, [], _∷_}
 use mathlib.Core.Logic.{_≢_}
+use native.Mathlib.Omega.{arith}
 use lib.Dec.{eqb}
 use lib.ListN.{length, getD, set}
 use lib.Seq.{getD-set-same, getD-set-other}
@@ -42,6 +43,12 @@ updated-both P f g t x y p q u =
 -- a table that is x at t and f elsewhere
 pub updated-is : {A : Type 0} (f : ℕ → A) (t : ℕ) (x : A) (g : ℕ → A) → g t ≡ x → ((u : ℕ) → t ≢ u → g u ≡ f u) → (u : ℕ) → g u ≡ updated f t x u
 updated-is f t x g here else = updated-view (λ u z. g u ≡ z) f t x here else
+
+-- within a list it does not matter what stands past its end
+pub read-within {ℓ} : {A : Type ℓ} (l : List A) (n : ℕ) (d e : A) → n < length l → getD l n d ≡ getD l n e
+read-within [] n d e h = absurd (omega arith)
+read-within (z ∷ l) zero d e h = refl
+read-within (z ∷ l) (suc n) d e h = read-within l n d e (omega arith)
 
 -- a list that changes at one place, as a table
 pub set-updated : {A : Type 0} (l : List A) (t : ℕ) (x d : A) → t < length l → (λ u. getD (set l t x) u d) ≡ updated (λ u. getD l u d) t x

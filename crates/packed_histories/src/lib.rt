@@ -10,7 +10,7 @@ ghost use Prim.Native.Nat.{_+_, _-_, _*_, _≤_};
 ghost use lib.ListN.{length};
 ghost use Rattle.octets.specs.Bytes.{put, part, chunks, tabulate, allZero};
 ghost use Rattle.octets.specs.Numbers.{ofBe, be};
-ghost use Rattle.marks.specs.News.{mayShow};
+ghost use Rattle.marks.specs.Internal.News.{mayShow};
 ghost use Rattle.marks.specs.Packed.{width, places, historySize, restSize, rampOf, bit, packNumberAt, packHistory, unpackHistory, loadNumberAt, presentIn, formedHistory};
 
 // Writes the packed form from at on.

@@ -11,7 +11,8 @@ ghost use Prim.Native.Nat.{_+_, _≤_};
 ghost use lib.ListN.{length};
 ghost use Rattle.octets.specs.Bytes.{part};
 ghost use Rattle.marks.specs.Packed.{width, places, historySize, restSize, rampOf, historyIn, presentIn};
-ghost use Rattle.maps.specs.Map.{joinOf, firstSuperseded, answerOf, anyUnrelated, relationEntry};
+ghost use Rattle.maps.specs.Map.{joinOf, firstSuperseded, answerOf, anyUnrelated};
+ghost use Rattle.maps.specs.Internal.Comparing.{relationEntry};
 ghost use Rattle.maps.specs.Packed.{entries, mapSize, unpackMap, mapIn, formedEntry, formedMap};
 ghost use Rattle.maps.specs.Internal.Fitting.{Bounded, looked};
 

@@ -28,7 +28,7 @@ use Rattle.rules.proofs.Pack.Fresh.{pack-fresh}
 use Rattle.rules.proofs.Keep.State.{well-fresh}
 use Rattle.rules.proofs.Keep.Step.{keeps-after}
 use Rattle.session.specs.Provenance.{Provenance, emptyProvenance, statusNumber, isMissing}
-use Rattle.session.specs.Fed.{Call, begin, run, counts, hinders, blocks, show, provenanceQueryRefusal, callRefusal, ProvenanceCall, provenance-refuses, provenance-begins, provenance-runs, provenance-offers, provenance-names, provenance-hears, provenance-counts, provenance-depends, provenance-hinders, provenance-blocks, provenance-shows}
+use Rattle.session.specs.Fed.{Call, begin, run, counts, hinders, show, provenanceQueryRefusal, callRefusal, ProvenanceCall, provenance-refuses, provenance-begins, provenance-runs, provenance-offers, provenance-names, provenance-hears, provenance-counts, provenance-depends, provenance-hinders, provenance-blocks, provenance-shows}
 use Rattle.session.specs.Trace.{Answer, begun, ran, refusalIn, Performed, beginning, running, offering, naming, hearing, counting, depending, hindering, blocking, showing, Matches}
 use Rattle.session.proofs.Model.{view}
 use Rattle.session.proofs.Relation.{Rel, fresh-rel}

@@ -12,7 +12,6 @@ use Rattle.octets.proofs.Put.{octets-part}
 use Rattle.rules.specs.Layout.{Layout, Fitting, base}
 use Rattle.rules.specs.State.{State}
 use Rattle.rules.specs.declared.Step.{Step}
-use Rattle.rules.specs.declared.Reply.{Reply}
 use Rattle.rules.specs.Step.{stepBytes, stepAt, packReply, sign, done, notReady}
 use Rattle.rules.specs.Rules.{answer, stepOf, checkpointGroup}
 use Rattle.rules.specs.Pack.{pack, unpack}
@@ -33,7 +32,7 @@ use Rattle.session.proofs.Unique.{provenance-unique}
 use Rattle.session.proofs.Step.{SigningRight, checkpointed, uncheckpointed, Stepped, step-right, matches-rel}
 use Rattle.session.proofs.Run.{first-packReply, run-right}
 use Rattle.session.proofs.Calls.{call-right}
-use Rattle.session.proofs.Points.{Beside, Taken, held, point-beside, step-taken}
+use Rattle.session.proofs.Points.{Taken, held, point-beside, step-taken}
 use Rattle.session.proofs.Grown.{grown}
 use Rattle.session.proofs.Traces.{every-list-base}
 

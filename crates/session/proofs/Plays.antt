@@ -11,13 +11,13 @@ use borrow.Author.Tests.{eqb-true, eqb-false, not-true}
 use Rattle.octets.specs.Bytes.{_and_}
 use Rattle.octets.proofs.Zero.{both}
 use Rattle.marks.specs.Incarnation.{Incarnation}
-use Rattle.rules.specs.Layout.{base, widest}
+use Rattle.rules.specs.Layout.{base}
 use Rattle.rules.specs.declared.Step.{Step}
-use Rattle.rules.specs.Step.{root, letter, receive, new, send, write, lose, sign}
+use Rattle.rules.specs.Step.{root, letter, receive, new, send, lose, sign}
 use Rattle.rules.specs.Refusals.{named}
-use Rattle.session.specs.Provenance.{Entry, Incarnations, In, one, Live, Holder, Provenance, emptyProvenance}
+use Rattle.session.specs.Provenance.{Entry, Incarnations, In, one, Live, Holder, Provenance}
 use Rattle.session.specs.Grounds.{Brought, from-start, from-noted, from-list, Ground, in-state, in-creation, RestsOn, CheckpointedNow, StablePresent, Equal}
-use Rattle.session.specs.Steps.{opensRoot, opensChild, receives, applied, provenanceRefusal, ProvenanceStep, applies}
+use Rattle.session.specs.Steps.{opensRoot, opensChild, receives, applied, provenanceRefusal, applies}
 use Rattle.session.specs.Play.{Play, end, then, played}
 use Rattle.session.proofs.Sets.{in-one}
 use Rattle.session.proofs.Tables.{pick-view}

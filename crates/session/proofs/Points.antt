@@ -1,18 +1,14 @@
 -- The points, calls and steps of a session: the ledger's state there is well-formed and related to the book there.
-use Prim.Native.Nat.{ℕ, suc, _-_, _*_, _<_}
-use mathlib.Core.Bool.{true}
+use Prim.Native.Nat.{ℕ, _-_, _*_}
 use mathlib.Core.Path.{_≡_, refl, ap, sym, _∙_, subst}
 use mathlib.Core.List.{List}
-use lib.ListN.{getD}
-use lib.Dec.{eqb}
 use borrow.Author.Tests.{eq-eqb}
 use Rattle.octets.specs.Bytes.{part, Octets}
 use Rattle.octets.proofs.Put.{octets-part}
 use Rattle.rules.specs.Layout.{Layout, Fitting}
 use Rattle.rules.specs.State.{State}
 use Rattle.rules.specs.declared.Step.{Step}
-use Rattle.rules.specs.declared.Reply.{Reply}
-use Rattle.rules.specs.Step.{stepBytes, stepAt, packReply}
+use Rattle.rules.specs.Step.{stepBytes, packReply}
 use Rattle.rules.specs.Rules.{stepOf}
 use Rattle.rules.specs.Pack.{unpack}
 use Rattle.rules.specs.Calls.{stateAfter, stepsIn, runAnswer, ranReplies, runReplies}
@@ -20,13 +16,13 @@ use Rattle.rules.specs.Internal.Well.{StepOk, WellFormed}
 use Rattle.rules.proofs.Keep.Run.{stepOk-at}
 use Rattle.rules.proofs.Keep.Step.{keeps-after}
 use Rattle.session.specs.Provenance.{Provenance}
-use Rattle.session.specs.Fed.{Call, ProvenanceSteps, ProvenanceOf}
-use Rattle.session.specs.Trace.{Answer, refusalIn, Performed, running, Trace, callsOf}
-use Rattle.session.specs.Point.{CallIn, last-call, earlier-call, StepIn, last-run, earlier-run, Point, at-end, at-step, earlier}
+use Rattle.session.specs.Fed.{ProvenanceSteps, ProvenanceOf}
+use Rattle.session.specs.Trace.{running, Trace, callsOf}
+use Rattle.session.specs.Point.{StepIn, last-run, earlier-run, Point, at-end, at-step, earlier}
 use Rattle.session.proofs.Model.{view}
 use Rattle.session.proofs.Relation.{Rel}
 use Rattle.session.proofs.Unique.{provenance-unique, steps-determined}
-use Rattle.session.proofs.Run.{Ran, run-right, reply-part}
+use Rattle.session.proofs.Run.{run-right, reply-part}
 use Rattle.session.proofs.Calls.{Holds}
 use Rattle.session.proofs.Grown.{grown}
 

@@ -14,7 +14,7 @@ use Rattle.session.specs.Grounds.{from-start, from-noted, from-list, Gro
 use Rattle.session.specs.Trace.{Trace}
 use Rattle.session.specs.Point.{Point}
 use Rattle.session.proofs.Model.{view}
-use Rattle.session.proofs.Relation.{present, Rel}
+use Rattle.session.proofs.Relation.{Rel}
 use Rattle.session.proofs.Sign.{checkpointedNow-of, checkpointedNow-to, own-has, own-uncheckpointed, settled-equal, equal-settled}
 use Rattle.session.proofs.Points.{point-beside}
 use Rattle.session.proofs.Resting.{rests-ground}

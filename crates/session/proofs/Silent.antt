@@ -1,26 +1,24 @@
 -- Document 02, W4: the ledger without the news keeps its states well-formed, is related to the same book, and a step of it replies what
 -- the ledger's own step would reply from the same state.
-use Prim.Native.Nat.{ℕ, _+_, _<_}
-use mathlib.Core.Bool.{Bool, true, false, not}
+use Prim.Native.Nat.{ℕ, _<_}
+use mathlib.Core.Bool.{Bool, true, false}
 use mathlib.Core.Path.{_≡_, refl, ap, sym, _∙_}
 use native.Mathlib.Omega.{arith}
 use lib.Dec.{eqb}
 use lib.ListN.{length}
 use borrow.Author.Tests.{eqb-true}
-use Rattle.octets.specs.Bytes.{pick, _and_, _or_}
-use Rattle.octets.specs.Numbers.{bound}
+use Rattle.octets.specs.Bytes.{_and_}
 use Rattle.octets.proofs.Zero.{both}
 use Rattle.maps.proofs.News.{informedTable}
-use Rattle.rules.specs.Layout.{Layout, Fitting, largest}
+use Rattle.rules.specs.Layout.{Layout, Fitting}
 use Rattle.rules.specs.Status.{idle}
-use Rattle.rules.specs.State.{Transactor, Message, State, transactorAt, messageAt, ownHistory, withTransactor, withoutMessage, placeOf}
+use Rattle.rules.specs.State.{Transactor, Message, State, transactorAt, messageAt, withTransactor, placeOf}
 use Rattle.rules.specs.declared.Step.{Step}
-use Rattle.rules.specs.declared.Reply.{Reply}
-use Rattle.rules.specs.Step.{receive, dropped}
-use Rattle.rules.specs.Rules.{Effect, Result, rollback, messageSuperseded, receiverSuperseded, receiveBy, receiptRollsBack, seen, refusal, answer, applyReceive, apply, stepOf}
-use Rattle.rules.specs.Internal.Well.{TransactorOk, MessageOk, Known, Live, Alive, TransactorFormed, StepOk, WellFormed}
+use Rattle.rules.specs.Step.{receive}
+use Rattle.rules.specs.Rules.{Effect, Result, rollback, messageSuperseded, receiverSuperseded, receiveBy, receiptRollsBack, seen, refusal, answer, applyReceive, stepOf}
+use Rattle.rules.specs.Internal.Well.{TransactorOk, Live, Alive, TransactorFormed, StepOk, WellFormed}
 use Rattle.rules.proofs.Keep.Accepted.{Accepted, accepted, receiver-idle, rolls-received}
-use Rattle.rules.proofs.Keep.Transactor.{TransactorWell, EffectOk, formed-alive, rollback-ok}
+use Rattle.rules.proofs.Keep.Transactor.{TransactorWell, formed-alive, rollback-ok}
 use Rattle.rules.proofs.Keep.State.{well-withTransactor, well-withoutMessage}
 use Rattle.rules.proofs.Keep.Step.{applied-same, keeps}
 use Rattle.rules.proofs.ByKind.Applied.{applies}

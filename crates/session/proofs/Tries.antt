@@ -1,28 +1,27 @@
 -- Small sessions run through the book's definitions: document 01's own, and one for each reading to guard against.
 use Prim.Native.Nat.{ℕ, _+_}
-use mathlib.Core.Bool.{Bool, true, false, false≢true}
+use mathlib.Core.Bool.{true, false, false≢true}
 use mathlib.Core.Path.{_≡_, refl, ap, sym, _∙_}
-use mathlib.Core.List.{List, [], _∷_, _++_, List·Memᴰ·head, List·Memᴰ·tail}
+use mathlib.Core.List.{[], _∷_, _++_, List·Memᴰ·head, List·Memᴰ·tail}
 use mathlib.Core.Logic.{_⊎_, inl, inr, ⊎-elim}
 use native.Mathlib.Omega.{arith}
 use lib.ListN.{length, length-append}
 use Rattle.octets.specs.Numbers.{bound}
-use Rattle.marks.specs.Incarnation.{Incarnation, initialIncarnation, Checkpointed, begins, sameList, beginsWith, strictPrefix, supersededBy}
+use Rattle.marks.specs.Incarnation.{Incarnation, Checkpointed, begins, sameList, beginsWith, strictPrefix, supersededBy}
 use Rattle.marks.specs.Relation.{byNumbers, byNextEntry, relationOf}
 use Rattle.marks.proofs.Order.{checkpointed-irrefl}
 use Rattle.octets.specs.Table.{updated}
 use Rattle.octets.specs.Bytes.{any}
-use Rattle.rules.specs.Layout.{Limits, base}
-use Rattle.rules.specs.declared.Step.{Step}
-use Rattle.rules.specs.Step.{read, freeze, finish, fail}
+use Rattle.rules.specs.Layout.{base}
+use Rattle.rules.specs.Step.{freeze, fail}
 use Rattle.rules.specs.Refusals.{named, anyNamed, malformed, notWaiting, emptyGroup, unopened, isGone, wrongStatus, unrelatedReceipt, allOpened, allWaiting, allNumbered, allCheckpointed, atLast, lastRollsBack, refusalOf}
-use Rattle.session.specs.Provenance.{Incarnations, In, one, Status, idle, busy, annihilated, is-idle, is-busy, Holder, Provenance, emptyProvenance, remove, find, isMissing, anyEntry, supersededEntry, anySuperseded}
+use Rattle.session.specs.Provenance.{In, one, idle, busy, annihilated, is-idle, is-busy, Provenance, emptyProvenance, remove, find, isMissing, anyEntry, supersededEntry, anySuperseded}
 use Rattle.session.specs.Grounds.{from-start, from-noted, from-list, Ground, in-state, in-creation, RestsOn, ValueRestsOn, Present, CheckpointedNow, SupersededOrAnnihilated, gone, neither, Equal}
 use Rattle.session.specs.Unrelated.{unrelatedEntry, anyUnrelated, isUnrelatedTo}
 use Rattle.session.specs.Steps.{rolledBackHolder, reads, writes, freezes, finishes, rollsBackOrFinishes, rollsBackOrStays, acted, isDropped, isRolledBack, received, signs, checkpointedAt, NotedBy, before, now-checkpointed, opensRoot, opensChild, receives, applied, provenanceSeen, provenanceRefusal, signing, not-ready}
 use Rattle.session.proofs.Sets.{in-one}
 use Rattle.session.proofs.Accepted.{named-within}
-use Rattle.session.specs.Play.{wideProvenance, aRoot, aLetter, aReceive, aNew, aSend, aWrite, aStep, aSign, Play, end, then, After, played}
+use Rattle.session.specs.Play.{wideProvenance, aRoot, aLetter, aReceive, aStep, aSign, Play, end, then, After, played}
 use Rattle.session.specs.Sessions.{firstNine, firstEleven, thirteen, carriedOn, upToSigning, oldMessage, thenRolledBack, thenTold, unreadSteps, readSteps, childSteps, openerSteps, smallLimits, smallSteps, receiveAndFreeze, smallProvenance, usedProvenance, incarnation0, incarnation1, incarnation2, incarnation3, child, holder, strange, pastedProvenance}
 use Rattle.session.proofs.Plays.{play-on, quiet, play-quiet, played-notes, entry-cases, ground-state, differs, brings-itself, alone-equal, pair-equal, only-3, only-6}
 

@@ -34,6 +34,7 @@ use Rattle.rules.specs.Rules.{Effect, isSome, carried, rollback, readBy, writeB
 use Rattle.rules.specs.Rules as rules
 use Rattle.rules.specs.Internal.Well.{TransactorOk, WellFormed}
 use Rattle.rules.proofs.Groups.Obstacles.{parts-ready}
+use Rattle.rules.proofs.Pack.Messages.{no-message}
 use Rattle.session.specs.Provenance.{Live, is-idle, is-busy}
 use Rattle.session.specs.Steps.{isNil}
 use Rattle.session.specs.Silent.{receiveSilently, applySilently}
@@ -43,7 +44,7 @@ use Rattle.session.proofs.News.{silent}
 use Rattle.session.proofs.Locals.{writtenNode, fallNode, failNode, actedNode}
 use Rattle.session.proofs.Messages.{receivedNode, receiveMessage}
 use Rattle.session.proofs.Sign.{EntryReady, Ready}
-use Rattle.session.proofs.ViewState.{node-same, view-bare, view-anew, view-withTransactor, view-opened, view-own, at-transactor, own-view, no-message, view-withMessage, view-find, view-withoutMessage, view-checkpointGroup}
+use Rattle.session.proofs.ViewState.{node-same, view-bare, view-anew, view-withTransactor, view-opened, view-own, at-transactor, own-view, view-withMessage, view-find, view-withoutMessage, view-checkpointGroup}
 
 -- ---- one take alone
 

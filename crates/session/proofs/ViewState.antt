@@ -137,11 +137,6 @@ view-withMessage s to v m = λ i. record {
   messages = map-append viewMessage (s .messages) (record { addressee = to; number = s .next; value = v; dependences = m } ∷ []) i;
 }
 
--- past the last parcel
-pub no-message : (s : State) (k : ℕ) → length (s .messages) ≤ k → messageAt s k ≡ noMessage
-unfolding messageAt
-no-message s k h = List·getD-eq-default (s .messages) noMessage {n = k} h
-
 -- the place of the first parcel with number p, or how many there are
 unfoldable pub placeIn : ℕ → List Message → ℕ
 placeIn p [] = 0

@@ -36,7 +36,7 @@ use Rattle.session.specs.Provenance.{Live, Holder, Provenance}
 use Rattle.session.specs.Grounds.{Equal}
 use Rattle.session.specs.Steps.{provenanceRefusal, signing}
 use Rattle.session.specs.Fed.{Call, run}
-use Rattle.session.specs.Trace.{Answer, Performed, beginning, running, offering, naming, hearing, counting, depending, hindering, blocking, showing, Trace, CallsFrom, none, one-more, GoesOn}
+use Rattle.session.specs.Trace.{Answer, Performed, beginning, running, offering, naming, hearing, counting, depending, hindering, blocking, showing, Trace, none, one-more, GoesOn}
 use Rattle.session.specs.Waiting.{ReadyGroup, Grounded, Rolls, rolls-back, vanishes, rolls-last, Stands, NoSigning, Waits, Waiting, SignsTake, Unsigned, Leaves, Leaving}
 use Rattle.session.proofs.Model.{MessageView, own, findMessage, knownMap, view}
 use Rattle.session.proofs.Tables.{pick-view}

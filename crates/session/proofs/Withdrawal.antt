@@ -43,8 +43,8 @@ use Rattle.session.specs.Provenance.{Status, unused, idle, busy, annihil
 use Rattle.session.specs.Grounds.{from-start, from-noted, from-list, Ground, in-state, in-creation, RestsOn, Present, CheckpointedNow, SupersededOrAnnihilated, neither, StablePresent, Equal}
 use Rattle.session.specs.Grounds as grounds
 use Rattle.session.specs.Steps.{isNil, anew, rolledBackHolder, ProvenanceStep, refuses, applies, signing, not-ready}
-use Rattle.session.specs.Fed.{Call, provenanceQueryRefusal, ProvenanceOf}
-use Rattle.session.specs.Trace.{Answer, Performed, depending, Trace, callsOf, none, one-more}
+use Rattle.session.specs.Fed.{provenanceQueryRefusal, ProvenanceOf}
+use Rattle.session.specs.Trace.{Trace, callsOf, none, one-more}
 use Rattle.session.specs.Point.{Point, at-end}
 use Rattle.session.specs.Waiting.{ReadyGroup}
 use Rattle.session.specs.Withdrawal.{Withdraws, Further, here, step, SameLife, RestsThrough, itself, via, Spoilt, on-withdrawn, on-spoilt, Doomed, SmallestIn, Continued}

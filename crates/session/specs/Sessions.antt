@@ -1,6 +1,6 @@
 -- Small sessions that theorems run step by step, through the book (proofs/Tries) and through the ledger (proofs/Heard).
 use Prim.Native.Nat.{ℕ, _+_, _*_, _^_}
-use mathlib.Core.Bool.{Bool, true, false}
+use mathlib.Core.Bool.{Bool, false}
 use mathlib.Core.List.{List, [], _∷_, _++_}
 use Rattle.octets.specs.Numbers.{be}
 use Rattle.marks.specs.Incarnation.{Incarnation, initialIncarnation}

@@ -1,5 +1,5 @@
 -- What a withdrawal spoils: a take falls, and others rest on the life that it had.
-use Prim.Native.Nat.{ℕ, _-_}
+use Prim.Native.Nat.{ℕ}
 use mathlib.Core.Bool.{true, false}
 use mathlib.Core.Path.{_≡_}
 use mathlib.Core.List.{List}

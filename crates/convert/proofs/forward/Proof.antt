@@ -12,9 +12,6 @@ use borrow.Author.Needs.{needs}
 use Rattle.convert.proofs.forward.Statement.{statement}
 use Rattle.convert.proofs.forward.Tie as tie
 
-wider-requires : tie.Need-wider-requires
-wider-requires c κs = (search needs, search needs)
-
 returns-3 : tie.Need-returns-3
 returns-3 c =
     let i = c .before .before .before .before in
@@ -36,7 +33,7 @@ forward-spec =
     (λ c. forward-source _ _ (search needs))
     (λ c. forward-target _ _ (search needs) (search needs))
     (λ c. search needs)
-    wider-requires
+    (λ c κs. (search needs, search needs))
     (λ c. search needs)
     (λ c κs. search needs)
     returns-3

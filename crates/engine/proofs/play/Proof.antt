@@ -8,7 +8,7 @@ use borrow.Author.Needs.{needs}
 use Rattle.rules.specs.Layout.{base, limitsOf, inRange, LimitsInRange}
 use Rattle.rules.specs.Calls.{wrongPart}
 use Rattle.rules.proofs.Ranges.{in-range-exactly}
-use Rattle.lists.proofs.Parts.{RightPart, right-part}
+use Rattle.lists.proofs.Parts.{right-part}
 use Rattle.engine.proofs.Answers.{played-17, played-18, played-33, played-0}
 use Rattle.engine.proofs.play.Statement.{statement}
 use Rattle.engine.proofs.play.Tie as tie
@@ -30,15 +30,6 @@ fine c = sym (c .before .before .wrong-part .ensures) ∙ c .before .if1 .left
 returns-3 : tie.Need-returns-3
 returns-3 c = played-33 base _ _ _ (fine (c .before .before)) (search needs) (sym (c .before .in-range .ensures) ∙ not-true _ (c .if3 .taken))
 
-cast-play-steps : tie.Need-cast-play-steps
-cast-play-steps c = omega (arith, bounds c .transactors .1)
-
-cast-play-steps-2 : tie.Need-cast-play-steps-2
-cast-play-steps-2 c = omega (arith, bounds c .messages .1)
-
-cast-play-steps-3 : tie.Need-cast-play-steps-3
-cast-play-steps-3 c = omega (arith, bounds c .checkpoints .1)
-
 play-steps-requires : tie.Need-play-steps-requires
 play-steps-requires c κs =
     let r = right-part _ _ _ (fine (c .before .before .before)) in
@@ -58,9 +49,9 @@ play-spec =
     (λ c. played-18 base _ _ _ (sym (c .before .before .wrong-part .ensures) ∙ c .before .if1 .left) (search needs))
     (λ c κs. search needs)
     returns-3
-    cast-play-steps
-    cast-play-steps-2
-    cast-play-steps-3
+    (λ c. omega (arith, bounds c .transactors .1))
+    (λ c. omega (arith, bounds c .messages .1))
+    (λ c. omega (arith, bounds c .checkpoints .1))
     play-steps-requires
     (λ c. search needs)
     returns-4)

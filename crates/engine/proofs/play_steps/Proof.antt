@@ -7,14 +7,17 @@ use borrow.Author.Needs.{needs}
 use lib.ListN.{length}
 use Rattle.octets.specs.Bytes.{Octets}
 use Rattle.octets.proofs.Put.{octets-of, length-put}
+use Rattle.octets.proofs.Tables.{read-within}
 use Rattle.rules.specs.Layout.{limitsOf}
 use Rattle.rules.specs.Step.{stepAt}
 use Rattle.rules.specs.Refusals.{groupBits}
 use Rattle.session.proofs.Run.{length-packReply}
 use Rattle.engine_tables.specs.declared.turns.Operands.{Operands}
 use Rattle.engine_tables.specs.Internal.Turns.{placeOf}
-use Rattle.engine.specs.Internal.Advance.{most, Advances}
-use Rattle.engine.proofs.Playing.{Playing, playing-none, playing-group, playing-more, playing-all, placed-within, read-within, can-walk, subject-below, ahead}
+use Rattle.engine_tables.specs.Internal.Places.{most}
+use Rattle.engine_tables.proofs.Placing.{placed-within}
+use Rattle.engine.specs.Internal.Advance.{Advances}
+use Rattle.engine.proofs.Playing.{Playing, playing-none, playing-group, playing-more, playing-all, can-walk, subject-below, ahead}
 use Rattle.engine.proofs.play_steps.Statement.{statement}
 use Rattle.engine.proofs.play_steps.Tie as tie
 
@@ -55,9 +58,6 @@ turn e = e .before .before .before .before
 within : (e : tie.After-place Inv-loop μ-loop) → e .place .result ≤ most
 within e = rw (e .place .ensures) (placed-within _)
 
-mul-slot : tie.Need-mul-slot Inv-loop μ-loop
-mul-slot c = record { fits = omega (arith, within c) }
-
 -- what is read of the slots and of the rows
 abbrev places : tie.After-subject Inv-loop μ-loop → tie.After-place Inv-loop μ-loop
 places c = c .before .before
@@ -71,9 +71,6 @@ among c =
     let p = start l .pre in
     subject-below _ (p .range) _ (bytes l) _ (l .loop .inv .1) _ (e .before .before .before .decode .ensures) _ _
     (read-within (l .loop .slots) (e .place .result) _ _ (omega (arith, within e, l .loop .inv .1 .slots-long))) _ (c .subject .ensures)
-
-mul-row : tie.Need-mul-row Inv-loop μ-loop
-mul-row c = record { fits = omega (arith, among c) }
 
 advance-requires : tie.Need-advance-requires Inv-loop μ-loop
 unfolding stepAt placeOf
@@ -97,9 +94,6 @@ looked c = c .before .before .before .before .before .before .before .before .be
 mul-rows : tie.Need-mul-rows Inv-loop μ-loop
 mul-rows c = record { fits = omega (arith, c .before .before .before .advance .ensures .within) }
 
-mul-slots : tie.Need-mul-slots Inv-loop μ-loop
-mul-slots c = record { fits = omega (arith, within (looked c)) }
-
 encode-requires-2 : tie.Need-encode-requires-2 Inv-loop μ-loop
 encode-requires-2 c κs =
     let b = turn (looked (c .before .before)) in
@@ -111,12 +105,6 @@ encode-requires-2 c κs =
 
 abbrev began : tie.Joined1 Inv-loop μ-loop → tie.In-loop Inv-loop μ-loop
 began c = c .before .before .before
-
-add-i : tie.Need-add-i Inv-loop μ-loop
-add-i c = record { fits = omega (arith, short (began c)) }
-
-loop-less : tie.Need-loop-less Inv-loop μ-loop
-loop-less c = omega (arith, began c .loop-test .taken)
 
 loop-again : tie.Need-loop-again Inv-loop μ-loop
 unfolding stepAt placeOf
@@ -162,20 +150,20 @@ play-steps-spec =
     sign-requires
     (λ c κs. search needs)
     (λ c κs. search needs)
-    mul-slot
+    (λ c. record { fits = omega (arith, within c) })
     (λ c. omega (arith, within c))
     (λ c κs. search needs)
-    mul-row
+    (λ c. record { fits = omega (arith, among c) })
     (λ c. among c)
     (λ c κs. search needs)
     advance-requires
     mul-rows
     (λ c. c .before .before .before .advance .ensures .within)
-    mul-slots
+    (λ c. record { fits = omega (arith, within (looked c)) })
     (λ c. omega (arith, within (looked c)))
     encode-requires-2
-    add-i
-    loop-less
+    (λ c. record { fits = omega (arith, short (began c)) })
+    (λ c. omega (arith, began c .loop-test .taken))
     loop-again
     (λ c. search needs)
     returns)

@@ -31,9 +31,6 @@ sign-requires c κs =
 returns-3 : tie.Need-returns-3
 returns-3 c = group-unstable _ _ _ _ _ _ _ _ (c .before .before .unstable .ensures) (c .before .if3 .taken) (c .sign .ensures)
 
-grounded-requires : tie.Need-grounded-requires
-grounded-requires c κs = start (c .before .before .before .before) .pre .0
-
 sign-requires-2 : tie.Need-sign-requires-2
 sign-requires-2 c κs =
     let b = c .before .before .before .before in
@@ -55,6 +52,6 @@ sign-spec =
     (λ c κs. search needs)
     sign-requires
     returns-3
-    grounded-requires
+    (λ c κs. start (c .before .before .before .before) .pre .0)
     sign-requires-2
     returns-4)

@@ -3,9 +3,7 @@ use Prim.Native.Nat.{ℕ, _*_, _/_, _≤_, _<_}
 use mathlib.Core.Bool.{true, false}
 use mathlib.Core.Path.{_≡_}
 use mathlib.Core.List.{List}
-use lib.Dec.{leb}
-use lib.ListN.{length, getD}
-use Rattle.octets.specs.Bytes.{pick}
+use lib.ListN.{length}
 use Rattle.rules.specs.Layout.{Limits, base, inRange}
 use Rattle.rules.specs.declared.Step.{Step}
 use Rattle.rules.specs.Step.{stepBytes, receive}
@@ -13,27 +11,16 @@ use Rattle.rules.specs.Refusals.{groupBits}
 use Rattle.rules.specs.Calls.{longest}
 use Rattle.engine_chains.specs.declared.rows.Row.{Row}
 use Rattle.engine_chains.specs.declared.rows.Slot.{Slot}
-use Rattle.engine_chains.specs.Internal.Tables.{Tables, emptySlot, Played, play}
+use Rattle.engine_chains.specs.Internal.Tables.{Tables, Played, play}
 use Rattle.engine_chains.specs.Internal.Walk.{Walk}
 use Rattle.engine_chains.specs.Internal.Engine.{Walkable, receiptBack, receiptWalk, readyIn}
 use Rattle.engine_tables.specs.declared.register.Register.{Register}
 use Rattle.engine_tables.specs.declared.turns.Operands.{Operands}
 use Rattle.engine_tables.specs.declared.turns.Turn.{Turn}
 use Rattle.engine_tables.specs.declared.turns.GroupTurn.{GroupTurn}
+use Rattle.engine_tables.specs.Internal.Places.{most}
 use Rattle.engine_tables.specs.Internal.Register.{rowAt, viewOf}
 use Rattle.engine_tables.specs.Internal.Turns.{placeOf, subjectOf, Holds, playedOf, playedGroup}
-
--- steps of a list at most
-abbrev pub most : ℕ
-most = 1024
-
--- the parcels in an array; a number past its end waits for nobody
-abbrev pub slotAt : List Slot → ℕ → Slot
-slotAt l n = getD l n emptySlot
-
--- the place of parcel number n; one place for all numbers from most on
-unfoldable pub placed : ℕ → ℕ
-placed n = pick (leb most n) most n
 
 -- step p as the i-th of a list, on the tables T: the tests of a receipt and of a signing are answered by walks back
 abbrev pub playAt : List ℕ → List ℕ → ℕ → Tables → Step → Played

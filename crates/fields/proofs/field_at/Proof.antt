@@ -1,6 +1,4 @@
 -- Each return by its law.
-use mathlib.Core.Path.{refl}
-use native.Mathlib.Omega.{arith}
 use borrow.Author.Needs.{needs}
 use Rattle.fields.proofs.Finding.{field-front, field-transactor, field-message, field-past}
 use Rattle.fields.proofs.field_at.Statement.{statement}

@@ -1,6 +1,4 @@
 -- Each return by its law.
-use mathlib.Core.Path.{refl}
-use native.Mathlib.Omega.{arith}
 use borrow.Author.Needs.{needs}
 use Rattle.fields.proofs.Finding.{front-opened, front-next, front-rest}
 use Rattle.fields.proofs.of_front.Statement.{statement}

@@ -1,6 +1,5 @@
 -- Each return by its law.
 use mathlib.Core.Path.{refl}
-use native.Mathlib.Omega.{arith}
 use borrow.Author.Needs.{needs}
 use Rattle.fields.proofs.Finding.{history-flags, history-number, history-entry}
 use Rattle.fields.proofs.of_history.Statement.{statement}

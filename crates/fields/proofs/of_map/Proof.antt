@@ -1,6 +1,4 @@
 -- The entry, and the byte in it.
-use mathlib.Core.Path.{refl}
-use native.Mathlib.Omega.{arith}
 use borrow.Author.Needs.{needs}
 use Rattle.fields.proofs.Finding.{in-map}
 use Rattle.fields.proofs.of_map.Statement.{statement}

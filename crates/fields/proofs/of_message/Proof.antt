@@ -1,6 +1,4 @@
 -- Each return by its law.
-use mathlib.Core.Path.{refl}
-use native.Mathlib.Omega.{arith}
 use borrow.Author.Needs.{needs}
 use Rattle.fields.proofs.Finding.{message-addressee, message-number, message-value, message-map}
 use Rattle.fields.proofs.of_message.Statement.{statement}

@@ -1,6 +1,4 @@
 -- Each return by its law.
-use mathlib.Core.Path.{refl}
-use native.Mathlib.Omega.{arith}
 use borrow.Author.Needs.{needs}
 use Rattle.fields.proofs.Finding.{transactor-status, transactor-value, transactor-saved, transactor-map}
 use Rattle.fields.proofs.of_transactor.Statement.{statement}

@@ -18,32 +18,17 @@ Inv-loop w k n i₀ i = (i ≤ n) × (sameList (take i w) (take i (wordOf k)) �
 abbrev μ-loop : tie.MeasureT-loop
 μ-loop w k n i₀ i = n - i
 
-letters-of-requires : tie.Need-letters-of-requires Inv-loop μ-loop
-letters-of-requires c κs = search needs
-
 returns : tie.Need-returns Inv-loop μ-loop
 returns c = sym (same-length _ _ (λ e. c .if1 .taken (e ∙ sym (c .before .letters-of .ensures .0))))
 
 loop-holds : tie.Need-loop-holds Inv-loop μ-loop
 loop-holds c = let a = c .before .before .before .args in (omega arith, same-none (a .w .now) (wordOf (a .k)))
 
-shared-slice-read-if2 : tie.Need-shared-slice-read-if2 Inv-loop μ-loop
-shared-slice-read-if2 c = search needs
-
-letter-requires : tie.Need-letter-requires Inv-loop μ-loop
-letter-requires c κs = search needs
-
 returns-2 : tie.Need-returns-2 Inv-loop μ-loop
 returns-2 c =
     let l = c .before .before .before .before in
     let n = l .before .before .letters-of .ensures .0 in
     same-miss _ _ (l .loop .i) _ (omega arith) (l .before .if1 .left ∙ n) (c .before .letter .ensures) (c .if2 .taken)
-
-add-i : tie.Need-add-i Inv-loop μ-loop
-add-i c = search needs
-
-loop-less : tie.Need-loop-less Inv-loop μ-loop
-loop-less c = search needs
 
 loop-again : tie.Need-loop-again Inv-loop μ-loop
 loop-again c =
@@ -63,13 +48,13 @@ is-row-spec =
     (tie.spec
     Inv-loop
     μ-loop
-    letters-of-requires
+    (λ c κs. search needs)
     returns
     loop-holds
-    shared-slice-read-if2
-    letter-requires
+    (λ c. search needs)
+    (λ c κs. search needs)
     returns-2
-    add-i
-    loop-less
+    (λ c. search needs)
+    (λ c. search needs)
     loop-again
     returns-3)

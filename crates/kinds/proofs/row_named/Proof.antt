@@ -16,20 +16,8 @@ Inv-loop w k₀ k = (k ≤ 14) × (rowNamed w ≡ rowFrom w (drop k names) k)
 abbrev μ-loop : tie.MeasureT-loop
 μ-loop w k₀ k = 14 - k
 
-loop-holds : tie.Need-loop-holds Inv-loop μ-loop
-loop-holds c = (omega arith, refl)
-
-is-row-requires : tie.Need-is-row-requires Inv-loop μ-loop
-is-row-requires c κs = search needs
-
 returns : tie.Need-returns Inv-loop μ-loop
 returns c = let l = c .before .before .before .loop in row-found _ (l .k) (omega arith) (sym (c .if1 .taken) ∙ c .before .is-row .ensures) (l .inv .1)
-
-add-k : tie.Need-add-k Inv-loop μ-loop
-add-k c = search needs
-
-loop-less : tie.Need-loop-less Inv-loop μ-loop
-loop-less c = search needs
 
 loop-again : tie.Need-loop-again Inv-loop μ-loop
 loop-again c = let l = c .before .before .before .loop in (omega arith, row-more _ (l .k) (omega arith) (sym (c .if1 .left) ∙ c .before .is-row .ensures) (l .inv .1))
@@ -43,10 +31,10 @@ row-named-spec =
     (tie.spec
     Inv-loop
     μ-loop
-    loop-holds
-    is-row-requires
+    (λ c. (omega arith, refl))
+    (λ c κs. search needs)
     returns
-    add-k
-    loop-less
+    (λ c. search needs)
+    (λ c. search needs)
     loop-again
     returns-2)

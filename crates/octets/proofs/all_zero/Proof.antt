@@ -15,14 +15,8 @@ Inv-loop s at n any₀ i₀ any i = (i ≤ n) × (eqb any 0 ≡ allZero (part at
 abbrev μ-loop : tie.MeasureT-loop
 μ-loop s at n any₀ i₀ any i = n - i
 
-loop-holds : tie.Need-loop-holds Inv-loop μ-loop
-loop-holds c = (search needs, zero-none _ _)
-
 loop-again : tie.Need-loop-again Inv-loop μ-loop
 loop-again c = (search needs, zero-more _ _ (c .before .before .loop .any) _ (c .before .before .loop .inv .1) (omega arith))
-
-returns : tie.Need-returns Inv-loop μ-loop
-returns c = zero-end _ _ _ _ _ (c .before .loop .inv .1) (omega arith)
 
 pub all-zero-spec : {M : Type 1} → statement M
 all-zero-spec =
@@ -30,10 +24,10 @@ all-zero-spec =
     (tie.spec
     Inv-loop
     μ-loop
-    loop-holds
+    (λ c. (search needs, zero-none _ _))
     (λ c. search needs)
     (λ c. search needs)
     (λ c. search needs)
     (λ c. search needs)
     loop-again
-    returns)
+    (λ c. zero-end _ _ _ _ _ (c .before .loop .inv .1) (omega arith)))

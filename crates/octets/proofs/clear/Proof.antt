@@ -15,14 +15,8 @@ Inv-loop image₀ at n i₀ image i = (i ≤ n) × (image ≡ put at (zeros i) i
 abbrev μ-loop : tie.MeasureT-loop
 μ-loop image₀ at n i₀ image i = n - i
 
-loop-holds : tie.Need-loop-holds Inv-loop μ-loop
-loop-holds c = (search needs, zeros-none _ _, refl)
-
 loop-again : tie.Need-loop-again Inv-loop μ-loop
 loop-again c = (search needs, clear-more _ _ _ _ (c .before .loop .inv .1) (omega arith), search needs)
-
-returns : tie.Need-returns Inv-loop μ-loop
-returns c = clear-all _ _ _ _ _ (c .before .loop .inv .1) (omega arith)
 
 pub clear-spec : {M : Type 1} → statement M
 clear-spec =
@@ -30,11 +24,11 @@ clear-spec =
     (tie.spec
     Inv-loop
     μ-loop
-    loop-holds
+    (λ c. (search needs, zeros-none _ _, refl))
     (λ c. search needs)
     (λ c. search needs)
     (λ c. search needs)
     (λ c. search needs)
     loop-again
     (λ c. search needs)
-    returns)
+    (λ c. clear-all _ _ _ _ _ (c .before .loop .inv .1) (omega arith)))

@@ -15,9 +15,6 @@ Inv-loop image₀ at gap n i₀ image i = (i ≤ n) × (image ≡ put at (part (
 abbrev μ-loop : tie.MeasureT-loop
 μ-loop image₀ at gap n i₀ image i = n - i
 
-loop-holds : tie.Need-loop-holds Inv-loop μ-loop
-loop-holds c = (search needs, part-none _ _ _ _, refl)
-
 loop-again : tie.Need-loop-again Inv-loop μ-loop
 loop-again c = (search needs, lower-more _ _ _ _ _ (c .before .before .loop .inv .1) (omega arith), search needs)
 
@@ -30,7 +27,7 @@ lower-spec =
     (tie.spec
     Inv-loop
     μ-loop
-    loop-holds
+    (λ c. (search needs, part-none _ _ _ _, refl))
     (λ c. search needs)
     (λ c. search needs)
     (λ c. search needs)

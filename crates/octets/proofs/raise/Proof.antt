@@ -15,9 +15,6 @@ Inv-loop image₀ from to n i₀ image i = (i ≤ n) × (image ≡ put to (part 
 abbrev μ-loop : tie.MeasureT-loop
 μ-loop image₀ from to n i₀ image i = n - i
 
-loop-holds : tie.Need-loop-holds Inv-loop μ-loop
-loop-holds c = (search needs, part-none _ _ _ _, refl)
-
 loop-again : tie.Need-loop-again Inv-loop μ-loop
 loop-again c = (search needs, raise-more _ _ _ _ _ (c .before .before .loop .inv .1) (omega arith) (omega arith), search needs)
 
@@ -30,7 +27,7 @@ raise-spec =
     (tie.spec
     Inv-loop
     μ-loop
-    loop-holds
+    (λ c. (search needs, part-none _ _ _ _, refl))
     (λ c. search needs)
     (λ c. search needs)
     (λ c. search needs)

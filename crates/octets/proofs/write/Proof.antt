@@ -15,14 +15,8 @@ Inv-loop image₀ at src i₀ image i = (i ≤ length src) × (image ≡ put at 
 abbrev μ-loop : tie.MeasureT-loop
 μ-loop image₀ at src i₀ image i = length src - i
 
-loop-holds : tie.Need-loop-holds Inv-loop μ-loop
-loop-holds c = (search needs, part-none _ _ _ _, refl)
-
 loop-again : tie.Need-loop-again Inv-loop μ-loop
 loop-again c = (search needs, write-more _ _ _ _ _ (c .before .before .loop .inv .1) (omega arith) (omega arith), search needs)
-
-returns : tie.Need-returns Inv-loop μ-loop
-returns c = write-all _ _ _ _ _ (c .before .loop .inv .1) (omega arith)
 
 pub write-spec : {M : Type 1} → statement M
 write-spec =
@@ -30,7 +24,7 @@ write-spec =
     (tie.spec
     Inv-loop
     μ-loop
-    loop-holds
+    (λ c. (search needs, part-none _ _ _ _, refl))
     (λ c. search needs)
     (λ c. search needs)
     (λ c. search needs)
@@ -38,4 +32,4 @@ write-spec =
     (λ c. search needs)
     loop-again
     (λ c. search needs)
-    returns)
+    (λ c. write-all _ _ _ _ _ (c .before .loop .inv .1) (omega arith)))

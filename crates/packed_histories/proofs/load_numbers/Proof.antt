@@ -17,9 +17,6 @@ Inv-loop s at list₀ i₀ list i = (i ≤ places) × (take i list ≡ tabulate 
 abbrev μ-loop : tie.MeasureT-loop
 μ-loop s at list₀ i₀ list i = places - i
 
-loop-holds : tie.Need-loop-holds Inv-loop μ-loop
-loop-holds c = (search needs, fill-none _, search needs)
-
 loop-again : tie.Need-loop-again Inv-loop μ-loop
 loop-again c = (search needs, number-filled _ _ _ _ _ _ (c .before .before .loop .inv .1) (c .load-number .ensures) (omega arith), search needs)
 
@@ -32,7 +29,7 @@ load-numbers-spec =
     (tie.spec
     Inv-loop
     μ-loop
-    loop-holds
+    (λ c. (search needs, fill-none _, search needs))
     (λ c. search needs)
     (λ c. search needs)
     (λ c κs. search needs)

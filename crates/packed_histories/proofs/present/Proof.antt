@@ -6,8 +6,5 @@ use borrow.Author.Needs.{needs}
 use Rattle.packed_histories.proofs.present.Statement.{statement}
 use Rattle.packed_histories.proofs.present.Tie as tie
 
-returns : tie.Need-returns
-returns c = present-here width places _ _ (omega arith)
-
 pub present-spec : {M : Type 1} → statement M
-present-spec = tie.close (tie.spec (λ c. search needs) returns)
+present-spec = tie.close (tie.spec (λ c. search needs) (λ c. present-here width places _ _ (omega arith)))

@@ -18,9 +18,6 @@ Inv-loop s at used ramp from any₀ i₀ any i = (i ≤ restSize width places) �
 abbrev μ-loop : tie.MeasureT-loop
 μ-loop s at used ramp from any₀ i₀ any i = restSize width places - i
 
-loop-holds : tie.Need-loop-holds Inv-loop μ-loop
-loop-holds c = (search needs, masked-none _ _ _)
-
 shared-slice-read-any-2 : tie.Need-shared-slice-read-any-2 Inv-loop μ-loop
 shared-slice-read-any-2 c = omega (arith, ap length (c .before .before .before .before .pre .2), length-ramp (restSize width places))
 
@@ -33,9 +30,6 @@ loop-again c =
           (omega (arith, c .before .shared-slice-known .given (a .args .at + b .i))) (b .inv .1),
     )
 
-returns : tie.Need-returns Inv-loop μ-loop
-returns c = zero-end _ _ _ _ _ (c .before .loop .inv .1) (omega arith)
-
 pub rest-zero-spec : {M : Type 1} → statement M
 rest-zero-spec =
     tie.close
@@ -43,7 +37,7 @@ rest-zero-spec =
     Inv-loop
     μ-loop
     (λ c. search needs)
-    loop-holds
+    (λ c. (search needs, masked-none _ _ _))
     (λ c. search needs)
     (λ c. search needs)
     (λ c. search needs)
@@ -51,4 +45,4 @@ rest-zero-spec =
     (λ c. search needs)
     (λ c. search needs)
     loop-again
-    returns)
+    (λ c. zero-end _ _ _ _ _ (c .before .loop .inv .1) (omega arith)))

@@ -9,9 +9,6 @@ use borrow.Author.Needs.{needs}
 use Rattle.packed_histories.proofs.store.Statement.{statement}
 use Rattle.packed_histories.proofs.store.Tie as tie
 
-store-number-requires : tie.Need-store-number-requires
-store-number-requires c κs = simp length-set (omega arith)
-
 store-numbers-requires : tie.Need-store-numbers-requires
 store-numbers-requires c κs = omega (arith, simp length-set at (c .before .before .before .before .store-number .kept .0))
 
@@ -34,7 +31,7 @@ store-spec =
     (λ c. search needs)
     (λ c. search needs)
     (λ c. search needs)
-    store-number-requires
+    (λ c κs. simp length-set (omega arith))
     (λ c. search needs)
     (λ c. search needs)
     store-numbers-requires

@@ -3,8 +3,5 @@ use borrow.Author.Needs.{needs}
 use Rattle.packed_histories.proofs.store_number.Statement.{statement}
 use Rattle.packed_histories.proofs.store_number.Tie as tie
 
-returns : tie.Need-returns
-returns c = search needs
-
 pub store-number-spec : {M : Type 1} → statement M
-store-number-spec = tie.close (tie.spec (λ c κs. search needs) (λ c. search needs) returns)
+store-number-spec = tie.close (tie.spec (λ c κs. search needs) (λ c. search needs) (λ c. search needs))

@@ -17,9 +17,6 @@ Inv-loop image₀ at list i₀ image i = (i ≤ places) × (image ≡ put at (ch
 abbrev μ-loop : tie.MeasureT-loop
 μ-loop image₀ at list i₀ image i = places - i
 
-loop-holds : tie.Need-loop-holds Inv-loop μ-loop
-loop-holds c = (search needs, put-none _ _ _, refl)
-
 loop-again : tie.Need-loop-again Inv-loop μ-loop
 loop-again c = (search needs, number-put _ _ _ _ _ _ _ (c .before .before .before .before .before .loop .inv .1) (c .before .before .store-number .ensures) (omega arith), search needs)
 
@@ -32,7 +29,7 @@ store-numbers-spec =
     (tie.spec
     Inv-loop
     μ-loop
-    loop-holds
+    (λ c. (search needs, put-none _ _ _, refl))
     (λ c. search needs)
     (λ c. search needs)
     (λ c. search needs)

@@ -28,9 +28,6 @@ Inv-loop s at self unrelated₀ packed₀ own₀ i₀ unrelated packed own i =
 abbrev μ-loop : tie.MeasureT-loop
 μ-loop s at self unrelated₀ packed₀ own₀ i₀ unrelated packed own i = i
 
-loop-holds : tie.Need-loop-holds Inv-loop μ-loop
-loop-holds c = (search needs, compared-none _ _ _ _ (search needs))
-
 -- what a turn looks at: entry i - 1
 module _ (c : tie.After-x Inv-loop μ-loop) where
   abbrev s : List ℕ
@@ -83,16 +80,13 @@ loop-again-4 c =
     let b = c .before .before in
     (omega arith, compared-other (i b - 1) (i b) (omega arith) (omega arith) (b .before .before .before .loop .inv .1) (here b) (own _ (i b - 1)) (c .before .relation-at .ensures) (other (c .before .relation-at .result) (c .match .keys4)))
 
-returns : tie.Need-returns Inv-loop μ-loop
-returns c = compared-all _ _ _ _ (omega arith) (c .before .loop .inv .1)
-
 pub compare-spec : {M : Type 1} → statement M
 compare-spec =
     tie.close
     (tie.spec
     Inv-loop
     μ-loop
-    loop-holds
+    (λ c. (search needs, compared-none _ _ _ _ (search needs)))
     (λ c. search needs)
     (λ c. search needs)
     (λ c. search needs)
@@ -111,4 +105,4 @@ compare-spec =
     loop-again-3
     (λ c. search needs)
     loop-again-4
-    returns)
+    (λ c. compared-all _ _ _ _ (omega arith) (c .before .loop .inv .1)))

@@ -18,9 +18,6 @@ Inv-loop s at opened limit end ramp i₀ i = (i ≤ end) × (formedMap width pla
 abbrev μ-loop : tie.MeasureT-loop
 μ-loop s at opened limit end ramp i₀ i = end - i
 
-loop-holds : tie.Need-loop-holds Inv-loop μ-loop
-loop-holds c = (search needs, formed-none width places _ _ _)
-
 returns : tie.Need-returns Inv-loop μ-loop
 returns c =
     let b = c .before .before .before .before .loop in
@@ -45,7 +42,7 @@ formed-spec =
     μ-loop
     (λ c κs. search needs)
     (λ c κs. search needs)
-    loop-holds
+    (λ c. (search needs, formed-none width places _ _ _))
     (λ c. search needs)
     (λ c. search needs)
     (λ c. search needs)

@@ -6,15 +6,6 @@ use borrow.Author.Needs.{needs}
 use Rattle.parser.proofs.bare_line.Statement.{statement}
 use Rattle.parser.proofs.bare_line.Tie as tie
 
-skip-requires : tie.Need-skip-requires
-skip-requires c κs = search needs
-
-returns : tie.Need-returns
-returns c = bare-none _ _ _ (c .before .skip .ensures) (search needs)
-
-line-at-requires : tie.Need-line-at-requires
-line-at-requires c κs = search needs
-
 add-t9 : tie.Need-add-t9
 add-t9 c =
     let b = c .before .before .before .before in
@@ -25,9 +16,6 @@ returns-2 : tie.Need-returns-2
 returns-2 c =
     let b = c .before .before .before .before in
     bare-fault _ _ _ (b .before .before .skip .ensures) (omega arith) _ (b .line-at .ensures) (c .before .if2 .taken)
-
-add-t10 : tie.Need-add-t10
-add-t10 c = search needs
 
 returns-3 : tie.Need-returns-3
 returns-3 c =
@@ -42,4 +30,12 @@ returns-4 c =
 pub bare-line-spec : {M : Type 1} → statement M
 bare-line-spec =
     tie.close
-    (tie.spec skip-requires returns line-at-requires add-t9 returns-2 add-t10 returns-3 returns-4)
+    (tie.spec
+    (λ c κs. search needs)
+    (λ c. bare-none _ _ _ (c .before .skip .ensures) (search needs))
+    (λ c κs. search needs)
+    add-t9
+    returns-2
+    (λ c. search needs)
+    returns-3
+    returns-4)

@@ -13,26 +13,8 @@ Inv-loop text most out₀ write from₀ at₀ line₀ out from at line = Upto mo
 abbrev μ-loop : tie.MeasureT-loop
 μ-loop text most out₀ write from₀ at₀ line₀ out from at line = suc (length text) - from
 
-loop-holds : tie.Need-loop-holds Inv-loop μ-loop
-loop-holds c = upto-start _ _ _ _
-
-find-requires : tie.Need-find-requires Inv-loop μ-loop
-find-requires c κs = search needs
-
-sub-free : tie.Need-sub-free Inv-loop μ-loop
-sub-free c = search needs
-
-sub-line-of : tie.Need-sub-line-of Inv-loop μ-loop
-sub-line-of c = search needs
-
-part-line-of-start : tie.Need-part-line-of-start Inv-loop μ-loop
-part-line-of-start c = search needs
-
 part-line-of-end : tie.Need-part-line-of-end Inv-loop μ-loop
 part-line-of-end c = let h = cut-inside _ _ _ (omega arith) (c .find .ensures) in search needs
-
-line-of-requires : tie.Need-line-of-requires Inv-loop μ-loop
-line-of-requires c κs = search needs
 
 same-length : tie.Need-same-length Inv-loop μ-loop
 same-length c = c .before .before .before .before .before .before .loop .inv .wide
@@ -71,9 +53,6 @@ loop-again c =
     upto-again _ _ _ _ _ _ _ _ (l .loop .inv) (omega arith) _ (f .find .ensures) _ (c .before .before .before .before .before .before .line-of .ensures) (c .before .before .before .before .if1 .left)
     (l .before .before .before .pre) _ _ (c .before .before .put-line .kept .0) (c .before .before .put-line .ensures)
 
-same-length-2 : tie.Need-same-length-2 Inv-loop μ-loop
-same-length-2 c = c .before .loop .inv .wide
-
 returns-2 : tie.Need-returns-2 Inv-loop μ-loop
 returns-2 c = upto-end _ _ _ _ _ _ _ _ (c .before .loop .inv) (omega arith)
 
@@ -83,13 +62,13 @@ read-lines-spec =
     (tie.spec
     Inv-loop
     μ-loop
-    loop-holds
-    find-requires
-    sub-free
-    sub-line-of
-    part-line-of-start
+    (λ c. upto-start _ _ _ _)
+    (λ c κs. search needs)
+    (λ c. search needs)
+    (λ c. search needs)
+    (λ c. search needs)
     part-line-of-end
-    line-of-requires
+    (λ c κs. search needs)
     same-length
     returns
     put-line-requires
@@ -97,5 +76,5 @@ read-lines-spec =
     add-from
     loop-less
     loop-again
-    same-length-2
+    (λ c. c .before .loop .inv .wide)
     returns-2)

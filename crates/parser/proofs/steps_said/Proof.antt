@@ -4,15 +4,6 @@ use borrow.Author.Needs.{needs}
 use Rattle.parser.proofs.steps_said.Statement.{statement}
 use Rattle.parser.proofs.steps_said.Tie as tie
 
-slice-aggregate-read-lines : tie.Need-slice-aggregate-read-lines
-slice-aggregate-read-lines c = search needs
-
-read-lines-requires : tie.Need-read-lines-requires
-read-lines-requires c κs = search needs
-
-expected-of-requires : tie.Need-expected-of-requires
-expected-of-requires c κs = search needs
-
 returns : tie.Need-returns
 returns c = said-fault _ _ _ _ _ (c .before .before .before .before .read-lines .ensures) (c .before .if1 .taken) _ (c .expected-of .ensures)
 
@@ -23,8 +14,8 @@ pub steps-said-spec : {M : Type 1} → statement M
 steps-said-spec =
     tie.close
     (tie.spec
-    slice-aggregate-read-lines
-    read-lines-requires
-    expected-of-requires
+    (λ c. search needs)
+    (λ c κs. search needs)
+    (λ c κs. search needs)
     returns
     returns-2)

@@ -5,12 +5,6 @@ use borrow.Author.Needs.{needs}
 use Rattle.playback.proofs.part.Statement.{statement}
 use Rattle.playback.proofs.part.Tie as tie
 
-slice-aggregate-play : tie.Need-slice-aggregate-play
-slice-aggregate-play c = simp length-take (omega arith)
-
-play-requires : tie.Need-play-requires
-play-requires c κs = simp length-take (omega arith)
-
 pub part-spec : {M : Type 1} → statement M
 part-spec =
     tie.close
@@ -18,8 +12,8 @@ part-spec =
     (λ c κs. search needs)
     (λ c. search needs)
     (λ c. search needs)
-    slice-aggregate-play
-    play-requires
+    (λ c. simp length-take (omega arith))
+    (λ c κs. simp length-take (omega arith))
     (λ c. search needs)
     (λ c. search needs)
     (λ c. search needs)

@@ -5,9 +5,6 @@ use borrow.Author.Needs.{needs}
 use Rattle.playback.proofs.play.Statement.{statement}
 use Rattle.playback.proofs.play.Tie as tie
 
-slice-aggregate-write-all : tie.Need-slice-aggregate-write-all
-slice-aggregate-write-all c = simp length-take (omega arith)
-
 pub play-spec : {M : Type 1} → statement M
 play-spec =
     tie.close
@@ -15,7 +12,7 @@ play-spec =
     (λ c κs. search needs)
     (λ c κs. search needs)
     (λ c. search needs)
-    slice-aggregate-write-all
+    (λ c. simp length-take (omega arith))
     (λ c κs. search needs)
     (λ c. search needs)
     (λ c. search needs)

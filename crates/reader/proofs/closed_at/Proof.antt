@@ -5,15 +5,6 @@ use borrow.Author.Needs.{needs}
 use Rattle.reader.proofs.closed_at.Statement.{statement}
 use Rattle.reader.proofs.closed_at.Tie as tie
 
-returns : tie.Need-returns
-returns c = closed-fault _ _ (c .if1 .taken)
-
-skip-requires : tie.Need-skip-requires
-skip-requires c κs = search needs
-
-byte-at-requires : tie.Need-byte-at-requires
-byte-at-requires c κs = search needs
-
 add-t7 : tie.Need-add-t7
 add-t7 c = let b = c .before .before in omega (arith, next-inside _ _ _ (b .before .before .before .before .before .pre) (b .skip .ensures))
 
@@ -25,4 +16,11 @@ returns-3 c = let b = c .before .before in closed-no _ _ (b .before .before .if1
 
 pub closed-at-spec : {M : Type 1} → statement M
 closed-at-spec =
-    tie.close (tie.spec returns skip-requires byte-at-requires add-t7 returns-2 returns-3)
+    tie.close
+    (tie.spec
+    (λ c. closed-fault _ _ (c .if1 .taken))
+    (λ c κs. search needs)
+    (λ c κs. search needs)
+    add-t7
+    returns-2
+    returns-3)

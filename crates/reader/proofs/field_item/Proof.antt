@@ -4,12 +4,6 @@ use borrow.Author.Needs.{needs}
 use Rattle.reader.proofs.field_item.Statement.{statement}
 use Rattle.reader.proofs.field_item.Tie as tie
 
-most-of-requires : tie.Need-most-of-requires
-most-of-requires c κs = search needs
-
-number-at-requires : tie.Need-number-at-requires
-number-at-requires c κs = search needs
-
 returns : tie.Need-returns
 returns c =
     let b = c .before .before in
@@ -27,4 +21,4 @@ returns-2 c =
 
 pub field-item-spec : {M : Type 1} → statement M
 field-item-spec =
-    tie.close (tie.spec most-of-requires number-at-requires returns with-field-requires returns-2)
+    tie.close (tie.spec (λ c κs. search needs) (λ c κs. search needs) returns with-field-requires returns-2)

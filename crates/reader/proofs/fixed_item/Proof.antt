@@ -5,23 +5,8 @@ use borrow.Author.Needs.{needs}
 use Rattle.reader.proofs.fixed_item.Statement.{statement}
 use Rattle.reader.proofs.fixed_item.Tie as tie
 
-word-end-requires : tie.Need-word-end-requires
-word-end-requires c κs = search needs
-
-add-k : tie.Need-add-k
-add-k c = search needs
-
-sub-is-row : tie.Need-sub-is-row
-sub-is-row c = search needs
-
-part-is-row-start : tie.Need-part-is-row-start
-part-is-row-start c = search needs
-
 part-is-row-end : tie.Need-part-is-row-end
 part-is-row-end c = let h = word-inside _ _ _ (c .before .before .pre .0) (c .word-end .ensures) in search needs
-
-is-row-requires : tie.Need-is-row-requires
-is-row-requires c κs = search needs
 
 returns : tie.Need-returns
 returns c =
@@ -37,11 +22,11 @@ pub fixed-item-spec : {M : Type 1} → statement M
 fixed-item-spec =
     tie.close
     (tie.spec
-    word-end-requires
-    add-k
-    sub-is-row
-    part-is-row-start
+    (λ c κs. search needs)
+    (λ c. search needs)
+    (λ c. search needs)
+    (λ c. search needs)
     part-is-row-end
-    is-row-requires
+    (λ c κs. search needs)
     returns
     returns-2)

@@ -5,17 +5,8 @@ use borrow.Author.Needs.{needs}
 use Rattle.reader.proofs.group_at.Statement.{statement}
 use Rattle.reader.proofs.group_at.Tie as tie
 
-byte-at-requires : tie.Need-byte-at-requires
-byte-at-requires c κs = search needs
-
 returns : tie.Need-returns
 returns c = volume-no _ _ _ _ (c .before .byte-at .ensures) (c .if1 .taken)
-
-add-skip : tie.Need-add-skip
-add-skip c = search needs
-
-skip-requires : tie.Need-skip-requires
-skip-requires c κs = search needs
 
 members-at-requires : tie.Need-members-at-requires
 members-at-requires c κs =
@@ -29,4 +20,10 @@ returns-2 c = volume-yes _ _ _ _ (c .before .before .before .byte-at .ensures) (
 pub group-at-spec : {M : Type 1} → statement M
 group-at-spec =
     tie.close
-    (tie.spec byte-at-requires returns add-skip skip-requires members-at-requires returns-2)
+    (tie.spec
+    (λ c κs. search needs)
+    returns
+    (λ c. search needs)
+    (λ c κs. search needs)
+    members-at-requires
+    returns-2)

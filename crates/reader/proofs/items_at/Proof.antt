@@ -13,23 +13,8 @@ Inv-loop s row n r₀ i₀ r i = Rest s (templateOf row) r₀ r i
 abbrev μ-loop : tie.MeasureT-loop
 μ-loop s row n r₀ i₀ r i = n - i
 
-items-of-requires : tie.Need-items-of-requires Inv-loop μ-loop
-items-of-requires c κs = search needs
-
-loop-holds : tie.Need-loop-holds Inv-loop μ-loop
-loop-holds c = items-start _ _ _ (c .before .before .pre .0)
-
 item-of-requires : tie.Need-item-of-requires Inv-loop μ-loop
 item-of-requires c κs = let n = c .before .before .items-of .ensures in (search needs, omega arith)
-
-item-at-requires : tie.Need-item-at-requires Inv-loop μ-loop
-item-at-requires c κs = c .before .before .loop .inv .1
-
-add-i : tie.Need-add-i Inv-loop μ-loop
-add-i c = search needs
-
-loop-less : tie.Need-loop-less Inv-loop μ-loop
-loop-less c = search needs
 
 loop-again : tie.Need-loop-again Inv-loop μ-loop
 loop-again c =
@@ -45,11 +30,11 @@ items-at-spec =
     (tie.spec
     Inv-loop
     μ-loop
-    items-of-requires
-    loop-holds
+    (λ c κs. search needs)
+    (λ c. items-start _ _ _ (c .before .before .pre .0))
     item-of-requires
-    item-at-requires
-    add-i
-    loop-less
+    (λ c κs. c .before .before .loop .inv .1)
+    (λ c. search needs)
+    (λ c. search needs)
     loop-again
     returns)

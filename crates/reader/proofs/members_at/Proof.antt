@@ -5,17 +5,8 @@ use borrow.Author.Needs.{needs}
 use Rattle.reader.proofs.members_at.Statement.{statement}
 use Rattle.reader.proofs.members_at.Tie as tie
 
-byte-at-requires : tie.Need-byte-at-requires
-byte-at-requires c κs = search needs
-
-add-t8 : tie.Need-add-t8
-add-t8 c = search needs
-
 returns : tie.Need-returns
 returns c = members-none _ _ _ _ (c .before .byte-at .ensures) (c .if1 .taken)
-
-member-at-requires : tie.Need-member-at-requires
-member-at-requires c κs = search needs
 
 more-members-requires : tie.Need-more-members-requires
 more-members-requires c κs = let a = c .before .before .before .before in stands (a .args .s .now) _ _ (c .member-at .ensures) (member-within _ _ _ (a .pre))
@@ -34,10 +25,10 @@ pub members-at-spec : {M : Type 1} → statement M
 members-at-spec =
     tie.close
     (tie.spec
-    byte-at-requires
-    add-t8
+    (λ c κs. search needs)
+    (λ c. search needs)
     returns
-    member-at-requires
+    (λ c κs. search needs)
     more-members-requires
     closed-at-requires
     returns-2)

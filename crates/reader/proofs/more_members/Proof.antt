@@ -20,9 +20,6 @@ abbrev μ-loop : tie.MeasureT-loop
 loop-holds : tie.Need-loop-holds Inv-loop μ-loop
 loop-holds c = let a = c .before .args in more-start (a .s .now) _ (c .before .pre)
 
-comma-next-requires : tie.Need-comma-next-requires Inv-loop μ-loop
-comma-next-requires c κs = search needs
-
 returns : tie.Need-returns Inv-loop μ-loop
 returns c =
     let l = c .before .before .before .loop in
@@ -33,12 +30,6 @@ one-more-requires : tie.Need-one-more-requires Inv-loop μ-loop
 one-more-requires c κs =
     let l = c .before .before .before .loop in
     (l .inv .1, sym (c .before .comma-next .ensures) ∙ not-false _ (c .if1 .left))
-
-add-i : tie.Need-add-i Inv-loop μ-loop
-add-i c = search needs
-
-loop-less : tie.Need-loop-less Inv-loop μ-loop
-loop-less c = search needs
 
 loop-again : tie.Need-loop-again Inv-loop μ-loop
 loop-again c =
@@ -55,10 +46,10 @@ more-members-spec =
     Inv-loop
     μ-loop
     loop-holds
-    comma-next-requires
+    (λ c κs. search needs)
     returns
     one-more-requires
-    add-i
-    loop-less
+    (λ c. search needs)
+    (λ c. search needs)
     loop-again
     returns-2)

@@ -5,14 +5,8 @@ use borrow.Author.Needs.{needs}
 use Rattle.reader.proofs.one_more.Statement.{statement}
 use Rattle.reader.proofs.one_more.Tie as tie
 
-skip-requires : tie.Need-skip-requires
-skip-requires c κs = search needs
-
 add-skip : tie.Need-add-skip
 add-skip c = omega (arith, comma-inside _ _ (c .before .before .before .pre .1), c .skip .ensures)
-
-skip-requires-2 : tie.Need-skip-requires-2
-skip-requires-2 c κs = search needs
 
 member-at-requires : tie.Need-member-at-requires
 member-at-requires c κs =
@@ -25,4 +19,4 @@ returns c = more-is _ _ (c .before .before .before .before .before .pre .1) _ _ 
 
 pub one-more-spec : {M : Type 1} → statement M
 one-more-spec =
-    tie.close (tie.spec skip-requires add-skip skip-requires-2 member-at-requires returns)
+    tie.close (tie.spec (λ c κs. search needs) add-skip (λ c κs. search needs) member-at-requires returns)

@@ -7,20 +7,8 @@ use borrow.Author.Needs.{needs}
 use Rattle.reader.proofs.whole_item.Statement.{statement}
 use Rattle.reader.proofs.whole_item.Tie as tie
 
-word-end-requires : tie.Need-word-end-requires
-word-end-requires c κs = search needs
-
-sub-w : tie.Need-sub-w
-sub-w c = search needs
-
-part-w-start : tie.Need-part-w-start
-part-w-start c = search needs
-
 part-w-end : tie.Need-part-w-end
 part-w-end c = let h = word-inside _ _ _ (c .before .before .pre .0) (c .word-end .ensures) in search needs
-
-is-whole-requires : tie.Need-is-whole-requires
-is-whole-requires c κs = search needs
 
 returns : tie.Need-returns
 returns c =
@@ -47,11 +35,11 @@ pub whole-item-spec : {M : Type 1} → statement M
 whole-item-spec =
     tie.close
     (tie.spec
-    word-end-requires
-    sub-w
-    part-w-start
+    (λ c κs. search needs)
+    (λ c. search needs)
+    (λ c. search needs)
     part-w-end
-    is-whole-requires
+    (λ c κs. search needs)
     returns
     returns-2
     whole-requires

@@ -14,7 +14,7 @@ use Rattle.rules.specs.Step.{stepBytes}
 use Rattle.rules.specs.Pack.{pack, unpack}
 use Rattle.rules.specs.Form.{wellFormed}
 use Rattle.rules.specs.Internal.Well.{WellFormed}
-use Rattle.rules.specs.Calls.{InParts, longest, stepsIn, stateAfter, replyAt, wrongPart, runAnswer, ranImage, ranReplies, runImage, runReplies}
+use Rattle.rules.specs.Calls.{InParts, longest, stepsIn, stateAfter, replyAt, wrongPart, runAnswer, ranImage, ranReplies}
 use Rattle.octets.proofs.Tests.{pick-zero, or-off}
 use Rattle.rules.proofs.Pack.Sizes.{length-pack}
 use Rattle.rules.proofs.Pack.RoundTrip.{unpack-pack}

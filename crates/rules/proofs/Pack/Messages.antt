@@ -7,7 +7,7 @@ use mathlib.Core.Logic.{⊎-elim}
 use native.Mathlib.Numerals.{add-one}
 use native.Mathlib.Omega.{arith}
 use borrow.Author.Tests.{lt-ltb, le-ltb, eq-eqb, ne-eqb}
-use lib.ListN.{length, getD, set}
+use lib.ListN.{length, getD, set, List·getD-eq-default}
 use Rattle.octets.specs.Bytes.{put, part, zeros}
 use Rattle.octets.specs.Numbers.{be}
 use Rattle.octets.proofs.Put.{length-put, part-put-before}
@@ -15,7 +15,7 @@ use Rattle.octets.proofs.Numbers.{length-be, put-be-one}
 use Rattle.octets.proofs.Chunks.{cases, step}
 use Rattle.maps.specs.declared.DependenceMap.{DependenceMap}
 use Rattle.rules.specs.Layout.{Layout, dependencesAt, messageBytes, messageAddress, imageBytes}
-use Rattle.rules.specs.State.{State, placeFrom, placeOf, numbered, messageAt, withMessage, withoutMessage, addressedTo}
+use Rattle.rules.specs.State.{State, noMessage, placeFrom, placeOf, numbered, messageAt, withMessage, withoutMessage, addressedTo}
 use Rattle.rules.specs.Pack.{packDependences, packMessage, vacantAt, waitingIn, pack, unpack}
 use Rattle.rules.specs.Internal.Well.{WellFormed}
 use Rattle.rules.proofs.Pack.Loads.{unpack-waiting, read-vacant}
@@ -30,6 +30,11 @@ numbers-rise {y} {s} w i (suc j) h b =
     (λ (p : i < j). omega (arith, numbers-rise w i j p (omega arith)))
     (λ (p : i ≡ j). rw p next)
     (cases j i h)
+
+-- past the last parcel
+pub no-message : (s : State) (k : ℕ) → length (s .messages) ≤ k → messageAt s k ≡ noMessage
+unfolding messageAt
+no-message s k h = List·getD-eq-default (s .messages) noMessage {n = k} h
 
 -- what the fields of a waiting message say to a search
 module _ (s : State) (k p : ℕ) where

@@ -22,9 +22,6 @@ Inv-loop image₀ from at t i₀ image i =
 abbrev μ-loop : tie.MeasureT-loop
 μ-loop image₀ from at t i₀ image i = entries - i
 
-loop-holds : tie.Need-loop-holds Inv-loop μ-loop
-loop-holds c = (search needs, put-map-none _ _ _ _ _, refl)
-
 loop-again : tie.Need-loop-again Inv-loop μ-loop
 loop-again c =
     let b = c .before .before .before .before .before in
@@ -43,7 +40,7 @@ inform-spec =
     (tie.spec
     Inv-loop
     μ-loop
-    loop-holds
+    (λ c. (search needs, put-map-none _ _ _ _ _, refl))
     (λ c. search needs)
     (λ c. search needs)
     (λ c. search needs)

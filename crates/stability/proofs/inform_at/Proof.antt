@@ -13,9 +13,6 @@ use Rattle.stability.proofs.inform_at.Tie as tie
 returns : tie.Need-returns
 returns c = informed-kept width places _ _ _ _ _ (sym (c .before .shows .ensures) ∙ not-true _ (c .if1 .taken))
 
-returns-2 : tie.Need-returns-2
-returns-2 c = informed-own width places _ _ _ _ _ (c .if2 .taken)
-
 store-requires : tie.Need-store-requires
 store-requires c κs =
     (search needs, omega (arith, ap (λ (h : History). h .count) (c .before .stabilize .ensures), loaded-count width places _ _ (omega arith) (c .before .before .load .ensures)))
@@ -35,7 +32,7 @@ inform-at-spec =
     (λ c. search needs)
     returns
     (λ c. search needs)
-    returns-2
+    (λ c. informed-own width places _ _ _ _ _ (c .if2 .taken))
     (λ c κs. search needs)
     (λ c κs. search needs)
     store-requires

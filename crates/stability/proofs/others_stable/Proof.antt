@@ -18,9 +18,6 @@ Inv-loop s at t i₀ i = (i ≤ entries) × (othersStable i t (mapIn width place
 abbrev μ-loop : tie.MeasureT-loop
 μ-loop s at t i₀ i = entries - i
 
-loop-holds : tie.Need-loop-holds Inv-loop μ-loop
-loop-holds c = (search needs, others-none _ _)
-
 returns : tie.Need-returns Inv-loop μ-loop
 returns c =
     let b = c .before .before .before .loop in
@@ -40,7 +37,7 @@ others-stable-spec =
     (tie.spec
     Inv-loop
     μ-loop
-    loop-holds
+    (λ c. (search needs, others-none _ _))
     (λ c. search needs)
     (λ c. search needs)
     (λ c κs. search needs)

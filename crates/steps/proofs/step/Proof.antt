@@ -23,27 +23,6 @@ well c = sym (c .before .malformed .ensures) ∙ c .if1 .left
 asked : (c : tie.Else1) (k : ℕ) → c .before .before .before .args .p .kind ≡ k → Asked k (c .before .before .before .args .image .now) (c .before .before .before .args .p)
 asked c k e = let p = c .before .before .before .pre in record { good = p .0; step = p .1; formed = well c; kind = e }
 
-root-requires : tie.Need-root-requires
-root-requires c κs = asked (c .before .before) root (c .before .match .keys1)
-
-letter-requires : tie.Need-letter-requires
-letter-requires c κs = asked (c .before .before) letter (c .before .match .keys2)
-
-receive-requires : tie.Need-receive-requires
-receive-requires c κs = asked (c .before .before) receive (c .before .match .keys3)
-
-new-requires : tie.Need-new-requires
-new-requires c κs = asked (c .before .before) new (c .before .match .keys4)
-
-send-requires : tie.Need-send-requires
-send-requires c κs = asked (c .before .before) send (c .before .match .keys5)
-
-lose-requires : tie.Need-lose-requires
-lose-requires c κs = asked (c .before .before) lose (c .before .match .keys6)
-
-sign-requires : tie.Need-sign-requires
-sign-requires c κs = asked (c .before .before) sign (c .before .match .keys7)
-
 local-requires : tie.Need-local-requires
 local-requires c κs =
     let e = c .before .before in
@@ -59,13 +38,13 @@ step-spec =
     (λ c κs. search needs)
     (λ c κs. search needs)
     returns
-    root-requires
-    letter-requires
-    receive-requires
-    new-requires
-    send-requires
-    lose-requires
-    sign-requires
+    (λ c κs. asked (c .before .before) root (c .before .match .keys1))
+    (λ c κs. asked (c .before .before) letter (c .before .match .keys2))
+    (λ c κs. asked (c .before .before) receive (c .before .match .keys3))
+    (λ c κs. asked (c .before .before) new (c .before .match .keys4))
+    (λ c κs. asked (c .before .before) send (c .before .match .keys5))
+    (λ c κs. asked (c .before .before) lose (c .before .match .keys6))
+    (λ c κs. asked (c .before .before) sign (c .before .match .keys7))
     local-requires
     (λ c. search needs)
     (λ c. search needs)

@@ -23,9 +23,6 @@ returns c =
     let b = c .before .before .before .before in
     put-map-zeros width places _ _ entries _ _ (sym (b .before .is-empty .ensures) ∙ b .if1 .taken) (c .before .before .clear .ensures)
 
-loop-holds : tie.Need-loop-holds Inv-loop μ-loop
-loop-holds c = (search needs, put-map-none _ _ _ _ _, refl)
-
 store-entry-requires : tie.Need-store-entry-requires Inv-loop μ-loop
 store-entry-requires c κs = let s = c .before .before .before .before in (search needs, bounded-at _ _ (s .before .before .before .before .pre .1) (s .loop .i))
 
@@ -47,7 +44,7 @@ store-spec =
     (λ c κs. search needs)
     (λ c. search needs)
     returns
-    loop-holds
+    (λ c. (search needs, put-map-none _ _ _ _ _, refl))
     (λ c. search needs)
     (λ c. search needs)
     (λ c. search needs)

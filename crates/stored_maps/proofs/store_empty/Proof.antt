@@ -18,9 +18,6 @@ Inv-loop image₀ at i₀ image i = (i ≤ entries) × (image ≡ put at (packMa
 abbrev μ-loop : tie.MeasureT-loop
 μ-loop image₀ at i₀ image i = entries - i
 
-loop-holds : tie.Need-loop-holds Inv-loop μ-loop
-loop-holds c = (search needs, put-map-none _ _ _ _ _, refl)
-
 loop-again : tie.Need-loop-again Inv-loop μ-loop
 loop-again c =
     let b = c .before .before .before .before .before .loop in
@@ -35,7 +32,7 @@ store-empty-spec =
     (tie.spec
     Inv-loop
     μ-loop
-    loop-holds
+    (λ c. (search needs, put-map-none _ _ _ _ _, refl))
     (λ c. search needs)
     (λ c. search needs)
     (λ c κs. search needs)

@@ -17,9 +17,6 @@ loop-holds : tie.Need-loop-holds Inv-loop μ-loop
 unfolding tabulate
 loop-holds c = gathering-none _ _ (c .before .before .pre .0) (c .before .before .pre .1) _ says-none
 
-keeps-requires : tie.Need-keeps-requires Inv-loop μ-loop
-keeps-requires c κs = known-transactor _ (c .before .decode .ensures)
-
 with-requires : tie.Need-with-requires Inv-loop μ-loop
 with-requires c κs = known-transactor _ (c .before .before .before .before .before .before .decode .ensures)
 
@@ -45,7 +42,7 @@ gather-spec =
     (λ c κs. search needs)
     (λ c. search needs)
     (λ c. search needs)
-    keeps-requires
+    (λ c κs. known-transactor _ (c .before .decode .ensures))
     (λ c κs. search needs)
     with-requires
     (λ c. search needs)

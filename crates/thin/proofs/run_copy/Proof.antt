@@ -29,9 +29,6 @@ returns-2 c = ran-no-part _ _ _ _ _ (search needs) (sym (c .before .wrong-part .
 returns-3 : tie.Need-returns-3 Inv-loop μ-loop
 returns-3 c = ran-no-room _ _ _ _ _ (search needs) (fine (c .before)) (search needs)
 
-loop-holds : tie.Need-loop-holds Inv-loop μ-loop
-loop-holds c = (search needs, copy-none _ _, search needs)
-
 loop-again : tie.Need-loop-again Inv-loop μ-loop
 loop-again c = (search needs, copy-more _ _ _ (c .before .before .loop .inv .1) (omega arith) (omega arith), search needs)
 
@@ -52,7 +49,7 @@ run-copy-spec =
     returns-2
     (λ c. omega (arith, right-part _ _ _ (fine c) .forth))
     returns-3
-    loop-holds
+    (λ c. (search needs, copy-none _ _, search needs))
     (λ c. search needs)
     (λ c. search needs)
     (λ c. search needs)

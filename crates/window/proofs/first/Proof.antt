@@ -14,9 +14,6 @@ Inv-loop replies n count₀ i₀ count i = (i ≤ n) × (count ≡ rollbacks rep
 abbrev μ-loop : tie.MeasureT-loop
 μ-loop replies n count₀ i₀ count i = n - i
 
-loop-holds : tie.Need-loop-holds Inv-loop μ-loop
-loop-holds c = (search needs, rollbacks-none _ _)
-
 add-count : tie.Need-add-count Inv-loop μ-loop
 add-count c = let h = rollbacks-sum _ _ _ _ _ _ (c .before .before .loop .inv .1) (c .rollback .ensures) in search needs
 
@@ -32,7 +29,7 @@ first-spec =
     (tie.spec
     Inv-loop
     μ-loop
-    loop-holds
+    (λ c. (search needs, rollbacks-none _ _))
     (λ c κs. search needs)
     add-count
     (λ c. search needs)

@@ -17,14 +17,8 @@ abbrev μ-loop : tie.MeasureT-loop
 loop-holds : tie.Need-loop-holds Inv-loop μ-loop
 loop-holds c = (omega arith, c .first .ensures, upTo-first _ _ _ (c .first .ensures))
 
-rollback-requires : tie.Need-rollback-requires Inv-loop μ-loop
-rollback-requires c κs = omega arith
-
 add-count : tie.Need-add-count Inv-loop μ-loop
 add-count c = let h = rollbacks-sum _ _ _ _ _ _ (c .before .before .loop .inv .1) (c .rollback .ensures) in search needs
-
-rollback-requires-2 : tie.Need-rollback-requires-2 Inv-loop μ-loop
-rollback-requires-2 c κs = omega arith
 
 sub-count : tie.Need-sub-count Inv-loop μ-loop
 sub-count c = rollbacks-left _ _ _ _ _ _ (c .before .before .before .loop .inv .1) (c .before .rollback .ensures) (c .rollback2 .ensures)
@@ -34,9 +28,6 @@ loop-again c =
     let l = c .before .before .before .before .loop in
     let e = rollbacks-moved _ _ _ _ _ _ (l .inv .1) (c .before .before .rollback .ensures) (c .before .rollback2 .ensures) in
     (omega arith, e, upTo-more _ _ _ _ _ _ (l .inv .2) e (c .worse .ensures))
-
-returns : tie.Need-returns Inv-loop μ-loop
-returns c = upTo-end _ _ _ _ _ (c .before .loop .inv .2) (omega arith)
 
 pub slide-spec : {M : Type 1} → statement M
 slide-spec =
@@ -48,12 +39,12 @@ slide-spec =
     loop-holds
     (λ c. search needs)
     (λ c. search needs)
-    rollback-requires
+    (λ c κs. omega arith)
     add-count
-    rollback-requires-2
+    (λ c κs. omega arith)
     sub-count
     (λ c. search needs)
     (λ c κs. search needs)
     (λ c. search needs)
     loop-again
-    returns)
+    (λ c. upTo-end _ _ _ _ _ (c .before .loop .inv .2) (omega arith)))

@@ -5,15 +5,12 @@ use borrow.Author.Needs.{needs}
 use Rattle.cases.proofs.runs.worst.Statement.{statement}
 use Rattle.cases.proofs.runs.worst.Tie as tie
 
-slice-aggregate-worst-window : tie.Need-slice-aggregate-worst-window
-slice-aggregate-worst-window c = simp length-take (omega arith)
-
 pub worst-spec : {M : Type 1} → statement M
 worst-spec =
     tie.close
     (tie.spec
     (λ c. search needs)
-    slice-aggregate-worst-window
+    (λ c. simp length-take (omega arith))
     (λ c κs. search needs)
     (λ c κs. search needs)
     (λ c κs. search needs)

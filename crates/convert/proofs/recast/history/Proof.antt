@@ -1,5 +1,5 @@
 -- The first byte, then all numbers, in either direction.
-use Prim.Native.Nat.{ℕ, _≤_, _+_}
+use Prim.Native.Nat.{_≤_, _+_}
 use mathlib.Core.Path.{_≡_}
 use native.Mathlib.Omega.{arith}
 use lib.ListN.{length-set}
@@ -19,9 +19,6 @@ high s = both-widths (s .pre .0) .2
 
 put-numbers-requires : tie.Need-put-numbers-requires
 put-numbers-requires c κs = let s = c .before .before .before .before .before .before in (search needs, search needs, simp length-set (omega (arith, sum s)))
-
-same-length : tie.Need-same-length
-same-length c = simp length-set at (c .before .before .put-numbers .kept .0)
 
 returns : tie.Need-returns
 returns c =
@@ -58,7 +55,7 @@ history-spec =
     (λ c κs. search needs)
     (λ c. search needs)
     put-numbers-requires
-    same-length
+    (λ c. simp length-set at (c .before .before .put-numbers .kept .0))
     returns
     (λ c. search needs)
     numbers-requires-2

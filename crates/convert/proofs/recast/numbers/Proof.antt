@@ -20,9 +20,6 @@ abbrev μ-loop : tie.MeasureT-loop
 turn : (s : tie.Start Inv-loop μ-loop) (i : ℕ) → i < 16 → s .args .v * i + s .args .v ≤ s .args .v * 16
 turn s i h = step (s .args .v) i 16 h
 
-loop-holds : tie.Need-loop-holds Inv-loop μ-loop
-loop-holds c = (search needs, fill-none _, search needs)
-
 loop-again : tie.Need-loop-again Inv-loop μ-loop
 unfolding loadNumberAt
 loop-again c =
@@ -41,7 +38,7 @@ numbers-spec =
     (tie.spec
     Inv-loop
     μ-loop
-    loop-holds
+    (λ c. (search needs, fill-none _, search needs))
     (λ c. search needs)
     (λ c. let s = c .before .before .before in omega (arith, turn s (c .before .loop .i) (search needs)))
     (λ c. let s = c .before .before .before in omega (arith, turn s (c .before .loop .i) (search needs)))

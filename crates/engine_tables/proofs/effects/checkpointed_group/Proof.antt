@@ -14,9 +14,6 @@ Inv-loop group rows₀ t₀ rows t = Checkpointing group rows₀ t rows
 abbrev μ-loop : tie.MeasureT-loop
 μ-loop group rows₀ t₀ rows t = groupBits - t
 
-loop-holds : tie.Need-loop-holds Inv-loop μ-loop
-loop-holds c = checkpointing-none _ _ (search (needs, length-of-map))
-
 checkpointed-requires : tie.Need-checkpointed-requires Inv-loop μ-loop
 checkpointed-requires c κs = rw (c .is-named .ensures) (checkpointing-fits (c .before .before .before .loop .inv) (search needs) (c .before .before .before .before .pre))
 
@@ -33,7 +30,7 @@ checkpointed-group-spec =
     (tie.spec
     Inv-loop
     μ-loop
-    loop-holds
+    (λ c. checkpointing-none _ _ (search (needs, length-of-map)))
     (λ c. search needs)
     (λ c. search needs)
     (λ c κs. search needs)

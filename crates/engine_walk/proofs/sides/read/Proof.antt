@@ -3,8 +3,5 @@ use mathlib.Core.Path.{refl}
 use Rattle.engine_walk.proofs.sides.read.Statement.{statement}
 use Rattle.engine_walk.proofs.sides.read.Tie as tie
 
-returns : tie.Need-returns
-returns c = refl
-
 pub read-spec : {M : Type 1} → statement M
-read-spec = tie.close (tie.spec returns)
+read-spec = tie.close (tie.spec (λ c. refl))

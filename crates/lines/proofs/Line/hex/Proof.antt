@@ -17,9 +17,6 @@ Inv-loop b r₀ i₀ r i = (i ≤ length b) × (written r ≡ plus (written r₀
 abbrev μ-loop : tie.MeasureT-loop
 μ-loop b r₀ i₀ r i = length b - i
 
-loop-holds : tie.Need-loop-holds Inv-loop μ-loop
-loop-holds c = (search needs, hex-start _ (search needs) _)
-
 hex-digit-requires : tie.Need-hex-digit-requires Inv-loop μ-loop
 hex-digit-requires c κs = omega (arith, c .shared-slice-known2 .given (c .before .before .loop .i))
 
@@ -28,16 +25,13 @@ loop-again c =
     let b = c .before .before .before .before .before .before in
     (search needs, hex-more _ _ _ _ _ _ _ _ (b .loop .inv .1) (c .before .before .before .hex-digit .ensures) (c .before .before .byte .ensures) (c .before .hex-digit2 .ensures) (c .byte2 .ensures) (omega arith))
 
-returns : tie.Need-returns Inv-loop μ-loop
-returns c = plus-all hex _ _ _ _ (c .before .loop .inv .1) (omega arith)
-
 pub hex-spec : {M : Type 1} → statement M
 hex-spec =
     tie.close
     (tie.spec
     Inv-loop
     μ-loop
-    loop-holds
+    (λ c. (search needs, hex-start _ (search needs) _))
     (λ c. search needs)
     hex-digit-requires
     (λ c κs. search needs)
@@ -46,4 +40,4 @@ hex-spec =
     (λ c. search needs)
     (λ c. search needs)
     loop-again
-    returns)
+    (λ c. plus-all hex _ _ _ _ (c .before .loop .inv .1) (omega arith)))

@@ -17,9 +17,6 @@ Inv-loop g r₀ t₀ r t = (t ≤ groupBits) × (plus (written r) (members (grou
 abbrev μ-loop : tie.MeasureT-loop
 μ-loop g r₀ t₀ r t = groupBits - t
 
-loop-holds : tie.Need-loop-holds Inv-loop μ-loop
-loop-holds c = (search needs, refl, plus-none _ (search needs))
-
 loop-again : tie.Need-loop-again Inv-loop μ-loop
 loop-again c = (search needs, member-more _ _ _ _ _ (c .before .before .loop .inv .1) (c .member .ensures) (omega arith), plus-settled _ _ _ (c .member .ensures))
 
@@ -32,7 +29,7 @@ members-spec =
     (tie.spec
     Inv-loop
     μ-loop
-    loop-holds
+    (λ c. (search needs, refl, plus-none _ (search needs)))
     (λ c κs. search needs)
     (λ c. search needs)
     (λ c. search needs)

@@ -15,9 +15,6 @@ Inv-loop table width k from r₀ i₀ r i = (i ≤ width) × (written r ≡ plus
 abbrev μ-loop : tie.MeasureT-loop
 μ-loop table width k from r₀ i₀ r i = width - i
 
-loop-holds : tie.Need-loop-holds Inv-loop μ-loop
-loop-holds c = (search needs, letters-start _ (search needs) _ _)
-
 loop-again : tie.Need-loop-again Inv-loop μ-loop
 loop-again c = (search needs, letters-more _ _ _ _ _ _ (c .before .before .before .loop .inv .1) (c .letter .ensures) (omega arith))
 
@@ -35,7 +32,7 @@ row-spec =
     Inv-loop
     μ-loop
     (λ c. search needs)
-    loop-holds
+    (λ c. (search needs, letters-start _ (search needs) _ _))
     (λ c. search needs)
     (λ c. search needs)
     (λ c κs. search needs)

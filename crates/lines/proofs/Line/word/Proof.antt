@@ -16,9 +16,6 @@ Inv-loop w r₀ i₀ r i = (i ≤ length w) × (written r ≡ plus (written r₀
 abbrev μ-loop : tie.MeasureT-loop
 μ-loop w r₀ i₀ r i = length w - i
 
-loop-holds : tie.Need-loop-holds Inv-loop μ-loop
-loop-holds c = (search needs, plus-start _ (search needs) _)
-
 loop-again : tie.Need-loop-again Inv-loop μ-loop
 loop-again c = (search needs, word-more _ _ _ _ _ (c .before .before .before .loop .inv .1) (c .byte .ensures) (omega arith))
 
@@ -31,7 +28,7 @@ word-spec =
     (tie.spec
     Inv-loop
     μ-loop
-    loop-holds
+    (λ c. (search needs, plus-start _ (search needs) _))
     (λ c. search needs)
     (λ c κs. search needs)
     (λ c. search needs)

@@ -4,11 +4,9 @@ use borrow.Author.Tests.{lt-leb, le-leb}
 use Rattle.lists.proofs.limits.is_within.Statement.{statement}
 use Rattle.lists.proofs.limits.is_within.Tie as tie
 
-returns : tie.Need-returns
-returns c = rw (lt-leb 1 (c .before .args .n) (omega arith))
-
-returns-2 : tie.Need-returns-2
-returns-2 c = rw (le-leb 1 (c .before .args .n) (omega arith))
-
 pub is-within-spec : {M : Type 1} → statement M
-is-within-spec = tie.close (tie.spec returns returns-2)
+is-within-spec =
+    tie.close
+    (tie.spec
+    (λ c. rw (lt-leb 1 (c .before .args .n) (omega arith)))
+    (λ c. rw (le-leb 1 (c .before .args .n) (omega arith))))

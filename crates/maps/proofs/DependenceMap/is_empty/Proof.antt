@@ -16,12 +16,6 @@ Inv-loop self i₀ i = (i ≤ entries) × (isEmpty i self ≡ true)
 abbrev μ-loop : tie.MeasureT-loop
 μ-loop self i₀ i = entries - i
 
-loop-holds : tie.Need-loop-holds Inv-loop μ-loop
-loop-holds c = (search needs, isEmpty-none _)
-
-returns : tie.Need-returns Inv-loop μ-loop
-returns c = sym (isEmpty-off _ entries _ (omega arith) (c .if1 .taken))
-
 loop-again : tie.Need-loop-again Inv-loop μ-loop
 loop-again c = (omega arith, isEmpty-more _ _ (c .before .before .before .loop .inv .1) (c .if1 .left))
 
@@ -34,9 +28,9 @@ is-empty-spec =
     (tie.spec
     Inv-loop
     μ-loop
-    loop-holds
+    (λ c. (search needs, isEmpty-none _))
     (λ c. search needs)
-    returns
+    (λ c. sym (isEmpty-off _ entries _ (omega arith) (c .if1 .taken)))
     (λ c. search needs)
     (λ c. search needs)
     loop-again

@@ -14,12 +14,6 @@ Inv-loop w at n x₀ i₀ x i = (i ≤ n) × ((x ≡ hexValue w at i) × (x < 16
 abbrev μ-loop : tie.MeasureT-loop
 μ-loop w at n x₀ i₀ x i = n - i
 
-loop-holds : tie.Need-loop-holds Inv-loop μ-loop
-loop-holds c = (omega arith, (hex-none _ _, omega arith))
-
-add-digit : tie.Need-add-digit Inv-loop μ-loop
-add-digit c = search needs
-
 shared-slice-read-digit : tie.Need-shared-slice-read-digit Inv-loop μ-loop
 shared-slice-read-digit c = omega (arith, digits-length _ (c .before .before .before .before .pre .0))
 
@@ -31,12 +25,6 @@ mul-x c = let l = c .before .before .before in let h = hex-fits _ (l .before .be
 
 add-x : tie.Need-add-x Inv-loop μ-loop
 add-x c = let l = c .before .before .before in let h = hex-fits _ (l .before .before .pre .0) 0 (l .loop .i) (l .loop .x) (omega arith) (l .loop .inv .1 .1) in omega arith
-
-add-i : tie.Need-add-i Inv-loop μ-loop
-add-i c = search needs
-
-loop-less : tie.Need-loop-less Inv-loop μ-loop
-loop-less c = search needs
 
 loop-again : tie.Need-loop-again Inv-loop μ-loop
 loop-again c =
@@ -52,13 +40,13 @@ hex-number-spec =
     (tie.spec
     Inv-loop
     μ-loop
-    loop-holds
-    add-digit
+    (λ c. (omega arith, (hex-none _ _, omega arith)))
+    (λ c. search needs)
     shared-slice-read-digit
     digit-requires
     mul-x
     add-x
-    add-i
-    loop-less
+    (λ c. search needs)
+    (λ c. search needs)
     loop-again
     returns)

@@ -16,28 +16,10 @@ Inv-loop w i₀ i = (i ≤ 16) × (all isHex w ≡ all isHex (drop i w))
 abbrev μ-loop : tie.MeasureT-loop
 μ-loop w i₀ i = 16 - i
 
-returns : tie.Need-returns Inv-loop μ-loop
-returns c = digits-short _ (c .if1 .taken)
-
-loop-holds : tie.Need-loop-holds Inv-loop μ-loop
-loop-holds c = (omega arith, refl)
-
-shared-slice-read-is-hex : tie.Need-shared-slice-read-is-hex Inv-loop μ-loop
-shared-slice-read-is-hex c = search needs
-
-is-hex-requires : tie.Need-is-hex-requires Inv-loop μ-loop
-is-hex-requires c κs = search needs
-
 returns-2 : tie.Need-returns-2 Inv-loop μ-loop
 returns-2 c =
     let l = c .before .before .before .before in
     digits-off _ (l .before .if1 .left) (l .loop .i) (l .loop .inv .1) (omega arith) (sym (not-true _ (c .if2 .taken)) ∙ c .before .is-hex .ensures)
-
-add-i : tie.Need-add-i Inv-loop μ-loop
-add-i c = search needs
-
-loop-less : tie.Need-loop-less Inv-loop μ-loop
-loop-less c = search needs
 
 loop-again : tie.Need-loop-again Inv-loop μ-loop
 loop-again c =
@@ -53,12 +35,12 @@ is-whole-spec =
     (tie.spec
     Inv-loop
     μ-loop
-    returns
-    loop-holds
-    shared-slice-read-is-hex
-    is-hex-requires
+    (λ c. digits-short _ (c .if1 .taken))
+    (λ c. (omega arith, refl))
+    (λ c. search needs)
+    (λ c κs. search needs)
     returns-2
-    add-i
-    loop-less
+    (λ c. search needs)
+    (λ c. search needs)
     loop-again
     returns-3)

@@ -5,9 +5,6 @@ use borrow.Author.Needs.{needs}
 use Rattle.test_vectors.proofs.lines.numbered.Statement.{statement}
 use Rattle.test_vectors.proofs.lines.numbered.Tie as tie
 
-slice-aggregate-perform : tie.Need-slice-aggregate-perform
-slice-aggregate-perform c = simp length-take (omega arith)
-
 pub numbered-spec : {M : Type 1} → statement M
 numbered-spec =
     tie.close
@@ -21,7 +18,7 @@ numbered-spec =
     (λ c κs. search needs)
     (λ c. search needs)
     (λ c. search needs)
-    slice-aggregate-perform
+    (λ c. simp length-take (omega arith))
     (λ c κs. search needs)
     (λ c. search needs)
     (λ c. search needs)

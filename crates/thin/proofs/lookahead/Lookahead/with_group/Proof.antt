@@ -17,9 +17,6 @@ Inv-loop group self₀ t₀ self t = (t ≤ base .transactors) × Says (namedBel
 abbrev μ-loop : tie.MeasureT-loop
 μ-loop group self₀ t₀ self t = base .transactors - t
 
-loop-holds : tie.Need-loop-holds Inv-loop μ-loop
-loop-holds c = (search needs, named-none _ _ (search needs))
-
 loop-again : tie.Need-loop-again Inv-loop μ-loop
 loop-again c =
     let b = c .before .before .before .loop in
@@ -41,7 +38,7 @@ with-group-spec =
     (tie.spec
     Inv-loop
     μ-loop
-    loop-holds
+    (λ c. (search needs, named-none _ _ (search needs)))
     (λ c κs. search needs)
     (λ c. search needs)
     (λ c. search needs)

@@ -1,8 +1,8 @@
 -- Past the places, or not.
 use borrow.Author.Tests.{le-leb, lt-leb}
-use Rattle.engine.specs.Internal.Advance.{placed}
-use Rattle.engine.proofs.within.Statement.{statement}
-use Rattle.engine.proofs.within.Tie as tie
+use Rattle.engine_tables.specs.Internal.Places.{placed}
+use Rattle.engine_tables.proofs.places.within.Statement.{statement}
+use Rattle.engine_tables.proofs.places.within.Tie as tie
 
 returns : tie.Need-returns
 unfolding placed

@@ -1,9 +1,9 @@
 -- The receiver, or the step's own.
 use borrow.Author.Tests.{ne-eqb}
 use borrow.Author.Needs.{needs}
 use Rattle.engine_tables.specs.Internal.Turns.{subjectOf}
-use Rattle.engine.proofs.subject.Statement.{statement}
-use Rattle.engine.proofs.subject.Tie as tie
+use Rattle.engine_tables.proofs.places.subject.Statement.{statement}
+use Rattle.engine_tables.proofs.places.subject.Tie as tie
 
 returns : tie.Need-returns
 unfolding subjectOf

@@ -2,8 +2,8 @@
 use mathlib.Core.Path.{_∙_}
 use borrow.Author.Tests.{ne-eqb}
 use borrow.Author.Needs.{needs}
-use Rattle.engine.proofs.place.Statement.{statement}
-use Rattle.engine.proofs.place.Tie as tie
+use Rattle.engine_tables.proofs.places.place.Statement.{statement}
+use Rattle.engine_tables.proofs.places.place.Tie as tie
 
 pub place-spec : {M : Type 1} → statement M
 place-spec =
