@@ -1,13 +1,11 @@
 // Whether an image of the new form has room in the old one: its limits are the greatest, and every number is within one byte, the first
 // byte of each zero.
-use image::layout::DEPENDENCES;
-use image::layout::FIRST_MESSAGE;
 use image::layout::FIRST_TRANSACTOR;
-use image::layout::MESSAGE;
 use image::layout::MESSAGES;
 use image::layout::STATE;
 use image::layout::TRANSACTOR;
 use image::layout::TRANSACTORS;
+use image::layout::map_at;
 use image::limits;
 use image::messages;
 ghost use Prim.Native.Nat.{_+_, _*_, _≤_};
@@ -91,7 +89,7 @@ fn messages(s: &[u8], n: usize) -> bool
 {
     let mut k: usize = 0;
     while k < n {
-        if !histories(s, FIRST_MESSAGE + MESSAGE * k + DEPENDENCES, maps::ENTRIES) {
+        if !histories(s, map_at(k), maps::ENTRIES) {
             return false;
         }
         k += 1;

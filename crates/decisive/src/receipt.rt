@@ -6,13 +6,11 @@ use group::own;
 use image::form;
 use image::head;
 use image::layout::CREATION;
-use image::layout::DEPENDENCES;
-use image::layout::FIRST_MESSAGE;
 use image::layout::FIRST_TRANSACTOR;
 use image::layout::IMAGE;
-use image::layout::MESSAGE;
 use image::layout::STATE;
 use image::layout::TRANSACTOR;
+use image::layout::map_at;
 use image::messages;
 use lists::limits;
 use maps::Comparison;
@@ -86,7 +84,7 @@ fn compared(image: &[u8], t: usize, k: usize) -> Found
     let at = FIRST_TRANSACTOR + TRANSACTOR * t;
     let state = at + STATE;
     let creation = at + CREATION;
-    let m = FIRST_MESSAGE + MESSAGE * k + DEPENDENCES;
+    let m = map_at(k);
     let known = packed_maps::joined(image, state, creation);
     let answers = packed_maps::compare(known, image, m);
     Found {

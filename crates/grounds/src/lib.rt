@@ -15,6 +15,7 @@ use image::layout::MESSAGE;
 use image::layout::STATE;
 use image::layout::TRANSACTOR;
 use image::layout::TRANSACTORS;
+use image::layout::own_at;
 use image::messages;
 use marks::History;
 use packed_histories::in_place;
@@ -39,8 +40,7 @@ fn holds(image: &[u8], at: usize, t: usize) -> bool
     if !packed_histories::present(image, at) {
         return false;
     }
-    let present = FIRST_TRANSACTOR + TRANSACTOR * t + STATE + marks::SIZE * t;
-    in_place::same_in(image, at, present)
+    in_place::same_in(image, at, own_at(t))
 }
 
 // Whether transactor u is live and has it in its state or creation map.

@@ -6,6 +6,7 @@ use image::layout::FIRST_TRANSACTOR;
 use image::layout::STATE;
 use image::layout::TRANSACTOR;
 use image::layout::TRANSACTORS;
+use image::layout::own_at;
 use lists::groups::is_named;
 use packed_histories::in_place;
 use rules::Obstacle;
@@ -58,7 +59,7 @@ pub fn history(image: &[u8], group: u16, t: usize, u: usize, at: usize) -> Obsta
     if !is_live(image, u) {
         return Obstacle::Superseded(t as u8, u as u8);
     }
-    let present = FIRST_TRANSACTOR + TRANSACTOR * u + STATE + marks::SIZE * u;
+    let present = own_at(u);
     if in_place::same_in(image, at, present) {
         if is_named(group, u) {
             return Obstacle::Nothing;

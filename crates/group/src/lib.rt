@@ -7,6 +7,7 @@ use image::layout::FIRST_TRANSACTOR;
 use image::layout::STATE;
 use image::layout::TRANSACTOR;
 use image::layout::TRANSACTORS;
+use image::layout::own_at;
 use image::limits;
 use lists::groups::is_named;
 use lists::refusals;
@@ -38,10 +39,7 @@ fn count(image: &[u8], t: usize) -> u8
     requires { ⌜ Good (now image) × (t < base .transactors) ⌝ }
     ensures { λ r. ⌜ r ≡ ownHistory t (transactorAt (unpack base (now (image .entry))) t) .count ⌝ }
 {
-    let n = in_place::count(
-        image,
-        FIRST_TRANSACTOR + TRANSACTOR * t + STATE + marks::SIZE * t,
-    );
+    let n = in_place::count(image, own_at(t));
     n as u8
 }
 
@@ -154,11 +152,7 @@ fn checkpointed(image: &[u8], group: u16, at: usize, u: usize, h: History) -> bo
     if !is_live(image, u) {
         return false;
     }
-    in_place::checkpointed_in(
-        image,
-        at,
-        FIRST_TRANSACTOR + TRANSACTOR * u + STATE + marks::SIZE * u,
-    )
+    in_place::checkpointed_in(image, at, own_at(u))
 }
 
 // The entries u of the state and creation maps of transactor t, with what is kept of u.

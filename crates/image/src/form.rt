@@ -15,6 +15,7 @@ use crate::layout::SAVED;
 use crate::layout::STATE;
 use crate::layout::TRANSACTOR;
 use crate::layout::TRANSACTORS;
+use crate::layout::own_at;
 use crate::limits;
 use crate::messages;
 use rules::numbers;
@@ -33,8 +34,7 @@ fn own_formed(s: &[u8], t: usize) -> bool
     requires { ⌜ (length (now s) ≡ imageBytes base) × (t < base .transactors) ⌝ }
     ensures { λ r. ⌜ r ≡ formedOwnAt base (now (s .entry)) t ⌝ }
 {
-    let at = FIRST_TRANSACTOR + TRANSACTOR * t;
-    let there = at + STATE + marks::SIZE * t;
+    let there = own_at(t);
     if !packed_histories::present(s, there) {
         return false;
     }
@@ -42,7 +42,7 @@ fn own_formed(s: &[u8], t: usize) -> bool
     if own.count != 0 {
         return true;
     }
-    octets::load32(s, at + SAVED) == 0
+    octets::load32(s, FIRST_TRANSACTOR + TRANSACTOR * t + SAVED) == 0
 }
 
 // A transactor, idle or at work.

@@ -1,5 +1,10 @@
 // Sizes and offsets in an image, computed from those of histories and maps.
 
+ghost use mathlib.Core.Path.{_≡_};
+ghost use Prim.Native.Nat.{_<_};
+ghost use Rattle.rules.specs.Layout.{base};
+ghost use Rattle.image.specs.Internal.Addresses.{ownAt, mapAt};
+
 pub const TRANSACTORS: usize = maps::ENTRIES;
 
 // Places of messages.
@@ -50,3 +55,19 @@ pub const FIRST_TRANSACTOR: usize = HEAD + 4;
 pub const FIRST_MESSAGE: usize = FIRST_TRANSACTOR + TRANSACTOR * TRANSACTORS;
 
 pub const IMAGE: usize = FIRST_MESSAGE + MESSAGE * MESSAGES;
+
+// Where the own history of transactor t stands.
+pub fn own_at(t: usize) -> usize
+    requires { ⌜ t < base .transactors ⌝ }
+    ensures { λ r. ⌜ r ≡ ownAt base t ⌝ }
+{
+    FIRST_TRANSACTOR + TRANSACTOR * t + STATE + marks::SIZE * t
+}
+
+// Where the map of the message in place k stands.
+pub fn map_at(k: usize) -> usize
+    requires { ⌜ k < base .messages ⌝ }
+    ensures { λ r. ⌜ r ≡ mapAt base k ⌝ }
+{
+    FIRST_MESSAGE + MESSAGE * k + DEPENDENCES
+}

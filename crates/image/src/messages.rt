@@ -10,8 +10,8 @@ use crate::layout::MESSAGE;
 use crate::layout::MESSAGES;
 use crate::layout::NEXT;
 use crate::layout::NUMBER;
-use crate::layout::STATE;
 use crate::layout::TRANSACTOR;
+use crate::layout::own_at;
 ghost use mathlib.Core.Path.{_≡_};
 ghost use Prim.Native.Nat.{_+_, _≤_, _<_};
 ghost use lib.ListN.{length, set};
@@ -113,7 +113,7 @@ pub fn append(image: &mut [u8], n: usize, to: u8, value: u32, t: usize)
     let from = FIRST_TRANSACTOR + TRANSACTOR * t;
     let creation = from + CREATION;
     let behaviour = from + BEHAVIOUR;
-    let own = from + STATE + marks::SIZE * t;
+    let own = own_at(t);
     stored_maps::join_to(image, creation, behaviour, own, t, at + DEPENDENCES);
     octets::store16(image, NEXT, number + 1);
 }

@@ -26,6 +26,7 @@ use Rattle.lines.specs.declared.Line.{Line}
 use Rattle.lines.specs.Lines.{lineRoom, written, plus, Says}
 use Rattle.lines.proofs.Putting.{decimal-places}
 use Rattle.lines.proofs.Lining.{plus-two, plus-three, plus-empty, said-length, says-short, written-empty}
+use Rattle.image.specs.Internal.Addresses.{mapAt}
 use Rattle.inspection.specs.Inspection.{piece, entriesText, listText, incarnationText, historyText, entryText, valuesText, statusText, transactorText, mapText, transactorLine, messageText, messageLine, limitsText, countersText, lineText, inspectRefusal, ended, inspected}
 
 -- ---- pieces
@@ -265,11 +266,11 @@ module _ (img : List ℕ) (k j : ℕ) (w : ℕ) (is : w ≡ waitingIn base img) 
     unfolding messageLine
     message-first e s = says-left l (ltb k (length (unpack base img .messages))) _ _ (waits h) (says-left l (eqb j 0) _ _ (eq-eqb j 0 e) s)
 
-    pub message-entry : (j ≡ 0 → ⊥) → Says l (entryText (bytes "  map: take ") (j - 1) (unpackDependences base (25496 + 535 * k + 7) img)) → Says l (messageLine (unpack base img) k j)
+    pub message-entry : (j ≡ 0 → ⊥) → (at : ℕ) → at ≡ mapAt base k → Says l (entryText (bytes "  map: take ") (j - 1) (unpackDependences base at img)) → Says l (messageLine (unpack base img) k j)
     unfolding messageLine
-    message-entry n s =
+    message-entry n at e s =
         says-left l (ltb k (length (unpack base img .messages))) _ _ (waits h)
-        (says-right l (eqb j 0) _ _ (ne-eqb j 0 n) (subst (λ (d : DependenceMap). Says l (entryText (bytes "  map: take ") (j - 1) d)) (sym (read-dependences base img k (omega arith))) s))
+        (says-right l (eqb j 0) _ _ (ne-eqb j 0 n) (subst (λ (d : DependenceMap). Says l (entryText (bytes "  map: take ") (j - 1) d)) (ap (λ (a : ℕ). unpackDependences base a img) e ∙ sym (read-dependences base img k (omega arith))) s))
 
 -- ---- a line by its number
 

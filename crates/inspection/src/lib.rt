@@ -3,15 +3,13 @@ use image::form;
 use image::head;
 use image::layout::BEHAVIOUR;
 use image::layout::CREATION;
-use image::layout::DEPENDENCES;
-use image::layout::FIRST_MESSAGE;
 use image::layout::FIRST_TRANSACTOR;
 use image::layout::IMAGE;
-use image::layout::MESSAGE;
 use image::layout::SAVED;
 use image::layout::STATE;
 use image::layout::TRANSACTOR;
 use image::layout::VALUE;
+use image::layout::map_at;
 use image::limits;
 use image::messages;
 use lines::Line;
@@ -214,8 +212,7 @@ fn message_line(image: &[u8], k: usize, j: usize) -> Line
     if j == 0 {
         return message_head(image, k);
     }
-    let at = FIRST_MESSAGE + MESSAGE * k + DEPENDENCES;
-    entry(image, at, b"  map: take ", j - 1)
+    entry(image, map_at(k), b"  map: take ", j - 1)
 }
 
 // ---- the session

@@ -9,7 +9,6 @@ use group::needs;
 use image::form;
 use image::head;
 use image::layout::CREATION;
-use image::layout::DEPENDENCES;
 use image::layout::FIRST_MESSAGE;
 use image::layout::FIRST_TRANSACTOR;
 use image::layout::IMAGE;
@@ -18,6 +17,7 @@ use image::layout::MESSAGES;
 use image::layout::STATE;
 use image::layout::TRANSACTOR;
 use image::layout::TRANSACTORS;
+use image::layout::map_at;
 use image::limits;
 use image::messages;
 use lists::STEP;
@@ -36,8 +36,9 @@ ghost use Rattle.octets.specs.Bytes.{zeros};
 ghost use Rattle.rules.specs.Layout.{base, limitsOf, imageBytes};
 ghost use Rattle.rules.specs.Step.{stepBytes};
 ghost use Rattle.rules.specs.Internal.Good.{Good};
-ghost use Rattle.rules.specs.Calls.{ranImage, ranReplies, queryRefusal, offeredNumber};
+ghost use Rattle.rules.specs.Calls.{ranImage, ranReplies, queryRefusal, offeredNumber, showRefusal};
 ghost use Rattle.rules.specs.Groups.{groupNumber};
+ghost use Rattle.image.specs.Internal.Addresses.{shownAt};
 ghost use Rattle.rules.specs.Promises.{BeginPromise, RunPromise, OfferPromise, SmallestPromise, HeardPromise, CountPromise, DependentsPromise, ObstaclePromise, ImpedimentPromise, ShowPromise};
 
 // ---- begin
@@ -258,24 +259,34 @@ pub fn impediment(image: &[u8], transactor: usize, refusal: &mut u8) -> Impedime
 
 // ---- show
 
-// The bytes of the image that hold a waiting message's map. The lent number takes the refusal, 16, 19 or 24, or 0; refused, an
-// empty part.
-pub fn show<'a>(image: &'a [u8], number: usize, refusal: &mut u8) -> &'a [u8]
-    ensures { λ r. ⌜ ShowPromise base (now (image .entry)) number (now (refusal .exit)) (now r) ⌝ }
+// Where a waiting message's map stands. The lent number takes the refusal, 16, 19 or 24, or 0; refused, 0.
+pub fn shown_at(image: &[u8], number: usize, refusal: &mut u8) -> usize
+    ensures { λ r. ⌜ (r ≡ shownAt base (now (image .entry)) number) × (now (refusal .exit) ≡ showRefusal base (now (image .entry)) number) ⌝ }
 {
     let r = form::image_refusal(image);
     if r != 0 {
         *refusal = r;
-        return &image[..0];
+        return 0;
     }
     let n = messages::waiting(image);
     let k = messages::place_numbered(image, n, number);
     if n <= k {
         *refusal = numbers::NOT_WAITING;
-        return &image[..0];
+        return 0;
     }
     *refusal = 0;
-    let at = FIRST_MESSAGE + MESSAGE * k + DEPENDENCES;
+    map_at(k)
+}
+
+// The bytes of the image that hold a waiting message's map. The lent number takes the refusal, 16, 19 or 24, or 0; refused, an
+// empty part.
+pub fn show<'a>(image: &'a [u8], number: usize, refusal: &mut u8) -> &'a [u8]
+    ensures { λ r. ⌜ ShowPromise base (now (image .entry)) number (now (refusal .exit)) (now r) ⌝ }
+{
+    let at = shown_at(image, number, refusal);
+    if *refusal != 0 {
+        return &image[..0];
+    }
     let end = at + maps::SIZE;
     &image[at..end]
 }

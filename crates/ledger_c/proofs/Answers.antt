@@ -1,4 +1,4 @@
--- What an accepted offer or show says of the image, and the numbers that stand for answers.
+-- What an accepted offer says of the image, and the numbers that stand for answers.
 use Prim.Native.Nat.{ℕ, _+_, _<_}
 use mathlib.Core.Bool.{Bool, true, false, not}
 use mathlib.Core.Path.{_≡_, refl, sym, subst, _∙_}
@@ -7,7 +7,7 @@ use mathlib.Core.Option.{Option, none, some}
 use native.Mathlib.Omega.{arith}
 use borrow.Author.Tests.{eq-eqb, ne-eqb, eqb-true, not-false}
 use lib.ListN.{length}
-use lib.Dec.{eqb, leb}
+use lib.Dec.{eqb}
 use Rattle.octets.specs.Bytes.{pick, part, Octets}
 use Rattle.octets.specs.Numbers.{bound}
 use Rattle.rules.specs.declared.Offered.{Offered}
@@ -18,6 +18,7 @@ use Rattle.rules.specs.Pack.{unpack}
 use Rattle.rules.specs.Form.{wellFormed}
 use Rattle.rules.specs.Calls.{wrongLength, queryRefusal, offeredNumber, Offers, waiting, showRefusal, shown}
 use Rattle.rules.specs.Groups.{groupNumber, Smallest, smallest}
+use Rattle.image.specs.Internal.Addresses.{shownAt}
 use Rattle.rules.proofs.Bits.{named-zero}
 use Rattle.rules.proofs.Form.State.{formed-state}
 use Rattle.octets.proofs.Tests.{never}
@@ -74,19 +75,11 @@ module _ (img : List ℕ) where
     pub named : {a b : Grouped} → a ≡ b → Smallest base img t (groupNumber a) → Smallest base img t (groupOf (groupBitsOf (groupNumber b)))
     named {a} e f = subst (λ (b : Grouped). Smallest base img t (groupOf (groupBitsOf (groupNumber b)))) e (grouped (groupNumber a) f)
 
-  -- ---- show, accepted
+  -- ---- show
 
-  module _ (v : ℕ) (e : showRefusal base img v ≡ 0) where
-    accepted : Entered (pick (leb (length (unpack base img .messages)) (placeOf (unpack base img) v)) 24 0)
-    unfolding showRefusal
-    accepted = entered (pick (leb (length (unpack base img .messages)) (placeOf (unpack base img) v)) 24 0) e
-
-    pub shown-length : length img ≡ imageBytes base
-    shown-length = accepted .whole
-
-    pub part-shown : (k : ℕ) → k ≡ placeOf (unpack base img) v → record { offset = messageAddress base k + dependencesAt; length = mapBytes base } ≡ shownPart base img v
-    unfolding shownPart
-    part-shown k d = rw (eq-eqb (showRefusal base img v) 0 e, d)
+  pub part-shown : (v : ℕ) → showRefusal base img v ≡ 0 → (at : ℕ) → at ≡ shownAt base img v → record { offset = at; length = mapBytes base } ≡ shownPart base img v
+  unfolding shownPart shownAt
+  part-shown v e at d = rw (d, eq-eqb (showRefusal base img v) 0 e)
 
   pub part-refused : (v : ℕ) → (showRefusal base img v ≡ 0 → ⊥) → record { offset = 0; length = 0 } ≡ shownPart base img v
   unfolding shownPart

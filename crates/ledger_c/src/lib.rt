@@ -1,9 +1,5 @@
 // The ledger's calls for programs in other languages, as include/ledger.h declares them: a slice is a pointer and a length, a
 // lent number a pointer. None has a precondition, and each promises what the call of crate ledger, or thin, promises.
-use image::layout::DEPENDENCES;
-use image::layout::FIRST_MESSAGE;
-use image::layout::MESSAGE;
-use image::messages;
 use rules::Dependents;
 use rules::Grouped;
 use rules::Impediment;
@@ -238,15 +234,13 @@ pub extern "C" fn ledger_thin(
 pub extern "C" fn ledger_show(image: &[u8], number: usize, refusal: &mut u8) -> Part
     ensures { λ r. ⌜ (now (refusal .exit) ≡ showRefusal base (now (image .entry)) number) × (r ≡ shownPart base (now (image .entry)) number) ⌝ }
 {
-    ledger::show(image, number, refusal);
+    let offset = ledger::shown_at(image, number, refusal);
     if *refusal != 0 {
         return Part {
             offset: 0,
             length: 0,
         };
     }
-    let k = messages::place_numbered(image, messages::waiting(image), number);
-    let offset = FIRST_MESSAGE + MESSAGE * k + DEPENDENCES;
     Part {
         offset,
         length: maps::SIZE,

@@ -1,12 +1,10 @@
 // News of a freeze (document 02, W4): what a message's map shows stable becomes stable in the receiver's maps, in the image where both
 // stand.
 use image::layout::CREATION;
-use image::layout::DEPENDENCES;
-use image::layout::FIRST_MESSAGE;
 use image::layout::FIRST_TRANSACTOR;
-use image::layout::MESSAGE;
 use image::layout::STATE;
 use image::layout::TRANSACTOR;
+use image::layout::map_at;
 ghost use mathlib.Core.Path.{_≡_};
 ghost use Prim.Native.Nat.{_<_};
 ghost use Rattle.rules.specs.Layout.{base};
@@ -22,7 +20,7 @@ pub fn hear(image: &mut [u8], t: usize, k: usize)
         (informedBy base t (transactorAt (unpack base (now (image .entry))) t) (messageAt (unpack base (now (image .entry))) k .dependences))) ⌝ }
 {
     let at = FIRST_TRANSACTOR + TRANSACTOR * t;
-    let from = FIRST_MESSAGE + MESSAGE * k + DEPENDENCES;
+    let from = map_at(k);
     stability::inform(image, from, at + STATE, t);
     stability::inform(image, from, at + CREATION, t);
 }

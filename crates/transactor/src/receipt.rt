@@ -3,12 +3,10 @@ use crate::Acted;
 use crate::news;
 use image::layout::BEHAVIOUR;
 use image::layout::CREATION;
-use image::layout::DEPENDENCES;
-use image::layout::FIRST_MESSAGE;
 use image::layout::FIRST_TRANSACTOR;
-use image::layout::MESSAGE;
 use image::layout::STATE;
 use image::layout::TRANSACTOR;
+use image::layout::map_at;
 use maps::Comparison;
 use maps::Comparisons;
 use rules::numbers;
@@ -32,7 +30,7 @@ fn take_in(image: &mut [u8], t: usize, k: usize)
 {
     let at = FIRST_TRANSACTOR + TRANSACTOR * t;
     let to = at + BEHAVIOUR;
-    let from = FIRST_MESSAGE + MESSAGE * k + DEPENDENCES;
+    let from = map_at(k);
     image[at] = 64 * numbers::BUSY;
     octets::lower(image, to, from - to, maps::SIZE);
 }
@@ -71,7 +69,7 @@ pub fn accept(image: &mut [u8], t: usize, k: usize) -> Acted
     let end = at + TRANSACTOR;
     let state = at + STATE;
     let creation = at + CREATION;
-    let m = FIRST_MESSAGE + MESSAGE * k + DEPENDENCES;
+    let m = map_at(k);
     let answers = compared(image, state, creation, m);
     if answers.unrelated {
         return crate::outcome_of(numbers::UNRELATED);

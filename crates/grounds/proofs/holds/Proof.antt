@@ -11,14 +11,14 @@ use Rattle.grounds.proofs.holds.Tie as tie
 
 same-in-requires : tie.Need-same-in-requires
 same-in-requires c κs =
-    let p = c .before .before .before .pre in
-    (search needs, search needs, p .3, room-state _ (p .0) _ (p .2) _ (p .2))
+    let p = c .before .before .before .before .pre in
+    (search needs, search needs, p .3, rw (c .own-at .ensures) (room-state _ (p .0) _ (p .2) _ (p .2)))
 
 returns-2 : tie.Need-returns-2
 returns-2 c =
-    let n = c .before .before in
-    c .same-in .ensures
-    ∙ present-same base _ _ (search needs) _ (ap not (sym (n .present .ensures)) ∙ c .before .if1 .left) _ (sym (read-history base _ _ (search needs) _ (search needs)))
+    let n = c .before .before .before in
+    (rw (c .before .own-at .ensures) at (c .same-in .ensures))
+    ∙ present-same base _ _ (search needs) _ (ap not (sym (n .present .ensures)) ∙ c .before .before .if1 .left) _ (sym (read-history base _ _ (search needs) _ (search needs)))
 
 pub holds-spec : {M : Type 1} → statement M
 holds-spec =
@@ -26,10 +26,6 @@ holds-spec =
     (tie.spec
     (λ c κs. search needs)
     (λ c. present-absent base _ _ (search needs) _ (ap not (sym (c .before .present .ensures)) ∙ c .if1 .taken))
-    (λ c. search needs)
-    (λ c. search needs)
-    (λ c. search needs)
-    (λ c. search needs)
-    (λ c. search needs)
+    (λ c κs. search needs)
     same-in-requires
     returns-2)

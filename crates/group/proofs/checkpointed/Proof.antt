@@ -23,8 +23,8 @@ returns-2 c = checkpointed-dead base _ 0 _ _ (failed (c .before .is-live .ensure
 
 returns-3 : tie.Need-returns-3
 returns-3 c =
-    c .checkpointed-in .ensures
-    ∙ checkpointed-live base _ 0 _ _ (passed (c .before .before .is-live .ensures) (c .before .if2 .left)) _ (sym (read-history base _ _ (search needs) _ (search needs)))
+    (rw (c .before .own-at .ensures) at (c .checkpointed-in .ensures))
+    ∙ checkpointed-live base _ 0 _ _ (passed (c .before .before .before .is-live .ensures) (c .before .before .if2 .left)) _ (sym (read-history base _ _ (search needs) _ (search needs)))
 
 pub checkpointed-spec : {M : Type 1} → statement M
 checkpointed-spec =
@@ -35,10 +35,6 @@ checkpointed-spec =
     returns
     (λ c κs. search needs)
     returns-2
-    (λ c. search needs)
-    (λ c. search needs)
-    (λ c. search needs)
-    (λ c. search needs)
-    (λ c. search needs)
+    (λ c κs. search needs)
     (λ c κs. search needs)
     returns-3)

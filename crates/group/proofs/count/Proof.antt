@@ -8,9 +8,9 @@ use Rattle.group.proofs.count.Statement.{statement}
 use Rattle.group.proofs.count.Tie as tie
 
 returns : tie.Need-returns
-returns c = c .count .ensures .0 ∙ ap (λ (h : History). h .count) (sym (read-history base _ _ (search needs) _ (search needs)))
+returns c = (rw (c .before .own-at .ensures) at (c .count .ensures .0)) ∙ ap (λ (h : History). h .count) (sym (read-history base _ _ (search needs) _ (search needs)))
 
 pub count-spec : {M : Type 1} → statement M
 count-spec =
     tie.close
-    (tie.spec (λ c. search needs) (λ c. search needs) (λ c. search needs) (λ c. search needs) (λ c. search needs) (λ c κs. search needs) (λ c. search needs) returns)
+    (tie.spec (λ c κs. search needs) (λ c κs. search needs) (λ c. search needs) returns)

@@ -8,10 +8,11 @@ use lib.Dec.{eqb, ltb, leb}
 use Rattle.octets.specs.Bytes.{pick, _and_, _or_, part, every, allZero}
 use Rattle.octets.specs.Numbers.{ofBe}
 use Rattle.marks.specs.Packed.{unpackHistory, presentIn}
-use Rattle.rules.specs.Layout.{Layout, base, inRange, imageBytes, historyBytes, mapBytes, savedAt, stateAt, creationAt, behaviourAt, dependencesAt, transactorBytes, messageBytes, transactorAddress, messageAddress}
+use Rattle.rules.specs.Layout.{Layout, base, inRange, imageBytes, historyBytes, mapBytes, savedAt, stateAt, creationAt, behaviourAt, transactorBytes, messageBytes, transactorAddress, messageAddress}
 use Rattle.rules.specs.Status.{unused, idle, annihilated}
 use Rattle.rules.specs.Pack.{waitingIn, unpack}
 use Rattle.rules.specs.Form.{mapFormed, limitsZero}
+use Rattle.image.specs.Internal.Addresses.{ownAt, mapAt}
 
 -- as long as an image, with so many takes opened, and signings of one take within what a mark has places for
 pub record Headed (img : List ℕ) (opened limit : ℕ) : Type 0 where
@@ -19,10 +20,6 @@ pub record Headed (img : List ℕ) (opened limit : ℕ) : Type 0 where
   pub many : opened ≡ unpack base img .opened
   pub most : limit ≡ unpack base img .limits .checkpoints
   pub within : limit ≤ base .places
-
--- where the own mark of take t stands
-abbrev pub ownAt : Layout → ℕ → ℕ
-ownAt y t = transactorAddress y t + stateAt + historyBytes y * t
 
 -- its own mark, and no saved text before a signing
 unfoldable pub formedOwnAt : Layout → List ℕ → ℕ → Bool
@@ -62,7 +59,7 @@ formedMessageAt y img k =
     and ltb (getD img (messageAddress y k) 0 % 16) (unpack y img .opened)
     and ltb (ofBe 2 (part (messageAddress y k + 1) 2 img)) (unpack y img .next)
     and leb (leastAt y img k) (ofBe 2 (part (messageAddress y k + 1) 2 img))
-    and mapFormed y (unpack y img) (messageAddress y k + dependencesAt) img)
+    and mapFormed y (unpack y img) (mapAt y k) img)
 
 -- the head and the limits: zero bytes, limits in range, no more takes opened or parcels waiting than they allow
 unfoldable pub formedFront : Layout → List ℕ → Bool

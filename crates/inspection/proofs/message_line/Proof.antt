@@ -16,14 +16,8 @@ message-head-requires c κs = search needs
 returns-2 : tie.Need-returns-2
 returns-2 c = message-first _ _ _ _ (c .before .before .before .waiting .ensures .0) _ (c .before .before .if1 .left) (c .before .if2 .taken) (c .message-head .ensures)
 
-mul-at : tie.Need-mul-at
-mul-at c = search needs
-
-add-at : tie.Need-add-at
-add-at c = search needs
-
-add-at-2 : tie.Need-add-at-2
-add-at-2 c = search needs
+map-at-requires : tie.Need-map-at-requires
+map-at-requires c κs = search needs
 
 slice-aggregate-entry : tie.Need-slice-aggregate-entry
 slice-aggregate-entry c = search needs
@@ -35,7 +29,9 @@ entry-requires : tie.Need-entry-requires
 entry-requires c κs = search needs
 
 returns-3 : tie.Need-returns-3
-returns-3 c = message-entry _ _ _ _ (c .before .before .before .before .waiting .ensures .0) _ (c .before .before .before .if1 .left) (c .before .before .if2 .left) (c .entry .ensures)
+returns-3 c =
+    let m = c .before .before in
+    message-entry _ _ _ _ (m .before .before .before .waiting .ensures .0) _ (m .before .before .if1 .left) (m .before .if2 .left) _ (m .map-at .ensures) (c .entry .ensures)
 
 pub message-line-spec : {M : Type 1} → statement M
 message-line-spec =
@@ -45,9 +41,7 @@ message-line-spec =
     returns
     message-head-requires
     returns-2
-    mul-at
-    add-at
-    add-at-2
+    map-at-requires
     slice-aggregate-entry
     sub-entry
     entry-requires

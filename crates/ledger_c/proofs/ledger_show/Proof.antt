@@ -1,15 +1,12 @@
--- The part that ledger's show answers, by its offset.
+-- Where ledger has the map, and how long it is.
 use mathlib.Core.Path.{sym, _∙_}
 use borrow.Author.Needs.{needs}
-use Rattle.ledger_c.proofs.Answers.{shown-length, part-shown, part-refused}
+use Rattle.ledger_c.proofs.Answers.{part-shown, part-refused}
 use Rattle.ledger_c.proofs.ledger_show.Statement.{statement}
 use Rattle.ledger_c.proofs.ledger_show.Tie as tie
 
-waiting-requires : tie.Need-waiting-requires
-waiting-requires c κs = shown-length _ _ (sym (c .before .before .show .ensures .1) ∙ c .if1 .left)
-
-place-numbered-requires : tie.Need-place-numbered-requires
-place-numbered-requires c κs = (shown-length _ _ (sym (c .before .before .before .show .ensures .1) ∙ c .before .if1 .left), search needs, search needs)
+returns-2 : tie.Need-returns-2
+returns-2 c = let a = c .before .before .shown-at .ensures in (search needs, part-shown _ _ (sym (a .1) ∙ c .if1 .left) _ (a .0))
 
 pub ledger-show-spec : {M : Type 1} → statement M
 ledger-show-spec =
@@ -17,9 +14,4 @@ ledger-show-spec =
     (tie.spec
     (λ c κs. search needs)
     (λ c. (search needs, part-refused _ _ (search needs)))
-    waiting-requires
-    place-numbered-requires
-    (λ c. search needs)
-    (λ c. search needs)
-    (λ c. search needs)
-    (λ c. (search needs, part-shown _ _ (search needs) _ (c .place-numbered .ensures .0))))
+    returns-2)

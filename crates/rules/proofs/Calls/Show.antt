@@ -22,12 +22,12 @@ use Rattle.rules.proofs.Form.Image.{form-image}
 
 module _ (y : Layout) (img : List ℕ) (n : ℕ) where
   -- not refused
-  record Accepted : Type 0 where
-    long : length img ≡ imageBytes y
-    formed : wellFormed y img ≡ true
-    waits : placeOf (unpack y img) n < waitingIn y img
+  pub record Accepted : Type 0 where
+    pub long : length img ≡ imageBytes y
+    pub formed : wellFormed y img ≡ true
+    pub waits : placeOf (unpack y img) n < waitingIn y img
 
-  accepted : showRefusal y img n ≡ 0 → Accepted
+  pub accepted : showRefusal y img n ≡ 0 → Accepted
   unfolding showRefusal
   accepted e =
       let a = pick-zero (wrongLength y img) 16 _ (omega arith) e in

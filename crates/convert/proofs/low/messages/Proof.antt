@@ -23,12 +23,10 @@ messages-spec =
     Inv-loop
     μ-loop
     (λ c. held-none _ _)
-    (λ c. search needs)
-    (λ c. search needs)
-    (λ c. search needs)
     (λ c κs. search needs)
-    (λ c. held-fails (c .before .before .before .loop .inv) (search needs) (ap not (sym (c .before .histories .ensures)) ∙ c .if1 .taken))
+    (λ c κs. search needs)
+    (λ c. held-fails (c .before .before .before .before .loop .inv) (search needs) (ap not (sym (rw (c .before .before .map-at .ensures) at (c .before .histories .ensures))) ∙ c .if1 .taken))
     (λ c. search needs)
     (λ c. search needs)
-    (λ c. held-more (search needs) (search needs) (ap not (sym (c .before .histories .ensures)) ∙ c .if1 .left))
+    (λ c. held-more (search needs) (search needs) (ap not (sym (rw (c .before .before .map-at .ensures) at (c .before .histories .ensures))) ∙ c .if1 .left))
     (λ c. held-all (c .before .loop .inv) (search needs)))

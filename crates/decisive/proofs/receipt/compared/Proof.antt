@@ -15,9 +15,10 @@ returns : tie.Need-returns
 returns c =
     let a = c .before in
     let j = a .before in
-    let s = j .before .before in (
-      read-unrelated _ _ (s .pre .1) _ (s .pre .2) (a .compare .ensures .0 ∙ rw (j .joined .ensures)),
-      read-decision _ _ (s .pre .1) _ (s .pre .2) (a .compare .result .packed) (a .compare .result .own) (c .decided .ensures) (a .compare .ensures .1 ∙ rw (j .joined .ensures)) (a .compare .ensures .2 ∙ rw (j .joined .ensures)),
+    let m = j .before in
+    let s = m .before .before in (
+      read-unrelated _ _ (s .pre .1) _ (s .pre .2) (a .compare .ensures .0 ∙ rw (j .joined .ensures, m .map-at .ensures)),
+      read-decision _ _ (s .pre .1) _ (s .pre .2) (a .compare .result .packed) (a .compare .result .own) (c .decided .ensures) (a .compare .ensures .1 ∙ rw (j .joined .ensures, m .map-at .ensures)) (a .compare .ensures .2 ∙ rw (j .joined .ensures, m .map-at .ensures)),
     )
 
 pub compared-spec : {M : Type 1} → statement M
@@ -28,9 +29,7 @@ compared-spec =
     (λ c. search needs)
     (λ c. search needs)
     (λ c. search needs)
-    (λ c. search needs)
-    (λ c. search needs)
-    (λ c. search needs)
+    (λ c κs. search needs)
     (λ c κs. search needs)
     compare-requires
     (λ c κs. search needs)

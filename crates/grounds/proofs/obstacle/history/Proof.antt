@@ -12,8 +12,8 @@ use Rattle.grounds.proofs.obstacle.history.Tie as tie
 
 same-in-requires : tie.Need-same-in-requires
 same-in-requires c κs =
-    let n = c .before .before .before .before .before in
-    (search needs, search needs, n .pre .4, room-state _ (n .pre .0) (n .args .u) (n .pre .2) (n .args .u) (n .pre .2))
+    let n = c .before .before .before .before .before .before in
+    (search needs, search needs, n .pre .4, rw (c .own-at .ensures) (room-state _ (n .pre .0) (n .args .u) (n .pre .2) (n .args .u) (n .pre .2)))
 
 returns-2 : tie.Need-returns-2
 returns-2 c =
@@ -22,31 +22,35 @@ returns-2 c =
 
 returns-3 : tie.Need-returns-3
 returns-3 c =
-    let l = c .before .before .before .before in
+    let own = c .before .before .before .before in
+    let l = own .before in
     let p = l .before .before in
     mark-member base _ _ _ _ _ (ap not (sym (p .before .present .ensures)) ∙ p .if1 .left) (passed (l .before .is-live .ensures) (l .if2 .left)) _ (sym (read-history base _ _ (search needs) _ (search needs)))
-    (sym (c .before .before .before .same-in .ensures) ∙ c .before .before .if3 .taken) (sym (c .before .is-named .ensures) ∙ c .if4 .taken)
+    (sym (rw (own .own-at .ensures) at (c .before .before .before .same-in .ensures)) ∙ c .before .before .if3 .taken) (sym (c .before .is-named .ensures) ∙ c .if4 .taken)
 
 returns-4 : tie.Need-returns-4
 returns-4 c =
-    let l = c .before .before .before .before in
+    let own = c .before .before .before .before in
+    let l = own .before in
     let p = l .before .before in
     mark-outside base _ _ _ _ _ (ap not (sym (p .before .present .ensures)) ∙ p .if1 .left) (passed (l .before .is-live .ensures) (l .if2 .left)) _ (sym (read-history base _ _ (search needs) _ (search needs)))
-    (sym (c .before .before .before .same-in .ensures) ∙ c .before .before .if3 .taken) (sym (c .before .is-named .ensures) ∙ c .if4 .left)
+    (sym (rw (own .own-at .ensures) at (c .before .before .before .same-in .ensures)) ∙ c .before .before .if3 .taken) (sym (c .before .is-named .ensures) ∙ c .if4 .left)
 
 returns-5 : tie.Need-returns-5
 returns-5 c =
-    let l = c .before .before .before .before in
+    let own = c .before .before .before .before in
+    let l = own .before in
     let p = l .before .before in
     mark-checkpointed base _ _ _ _ _ (ap not (sym (p .before .present .ensures)) ∙ p .if1 .left) (passed (l .before .is-live .ensures) (l .if2 .left)) _ (sym (read-history base _ _ (search needs) _ (search needs)))
-    (sym (c .before .before .before .same-in .ensures) ∙ c .before .before .if3 .left) _ (sym (read-history base _ _ (search needs) _ (search needs))) (sym (c .before .checkpointed-in .ensures) ∙ c .if5 .taken)
+    (sym (rw (own .own-at .ensures) at (c .before .before .before .same-in .ensures)) ∙ c .before .before .if3 .left) _ (sym (read-history base _ _ (search needs) _ (search needs))) (sym (rw (own .own-at .ensures) at (c .before .checkpointed-in .ensures)) ∙ c .if5 .taken)
 
 returns-6 : tie.Need-returns-6
 returns-6 c =
-    let l = c .before .before .before .before in
+    let own = c .before .before .before .before in
+    let l = own .before in
     let p = l .before .before in
     mark-withdrawn base _ _ _ _ _ (ap not (sym (p .before .present .ensures)) ∙ p .if1 .left) (passed (l .before .is-live .ensures) (l .if2 .left)) _ (sym (read-history base _ _ (search needs) _ (search needs)))
-    (sym (c .before .before .before .same-in .ensures) ∙ c .before .before .if3 .left) _ (sym (read-history base _ _ (search needs) _ (search needs))) (sym (c .before .checkpointed-in .ensures) ∙ c .if5 .left)
+    (sym (rw (own .own-at .ensures) at (c .before .before .before .same-in .ensures)) ∙ c .before .before .if3 .left) _ (sym (read-history base _ _ (search needs) _ (search needs))) (sym (rw (own .own-at .ensures) at (c .before .checkpointed-in .ensures)) ∙ c .if5 .left)
 
 pub history-spec : {M : Type 1} → statement M
 history-spec =
@@ -58,11 +62,7 @@ history-spec =
     (λ c. search needs)
     (λ c. search needs)
     returns-2
-    (λ c. search needs)
-    (λ c. search needs)
-    (λ c. search needs)
-    (λ c. search needs)
-    (λ c. search needs)
+    (λ c κs. search needs)
     same-in-requires
     (λ c κs. search needs)
     returns-3

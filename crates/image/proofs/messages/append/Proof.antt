@@ -10,7 +10,7 @@ use Rattle.image.proofs.messages.append.Tie as tie
 
 join-to-requires : tie.Need-join-to-requires
 join-to-requires c κs =
-    let f = c .before .before .before in
+    let f = c .before .before .before .before in
     let s = f .before .before .before .before .before in
     let a = messageAddress base (s .args .n) in
     let good = s .pre .0 in
@@ -30,14 +30,14 @@ returns : tie.Need-returns
 returns c =
     let next = c .before .before in
     let m = next .before .before .before .before in
-    let f = m .before .before .before .before in
+    let f = m .before .before .before .before .before in
     let s = f .before .before .before .before .before in
     let a = messageAddress base (s .args .n) in
     let good = s .pre .0 in
     let same = fields-before base _ (good .long) (good .back) _ (s .pre .1) _ _ _ _ (s .pre .2) (s .pre .3) (f .store-fields .ensures) in
     append-image base _ (good .long) (good .back) _ (s .pre .1) _ _ _ _ _ _ _ _ (s .pre .2) (s .pre .3)
     (f .before .before .next .ensures) refl (f .store-fields .ensures)
-    (m .join-to .ensures ∙ rw (carried-there base _ (good .back) (s .args .t) (s .pre .5) _ a (omega arith) same (omega arith)))
+    (m .join-to .ensures ∙ rw (m .before .before .own-at .ensures, carried-there base _ (good .back) (s .args .t) (s .pre .5) _ a (omega arith) same (omega arith)))
     (next .store16 .ensures)
 
 pub append-spec : {M : Type 1} → statement M
@@ -52,9 +52,7 @@ append-spec =
     (λ c. search needs)
     (λ c. search needs)
     (λ c. search needs)
-    (λ c. search needs)
-    (λ c. search needs)
-    (λ c. search needs)
+    (λ c κs. search needs)
     (λ c. search needs)
     join-to-requires
     (λ c. search needs)

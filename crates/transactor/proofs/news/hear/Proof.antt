@@ -7,29 +7,25 @@ use Rattle.transactor.proofs.Hearing.{state-asked, creation-asked, hear
 use Rattle.transactor.proofs.news.hear.Statement.{statement}
 use Rattle.transactor.proofs.news.hear.Tie as tie
 
-mul-from : tie.Need-mul-from
-mul-from c = omega (arith, waiting-few base (c .before .args .image .now))
-
-add-from : tie.Need-add-from
-add-from c = omega (arith, waiting-few base (c .before .args .image .now))
-
-add-from-2 : tie.Need-add-from-2
-add-from-2 c = omega (arith, waiting-few base (c .before .args .image .now))
+map-at-requires : tie.Need-map-at-requires
+map-at-requires c κs = omega (arith, waiting-few base (c .before .args .image .now))
 
 inform-requires : tie.Need-inform-requires
-inform-requires c κs = let s = c .before .before in state-asked base _ _ (s .pre .1) _ (s .pre .2) (s .pre .0 .back)
+inform-requires c κs = let s = c .before .before .before in rw (c .before .map-at .ensures) (state-asked base _ _ (s .pre .1) _ (s .pre .2) (s .pre .0 .back))
 
 inform-requires-2 : tie.Need-inform-requires-2
 inform-requires-2 c κs =
     let i = c .before .before .before in
-    let s = i .before .before .before in
-    creation-asked base _ _ (s .pre .1) _ (s .pre .2) (s .pre .0 .back) _ (i .inform .ensures)
+    let m = i .before .before in
+    let s = m .before .before in
+    rw (m .map-at .ensures) (creation-asked base _ _ (s .pre .1) _ (s .pre .2) (s .pre .0 .back) _ (rw (m .map-at .ensures) at (i .inform .ensures)))
 
 returns : tie.Need-returns
 returns c =
     let i = c .before .before .before .before .before .before in
-    let s = i .before .before .before in
-    heard base _ _ (s .pre .1) _ (s .pre .2) (s .pre .0 .back) _ (i .inform .ensures) _ (c .before .before .inform2 .ensures)
+    let m = i .before .before in
+    let s = m .before .before in
+    heard base _ _ (s .pre .1) _ (s .pre .2) (s .pre .0 .back) _ (rw (m .map-at .ensures) at (i .inform .ensures)) _ (rw (m .map-at .ensures) at (c .before .before .inform2 .ensures))
 
 pub hear-spec : {M : Type 1} → statement M
 hear-spec =
@@ -37,9 +33,7 @@ hear-spec =
     (tie.spec
     (λ c. search needs)
     (λ c. search needs)
-    mul-from
-    add-from
-    add-from-2
+    map-at-requires
     (λ c. search needs)
     inform-requires
     (λ c. search needs)

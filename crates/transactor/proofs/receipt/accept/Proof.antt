@@ -11,30 +11,26 @@ use Rattle.transactor.proofs.Accepting.{accepts-unrelated, accepts-drop
 use Rattle.transactor.proofs.receipt.accept.Statement.{statement}
 use Rattle.transactor.proofs.receipt.accept.Tie as tie
 
-mul-m : tie.Need-mul-m
-mul-m c = omega (arith, waiting-few base (c .before .args .image .now))
-
-add-m : tie.Need-add-m
-add-m c = omega (arith, waiting-few base (c .before .args .image .now))
-
-add-m-2 : tie.Need-add-m-2
-add-m-2 c = omega (arith, waiting-few base (c .before .args .image .now))
+map-at-requires : tie.Need-map-at-requires
+map-at-requires c κs = omega (arith, waiting-few base (c .before .args .image .now))
 
 compared-requires : tie.Need-compared-requires
-compared-requires c κs = (search needs, search needs, omega (arith, waiting-few base (c .before .before .args .image .now)))
+compared-requires c κs = (search needs, search needs, omega (arith, waiting-few base (c .before .before .before .args .image .now)))
 
 returns : tie.Need-returns
 returns c =
     let asked = c .before .before in
-    let s = asked .before .before .before in
+    let m = asked .before .before in
+    let said = rw (m .map-at .ensures) at (asked .compared .ensures) in
+    let s = m .before .before in
     acted-at _ _
-    (accepts-unrelated base _ _ (s .pre .1) _ (s .pre .2) _ (asked .compared .ensures .0) (c .before .if1 .taken))
+    (accepts-unrelated base _ _ (s .pre .1) _ (s .pre .2) _ (said .0) (c .before .if1 .taken))
     (c .outcome-of .ensures) (kept-at _ (s .pre .0) _)
 
 take-in-requires : tie.Need-take-in-requires
 take-in-requires c κs =
     let h = c .before .before .before in
-    let s = h .before .before .before .before .before .before .before .before .before .before in
+    let s = h .before .before .before .before .before .before .before .before .before .before .before in
     (heard-good _ (s .pre .0) _ (s .pre .1) _ (s .pre .2) _ (h .hear .ensures), s .pre .1, heard-waits _ (s .pre .0) _ (s .pre .1) _ (s .pre .2) _ (h .hear .ensures))
 
 returns-2 : tie.Need-returns-2
@@ -44,14 +40,16 @@ returns-2 c =
     let told = h .before .before in
     let branch = told .before .before .before .before in
     let asked = branch .before in
-    let s = asked .before .before .before in
+    let m = asked .before .before in
+    let said = rw (m .map-at .ensures) at (asked .compared .ensures) in
+    let s = m .before .before in
     acted-at _ _
-    (accepts-done base _ _ (s .pre .1) _ (s .pre .2) _ (asked .compared .ensures .0) (branch .if1 .left) _ (asked .compared .ensures .1) (told .before .before .enum-told .given .1) _ (asked .compared .ensures .2) (told .enum-told2 .given .1))
+    (accepts-done base _ _ (s .pre .1) _ (s .pre .2) _ (said .0) (branch .if1 .left) _ (said .1) (told .before .before .enum-told .given .1) _ (said .2) (told .enum-told2 .given .1))
     (c .outcome-of2 .ensures) (heard-taken _ (s .pre .0) _ (s .pre .1) _ (s .pre .2) _ (h .hear .ensures) _ (taken .take-in .ensures))
 
 rollback-requires : tie.Need-rollback-requires
 rollback-requires c κs =
-    let s = c .before .before .before .before .before .before .before .before .before .before in
+    let s = c .before .before .before .before .before .before .before .before .before .before .before in
     (good-lent _ (s .pre .0) _ (s .pre .1), s .pre .1)
 
 returns-3 : tie.Need-returns-3
@@ -60,9 +58,11 @@ returns-3 c =
     let told = rolled .before .before .before in
     let branch = told .before .before .before .before in
     let asked = branch .before in
-    let s = asked .before .before .before in
+    let m = asked .before .before in
+    let said = rw (m .map-at .ensures) at (asked .compared .ensures) in
+    let s = m .before .before in
     lent-at _ (s .pre .0) _ (s .pre .1) (rollbackOr28 base _)
-    (accepts-rollback base _ _ (s .pre .1) _ (s .pre .2) _ (asked .compared .ensures .0) (branch .if1 .left) _ (asked .compared .ensures .1) (told .before .before .enum-told .given .1) _ (asked .compared .ensures .2) (told .receiver .given .1))
+    (accepts-rollback base _ _ (s .pre .1) _ (s .pre .2) _ (said .0) (branch .if1 .left) _ (said .1) (told .before .before .enum-told .given .1) _ (said .2) (told .receiver .given .1))
     (rolled .rollback .ensures)
 
 returns-4 : tie.Need-returns-4
@@ -70,9 +70,11 @@ returns-4 c =
     let told = c .before .before in
     let branch = told .before .before in
     let asked = branch .before in
-    let s = asked .before .before .before in
+    let m = asked .before .before in
+    let said = rw (m .map-at .ensures) at (asked .compared .ensures) in
+    let s = m .before .before in
     acted-at _ _
-    (accepts-dropped base _ _ (s .pre .1) _ (s .pre .2) _ (asked .compared .ensures .0) (branch .if1 .left) _ (asked .compared .ensures .1) (told .message .given .1))
+    (accepts-dropped base _ _ (s .pre .1) _ (s .pre .2) _ (said .0) (branch .if1 .left) _ (said .1) (told .message .given .1))
     (c .outcome-of3 .ensures) (kept-at _ (s .pre .0) _)
 
 pub accept-spec : {M : Type 1} → statement M
@@ -84,9 +86,7 @@ accept-spec =
     (λ c. search needs)
     (λ c. search needs)
     (λ c. search needs)
-    mul-m
-    add-m
-    add-m-2
+    map-at-requires
     compared-requires
     (λ c κs. search needs)
     (λ c. search needs)

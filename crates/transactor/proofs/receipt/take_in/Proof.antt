@@ -1,5 +1,4 @@
 -- The status byte and the map are those of the take that took the message in; the message stands behind the takes.
-use mathlib.Core.Path.{refl}
 use native.Mathlib.Omega.{arith}
 use borrow.Author.Needs.{needs}
 use lib.ListN.{length-set}
@@ -9,25 +8,20 @@ use Rattle.transactor.proofs.Accepting.{taken-in}
 use Rattle.transactor.proofs.receipt.take_in.Statement.{statement}
 use Rattle.transactor.proofs.receipt.take_in.Tie as tie
 
-mul-from : tie.Need-mul-from
-mul-from c = omega (arith, waiting-few base (c .before .args .image .now))
-
-add-from : tie.Need-add-from
-add-from c = omega (arith, waiting-few base (c .before .args .image .now))
-
-add-from-2 : tie.Need-add-from-2
-add-from-2 c = omega (arith, waiting-few base (c .before .args .image .now))
+map-at-requires : tie.Need-map-at-requires
+map-at-requires c κs = omega (arith, waiting-few base (c .before .args .image .now))
 
 lower-requires : tie.Need-lower-requires
-lower-requires c κs = simp length-set (omega (arith, waiting-few base (c .before .before .args .image .now)))
+lower-requires c κs = simp length-set (omega (arith, waiting-few base (c .before .before .before .args .image .now)))
 
 same-length : tie.Need-same-length
 same-length c = simp length-set at (c .before .before .lower .kept .0)
 
 returns : tie.Need-returns
 returns c =
-    let s = c .before .before .before .before .before in
-    taken-in base _ _ (s .pre .1) _ (s .pre .2) (s .pre .0 .back) _ _ refl (c .before .before .lower .ensures)
+    let m = c .before .before .before .before in
+    let s = m .before .before in
+    taken-in base _ _ (s .pre .1) _ (s .pre .2) (s .pre .0 .back) _ _ (rw (m .map-at .ensures)) (c .before .before .lower .ensures)
 
 pub take-in-spec : {M : Type 1} → statement M
 take-in-spec =
@@ -36,9 +30,7 @@ take-in-spec =
     (λ c. search needs)
     (λ c. search needs)
     (λ c. search needs)
-    mul-from
-    add-from
-    add-from-2
+    map-at-requires
     (λ c. search needs)
     (λ c. search needs)
     (λ c. search needs)
