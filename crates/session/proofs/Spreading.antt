@@ -1,7 +1,7 @@
--- The other two parts of the answer, work in hand and waiting parcels, are the book's too; and where all three parts are empty but for the
--- take itself, its withdrawal spoils nobody, ever.
-use Prim.Native.Nat.{ℕ, zero, suc, _≤_, _<_}
-use mathlib.Core.Bool.{Bool, true, false, false≢true}
+-- The other two parts of the answer, work in hand and waiting parcels, are the book's too; and where nothing but the take itself is in the
+-- answer, nobody ever holds its life after a fall.
+use Prim.Native.Nat.{ℕ, zero, suc, _-_, _≤_, _<_}
+use mathlib.Core.Bool.{true, false, false≢true}
 use mathlib.Core.Path.{_≡_, refl, ap, sym, _∙_, subst}
 use mathlib.Core.List.{List, [], _∷_, _++_, map, List·Memᴰ, List·Memᴰ·head, List·Memᴰ·tail, List·Memᴰ·append-cases, List·Memᴰ·not-nil, List·Memᴰ·eq-of-singleton, List·Memᴰ·cases-cons}
 use mathlib.Core.Logic.{_⊎_, inl, inr, ⊎-elim, _↔_, _≢_}
@@ -10,15 +10,14 @@ use native.Mathlib.Decide.{ℕ-discrete}
 use native.Mathlib.Omega.{arith}
 use lib.Dec.{eqb, leb}
 use lib.ListN.{length, getD, length-map}
-use Rattle.octets.proofs.Tests as law
 use borrow.Author.Tests.{eqb-true, eqb-false, eq-eqb, le-leb}
-use Rattle.octets.specs.Bytes.{_and_}
+use Rattle.octets.specs.Bytes.{_and_, part, Octets}
 use Rattle.octets.specs.Numbers.{bound}
 use Rattle.octets.proofs.Zero.{both}
 use Rattle.octets.proofs.Chunks.{sides}
+use Rattle.octets.proofs.Put.{octets-part}
 use Rattle.marks.specs.Incarnation.{Incarnation, Superseded, nextIncarnation, checkpointIncarnation}
-use Rattle.marks.specs.declared.History.{History}
-use Rattle.marks.specs.History.{initialView, incarnationOf}
+use Rattle.marks.specs.History.{initialView}
 use Rattle.marks.proofs.Order.{superseded-up, superseded-irrefl, precedes-next, precedes-checkpoint}
 use Rattle.maps.specs.View.{mapView}
 use Rattle.octets.specs.Table.{updated}
@@ -26,26 +25,29 @@ use Rattle.octets.proofs.Tables.{updated-view}
 use Rattle.maps.proofs.View.{view-empty}
 use Rattle.rules.specs.Layout.{Layout, Fitting}
 use Rattle.rules.specs.Status as number
-use Rattle.rules.specs.State.{Transactor, Message, State, noMessage, transactorAt, messageAt, ownHistory}
+use Rattle.rules.specs.State.{Transactor, Message, State, noMessage, transactorAt, messageAt}
 use Rattle.rules.specs.declared.Step.{Step}
 use Rattle.rules.specs.Step.{stepAt, root, letter, receive, new, send, read, write, freeze, finish, fall, fail, lose, sign}
 use Rattle.rules.specs.Refusals.{named}
 use Rattle.rules.specs.Rules.{stepOf}
+use Rattle.rules.specs.Calls.{beginAnswer}
 use Rattle.rules.specs.Dependents.{holdsPresent, worksAt, carriesAt, groupOf, dependentsOf}
 use Rattle.rules.specs.ReadyGroups.{howMany}
-use Rattle.rules.proofs.Bits.{named-zero, named-past}
-use Rattle.rules.proofs.Groups.Counting.{many-same, many-nowhere}
+use Rattle.rules.proofs.Bits.{named-past}
+use Rattle.rules.proofs.Groups.Counting.{many-nowhere}
 use Rattle.rules.proofs.Groups.Dependents.{group-names, in-group}
-use Rattle.rules.specs.Obstacle.{StandsIn}
 use Rattle.rules.specs.Internal.Well.{StepOk, TransactorFormed, not-opened, gone, alive, WellFormed}
 use Rattle.rules.proofs.Keep.Accepted.{kind-known}
 use Rattle.rules.proofs.Keep.Run.{stepOk-at}
 use Rattle.rules.proofs.Keep.Step.{keeps}
 use Rattle.session.specs.Provenance.{Status, unused, idle, busy, annihilated, Live, statusNumber, Incarnations, In, one, Holder, WaitingMessage, noWaitingMessage, Provenance, blank, remove, find}
 use Rattle.session.specs.Grounds.{from-start, Ground, in-state, in-creation, RestsOn}
-use Rattle.session.specs.Trace.{Trace}
+use Rattle.session.specs.Fed.{Call, ProvenanceSteps, ProvenanceCall, provenance-refuses, provenance-begins, provenance-runs, provenance-offers, provenance-names, provenance-hears, provenance-counts, provenance-depends, provenance-hinders, provenance-blocks, provenance-shows, ProvenanceOf}
+use Rattle.session.specs.Fed as provenance
+use Rattle.session.specs.Trace.{Trace, callsOf, GoesOn}
 use Rattle.session.specs.Point.{Point}
-use Rattle.session.specs.Withdrawal.{Withdraws, Further, here, step}
+use Rattle.session.specs.Withdrawal.{Withdraws, ProvenanceFurther, no-further, further, Unheld}
+use Rattle.session.specs.Meanings.{CarriedMeans}
 use Rattle.session.specs.Steps.{carried, isNil, rolledBackHolder, reads, writes, freezes, finishes, rollsBackOrFinishes, rollsBackOrStays, acted, isDropped, isRolledBack, received, receives, opensRoot, opensChild, applied, checkpointedAt, provenanceRefusal, ProvenanceStep, refuses, applies, signing, not-ready}
 use Rattle.session.proofs.Model.{Ledger, MessageView, viewMessage, view}
 use Rattle.session.proofs.Tables.{pick-view, and-of}
@@ -59,11 +61,13 @@ use Rattle.session.proofs.Resting.{rests-ground, holds-exactly}
 use Rattle.session.proofs.Turns.{dead-live, Past, passed, vanished, past-on, turn}
 use Rattle.session.proofs.Kept.{provenance-determined}
 use Rattle.session.proofs.ViewStep.{state-kept}
+use Rattle.session.proofs.Unique.{steps-determined}
+use Rattle.session.proofs.Calls.{right-length}
+use Rattle.session.proofs.Points.{held}
 use Rattle.session.proofs.Falling.{rolled, rolled-past, present-not-past, Alone, alone}
 use Rattle.session.proofs.Reached.{related, well}
 use Rattle.session.proofs.Sign.{own-has, checkpointed-stands}
 use Rattle.session.proofs.Withdrawal.{past-withdrawn, resting-means}
-use Rattle.session.proofs.Obstacles.{life-is, stands-rests}
 
 -- ---- work in hand, and parcels
 
@@ -121,6 +125,42 @@ module _ {y : Layout} {s : State} (well : WellFormed y s) {b : Provenance} (r : 
   carries-exactly k h =
       let q = at-place {R = MessageRel (present (b .holders))} (s .messages) (b .messages) (r .messages) k h in
       holds-exactly well r t there (getD (s .messages) k noMessage .dependences) (getD (b .messages) k noWaitingMessage .incarnations) (q .incarnations)
+
+-- ---- `unfinished` and `carried`, by the book
+
+module _ {y : Layout} (z : Fitting y) {img : List ℕ} {τ : Trace y img} {s : State} {b : Provenance} (k : Point y img τ s b) where
+  idle-past : (t u : ℕ) → y .transactors ≤ u → worksAt s t u ≡ false
+  unfolding worksAt
+  idle-past t u h = ap (λ (x : Transactor). eqb (x .status) number.busy and holdsPresent s t (x .behaviour)) (no-transactor (well z k) u h)
+
+  -- Take u is in `unfinished` exactly if the present life of take t is in u's behaviour set. Such a take is at work.
+  pub unfinished-means : (t : ℕ) → Live (b .holders t .status) → (u : ℕ) → (named (dependentsOf y s t .unfinished) u ≡ true) ↔ In t (b .holders t .history .incarnation) (b .holders u .behaviour)
+  unfolding dependentsOf
+  unfinished-means t there u = (
+    λ e. works-exactly (well z k) (related z k) t there u .0 (inside e (sides u (y .transactors))),
+    λ i. let e = works-exactly (well z k) (related z k) t there u .1 i in in-group (y .transactors) (worksAt s t) u (below e (sides u (y .transactors))) ∙ e,
+  )
+    where
+      inside : named (groupOf (y .transactors) (worksAt s t)) u ≡ true → (u < y .transactors) ⊎ (y .transactors ≤ u) → worksAt s t u ≡ true
+      inside e (inl h) = sym (in-group (y .transactors) (worksAt s t) u h) ∙ e
+      inside e (inr h) = absurd (false≢true (sym (named-past _ u (y .transactors) (group-names (y .transactors) (worksAt s t) .bits) h) ∙ e))
+
+      below : worksAt s t u ≡ true → (u < y .transactors) ⊎ (y .transactors ≤ u) → u < y .transactors
+      below e (inl h) = h
+      below e (inr h) = absurd (false≢true (sym (idle-past t u h) ∙ e))
+
+  as-many : length (s .messages) ≡ length (b .messages)
+  unfolding view
+  as-many = sym (length-map (s .messages) viewMessage) ∙ all2-length (related z k .messages)
+
+  -- `carried` is how many of the book's waiting parcels have it in their sets.
+  pub carried-means : (t : ℕ) → Live (b .holders t .status) → CarriedMeans b t (dependentsOf y s t .carried)
+  unfolding dependentsOf
+  carried-means t there = record {
+    carries = carriesAt s t;
+    exactly = λ i h. carries-exactly (well z k) (related z k) t there i (subst (λ (n : ℕ). i < n) (sym as-many) h);
+    many = ap (λ (n : ℕ). howMany n (carriesAt s t)) as-many;
+  }
 
 -- ---- a life that is in no set and past comes into none
 
@@ -274,7 +314,7 @@ module _ (l : Ledger) (b : Provenance) (r : Rel l b) (y : Layout) (p : Step) {t 
       nowhere bits (signing z q e) = (checkpointed-nowhere (p .message) (named-live l b r y p z q bits), k .messages)
       nowhere bits (not-ready z q e) = (k .sets, k .messages)
 
--- ---- a fall that spoils nobody
+-- ---- a fall after which nobody holds the life
 
 -- where take t's life is past, no parcel is new
 module _ (l : Ledger) (b : Provenance) (r : Rel l b) (y : Layout) (p : Step) (t : ℕ) (live : Live (b .holders t .status)) where
@@ -318,11 +358,11 @@ place-in [] q i = absurd (List·Memᴰ·not-nil i)
 place-in (p ∷ qs) q i = ⊎-elim (λ e. (0, omega arith, sym e)) (λ j. let k = place-in qs q j in (suc (k .0), omega (arith, k .1), k .2)) (List·Memᴰ·cases-cons i)
 
 module _ {y : Layout} (z : Fitting y) {img : List ℕ} {τ : Trace y img} {s : State} {b : Provenance} (k : Point y img τ s b) where
-  -- take t falls at step p, and the answer about it named nobody but t, no work in hand and no parcel
+  -- take t falls at step p, and the answer about it named nobody but t, no work in hand but its own, and no parcel
   module _ {p : Step} (ok : StepOk p) {c : Provenance} (taken : ProvenanceStep y b p c) {t : ℕ} (w : Withdraws y s p t)
-      (alone-in : (u : ℕ) → named (dependentsOf y s t .resting) u ≡ true → t ≡ u)
-      (idle-all : (u : ℕ) → worksAt s t u ≡ false)
-      (none-carried : (i : ℕ) → i < length (s .messages) → carriesAt s t i ≡ false) where
+      (resting-alone : (u : ℕ) → named (dependentsOf y s t .resting) u ≡ true → t ≡ u)
+      (working-alone : (u : ℕ) → named (dependentsOf y s t .unfinished) u ≡ true → t ≡ u)
+      (none-carried : dependentsOf y s t .carried ≡ 0) where
     there : Live (b .holders t .status)
     there = rolled (well z k) (related z k) p (ok .message) w .0
 
@@ -338,107 +378,84 @@ module _ {y : Layout} (z : Fitting y) {img : List ℕ} {τ : Trace y img} {s : S
     only-t = alone (view s) b (related z k) y p t there taken life-past
 
     others-not : (u : ℕ) → t ≢ u → Whole (b .holders u) t (b .holders t .history .incarnation) → ⊥
-    others-not u n (relation.in-state i) = n (alone-in u (resting-means z k t there u .1 (from-start (in-state i))))
-    others-not u n (relation.in-creation i) = n (alone-in u (resting-means z k t there u .1 (from-start (in-creation i))))
-    others-not u n (relation.in-behaviour i) = false≢true (sym (idle-all u) ∙ works-exactly (well z k) (related z k) t there u .1 i)
+    others-not u n (relation.in-state i) = n (resting-alone u (resting-means z k t there u .1 (from-start (in-state i))))
+    others-not u n (relation.in-creation i) = n (resting-alone u (resting-means z k t there u .1 (from-start (in-creation i))))
+    others-not u n (relation.in-behaviour i) = n (working-alone u (unfinished-means z k t there u .1 i))
 
     sets-not : (u : ℕ) → Dec (t ≡ u) → Whole (c .holders u) t (b .holders t .history .incarnation) → ⊥
     sets-not u (yes e) x = own-past (view (stepOf y s p .state)) c rel-after life-past (subst (λ (v : ℕ). Whole (c .holders v) t (b .holders t .history .incarnation)) (sym e) x)
     sets-not u (no n) x = others-not u n (subst (λ (h : Holder). Whole h t (b .holders t .history .incarnation)) (only-t .others u n) x)
 
-    messages-length : length (s .messages) ≡ length (b .messages)
-    unfolding view
-    messages-length = sym (length-map (s .messages) viewMessage) ∙ all2-length (related z k .messages)
-
     messages-not : (q : WaitingMessage) → List·Memᴰ q (c .messages) → In t (b .holders t .history .incarnation) (q .incarnations) → ⊥
     messages-not q i x =
         let m = place-in (b .messages) q (fewer (view s) b (related z k) y p t there taken life-past q i) in
-        let low : m .0 < length (s .messages) = subst (λ (n : ℕ). m .0 < n) (sym messages-length) (m .1) in
-        false≢true (sym (none-carried (m .0) low) ∙ carries-exactly (well z k) (related z k) t there (m .0) low .1 (subst (λ (f : WaitingMessage). In t (b .holders t .history .incarnation) (f .incarnations)) (sym (m .2)) x))
+        let n = carried-means z k t there in
+        false≢true (sym (many-nowhere (n .carries) (length (b .messages)) (sym (n .many) ∙ none-carried) (m .0) (m .1)) ∙ n .exactly (m .0) (m .1) .1 (subst (λ (f : WaitingMessage). In t (b .holders t .history .incarnation) (f .incarnations)) (sym (m .2)) x))
 
     absent-then : Absent c t (b .holders t .history .incarnation)
     absent-then = record { sets = λ u. sets-not u (ℕ-discrete t u); messages = messages-not; past = life-past }
 
-    record Still (after : State) : Type 1 where
-      book : Provenance
-      well : WellFormed y after
-      rel : Rel (view after) book
-      absent : Absent book t (b .holders t .history .incarnation)
+    -- the book comes to d beside some state of the ledger
+    record Still (d : Provenance) : Type 1 where
+      beside : State
+      well : WellFormed y beside
+      rel : Rel (view beside) d
+      absent : Absent d t (b .holders t .history .incarnation)
 
-    still : {after : State} → Further y (stepOf y s p .state) after → Still after
-    still here = record { book = c; well = keeps z (well z k) ok; rel = rel-after; absent = absent-then }
-    still (step {now} o steps octets i) = one (still o)
+    still : {d : Provenance} → ProvenanceFurther y c d → Still d
+    still no-further = record { beside = stepOf y s p .state; well = keeps z (well z k) ok; rel = rel-after; absent = absent-then }
+    still (further {now} {after} o steps octets i next) = one (still o)
       where
-        one : Still now → Still (stepOf y now (stepAt steps i) .state)
+        one : Still now → Still after
         one q =
             let fits = stepOk-at steps octets i in
             let m = state-kept (q .well) (q .rel) (stepAt steps i) (fits .message) in
-            record { book = m .after; well = keeps z (q .well) fits; rel = m .rel; absent = absent-on (view now) (q .book) (q .rel) y (stepAt steps i) (q .absent) (fits .message) (m .step) }
+            record {
+              beside = stepOf y (q .beside) (stepAt steps i) .state;
+              well = keeps z (q .well) fits;
+              rel = subst (λ (e : Provenance). Rel (view (stepOf y (q .beside) (stepAt steps i) .state)) e) (provenance-determined (m .step) next) (m .rel);
+              absent = absent-on (view (q .beside)) now (q .rel) y (stepAt steps i) (q .absent) (fits .message) next;
+            }
 
-    -- Then nobody is spoilt, after whatever steps: no mark of that life stands in any state or creation map.
-    pub spoils-nobody : {after : State} → Further y (stepOf y s p .state) after → (u : ℕ) (h : History) → StandsIn after u t h
-        → incarnationOf h ≡ incarnationOf (ownHistory t (transactorAt s t)) → ⊥
-    spoils-nobody {after} o u h stands e =
+    -- Then nobody holds that life, after whatever further steps.
+    pub nobody-holds : {d : Provenance} → ProvenanceFurther y c d → Unheld d t (b .holders t .history .incarnation)
+    nobody-holds {d} o =
         let q = still o in
-        absent-rests (view after) (q .book) (q .rel) (q .absent) u (subst (RestsOn (q .book) u t) (e ∙ life-is (well z k) (related z k) t) (stands-rests (q .well) (q .rel) stands))
+        record {
+          state = λ u i. q .absent .sets u (relation.in-state i);
+          creation = λ u i. q .absent .sets u (relation.in-creation i);
+          behaviour = λ u i. q .absent .sets u (relation.in-behaviour i);
+          messages = q .absent .messages;
+          rests = absent-rests (view (q .beside)) d (q .rel) (q .absent);
+        }
 
--- ---- the same by the answer's numbers
+-- ---- the later books of a session are come to by further steps
 
-none-named : (n : ℕ) (f : ℕ → Bool) → groupOf n f ≡ 0 → (u : ℕ) → u < n → f u ≡ false
-none-named n f e u h = sym (in-group n f u h) ∙ ap (λ (g : ℕ). named g u) e ∙ named-zero u
+module _ {y : Layout} where
+  pub further-trans : {b c d : Provenance} → ProvenanceFurther y b c → ProvenanceFurther y c d → ProvenanceFurther y b d
+  further-trans o no-further = o
+  further-trans o (further q steps octets i next) = further (further-trans o q) steps octets i next
 
-module _ {y : Layout} (z : Fitting y) {img : List ℕ} {τ : Trace y img} {s : State} {b : Provenance} (k : Point y img τ s b) where
-  idle-past : (t u : ℕ) → y .transactors ≤ u → worksAt s t u ≡ false
-  unfolding worksAt
-  idle-past t u h = ap (λ (x : Transactor). eqb (x .status) number.busy and holdsPresent s t (x .behaviour)) (no-transactor (well z k) u h)
-
-  idle-by : (t : ℕ) → dependentsOf y s t .unfinished ≡ 0 → (u : ℕ) → worksAt s t u ≡ false
-  unfolding dependentsOf
-  idle-by t e u = ⊎-elim (none-named (y .transactors) (worksAt s t) e u) (idle-past t u) (sides u (y .transactors))
-
-  carried-by : (t : ℕ) → dependentsOf y s t .carried ≡ 0 → (i : ℕ) → i < length (s .messages) → carriesAt s t i ≡ false
-  unfolding dependentsOf
-  carried-by t e = many-nowhere (carriesAt s t) (length (s .messages)) e
-
-  -- The answer about take t names nobody but t, `unfinished` and `carried` are 0, and take t falls at the next step: then nobody is spoilt, after whatever steps.
-  pub spoils-nobody-answered : {p : Step} → StepOk p → {c : Provenance} → ProvenanceStep y b p c → {t : ℕ} → Withdraws y s p t
-      → ((u : ℕ) → named (dependentsOf y s t .resting) u ≡ true → t ≡ u)
-      → dependentsOf y s t .unfinished ≡ 0 → dependentsOf y s t .carried ≡ 0
-      → {after : State} → Further y (stepOf y s p .state) after → (u : ℕ) (h : History) → StandsIn after u t h
-      → incarnationOf h ≡ incarnationOf (ownHistory t (transactorAt s t)) → ⊥
-  spoils-nobody-answered ok taken {t} w alone-in e f = spoils-nobody z k ok taken w alone-in (idle-by t e) (carried-by t f)
-
-  -- ---- `unfinished` and `carried`, by the book
-
-  -- Take u is in `unfinished` exactly if the present life of take t is in u's behaviour set. Such a take is at work.
-  pub unfinished-means : (t : ℕ) → Live (b .holders t .status) → (u : ℕ) → (named (dependentsOf y s t .unfinished) u ≡ true) ↔ In t (b .holders t .history .incarnation) (b .holders u .behaviour)
-  unfolding dependentsOf
-  unfinished-means t there u = (
-    λ e. works-exactly (well z k) (related z k) t there u .0 (inside e (sides u (y .transactors))),
-    λ i. let e = works-exactly (well z k) (related z k) t there u .1 i in in-group (y .transactors) (worksAt s t) u (below e (sides u (y .transactors))) ∙ e,
-  )
+  -- from any step of a part to any later one
+  pub further-steps : {b c d : Provenance} (steps : List ℕ) → Octets steps → {i j : ℕ} → ProvenanceSteps y b steps i c → ProvenanceSteps y b steps j d → i ≤ j → ProvenanceFurther y c d
+  further-steps {b} {c} steps octets {i} from provenance.none l = let e : i ≡ 0 = omega arith in subst (ProvenanceFurther y c) (steps-determined (subst (λ (n : ℕ). ProvenanceSteps y b steps n c) e from) provenance.none) no-further
+  further-steps {b} {c} {d} steps octets {i} from (provenance.more {i = m} {c = now} q next) l = go (ℕ-discrete i (suc m)) (λ n. further-steps steps octets from q n)
     where
-      inside : named (groupOf (y .transactors) (worksAt s t)) u ≡ true → (u < y .transactors) ⊎ (y .transactors ≤ u) → worksAt s t u ≡ true
-      inside e (inl h) = sym (in-group (y .transactors) (worksAt s t) u h) ∙ e
-      inside e (inr h) = absurd (false≢true (sym (named-past _ u (y .transactors) (group-names (y .transactors) (worksAt s t) .bits) h) ∙ e))
+      go : Dec (i ≡ suc m) → (i ≤ m → ProvenanceFurther y c now) → ProvenanceFurther y c d
+      go (yes e) o = subst (ProvenanceFurther y c) (steps-determined (subst (λ (n : ℕ). ProvenanceSteps y b steps n c) e from) (provenance.more q next)) no-further
+      go (no n) o = further (o (omega arith)) steps octets m next
 
-      below : worksAt s t u ≡ true → (u < y .transactors) ⊎ (y .transactors ≤ u) → u < y .transactors
-      below e (inl h) = h
-      below e (inr h) = absurd (false≢true (sym (idle-past t u h) ∙ e))
-
-  -- `carried` is how many of the book's waiting parcels have it in their sets, by whatever test f that says so.
-  pub carried-means : (t : ℕ) → Live (b .holders t .status) → (f : ℕ → Bool)
-      → ((i : ℕ) → i < length (b .messages) → (f i ≡ true) ↔ In t (b .holders t .history .incarnation) (getD (b .messages) i noWaitingMessage .incarnations))
-      → dependentsOf y s t .carried ≡ howMany (length (b .messages)) f
-  unfolding dependentsOf view
-  carried-means t there f tests = subst (λ (n : ℕ). howMany n (carriesAt s t) ≡ howMany (length (b .messages)) f) (sym many)
-      (counted-same (length (b .messages)) (λ i h.
-      let l : i < length (s .messages) = omega (arith, many) in
-      let c = carries-exactly (well z k) (related z k) t there i l in
-      law.same-test (carriesAt s t i) (f i) (λ e. tests i h .1 (c .0 e)) (λ e. c .1 (tests i h .0 e))))
-    where
-      many : length (s .messages) ≡ length (b .messages)
-      many = sym (length-map (s .messages) viewMessage) ∙ all2-length (related z k .messages)
-
-      counted-same : (n : ℕ) → ((i : ℕ) → i < n → carriesAt s t i ≡ f i) → howMany n (carriesAt s t) ≡ howMany n f
-      counted-same n e = many-same (carriesAt s t) f n e
+  -- and over a call that follows, any but an accepted begin
+  pub further-call : Fitting y → {img : List ℕ} (τ : Trace y img) {c : Call} {b d : Provenance} → ProvenanceOf y (callsOf τ) b → GoesOn y img c → ProvenanceCall y b c d → ProvenanceFurther y b d
+  unfolding beginAnswer
+  further-call z τ f g (provenance-refuses n) = no-further
+  further-call z τ f g (provenance-begins {m} e) = absurd (g m refl (rw (right-length (held z τ f)) e))
+  further-call z τ f g (provenance-runs {list} {o} {start} {end} e q) = further-steps (part start (end - start) list) (octets-part start (end - start) list o) provenance.none q (omega arith)
+  further-call z τ f g (provenance-offers e) = no-further
+  further-call z τ f g (provenance-names e) = no-further
+  further-call z τ f g (provenance-hears e) = no-further
+  further-call z τ f g (provenance-counts e) = no-further
+  further-call z τ f g (provenance-depends e) = no-further
+  further-call z τ f g (provenance-hinders e) = no-further
+  further-call z τ f g (provenance-blocks e) = no-further
+  further-call z τ f g (provenance-shows e) = no-further

@@ -8,7 +8,7 @@ use mathlib.Core.Option.{Option, some, none}
 use native.Mathlib.Decide.{ℕ-discrete}
 use native.Mathlib.Omega.{arith}
 use lib.Dec.{eqb, leb}
-use borrow.Author.Tests.{eq-eqb, eqb-false, leb-false, leb-true, le-leb}
+use borrow.Author.Tests.{eqb-false, leb-false, leb-true, le-leb}
 use Rattle.octets.specs.Bytes.{part, Octets}
 use Rattle.octets.proofs.Chunks.{sides}
 use Rattle.octets.proofs.Put.{octets-part}
@@ -34,7 +34,7 @@ use Rattle.rules.specs.Pack.{pack, unpack}
 use Rattle.rules.specs.Groups.{Checkpointable, Smallest}
 use Rattle.rules.specs.Groups as groups
 use Rattle.rules.specs.Calls.{wrongLength, stateAfter, stepsIn, runAnswer, ranImage, runImage, queryRefusal}
-use Rattle.rules.specs.Dependents.{dependentsOf, dependentsAnswer}
+use Rattle.rules.specs.Dependents.{dependentsOf}
 use Rattle.rules.specs.Internal.Well.{StepOk, Known, TransactorFormed, not-opened, gone, alive, WellFormed}
 use Rattle.rules.proofs.Pack.RoundTrip.{unpack-pack}
 use Rattle.rules.proofs.Keep.Run.{stepOk-at}
@@ -685,7 +685,7 @@ module _ {y : Layout} (z : Fitting y) {img : List ℕ} {τ : Trace y img} {s : S
           go (inl l) = at l (decCheckpointed a (b .holders v .history .incarnation)) (decTest (sameIncarnation a (b .holders v .history .incarnation)) (same-test a (b .holders v .history .incarnation)))
           go (inr l) = absurd (not-withdrawn (neither (λ m. l (m .live)) (λ m. l (m .live))))
 
--- ---- what the call answers, between two calls of a session
+-- ---- what a query that is not refused is about, between two calls of a session
 
 module _ {y : Layout} (z : Fitting y) {img : List ℕ} (τ : Trace y img) {b : Provenance} (fed : ProvenanceOf y (callsOf τ) b) where
   related-here : Rel (view (unpack y img)) b
@@ -698,7 +698,7 @@ module _ {y : Layout} (z : Fitting y) {img : List ℕ} (τ : Trace y img) {b : P
   unfolding view
   opened-used t l = related-here .used t (subst (λ (n : ℕ). t < n) (related-here .opened) l)
 
-  -- a query that is not refused is about a live take
+  -- a live take
   pub query-live : (t : ℕ) → queryRefusal y img t ≡ 0 → Live (b .holders t .status)
   unfolding queryRefusal
   query-live t e =
@@ -711,13 +711,3 @@ module _ {y : Layout} (z : Fitting y) {img : List ℕ} (τ : Trace y img) {b : P
       go : Live (b .holders t .status) ⊎ (Live (b .holders t .status) → ⊥) → t < unpack y img .opened → (transactorAt (unpack y img) t .status ≡ number.annihilated → ⊥) → Live (b .holders t .status)
       go (inl k) l n = k
       go (inr k) l n = absurd (n (matches-rel well-here related-here t .status ∙ ap statusNumber (not-used (b .holders t .status) k (opened-used t l))))
-
-  -- Asked between two calls, and not refused: take u is in `resting` exactly if the book of the calls so far says that it rests on the present life.
-  pub resting-answered : (t : ℕ) → queryRefusal y img t ≡ 0 → (u : ℕ) → (named (dependentsAnswer y img t .resting) u ≡ true) ↔ RestsOn b u t (b .holders t .history .incarnation)
-  unfolding dependentsAnswer
-  resting-answered t e u = rw (eq-eqb (queryRefusal y img t) 0 e) (resting-exactly well-here related-here t (query-live t e) u)
-
-  -- And in `through` exactly if that book says that it rests on it directly or through others.
-  pub through-answered : (t : ℕ) → queryRefusal y img t ≡ 0 → (u : ℕ) → (named (dependentsAnswer y img t .through) u ≡ true) ↔ RestsThrough b t u
-  unfolding dependentsAnswer
-  through-answered t e u = rw (eq-eqb (queryRefusal y img t) 0 e) (through-exactly well-here related-here t (query-live t e) u)

@@ -3,6 +3,7 @@ use Prim.Native.Nat.{ℕ, _<_}
 use mathlib.Core.Path.{_≡_, ap, sym, _∙_, subst}
 use mathlib.Core.List.{List}
 use lib.ListN.{getD}
+use borrow.Author.Tests.{eq-eqb}
 use Rattle.octets.proofs.Numbers.{be-one}
 use Rattle.rules.specs.Layout.{Layout, Fitting, base}
 use Rattle.rules.specs.State.{State}
@@ -10,13 +11,15 @@ use Rattle.rules.specs.declared.Step.{Step}
 use Rattle.rules.specs.declared.Reply.{Reply}
 use Rattle.rules.specs.Step.{packReply}
 use Rattle.rules.specs.Rules.{stepOf}
-use Rattle.rules.specs.Dependents.{dependentsOf}
+use Rattle.rules.specs.Calls.{queryRefusal}
+use Rattle.rules.specs.Dependents.{dependentsOf, dependentsAnswer}
 use Rattle.rules.proofs.Keep.Kinds.{ReplyOk}
 use Rattle.rules.proofs.Keep.Step.{reply-fits, fitting-base}
 use Rattle.session.specs.Provenance.{Live, Provenance}
 use Rattle.session.specs.Steps.{ProvenanceStep}
-use Rattle.session.specs.Trace.{Trace}
-use Rattle.session.specs.Point.{StepIn, Point}
+use Rattle.session.specs.Fed.{ProvenanceOf}
+use Rattle.session.specs.Trace.{Trace, callsOf}
+use Rattle.session.specs.Point.{StepIn, Point, at-end}
 use Rattle.session.specs.Withdrawal.{Withdraws, rolls-back, vanishes, Spoilt, Doomed, RolledBackIn, rolled-back, vanished-in, Withdrawal}
 use Rattle.session.specs.Meanings.{DependentsMean}
 use Rattle.session.proofs.Run.{first-packReply}
@@ -24,8 +27,8 @@ use Rattle.session.proofs.Points.{Taken, step-taken}
 use Rattle.session.proofs.ViewStep.{state-kept}
 use Rattle.session.proofs.Demand3.{step-point}
 use Rattle.session.proofs.Reached.{related, well}
-use Rattle.session.proofs.Spreading.{spoils-nobody-answered, unfinished-means, carried-means}
-use Rattle.session.proofs.Withdrawal.{resting-means, through-means, spoilt-doomed, withdrawn-then, spoils, spoils-exactly, spoilt-through, unready-before, ready-same, smallest-kept}
+use Rattle.session.proofs.Spreading.{nobody-holds, unfinished-means, carried-means}
+use Rattle.session.proofs.Withdrawal.{resting-means, through-means, query-live, spoilt-doomed, withdrawn-then, spoils, spoils-exactly, spoilt-through, unready-before, ready-same, smallest-kept}
 
 -- the second byte of a reply is the take
 second-packReply : (r : Reply) → r .outcome < 256 → r .transactor < 256 → getD (packReply r) 1 0 ≡ r .transactor
@@ -67,7 +70,7 @@ module _ {y : Layout} (z : Fitting y) {img : List ℕ} {τ : Trace y img} {s s' 
           spoils = spoils-exactly z j ok (q .step) w;
           doomed = spoilt-through z j ok (q .step) w;
           unready = unready-before z j ok (q .step) w;
-          nobody = spoils-nobody-answered z j ok (q .step) w;
+          nobody = nobody-holds z j ok (q .step) w;
           ready = ready-same z j ok (q .step) w;
           smallest = smallest-kept z j ok (q .step) w;
         }),
@@ -88,6 +91,16 @@ module _ {y : Layout} (z : Fitting y) {img : List ℕ} {τ : Trace y img} {s : S
   -- What the answer says of a live take, word by word.
   pub asked : (t : ℕ) → Live (b .holders t .status) → DependentsMean b t (dependentsOf y s t)
   asked t there = record { resting = resting-means z k t there; through = through-means z k t there; unfinished = unfinished-means z k t there; carried = carried-means z k t there }
+
+-- What the call answers between two calls, if it is not refused.
+pub dependents-answered : {y : Layout} (z : Fitting y) {img : List ℕ} (τ : Trace y img) {b : Provenance} → ProvenanceOf y (callsOf τ) b → (t : ℕ) → queryRefusal y img t ≡ 0
+    → DependentsMean b t (dependentsAnswer y img t)
+unfolding dependentsAnswer
+dependents-answered {y} z {img} τ f t e = rw (eq-eqb (queryRefusal y img t) 0 e) (asked z (at-end {τ = τ} f) t (query-live z τ f t e))
+
+pub dependents-answered-base : {img : List ℕ} (τ : Trace base img) {b : Provenance} → ProvenanceOf base (callsOf τ) b → (t : ℕ) → queryRefusal base img t ≡ 0
+    → DependentsMean b t (dependentsAnswer base img t)
+dependents-answered-base = dependents-answered fitting-base
 
 module _ {img : List ℕ} {τ : Trace base img} {s : State} {b : Provenance} (k : Point base img τ s b) where
   pub doomed-base : {x : ℕ} → Spoilt b x → Doomed base s x

@@ -19,16 +19,19 @@ use Rattle.session.specs.Withdrawal.{RestsThrough}
 
 -- ---- who rests on take t
 
+-- n waiting parcels have take t's present life in their sets: some test is true of just these, and of n of them
+pub record CarriedMeans (b : Provenance) (t n : ℕ) : Type 0 where
+  pub carries : ℕ → Bool
+  pub exactly : (i : ℕ) → i < length (b .messages) → (carries i ≡ true) ↔ In t (b .holders t .history .incarnation) (getD (b .messages) i noWaitingMessage .incarnations)
+  pub many : n ≡ howMany (length (b .messages)) carries
+
 -- the answer d about a live take t: which takes its words name, and what its number counts
 pub record DependentsMean (b : Provenance) (t : ℕ) (d : Dependents) : Type 0 where
   pub resting : (u : ℕ) → (named (d .resting) u ≡ true) ↔ RestsOn b u t (b .holders t .history .incarnation)
   pub through : (u : ℕ) → (named (d .through) u ≡ true) ↔ RestsThrough b t u
   -- work in hand
   pub unfinished : (u : ℕ) → (named (d .unfinished) u ≡ true) ↔ In t (b .holders t .history .incarnation) (b .holders u .behaviour)
-  -- the waiting parcels with it in their sets, by whatever test f that says so
-  pub carried : (f : ℕ → Bool)
-      → ((i : ℕ) → i < length (b .messages) → (f i ≡ true) ↔ In t (b .holders t .history .incarnation) (getD (b .messages) i noWaitingMessage .incarnations))
-      → d .carried ≡ howMany (length (b .messages)) f
+  pub carried : CarriedMeans b t (d .carried)
 
 -- ---- why a volume can't be signed
 

@@ -2,12 +2,11 @@
 use Prim.Native.Nat.{ℕ}
 use mathlib.Core.Bool.{true, false}
 use mathlib.Core.Path.{_≡_}
-use mathlib.Core.List.{List}
+use mathlib.Core.List.{List, List·Memᴰ}
 use mathlib.Core.Logic.{_⊎_, _↔_, _≢_}
 use mathlib.Core.Option.{Option}
 use lib.ListN.{getD}
 use Rattle.octets.specs.Bytes.{Octets}
-use Rattle.marks.specs.declared.History.{History}
 use Rattle.marks.specs.Incarnation.{Incarnation}
 use Rattle.marks.specs.History.{incarnationOf}
 use Rattle.rules.specs.Layout.{Layout}
@@ -19,9 +18,9 @@ use Rattle.rules.specs.Rules.{stepOf}
 use Rattle.rules.specs.Pack.{pack}
 use Rattle.rules.specs.Groups.{Smallest}
 use Rattle.rules.specs.Dependents.{dependentsOf}
-use Rattle.rules.specs.Obstacle.{StandsIn}
-use Rattle.session.specs.Provenance.{Provenance}
+use Rattle.session.specs.Provenance.{In, WaitingMessage, Provenance}
 use Rattle.session.specs.Grounds.{RestsOn, Present, SupersededOrAnnihilated}
+use Rattle.session.specs.Steps.{ProvenanceStep}
 use Rattle.session.specs.Trace.{CallsFrom, GoesOn}
 use Rattle.session.specs.Point.{outcomeIn}
 use Rattle.session.specs.Waiting.{ReadyGroup}
@@ -35,6 +34,11 @@ pub data Withdraws (y : Layout) (s : State) (p : Step) (t : ℕ) : Type 0 where
 pub data Further (y : Layout) (s : State) : State → Type 0 where
   here : Further y s s
   step : {now : State} → Further y s now → (steps : List ℕ) → Octets steps → (i : ℕ) → Further y s (stepOf y now (stepAt steps i) .state)
+
+-- the same of the book: any further steps from b on
+pub data ProvenanceFurther (y : Layout) (b : Provenance) : Provenance → Type 1 where
+  no-further : ProvenanceFurther y b b
+  further : {now after : Provenance} → ProvenanceFurther y b now → (steps : List ℕ) → Octets steps → (i : ℕ) → ProvenanceStep y now (stepAt steps i) after → ProvenanceFurther y b after
 
 -- take u is live in the state after with the life that it had in s
 pub record SameLife (s after : State) (u : ℕ) : Type 0 where
@@ -52,6 +56,14 @@ pub data RestsThrough (b : Provenance) (t : ℕ) : ℕ → Type 0 where
 pub data Spoilt (b : Provenance) : ℕ → Type 0 where
   on-withdrawn : {x u : ℕ} {a : Incarnation} → RestsOn b x u a → SupersededOrAnnihilated b u a → Spoilt b x
   on-spoilt : {x u : ℕ} → Spoilt b u → RestsOn b x u (b .holders u .history .incarnation) → Spoilt b x
+
+-- Nobody holds life a of take t: it is in no state, creation or behaviour set of a take and in no set of a waiting parcel. Nor does any take rest on it.
+pub record Unheld (b : Provenance) (t : ℕ) (a : Incarnation) : Type 0 where
+  pub state : (u : ℕ) → In t a (b .holders u .state) → ⊥
+  pub creation : (u : ℕ) → In t a (b .holders u .creation) → ⊥
+  pub behaviour : (u : ℕ) → In t a (b .holders u .behaviour) → ⊥
+  pub messages : (q : WaitingMessage) → List·Memᴰ q (b .messages) → In t a (q .incarnations) → ⊥
+  pub rests : (u : ℕ) → RestsOn b u t a → ⊥
 
 -- no volume with take u is ready, after whatever steps, as long as u keeps the life that it has in s
 abbrev pub Doomed : Layout → State → ℕ → Type 0
@@ -79,9 +91,10 @@ pub record Withdrawal (y : Layout) (s : State) (b : Provenance) (s' : State) (c 
   -- No volume that names one of `through` is ready, after whatever steps, as long as that take keeps its present life; nor was one before.
   pub doomed : (x : ℕ) → named (dependentsOf y s t .through) x ≡ true → t ≢ x → {after : State} → Further y s' after → SameLife s after x → (v : ℕ) → named v x ≡ true → ReadyGroup y after v → ⊥
   pub unready : (x : ℕ) → named (dependentsOf y s t .through) x ≡ true → (v : ℕ) → named v x ≡ true → ReadyGroup y s v → ⊥
-  -- Where the answer names nobody but take t, no work and no parcel, no state or creation map ever has a mark of that life again.
-  pub nobody : ((u : ℕ) → named (dependentsOf y s t .resting) u ≡ true → t ≡ u) → dependentsOf y s t .unfinished ≡ 0 → dependentsOf y s t .carried ≡ 0
-      → {after : State} → Further y s' after → (u : ℕ) (h : History) → StandsIn after u t h → incarnationOf h ≡ incarnationOf (ownHistory t (transactorAt s t)) → ⊥
+  -- Where `resting` and `unfinished` name nobody but take t itself and no waiting parcel has that life, nobody ever holds it after the fall,
+  -- whatever further steps come.
+  pub nobody : ((u : ℕ) → named (dependentsOf y s t .resting) u ≡ true → t ≡ u) → ((u : ℕ) → named (dependentsOf y s t .unfinished) u ≡ true → t ≡ u) → dependentsOf y s t .carried ≡ 0
+      → {d : Provenance} → ProvenanceFurther y c d → Unheld d t (b .holders t .history .incarnation)
   -- Every volume is ready after it exactly if it was before: what the fall takes from those of `through` is the future.
   pub ready : (v : ℕ) → ReadyGroup y s v ↔ ReadyGroup y s' v
   -- What smallest_group answers about a take that is not in `through` is the same before and after the fall, a refusal included.
