@@ -11,7 +11,7 @@
  *
  * Stack of each call in KiB, at most, beside that of memcpy, memmove and memset (tools/stack measures the compiled library):
  *
- *     notation_parse 1   notation_reply 3   notation_length 4   notation_step 4   notation_print 4   notation_image 6
+ *     notation_parse 1   notation_expected_text 2   notation_reply 3   notation_length 4   notation_step 4   notation_print 4   notation_image 6
  */
 #ifndef NOTATION_H
 #define NOTATION_H
@@ -25,7 +25,7 @@ extern "C" {
 
 enum {
     NOTATION_STEP = 45,    /* the longest line of a step, with its LF: 45 bytes a step are room for every text */
-    NOTATION_LINE = 256,   /* room for every line, reply and line of an image */
+    NOTATION_LINE = 256,   /* room for every line, reply, line of an image, and what was expected */
     NOTATION_LINES = 1330  /* how many lines an image has, most of them empty */
 };
 
@@ -37,21 +37,21 @@ enum {
     NOTATION_ILL_FORMED = 19    /* image ill-formed */
 };
 
-/* What a text lacks where it has a fault. */
+/* What a text lacks where it has a fault; notation_expected_text says it in words. */
 enum notation_expected {
     NOTATION_NOTHING = 0,
-    NOTATION_TAKE = 1,      /* a take, 0 to 15 */
-    NOTATION_ADDRESSEE = 2, /* a take, 0 to 15 */
-    NOTATION_PARCEL = 3,    /* a parcel, 0 to 65535 */
-    NOTATION_TEXT = 4,      /* a text, 0 to 4294967295 */
-    NOTATION_VOLUME = 5,    /* a volume in braces */
-    NOTATION_WORD_TO = 6,   /* the word `to` */
-    NOTATION_WORD_TEXT = 7, /* the word `text` */
-    NOTATION_DIGITS = 8,    /* sixteen hexadecimal digits */
-    NOTATION_KIND = 9,      /* a kind of step, or `raw` */
-    NOTATION_COMMA = 10,    /* a comma or a closing brace */
-    NOTATION_END = 11,      /* the end of the line */
-    NOTATION_ROOM = 12      /* room for this step in out */
+    NOTATION_TAKE = 1,
+    NOTATION_ADDRESSEE = 2,
+    NOTATION_PARCEL = 3,
+    NOTATION_TEXT = 4,
+    NOTATION_VOLUME = 5,
+    NOTATION_WORD_TO = 6,
+    NOTATION_WORD_TEXT = 7,
+    NOTATION_DIGITS = 8,
+    NOTATION_KIND = 9, /* of step, or raw */
+    NOTATION_COMMA = 10,
+    NOTATION_END = 11,
+    NOTATION_ROOM = 12 /* in out */
 };
 
 /* How many bytes were written (notation_length: would be), and the refusal or 0; refused, the length is 0. */
@@ -65,6 +65,9 @@ struct notation_given {
  * is what was expected there. */
 size_t notation_parse(const uint8_t *text, size_t text_length, uint8_t *out, size_t out_length,
                       size_t *line, size_t *column, uint8_t *expected);
+
+/* Writes the words of what was expected, as `a take, 0 to 15`, without LF; nothing for a number that is not 1 to 12. 18. */
+struct notation_given notation_expected_text(uint8_t expected, uint8_t *out, size_t out_length);
 
 /* How long the text of a list is. 17. */
 struct notation_given notation_length(const uint8_t *list, size_t list_length);

@@ -5,13 +5,6 @@ import { joined } from "./packed.mjs";
 
 const STEP = 8, LONGEST = 8192, STEP_LINE = 45, LINE = 256, IMAGE_LINES = 1330;
 
-/** What a fault's number says was expected there. */
-const EXPECTED = [
-  "", "a take, 0 to 15", "the addressee, a take, 0 to 15", "a parcel, 0 to 65535", "a text, 0 to 4294967295",
-  "a volume in braces, as {0,1}", "the word to", "the word text", "sixteen hexadecimal digits", "a kind of step",
-  "a comma or a closing brace", "the end of the line, or #", "room for this step: the list is full",
-];
-
 /** @typedef {{line: number, column: number, expected: string}} Fault */
 /** @typedef {import("./memory.mjs").Memory} Memory */
 
@@ -25,7 +18,7 @@ export function toSteps(text) {
   const from = m.lend(bytes), out = m.room(room), line = m.room(8), column = m.room(8), lacking = m.room(1);
   const count = m.calls.notation_parse(from, wide(bytes.length), out, wide(room), line, column, lacking), expected = m.byte(lacking);
   if (expected === 0) return { steps: m.copy(out, STEP * Number(count)), fault: null };
-  return { steps: null, fault: { line: m.word(line), column: m.word(column), expected: EXPECTED[expected] } };
+  return { steps: null, fault: { line: m.word(line), column: m.word(column), expected: expectedText(expected) } };
 }
 
 /**
@@ -43,6 +36,12 @@ function given(room, call) {
 
 /** @param {Uint8Array} bytes */
 const words = bytes => new TextDecoder().decode(bytes);
+
+/**
+ * What a fault's number says was expected there.
+ * @param {number} expected
+ */
+const expectedText = expected => words(given(LINE, (m, answer) => out => m.calls.notation_expected_text(answer, expected, out, wide(LINE))));
 
 /**
  * The canonical text of a list, a line a step.

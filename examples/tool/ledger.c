@@ -63,18 +63,15 @@ static void save(const char *name, const uint8_t *at, size_t length) {
 
 /* ---- texts */
 
-static const char *const EXPECTED[] = {
-    "nothing", "a take, 0 to 15", "an addressee, 0 to 15", "a parcel, 0 to 65535", "a text, 0 to 4294967295", "a volume in braces",
-    "the word to", "the word text", "sixteen hexadecimal digits", "a kind of step", "a comma or a closing brace", "the end of the line",
-    "room for this step"};
-
 static struct bytes steps_of(const char *name, struct bytes text) {
     struct bytes list = room(LEDGER_STEP * (text.length + 1));
     size_t line, column;
     uint8_t expected;
     list.length = LEDGER_STEP * notation_parse(text.at, text.length, list.at, list.length, &line, &column, &expected);
     if (expected != NOTATION_NOTHING) {
-        fprintf(stderr, "%s:%zu:%zu: expected %s\n", name, line, column, EXPECTED[expected]);
+        uint8_t words[NOTATION_LINE];
+        size_t n = notation_expected_text(expected, words, sizeof words).length;
+        fprintf(stderr, "%s:%zu:%zu: expected %.*s\n", name, line, column, (int)n, (const char *)words);
         exit(1);
     }
     return list;

@@ -28,6 +28,7 @@ extern "C" {
         column: *mut usize,
         expected: *mut u8,
     ) -> usize;
+    fn notation_expected_text(expected: u8, out: *mut u8, out_length: usize) -> Given;
     fn notation_length(list: *const u8, list_length: usize) -> Given;
     fn notation_print(list: *const u8, list_length: usize, out: *mut u8, out_length: usize) -> Given;
     fn notation_step(list: *const u8, list_length: usize, i: usize, out: *mut u8, out_length: usize) -> Given;
@@ -371,6 +372,19 @@ fn noise(r: &mut Random, count: usize) -> usize {
     faults
 }
 
+/// What was expected, by its number, as the table of docs/NOTATION.md has it; in every room, up to a byte too much.
+fn expected(r: &mut Random) -> usize {
+    let rows: Vec<Vec<&str>> = include_str!("../../../docs/NOTATION.md").lines().map(|l| l.split(" | ").collect()).collect();
+    let words = |n: u8| rows.iter().find(|row| row[0] == format!("| {n}")).map_or("", |row| row[1]).as_bytes();
+    for n in 0..=u8::MAX {
+        for room in 0..=words(n).len() + 1 {
+            let got = given(r, room, |out, len| unsafe { notation_expected_text(n, out, len) });
+            assert_eq!(got, if room < words(n).len() { Err(18) } else { Ok(words(n).to_vec()) }, "number {n}");
+        }
+    }
+    (0..=u8::MAX).filter(|n| !words(*n).is_empty()).count()
+}
+
 fn lists(r: &mut Random, count: usize) -> usize {
     let mut steps = 0;
     for _ in 0..count {
@@ -485,6 +499,7 @@ fn main() {
     println!("{many} lists of {steps} steps: the same text and answers, read back, and no byte changed by a refusal");
     let faults = noise(&mut r, many);
     println!("{many} texts of random bytes: {faults} faults, no byte changed; the others whole steps");
+    println!("{} things that a text can lack: the words of docs/NOTATION.md, none for other numbers", expected(&mut r));
     replies(&mut r, many);
     println!("{many} replies: the same words");
     let accepted = images(&mut r, whole, true);

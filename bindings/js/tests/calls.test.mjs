@@ -198,12 +198,14 @@ test("text to steps and back", () => {
   assert.deepEqual(steps("  sign { 1 , 0,1 } # both\r\n\n"), packStep("sign", { parcel: 3 }));
   assert.equal(toText(steps(GROUNDS)), GROUNDS);
   assert.equal(toText(Uint8Array.of(0xd0, 0, 0, 0, 0, 0, 0, 1)), "raw d000000000000001\n");
-  const fault = (text, line, column) => assert.deepEqual([toSteps(text).fault.line, toSteps(text).fault.column], [line, column], text);
-  fault("root text 7\nsign 3\n", 2, 6);
-  fault("read 16\n", 1, 6);
-  fault("\nopn 0", 2, 1);
-  fault("root text", 1, 10);
-  fault("read 0 1", 1, 8);
+  const fault = (text, line, column, expected) => assert.deepEqual(toSteps(text).fault, { line, column, expected }, text);
+  fault("root text 7\nsign 3\n", 2, 6, "a volume in braces");
+  fault("read 16\n", 1, 6, "a take, 0 to 15");
+  fault("send 0 to x", 1, 11, "an addressee, a take, 0 to 15");
+  fault("\nopn 0", 2, 1, "a kind of step");
+  fault("root text", 1, 10, "a text, 0 to 4294967295");
+  fault("raw 12", 1, 5, "16 hexadecimal digits");
+  fault("read 0 1", 1, 8, "the end of the line");
 });
 
 test("a list longer than one part, to text and back", () => {

@@ -31,12 +31,8 @@ fn tell(line: usize, column: usize, expected: Expected) {
     io::write_all(STDERR_FILENO, b":");
     io::print_decimal(STDERR_FILENO, column as u64);
     io::write_all(STDERR_FILENO, b": expected ");
-    let mut words = [0u8; faults::ROOM];
-    let n = faults::put_expected(expected, &mut words);
-    if n <= words.len() {
-        io::write_all(STDERR_FILENO, &words[..n]);
-    }
-    io::write_all(STDERR_FILENO, b"\n");
+    let words = faults::expected_line(faults::number_of(expected));
+    writing::show(STDERR_FILENO, words.byte(b'\n'));
 }
 
 fn assemble(text: &[u8], list: &mut [u8]) {

@@ -1,78 +1,59 @@
 -- What was expected, in words: the code's rows are the definition's.
-use Prim.Native.Nat.{ℕ, zero, suc, _+_, _-_, _*_, _≤_, _<_}
+use Prim.Native.Nat.{ℕ, zero, suc, _+_, _-_, _≤_, _<_}
+use mathlib.Core.Bool.{true, false}
 use mathlib.Core.Path.{_≡_, refl, sym, ap, _∙_, subst}
 use mathlib.Core.List.{List, [], _∷_, _++_}
 use native.Mathlib.Omega.{arith}
-use borrow.Author.Tests.{le-leb, lt-leb}
+use borrow.Author.Tests.{leb-true, le-leb, lt-leb}
 use lib.Dec.{leb}
-use lib.ListN.{length, take, drop, getD, List·getD-eq-default}
-use Rattle.octets.specs.Bytes.{pick, put}
-use Rattle.notation.specs.Notation.{bytes}
+use lib.ListN.{length, take, getD, List·getD-eq-default}
+use Rattle.octets.specs.Bytes.{_and_, every, part}
+use Rattle.octets.proofs.Zero.{both, every-at}
+use Rattle.marks.specs.Incarnation.{sameList}
+use Rattle.marks.proofs.Tests.{sameList-test}
 use Rattle.notation.specs.declared.Expected.{Expected}
 use Rattle.notation.specs.declared.Expected.the-variants.{Transactor, Addressee, Message, Value, Group, WordTo, WordText, SixteenDigits, Kind, CommaOrBrace, LineEnd, Room}
-use Rattle.notation.specs.Parsing.{numberOf, expectedOf, expectedText, expectedRoom}
+use Rattle.notation.specs.Parsing.{expectedOf, expectedText, expectedWords}
+use Rattle.lines.specs.declared.Line.{Line}
+use Rattle.lines.specs.Lines.{lineRoom, written, plus, Says, letters, rowIn}
+use Rattle.lines.proofs.Lining.{says-short, written-empty}
+
+-- a row: the words, and zeros up to 32 bytes
+abbrev row : Expected → List ℕ
+row e = take 32 (expectedText e ++ (0 ∷ 0 ∷ 0 ∷ 0 ∷ 0 ∷ 0 ∷ 0 ∷ 0 ∷ 0 ∷ 0 ∷ 0 ∷ 0 ∷ 0 ∷ 0 ∷ 0 ∷ 0 ∷ 0 ∷ 0 ∷ 0 ∷ 0 ∷ 0 ∷ []))
 
 abbrev pub rows : List ℕ
 rows =
-    bytes "a take, 0 to 15" ++ (0 ∷ 0 ∷ 0 ∷ 0 ∷ 0 ∷ 0 ∷ 0 ∷ 0 ∷ 0 ∷ 0 ∷ 0 ∷ 0 ∷ 0 ∷ 0 ∷ 0 ∷ 0 ∷ 0 ∷ [])
-    ++ bytes "an addressee, a take, 0 to 15" ++ (0 ∷ 0 ∷ 0 ∷ [])
-    ++ bytes "a parcel, 0 to 65535" ++ (0 ∷ 0 ∷ 0 ∷ 0 ∷ 0 ∷ 0 ∷ 0 ∷ 0 ∷ 0 ∷ 0 ∷ 0 ∷ 0 ∷ [])
-    ++ bytes "a text, 0 to 4294967295" ++ (0 ∷ 0 ∷ 0 ∷ 0 ∷ 0 ∷ 0 ∷ 0 ∷ 0 ∷ 0 ∷ [])
-    ++ bytes "a volume in braces" ++ (0 ∷ 0 ∷ 0 ∷ 0 ∷ 0 ∷ 0 ∷ 0 ∷ 0 ∷ 0 ∷ 0 ∷ 0 ∷ 0 ∷ 0 ∷ 0 ∷ [])
-    ++ bytes "the word to" ++ (0 ∷ 0 ∷ 0 ∷ 0 ∷ 0 ∷ 0 ∷ 0 ∷ 0 ∷ 0 ∷ 0 ∷ 0 ∷ 0 ∷ 0 ∷ 0 ∷ 0 ∷ 0 ∷ 0 ∷ 0 ∷ 0 ∷ 0 ∷ 0 ∷ [])
-    ++ bytes "the word text" ++ (0 ∷ 0 ∷ 0 ∷ 0 ∷ 0 ∷ 0 ∷ 0 ∷ 0 ∷ 0 ∷ 0 ∷ 0 ∷ 0 ∷ 0 ∷ 0 ∷ 0 ∷ 0 ∷ 0 ∷ 0 ∷ 0 ∷ [])
-    ++ bytes "16 hexadecimal digits" ++ (0 ∷ 0 ∷ 0 ∷ 0 ∷ 0 ∷ 0 ∷ 0 ∷ 0 ∷ 0 ∷ 0 ∷ 0 ∷ [])
-    ++ bytes "a kind of step" ++ (0 ∷ 0 ∷ 0 ∷ 0 ∷ 0 ∷ 0 ∷ 0 ∷ 0 ∷ 0 ∷ 0 ∷ 0 ∷ 0 ∷ 0 ∷ 0 ∷ 0 ∷ 0 ∷ 0 ∷ 0 ∷ [])
-    ++ bytes "a comma or a closing brace" ++ (0 ∷ 0 ∷ 0 ∷ 0 ∷ 0 ∷ 0 ∷ [])
-    ++ bytes "the end of the line" ++ (0 ∷ 0 ∷ 0 ∷ 0 ∷ 0 ∷ 0 ∷ 0 ∷ 0 ∷ 0 ∷ 0 ∷ 0 ∷ 0 ∷ 0 ∷ [])
-    ++ bytes "room for this step" ++ (0 ∷ 0 ∷ 0 ∷ 0 ∷ 0 ∷ 0 ∷ 0 ∷ 0 ∷ 0 ∷ 0 ∷ 0 ∷ 0 ∷ 0 ∷ 0 ∷ [])
+    row Transactor ++ row Addressee ++ row Message ++ row Value ++ row Group ++ row WordTo
+    ++ row WordText ++ row SixteenDigits ++ row Kind ++ row CommaOrBrace ++ row LineEnd ++ row Room
 
-abbrev pub lengths : List ℕ
-lengths = 15 ∷ 29 ∷ 20 ∷ 23 ∷ 18 ∷ 11 ∷ 13 ∷ 21 ∷ 14 ∷ 26 ∷ 19 ∷ 18 ∷ []
+rows-right : every 12 (λ k. sameList (rowIn rows 32 k) (expectedText (expectedOf (suc k))) and leb (length (expectedText (expectedOf (suc k)))) 32) ≡ true
+unfolding every sameList rowIn letters part expectedOf
+rows-right = refl
 
--- row k, from 0 on, is what e is in words
-pub record Row (e : Expected) (k : ℕ) : Type 0 where
-  pub upTo : k < 12
-  pub long : getD lengths k 0 ≡ length (expectedText e)
-  pub short : getD lengths k 0 ≤ expectedRoom
-  pub is : take (expectedRoom * k + getD lengths k 0 - expectedRoom * k) (drop (expectedRoom * k) rows) ≡ expectedText e
+row-at : (k : ℕ) → k < 12 → (rowIn rows 32 k ≡ expectedText (expectedOf (suc k))) × (length (expectedText (expectedOf (suc k))) ≤ 32)
+row-at k h =
+    let e = both _ _ (every-at (λ k. sameList (rowIn rows 32 k) (expectedText (expectedOf (suc k))) and leb (length (expectedText (expectedOf (suc k)))) 32) 12 k rows-right h) in
+    (sameList-test (rowIn rows 32 k) (expectedText (expectedOf (suc k))) .0 (e .0), leb-true (length (expectedText (expectedOf (suc k)))) 32 (e .1))
 
-row : (e : Expected) → (0 < numberOf e) × Row e (numberOf e - 1)
-row Transactor = (omega arith, record { upTo = omega arith; long = refl; short = omega arith; is = refl })
-row Addressee = (omega arith, record { upTo = omega arith; long = refl; short = omega arith; is = refl })
-row Message = (omega arith, record { upTo = omega arith; long = refl; short = omega arith; is = refl })
-row Value = (omega arith, record { upTo = omega arith; long = refl; short = omega arith; is = refl })
-row Group = (omega arith, record { upTo = omega arith; long = refl; short = omega arith; is = refl })
-row WordTo = (omega arith, record { upTo = omega arith; long = refl; short = omega arith; is = refl })
-row WordText = (omega arith, record { upTo = omega arith; long = refl; short = omega arith; is = refl })
-row SixteenDigits = (omega arith, record { upTo = omega arith; long = refl; short = omega arith; is = refl })
-row Kind = (omega arith, record { upTo = omega arith; long = refl; short = omega arith; is = refl })
-row CommaOrBrace = (omega arith, record { upTo = omega arith; long = refl; short = omega arith; is = refl })
-row LineEnd = (omega arith, record { upTo = omega arith; long = refl; short = omega arith; is = refl })
-row Room = (omega arith, record { upTo = omega arith; long = refl; short = omega arith; is = refl })
+-- ---- the words of a number
 
-module _ (e : Expected) (m : ℕ) (q : m ≡ numberOf e) where
-  pub row-from : 0 < m
-  row-from = omega (arith, row e .0)
+module _ (n : ℕ) where
+  pub words-zero : (bs : List ℕ) → n ≡ 0 → Says (record { bytes = bs; len = 0 }) (expectedWords n)
+  unfolding expectedWords
+  words-zero bs h = rw h (record { is = written-empty bs; len = refl })
 
-  pub row-of : Row e (m - 1)
-  row-of = subst (λ (n : ℕ). Row e (n - 1)) (sym q) (row e .1)
+  pub words-past : (bs : List ℕ) → 12 < n → Says (record { bytes = bs; len = 0 }) (expectedWords n)
+  unfolding expectedWords
+  words-past bs h = rw (le-leb 1 n (omega arith), lt-leb n 12 h) (record { is = written-empty bs; len = refl })
 
--- what put_expected answers and leaves
-abbrev pub Said : Expected → List ℕ → List ℕ → ℕ → Type 0
-Said e before now r = (r ≡ pick (leb expectedRoom (length before)) (length (expectedText e)) 0) × (now ≡ pick (leb expectedRoom (length before)) (put 0 (expectedText e) before) before)
-
-pub said-short : (e : Expected) (l : List ℕ) → length l < expectedRoom → Said e l l 0
-said-short e l h = (rw (lt-leb expectedRoom (length l) h), rw (lt-leb expectedRoom (length l) h))
-
-pub said-put : (e : Expected) (k : ℕ) → Row e k → (l l' : List ℕ) → expectedRoom ≤ length l
-    → l' ≡ put 0 (take (expectedRoom * k + getD lengths k 0 - expectedRoom * k) (drop (expectedRoom * k) rows)) l → Said e l l' (getD lengths k 0)
-said-put e k w l l' h f =
-    let t = le-leb expectedRoom (length l) h in
-    (w .long ∙ rw t, f ∙ ap (λ (b : List ℕ). put 0 b l) (w .is) ∙ rw t)
-
-pub said-fits : (e : Expected) (k : ℕ) → Row e k → (l : List ℕ) → expectedRoom ≤ length l → 0 + length (take (expectedRoom * k + getD lengths k 0 - expectedRoom * k) (drop (expectedRoom * k) rows)) ≤ length l
-said-fits e k w l h = omega (arith, ap length (w .is), w .long, w .short)
+  pub words-said : (l : Line) (z : List ℕ) → (n ≡ 0 → ⊥) → n ≤ 12 → length (l .bytes) ≡ lineRoom → z ≡ [] → written l ≡ plus z (rowIn rows 32 (n - 1)) → Says l (expectedWords n)
+  unfolding expectedWords
+  words-said l z h g s e f =
+      let r = row-at (n - 1) (omega arith) in
+      let q : suc (n - 1) ≡ n = omega arith in
+      let x : List ℕ = expectedText (expectedOf (suc (n - 1))) in
+      rw (le-leb 1 n (omega arith), le-leb n 12 g) (subst (λ (m : ℕ). Says l (expectedText (expectedOf m))) q (says-short l z x e (f ∙ ap (plus z) (r .0)) (omega (arith, r .1)) s))
 
 -- ---- by its number
 

@@ -1,19 +1,13 @@
 // What a text lacks where it has a fault: by its number, and in the documents' words.
 ghost use mathlib.Core.Path.{_≡_};
-ghost use lib.Dec.{leb};
-ghost use lib.ListN.{length};
-ghost use Rattle.octets.specs.Bytes.{pick, put};
-ghost use Rattle.notation.specs.Parsing.{numberOf, expectedOf, expectedText, expectedRoom};
+ghost use Rattle.notation.specs.Parsing.{numberOf, expectedOf, expectedWords};
+ghost use Rattle.lines.specs.Lines.{Says};
+use lines::Line;
 use notation::Expected;
 
-// The room that the longest needs.
-pub const ROOM: usize = 32;
-
-// A row of so many bytes for each, by its number from 1.
+// A row of 32 bytes for each, by its number from 1.
 const ROWS: [u8; 384] =
     *b"a take, 0 to 15\0\0\0\0\0\0\0\0\0\0\0\0\0\0\0\0\0an addressee, a take, 0 to 15\0\0\0a parcel, 0 to 65535\0\0\0\0\0\0\0\0\0\0\0\0a text, 0 to 4294967295\0\0\0\0\0\0\0\0\0a volume in braces\0\0\0\0\0\0\0\0\0\0\0\0\0\0the word to\0\0\0\0\0\0\0\0\0\0\0\0\0\0\0\0\0\0\0\0\0the word text\0\0\0\0\0\0\0\0\0\0\0\0\0\0\0\0\0\0\016 hexadecimal digits\0\0\0\0\0\0\0\0\0\0\0a kind of step\0\0\0\0\0\0\0\0\0\0\0\0\0\0\0\0\0\0a comma or a closing brace\0\0\0\0\0\0the end of the line\0\0\0\0\0\0\0\0\0\0\0\0\0room for this step\0\0\0\0\0\0\0\0\0\0\0\0\0\0";
-
-const LENGTHS: [usize; 12] = [15, 29, 20, 23, 18, 11, 13, 21, 14, 26, 19, 18];
 
 const EXPECTED: [Expected; 12] = [
     Expected::Room,
@@ -61,18 +55,16 @@ pub fn number_of(e: Expected) -> u8
     }
 }
 
-// Writes what was expected from the start of out on, and answers how long that is; or 0 where out has less than ROOM bytes.
-pub fn put_expected(e: Expected, out: &mut [u8]) -> usize
-    ensures { λ r. ⌜ (r ≡ pick (leb expectedRoom (length (now (out .entry)))) (length (expectedText e)) 0) × (now (out .exit) ≡ pick (leb expectedRoom (length (now (out .entry)))) (put 0 (expectedText e) (now (out .entry))) (now (out .entry))) ⌝ }
+// The words of the number n; none for any but 1 to 12.
+pub fn expected_line(n: u8) -> Line
+    ensures { λ r. ⌜ Says r (expectedWords n) ⌝ }
 {
-    if out.len() < ROOM {
-        return 0;
+    if n == 0 {
+        return Line::EMPTY;
     }
-    let k = number_of(e) as usize - 1;
-    let n = LENGTHS[k];
-    let from = ROOM * k;
-    let to = from + n;
-    let rows = ROWS;
-    octets::write(out, 0, &rows[from..to]);
-    n
+    if 12 < n {
+        return Line::EMPTY;
+    }
+    let k = n as usize - 1;
+    Line::EMPTY.row(&ROWS, 32, k)
 }

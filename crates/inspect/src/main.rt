@@ -2,6 +2,7 @@
 use image::layout::IMAGE;
 use inspection::LINES;
 use libc::STDIN_FILENO;
+use libc::STDOUT_FILENO;
 use lines::Line;
 
 // Line n, or why there is none; answers whether to go on.
@@ -10,6 +11,7 @@ fn line(image: &[u8], n: usize) -> bool {
     let refusal = r.refusal;
     if refusal != 0 {
         writing::show(
+            STDOUT_FILENO,
             Line::EMPTY
                 .word(b"refused ")
                 .number(refusal as u32)
@@ -17,7 +19,7 @@ fn line(image: &[u8], n: usize) -> bool {
         );
         return false;
     }
-    writing::show(r.line)
+    writing::show(STDOUT_FILENO, r.line)
 }
 
 fn lines(image: &[u8]) {

@@ -2,6 +2,7 @@
 // bytes is ignored.
 use image::layout::IMAGE;
 use libc::STDIN_FILENO;
+use libc::STDOUT_FILENO;
 use lines::Line;
 use lines::ROOM;
 use lists::LONGEST;
@@ -39,7 +40,7 @@ fn append(a: Line, b: Line) -> Line {
 fn listed(list: &[u8], replied: &[u8], i: usize) -> bool {
     let step = cut(printer::step_line(list, i));
     let reply = replies::reply_line(list, replied, i);
-    writing::show(append(step.word(b" # "), reply).byte(b'\n'))
+    writing::show(STDOUT_FILENO, append(step.word(b" # "), reply).byte(b'\n'))
 }
 
 // The first n steps; answers whether all were written.

@@ -12,6 +12,7 @@ use Rattle.octets.specs.Bytes.{pick}
 use Rattle.octets.proofs.Tests.{pick-view}
 use Rattle.rules.specs.Step.{stepBytes}
 use Rattle.notation.specs.Reading.{Reader, notHash, run, next, good, nothing, lineAt, linesOf, said, Progress, withStep, lineRead, linesRead, start, progress, steps, fault, outcome, read}
+use Rattle.notation.specs.Faults.{At}
 use Rattle.notation.proofs.Within.{next-within, line-within}
 
 -- a fault at the line of x, which has n bytes
@@ -98,13 +99,6 @@ module _ (most : ℕ) where
       (λ (t : Stopped (length (said l)) x (lineRead most (said l) x)).
       inr (subst (Placed (l ∷ ls) k) (sym (stays most ls (lineRead most (said l) x) (t .expected))) (result-here l ls k x (lineRead most (said l) x) a t)))
       (line-result most (said l) x))
-
--- line n, column c of the text t, both from 1
-pub record At (t : List ℕ) (n c : ℕ) : Type 0 where
-  pub lineFrom : 1 ≤ n
-  pub lineUpTo : n ≤ length (linesOf t)
-  pub columnFrom : 1 ≤ c
-  pub columnUpTo : c ≤ suc (length (getD (linesOf t) (n - 1) []))
 
 module _ (most : ℕ) (t : List ℕ) (n c e : ℕ) where
   of-fault : (y : Progress) → Result most (linesOf t) 1 y → outcome y ≡ fault n c e → At t n c × (0 < e)

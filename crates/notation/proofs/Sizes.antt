@@ -18,13 +18,13 @@ use Rattle.rules.specs.Step.{stepAt, sign}
 use Rattle.rules.specs.Calls.{stepsIn}
 use Rattle.rules.specs.Refusals.{named, groupBits, malformed}
 use Rattle.rules.specs.Internal.Well.{StepOk}
-use Rattle.notation.specs.Notation.{decimal, places, members, volume, packStep, nameOf, templateOf, itemText, itemsText, rowOf, lineText, stepText, text}
+use Rattle.notation.specs.Notation.{decimal, places, members, volume, packStep, nameOf, templateOf, itemText, itemsText, rowOf, lineText, stepText, text, longestLine, shortestLine, Whole}
 use Rattle.notation.specs.Reading.{all}
 use Rattle.notation.proofs.Numerals.{decimal-some, length-decimal, length-hex}
 use Rattle.notation.proofs.Packing.{length-packStep}
 use Rattle.notation.proofs.Items.{Item, isTake, isOther, isParcel, isText, isVolume, isWordTo, isWordText, isWhole, isItem, item-view}
 use Rattle.notation.proofs.Rows.{row, row-known}
-use Rattle.notation.proofs.RoundTrip.{Whole, step-ok}
+use Rattle.notation.proofs.RoundTrip.{step-ok}
 
 -- ---- volumes
 
@@ -124,13 +124,6 @@ rows-most = refl
 rows-least : every 14 (λ k. leb 6 (length (nameOf k) + total least (templateOf k))) ≡ true
 unfolding every total least nameOf templateOf
 rows-least = refl
-
--- at most 45 bytes a line with its LF, and 7 at least
-abbrev pub longestLine : ℕ
-longestLine = 45
-
-abbrev pub shortestLine : ℕ
-shortestLine = 7
 
 module _ (p : Step) (ok : StepOk p) where
   pub step-most : length (stepText p) ≤ longestLine

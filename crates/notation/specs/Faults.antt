@@ -12,6 +12,13 @@ use Rattle.notation.specs.Notation.{volumeField, wholeStep, nameOf}
 use Rattle.notation.specs.Reading.{blank, inWord, wordAt, aKind, commaOrBrace, lineEnd, room, linesOf, said}
 use Rattle.notation.specs.Grammar.{Blanks, Item, Says, Lines}
 
+-- line n, column c of the text t, both from 1: at one of its bytes, or right behind the line's last
+pub record At (t : List ℕ) (n c : ℕ) : Type 0 where
+  pub lineFrom : 1 ≤ n
+  pub lineUpTo : n ≤ length (linesOf t)
+  pub columnFrom : 1 ≤ c
+  pub columnUpTo : c ≤ suc (length (getD (linesOf t) (n - 1) []))
+
 -- the last byte of l, or x where l has none
 unfoldable pub lastOr : ℕ → List ℕ → ℕ
 lastOr x [] = x

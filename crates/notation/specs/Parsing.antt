@@ -1,8 +1,9 @@
 -- What parse answers, and what it writes.
 use Prim.Native.Nat.{ℕ}
 use mathlib.Core.List.{List, [], _∷_}
+use lib.Dec.{leb}
 use lib.ListN.{getD}
-use Rattle.octets.specs.Bytes.{put}
+use Rattle.octets.specs.Bytes.{pick, _and_, put}
 use Rattle.rules.specs.Calls.{stepsIn}
 use Rattle.notation.specs.Notation.{bytes, takeField, otherField, parcelField, textField, volumeField, wordTo, wordText, wholeStep}
 use Rattle.notation.specs.Reading.{aKind, commaOrBrace, lineEnd, room, Read, steps, fault}
@@ -60,6 +61,6 @@ expectedText CommaOrBrace = bytes "a comma or a closing brace"
 expectedText LineEnd = bytes "the end of the line"
 expectedText Room = bytes "room for this step"
 
--- the room that the longest needs
-abbrev pub expectedRoom : ℕ
-expectedRoom = 32
+-- and by its number, 1 to 12; no words for any other
+unfoldable pub expectedWords : ℕ → List ℕ
+expectedWords n = pick (leb 1 n and leb n 12) (expectedText (expectedOf n)) []

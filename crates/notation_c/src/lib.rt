@@ -14,7 +14,7 @@ ghost use Rattle.rules.specs.Calls.{stepsIn};
 ghost use Rattle.notation.specs.Notation.{stepText};
 ghost use Rattle.lines.specs.Lines.{written};
 ghost use Rattle.notation.specs.Reading.{read};
-ghost use Rattle.notation.specs.Parsing.{answerOf, writtenOf};
+ghost use Rattle.notation.specs.Parsing.{answerOf, writtenOf, expectedWords};
 ghost use Rattle.printer.specs.Printing.{lengthAnswer, printAnswer, printedOut};
 ghost use Rattle.replies.specs.Replies.{replyTextAt};
 ghost use Rattle.inspection.specs.Inspection.{inspected};
@@ -144,4 +144,12 @@ pub extern "C" fn notation_parse(
             0
         }
     }
+}
+
+// Writes the words of what was expected, by its number; nothing for a number that is none. 18 with no byte changed.
+#[no_mangle]
+pub extern "C" fn notation_expected_text(expected: u8, out: &mut [u8]) -> Given
+    ensures { λ r. ⌜ (r ≡ givenFor (expectedWords expected) (now (out .entry))) × (now (out .exit) ≡ givenOut (expectedWords expected) (now (out .entry))) ⌝ }
+{
+    give(faults::expected_line(expected), out)
 }

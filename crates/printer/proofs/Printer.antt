@@ -21,7 +21,7 @@ use Rattle.rules.specs.Calls.{stepsIn, longest}
 use Rattle.rules.specs.Refusals.{malformed}
 use Rattle.rules.specs.Internal.Well.{StepOk}
 use Rattle.rules.proofs.Keep.Run.{stepOk-unpack}
-use Rattle.notation.specs.Notation.{bytes, decimal, places, hex, volume, raw, packStep, nameOf, templateOf, itemText, itemsText, rowOf, lineText, stepText, text}
+use Rattle.notation.specs.Notation.{bytes, decimal, places, hex, volume, raw, packStep, nameOf, templateOf, itemText, itemsText, rowOf, lineText, stepText, text, longestLine}
 use Rattle.printer.specs.Internal.Fields.{fieldOf}
 use Rattle.printer.specs.Printing.{wrongList, lengthAnswer, noRoom, printAnswer, printedOut}
 use Rattle.printer.specs.declared.Printed.the-variants.{Length, Refused}
@@ -30,7 +30,7 @@ use Rattle.lines.specs.Lines.{lineRoom, written, plus, Says}
 use Rattle.lines.proofs.Lining.{plus-plus, plus-empty, said-length, written-empty}
 use Rattle.notation.proofs.Packing.{pack-unpack}
 use Rattle.notation.proofs.Rows.{row-known}
-use Rattle.notation.proofs.Sizes.{longestLine, step-most, chunks-most}
+use Rattle.notation.proofs.Sizes.{step-most, chunks-most}
 
 -- ---- rows
 

@@ -4,9 +4,10 @@
 //
 // The lines of the file stdout were not made by this program: they were written by hand.
 use cases::bytes;
-use cases::lines;
+use cases::lines::line_end;
 use cases::print;
 use libc::STDIN_FILENO;
+use libc::STDOUT_FILENO;
 use notation::Expected;
 use notation::Parsed;
 
@@ -43,11 +44,8 @@ fn tell(line: usize, column: usize, expected: Expected) {
     print::text(b" column");
     print::number(column);
     print::text(b", expected ");
-    let mut words = [0u8; faults::ROOM];
-    let n = faults::put_expected(expected, &mut words);
-    if n <= words.len() {
-        print::text(&words[..n]);
-    }
+    let words = faults::expected_line(faults::number_of(expected));
+    writing::show(STDOUT_FILENO, words);
 }
 
 // Whether the list is as it was.
@@ -93,7 +91,7 @@ fn case(line: &[u8]) {
 fn cases(s: &[u8]) {
     let mut at: usize = 0;
     while at < s.len() {
-        let end = lines::line_end(s, at);
+        let end = line_end(s, at);
         case(&s[at..end]);
         at = end + 1;
     }

@@ -1,14 +1,13 @@
-// Lines to standard output.
-use libc::STDOUT_FILENO;
+// Lines to standard output or standard error.
 use lines::Line;
 use lines::ROOM;
 
-// Writes the line; answers whether all of it was written.
-pub fn show(l: Line) -> bool {
+// Writes the line to the file of that number; answers whether all of it was written.
+pub fn show(file: i32, l: Line) -> bool {
     let n = l.len;
     let bytes = l.bytes;
     if ROOM < n {
         return false;
     }
-    io::write_all(STDOUT_FILENO, &bytes[..n])
+    io::write_all(file, &bytes[..n])
 }
