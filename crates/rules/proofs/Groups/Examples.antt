@@ -11,7 +11,7 @@ use Rattle.marks.specs.History.{newerOf, isOlder}
 use Rattle.marks.specs.News.{showsStable, informed}
 use Rattle.maps.specs.Map.{emptyMap, withEntry, singleton, choosesRight, joinedHistory, joinedHeldAt, joinedHistoryAt, joinOf, supersededEntry, supersededAt, firstFrom, firstSuperseded, unrelatedEntry, unrelatedAt, anyUnrelated}
 use Rattle.maps.specs.News.{informedHistory, informedHistoryAt, informedOf}
-use Rattle.rules.specs.declared.Obstacle.the-variants.{Unstable, Outside, Superseded}
+use Rattle.rules.specs.declared.Obstacle.the-variants.{Unstable, Outside, SupersededOrAnnihilated}
 use Rattle.rules.specs.declared.Impediment.the-variants as impediment
 use Rattle.rules.specs.declared.Impediment.the-variants.{Hopeless}
 use Rattle.rules.specs.Layout.{Layout, Limits}
