@@ -58,9 +58,9 @@ struct ledger_dependents {
 /* Why a group can't be checkpointed. */
 enum ledger_obstacle_kind {
     LEDGER_NOTHING = 0,
-    LEDGER_UNSTABLE = 1,  /* the transactor is named and not stable */
-    LEDGER_OUTSIDE = 2,   /* it is named and rests on the present incarnation of ground, which is not named */
-    LEDGER_SUPERSEDED = 3 /* it is named and rests on an incarnation of ground that is superseded or annihilated (document 01: withdrawn) */
+    LEDGER_UNSTABLE = 1,                 /* the transactor is named and not stable */
+    LEDGER_OUTSIDE = 2,                  /* it is named and rests on the present incarnation of ground, which is not named */
+    LEDGER_SUPERSEDED_OR_ANNIHILATED = 3 /* it is named and rests on such an incarnation of ground (document 01: withdrawn) */
 };
 
 struct ledger_obstacle {
@@ -121,9 +121,9 @@ struct ledger_dependents ledger_dependents(const uint8_t *image, size_t image_le
 
 /* Why the group (its bits, transactor t counting 2^t) can't be checkpointed now: the first reason, LEDGER_NOTHING exactly if it can; *refusal
  * is 0. An unstable transactor comes first; then the maps are looked at, transactor by transactor and entry by entry. With
- * LEDGER_SUPERSEDED no group with that transactor can be checkpointed as long as it keeps its present incarnation. Refused: *refusal is 16,
- * 19, or what the signing would get, 29, 21, 22 or 30, and all three numbers are 0. A number past 16 bits names a transactor that no session
- * opens: 21. */
+ * LEDGER_SUPERSEDED_OR_ANNIHILATED no group with that transactor can be checkpointed as long as it keeps its present incarnation. Refused:
+ * *refusal is 16, 19, or what the signing would get, 29, 21, 22 or 30, and all three numbers are 0. A number past 16 bits names a transactor that
+ * no session opens: 21. */
 struct ledger_obstacle ledger_obstacle(const uint8_t *image, size_t image_length, size_t members, uint8_t *refusal);
 
 /* Why no group with the transactor could be checkpointed now: LEDGER_NO_IMPEDIMENT exactly if one could, that is, if ledger_smallest_group

@@ -243,7 +243,7 @@ static int why(const char *name, int count, char **words) {
     if (o.kind == LEDGER_NOTHING) return members("can be signed", (unsigned)group), 0;
     if (o.kind == LEDGER_UNSTABLE) printf("take %u is not frozen\n", o.transactor);
     if (o.kind == LEDGER_OUTSIDE) printf("take %u rests on take %u, which is not in the volume\n", o.transactor, o.ground);
-    if (o.kind == LEDGER_SUPERSEDED) printf("take %u rests on a withdrawn life of take %u\n", o.transactor, o.ground);
+    if (o.kind == LEDGER_SUPERSEDED_OR_ANNIHILATED) printf("take %u rests on a withdrawn life of take %u\n", o.transactor, o.ground);
     return 1;
 }
 

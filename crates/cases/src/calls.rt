@@ -117,7 +117,7 @@ fn obstacle(image: &[u8], group: usize) -> u8 {
         Obstacle::Nothing => print::text(b" none"),
         Obstacle::Unstable(t) => named(b" not frozen", t),
         Obstacle::Outside(t, u) => pair(b" outside", t, u),
-        Obstacle::Superseded(t, u) => pair(b" withdrawn", t, u),
+        Obstacle::SupersededOrAnnihilated(t, u) => pair(b" withdrawn", t, u),
     }
     PRINTED
 }

@@ -13,7 +13,7 @@ use Rattle.marks.proofs.Order.{checkpointed-ne}
 use Rattle.marks.proofs.Tests.{checkpointed-test, same-test}
 use Rattle.maps.specs.Map.{historyAt}
 use Rattle.rules.specs.declared.Obstacle.{Obstacle}
-use Rattle.rules.specs.declared.Obstacle.the-variants.{Nothing, Unstable, Outside, Superseded}
+use Rattle.rules.specs.declared.Obstacle.the-variants.{Nothing, Unstable, Outside, SupersededOrAnnihilated}
 use Rattle.rules.specs.Layout.{Layout, historyBytes, stateAt, creationAt, transactorAddress}
 use Rattle.rules.specs.State.{State, Transactor, transactorAt, ownHistory, live}
 use Rattle.rules.specs.Refusals.{named}
@@ -29,13 +29,13 @@ nothing-is : (o : Obstacle) → isNothing o ≡ true → o ≡ Nothing
 nothing-is Nothing e = refl
 nothing-is (Unstable t) e = absurd (false≢true e)
 nothing-is (Outside t u) e = absurd (false≢true e)
-nothing-is (Superseded t u) e = absurd (false≢true e)
+nothing-is (SupersededOrAnnihilated t u) e = absurd (false≢true e)
 
 else-first : (o p : Obstacle) → isNothing o ≡ false → o ≡ orElse o p
 else-first Nothing p e = absurd (false≢true (sym e))
 else-first (Unstable t) p e = refl
 else-first (Outside t u) p e = refl
-else-first (Superseded t u) p e = refl
+else-first (SupersededOrAnnihilated t u) p e = refl
 
 else-next : (o p : Obstacle) → isNothing o ≡ true → p ≡ orElse o p
 else-next o p e = ap (λ (q : Obstacle). orElse q p) (sym (nothing-is o e))
@@ -92,7 +92,7 @@ module _ (y : Layout) (img : List ℕ) (v t u at : ℕ) where
       go false d o e = refl
 
   module _ (p : not (presentIn (part at (historyBytes y) img)) ≡ false) where
-    pub mark-dead : live x ≡ false → Superseded t u ≡ markObstacle y img v t u at
+    pub mark-dead : live x ≡ false → SupersededOrAnnihilated t u ≡ markObstacle y img v t u at
     unfolding markObstacle entryReady groundOf isPresent
     mark-dead l = rw (there-is p, l)
 
@@ -126,11 +126,11 @@ module _ (y : Layout) (img : List ℕ) (v t u at : ℕ) where
         unfolding markObstacle entryReady
         mark-checkpointed g k e = rw (there-is p, l, checkpointed-to g k true e)
 
-        pub mark-withdrawn : (g : History) → g ≡ ownHistory u x → checkpointedIn (incarnationOf h) (incarnationOf g) ≡ false → Superseded t u ≡ markObstacle y img v t u at
+        pub mark-withdrawn : (g : History) → g ≡ ownHistory u x → checkpointedIn (incarnationOf h) (incarnationOf g) ≡ false → SupersededOrAnnihilated t u ≡ markObstacle y img v t u at
         unfolding markObstacle entryReady groundOf isPresent
         mark-withdrawn g k e = rw (there-is p, l, checkpointed-to g k false e, same-to false other) (go (named v u))
           where
-            go : (c : Bool) → Superseded t u ≡ pick (not (c and false)) (Superseded t u) Nothing
+            go : (c : Bool) → SupersededOrAnnihilated t u ≡ pick (not (c and false)) (SupersededOrAnnihilated t u) Nothing
             go true = refl
             go false = refl
 
@@ -154,7 +154,7 @@ module _ (y : Layout) (img : List ℕ) (v t u : ℕ) (low : t < y .transactors) 
   unfolding groundOf
   ground-one h = go (isPresent (unpack y img) u h)
     where
-      go : (c : Bool) → isNothing (pick c (Outside t u) (Superseded t u)) ≡ false
+      go : (c : Bool) → isNothing (pick c (Outside t u) (SupersededOrAnnihilated t u)) ≡ false
       go true = refl
       go false = refl
 

@@ -5,7 +5,7 @@ use mathlib.Core.List.{List}
 use Rattle.octets.specs.Bytes.{pick, _and_, part}
 use Rattle.marks.specs.Packed.{presentIn, unpackHistory}
 use Rattle.rules.specs.declared.Obstacle.{Obstacle}
-use Rattle.rules.specs.declared.Obstacle.the-variants.{Nothing, Unstable, Outside, Superseded}
+use Rattle.rules.specs.declared.Obstacle.the-variants.{Nothing, Unstable, Outside, SupersededOrAnnihilated}
 use Rattle.rules.specs.Layout.{Layout, historyBytes}
 use Rattle.rules.specs.Rules.{entryReady}
 use Rattle.rules.specs.Pack.{unpack}
@@ -15,7 +15,7 @@ abbrev pub isNothing : Obstacle → Bool
 isNothing Nothing = true
 isNothing (Unstable t) = false
 isNothing (Outside t u) = false
-isNothing (Superseded t u) = false
+isNothing (SupersededOrAnnihilated t u) = false
 
 -- the mark packed in img from at on, if there is one, of take u in a map of take t
 unfoldable pub markObstacle : Layout → List ℕ → ℕ → ℕ → ℕ → ℕ → Obstacle

@@ -28,7 +28,7 @@ pub fn is_nothing(o: Obstacle) -> bool
         Obstacle::Nothing => true,
         Obstacle::Unstable(_) => false,
         Obstacle::Outside(_, _) => false,
-        Obstacle::Superseded(_, _) => false,
+        Obstacle::SupersededOrAnnihilated(_, _) => false,
     }
 }
 
@@ -57,7 +57,7 @@ pub fn history(image: &[u8], group: u16, t: usize, u: usize, at: usize) -> Obsta
         return Obstacle::Nothing;
     }
     if !is_live(image, u) {
-        return Obstacle::Superseded(t as u8, u as u8);
+        return Obstacle::SupersededOrAnnihilated(t as u8, u as u8);
     }
     let present = own_at(u);
     if in_place::same_in(image, at, present) {
@@ -69,7 +69,7 @@ pub fn history(image: &[u8], group: u16, t: usize, u: usize, at: usize) -> Obsta
     if in_place::checkpointed_in(image, at, present) {
         return Obstacle::Nothing;
     }
-    Obstacle::Superseded(t as u8, u as u8)
+    Obstacle::SupersededOrAnnihilated(t as u8, u as u8)
 }
 
 // The histories of transactor u in the maps of transactor t, state before creation.

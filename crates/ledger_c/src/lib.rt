@@ -38,8 +38,8 @@ pub struct Part {
     pub length: usize,
 }
 
-// Why a group can't be checkpointed, in numbers: the kind, 0 nothing, 1 unstable, 2 outside, 3 superseded; the named transactor; and the one
-// that it rests on.
+// Why a group can't be checkpointed, in numbers: the kind, 0 nothing, 1 unstable, 2 outside, 3 superseded or annihilated; the named transactor; and
+// the one that it rests on.
 #[repr(C)]
 pub struct Reason {
     pub kind: u8,
@@ -168,7 +168,7 @@ pub extern "C" fn ledger_obstacle(image: &[u8], members: usize, refusal: &mut u8
             transactor: t,
             ground: u,
         },
-        Obstacle::Superseded(t, u) => Reason {
+        Obstacle::SupersededOrAnnihilated(t, u) => Reason {
             kind: 3,
             transactor: t,
             ground: u,

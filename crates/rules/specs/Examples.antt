@@ -4,7 +4,7 @@ use mathlib.Core.Bool.{true}
 use mathlib.Core.Path.{_≡_}
 use mathlib.Core.List.{List, [], _∷_}
 use Rattle.rules.specs.declared.Step.{Step}
-use Rattle.rules.specs.declared.Obstacle.the-variants.{Unstable, Outside, Superseded}
+use Rattle.rules.specs.declared.Obstacle.the-variants.{Unstable, Outside, SupersededOrAnnihilated}
 use Rattle.rules.specs.declared.Impediment.the-variants as impediment
 use Rattle.rules.specs.declared.Impediment.the-variants.{Hopeless}
 use Rattle.rules.specs.Layout.{Layout, Limits}
@@ -58,7 +58,7 @@ pub record Computed : Type 0 where
   pub second : obstacleOf three frozen 4 ≡ Outside 2 1
   pub third : obstacleOf three frozen 6 ≡ Outside 1 0
   -- and when the names vanish, page 1 rests on a withdrawn life, and page 2, which rests on page 1, still on a present one
-  pub fourth : obstacleOf three withdrawn 6 ≡ Superseded 1 0
+  pub fourth : obstacleOf three withdrawn 6 ≡ SupersededOrAnnihilated 1 0
   pub fifth : obstacleOf three withdrawn 4 ≡ Outside 2 1
   -- why there is no volume with page 2: the names are not frozen, and the chain goes by page 1; when they vanish, page 1 rests on a withdrawn life
   pub sixth : impedimentOf three frozen 2 ≡ impediment.Unstable 0 1

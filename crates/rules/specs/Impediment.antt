@@ -114,8 +114,8 @@ pub data Impedes (y : Layout) (s : State) (t : ℕ) : Impediment → Type 0 wher
   is-exhausted : {c x : ℕ} → Leads y s t c x → s .limits .checkpoints ≤ ownHistory c (transactorAt s c) .count → Impedes y s t (Exhausted c x)
   is-unstable : {c x : ℕ} → Leads y s t c x → ownHistory c (transactorAt s c) .stable ≡ false → Impedes y s t (Unstable c x)
 
--- the answer about the next take on the chain is o, but for the next of it
-pub data Again (y : Layout) (s : State) : Impediment → Type 0 where
-  again-hopeless : {c u x : ℕ} → impedimentOf y s x ≡ Hopeless c u (nextAt s (y .transactors) c x) → Again y s (Hopeless c u x)
-  again-exhausted : {c x : ℕ} → impedimentOf y s x ≡ Exhausted c (nextAt s (y .transactors) c x) → Again y s (Exhausted c x)
-  again-unstable : {c x : ℕ} → impedimentOf y s x ≡ Unstable c (nextAt s (y .transactors) c x) → Again y s (Unstable c x)
+-- Asked about the next take on the chain, the call is not refused, and answers o but for the next of it.
+pub data Again (y : Layout) (img : List ℕ) : Impediment → Type 0 where
+  again-hopeless : {c u x : ℕ} → queryRefusal y img x ≡ 0 → impedimentAnswer y img x ≡ Hopeless c u (nextAt (unpack y img) (y .transactors) c x) → Again y img (Hopeless c u x)
+  again-exhausted : {c x : ℕ} → queryRefusal y img x ≡ 0 → impedimentAnswer y img x ≡ Exhausted c (nextAt (unpack y img) (y .transactors) c x) → Again y img (Exhausted c x)
+  again-unstable : {c x : ℕ} → queryRefusal y img x ≡ 0 → impedimentAnswer y img x ≡ Unstable c (nextAt (unpack y img) (y .transactors) c x) → Again y img (Unstable c x)

@@ -3,23 +3,26 @@ use Prim.Native.Nat.{ℕ, zero, suc, _<_}
 use mathlib.Core.Bool.{Bool, true, false, not}
 use mathlib.Core.Path.{_≡_}
 use mathlib.Core.List.{List}
+use lib.ListN.{length}
 use lib.Dec.{eqb}
 use Rattle.octets.specs.Bytes.{pick, _and_}
+use Rattle.octets.specs.Numbers.{bound}
 use Rattle.marks.specs.declared.History.{History}
 use Rattle.marks.specs.Incarnation.{sameIncarnation, Checkpointed}
 use Rattle.marks.specs.History.{incarnationOf}
 use Rattle.maps.specs.declared.DependenceMap.{DependenceMap}
 use Rattle.maps.specs.Map.{heldAt, historyAt}
 use Rattle.rules.specs.declared.Obstacle.{Obstacle}
-use Rattle.rules.specs.declared.Obstacle.the-variants.{Nothing, Unstable, Outside, Superseded}
-use Rattle.rules.specs.Layout.{Layout}
+use Rattle.rules.specs.declared.Obstacle.the-variants.{Nothing, Unstable, Outside, SupersededOrAnnihilated}
+use Rattle.rules.specs.Layout.{Layout, imageBytes}
 use Rattle.rules.specs.State.{State, transactorAt, ownHistory, live}
+use Rattle.rules.specs.Step.{done}
 use Rattle.rules.specs.Refusals.{named}
-use Rattle.rules.specs.Rules.{entryReady, groupReady, refusal}
+use Rattle.rules.specs.Rules.{entryReady, groupReady, refusal, stepOf}
 use Rattle.rules.specs.Pack.{unpack}
 use Rattle.rules.specs.Form.{wellFormed}
 use Rattle.rules.specs.Calls.{wrongLength}
-use Rattle.rules.specs.Groups.{signingRefusal}
+use Rattle.rules.specs.Groups.{signing, signingRefusal}
 
 -- ---- the numbers of each answer
 
@@ -34,7 +37,7 @@ abbrev pub obstacleNumbers : Obstacle → ObstacleNumbers
 obstacleNumbers Nothing = record { kind = 0; transactor = 0; ground = 0 }
 obstacleNumbers (Unstable t) = record { kind = 1; transactor = t; ground = 0 }
 obstacleNumbers (Outside t u) = record { kind = 2; transactor = t; ground = u }
-obstacleNumbers (Superseded t u) = record { kind = 3; transactor = t; ground = u }
+obstacleNumbers (SupersededOrAnnihilated t u) = record { kind = 3; transactor = t; ground = u }
 
 -- ---- the first that is one
 
@@ -42,7 +45,7 @@ abbrev pub orElse : Obstacle → Obstacle → Obstacle
 orElse Nothing o = o
 orElse (Unstable t) o = Unstable t
 orElse (Outside t u) o = Outside t u
-orElse (Superseded t u) o = Superseded t u
+orElse (SupersededOrAnnihilated t u) o = SupersededOrAnnihilated t u
 
 -- the first of f k, f (k + 1), .., n of them, that is one
 unfoldable pub firstOf : (ℕ → Obstacle) → ℕ → ℕ → Obstacle
@@ -65,7 +68,7 @@ isPresent s u h = live (transactorAt s u) and sameIncarnation (incarnationOf h) 
 
 -- what such a mark h of take u, in a map of take t, tells: the present life of a take that v does not name, or a withdrawn life
 unfoldable pub groundOf : State → ℕ → ℕ → History → Obstacle
-groundOf s t u h = pick (isPresent s u h) (Outside t u) (Superseded t u)
+groundOf s t u h = pick (isPresent s u h) (Outside t u) (SupersededOrAnnihilated t u)
 
 -- the marks of take u in the maps of take t, state before creation
 unfoldable pub entryObstacle : State → ℕ → ℕ → ℕ → Obstacle
@@ -95,6 +98,13 @@ obstacleAnswer y img v = pick (eqb (obstacleRefusal y img v) 0) (obstacleOf y (u
 
 -- ---- for theorems: what each answer means, in the rules' words
 
+-- volume v could be signed on the image: the image has the right length and is well-formed, and the signing would reply 0
+pub record CouldSign (y : Layout) (img : List ℕ) (v : ℕ) : Type 0 where
+  pub long : length img ≡ imageBytes y
+  pub formed : wellFormed y img ≡ true
+  pub bits : v < bound 2
+  pub signs : stepOf y (unpack y img) (signing v) .reply .outcome ≡ done
+
 -- the mark h of take u stands in the state or creation map of take t
 pub data StandsIn (s : State) (t u : ℕ) (h : History) : Type 0 where
   in-state : heldAt (transactorAt s t .state) u ≡ true → h ≡ historyAt (transactorAt s t .state) u → StandsIn s t u h
@@ -110,4 +120,4 @@ pub data Obstructs (y : Layout) (s : State) (v : ℕ) : Obstacle → Type 0 wher
   is-unstable : {t : ℕ} → t < y .transactors → named v t ≡ true → ownHistory t (transactorAt s t) .stable ≡ false → Obstructs y s v (Unstable t)
   is-outside : {t u : ℕ} {h : History} → t < y .transactors → u < y .transactors → named v t ≡ true → StandsIn s t u h
       → live (transactorAt s u) ≡ true → incarnationOf h ≡ incarnationOf (ownHistory u (transactorAt s u)) → named v u ≡ false → Obstructs y s v (Outside t u)
-  is-superseded : {t u : ℕ} {h : History} → t < y .transactors → u < y .transactors → named v t ≡ true → StandsIn s t u h → WithdrawnMark s u h → Obstructs y s v (Superseded t u)
+  is-withdrawn : {t u : ℕ} {h : History} → t < y .transactors → u < y .transactors → named v t ≡ true → StandsIn s t u h → WithdrawnMark s u h → Obstructs y s v (SupersededOrAnnihilated t u)

@@ -62,7 +62,7 @@ pub enum Obstacle {
     // A named transactor rests on the present incarnation of one that is not named.
     Outside(u8, u8),
     // A named transactor rests on an incarnation that is superseded or annihilated (document 01: withdrawn).
-    Superseded(u8, u8),
+    SupersededOrAnnihilated(u8, u8),
 }
 
 // Why no group with a transactor could be checkpointed: the transactor that is in the way, the asked one or one that it rests on; and last, the

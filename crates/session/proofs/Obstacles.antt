@@ -9,11 +9,12 @@ use Rattle.marks.specs.History.{HistoryView, incarnationOf}
 use Rattle.marks.proofs.Order.{checkpointed-irrefl}
 use Rattle.maps.proofs.View.{view-held}
 use Rattle.rules.specs.declared.Obstacle.{Obstacle}
-use Rattle.rules.specs.declared.Obstacle.the-variants.{Unstable, Outside, Superseded}
+use Rattle.rules.specs.declared.Obstacle.the-variants.{Unstable, Outside}
+use Rattle.rules.specs.declared.Obstacle.the-variants as answer
 use Rattle.rules.specs.Layout.{Layout, Fitting, base}
 use Rattle.rules.specs.State.{State, transactorAt, ownHistory, live}
 use Rattle.rules.specs.Refusals.{named}
-use Rattle.rules.specs.Obstacle.{obstacleOf, StandsIn, WithdrawnMark, Obstructs, is-unstable, is-outside, is-superseded}
+use Rattle.rules.specs.Obstacle.{obstacleOf, StandsIn, WithdrawnMark, Obstructs, is-unstable, is-outside, is-withdrawn}
 use Rattle.rules.specs.Obstacle as obstacle
 use Rattle.rules.specs.Internal.Well.{WellFormed}
 use Rattle.rules.proofs.Keep.Step.{fitting-base}
@@ -82,11 +83,11 @@ module _ {y : Layout} (z : Fitting y) {img : List ℕ} {τ : Trace y img} {s : S
         uncheckpointed = λ c. checkpointed-irrefl (c .is);
       }
 
-  pub withdrawn-means : (v t u : ℕ) → obstacleOf y s v ≡ Superseded t u → WithdrawnMeans b v t u
-  withdrawn-means v t u e = go (answered v (Superseded t u) e)
+  pub withdrawn-means : (v t u : ℕ) → obstacleOf y s v ≡ answer.SupersededOrAnnihilated t u → WithdrawnMeans b v t u
+  withdrawn-means v t u e = go (answered v (answer.SupersededOrAnnihilated t u) e)
     where
-      go : Obstructs y s v (Superseded t u) → WithdrawnMeans b v t u
-      go (is-superseded {h = h} low low-u n stands m) = record {
+      go : Obstructs y s v (answer.SupersededOrAnnihilated t u) → WithdrawnMeans b v t u
+      go (is-withdrawn {h = h} low low-u n stands m) = record {
         names = n;
         incarnation = incarnationOf h;
         rests = stands-rests (well z k) (related z k) stands;
@@ -94,7 +95,7 @@ module _ {y : Layout} (z : Fitting y) {img : List ℕ} {τ : Trace y img} {s : S
       }
 
   -- And then no volume with take t can be signed, after whatever steps, signings included, as long as take t keeps its present life.
-  pub withdrawn-for-good : (v t u : ℕ) → obstacleOf y s v ≡ Superseded t u → {after : State} → Further y s after → SameLife s after t → (g : ℕ) → named g t ≡ true → ReadyGroup y after g → ⊥
+  pub withdrawn-for-good : (v t u : ℕ) → obstacleOf y s v ≡ answer.SupersededOrAnnihilated t u → {after : State} → Further y s after → SameLife s after t → (g : ℕ) → named g t ≡ true → ReadyGroup y after g → ⊥
   withdrawn-for-good v t u e o same =
       let m = withdrawn-means v t u e in
       never-ready z (well z k) (related z k) (m .rests) (m .withdrawn) o same
@@ -107,8 +108,8 @@ module _ {img : List ℕ} {τ : Trace base img} {s : State} {b : Provenance} (k 
   pub outside-means-base : (v t u : ℕ) → obstacleOf base s v ≡ Outside t u → OutsideMeans b v t u
   outside-means-base = outside-means fitting-base k
 
-  pub withdrawn-means-base : (v t u : ℕ) → obstacleOf base s v ≡ Superseded t u → WithdrawnMeans b v t u
+  pub withdrawn-means-base : (v t u : ℕ) → obstacleOf base s v ≡ answer.SupersededOrAnnihilated t u → WithdrawnMeans b v t u
   withdrawn-means-base = withdrawn-means fitting-base k
 
-  pub withdrawn-for-good-base : (v t u : ℕ) → obstacleOf base s v ≡ Superseded t u → Doomed base s t
+  pub withdrawn-for-good-base : (v t u : ℕ) → obstacleOf base s v ≡ answer.SupersededOrAnnihilated t u → Doomed base s t
   withdrawn-for-good-base v t u e after o same = withdrawn-for-good fitting-base k v t u e o same

@@ -48,7 +48,7 @@ pub record OutsideMeans (b : Provenance) (v t u : ℕ) : Type 0 where
   pub rests : RestsOn b t u (b .holders u .history .incarnation)
   pub uncheckpointed : CheckpointedNow b u (b .holders u .history .incarnation) → ⊥
 
--- Superseded t u: the named take t rests on a withdrawn life of take u.
+-- SupersededOrAnnihilated t u: the named take t rests on a withdrawn life of take u.
 pub record WithdrawnMeans (b : Provenance) (v t u : ℕ) : Type 0 where
   pub names : named v t ≡ true
   pub incarnation : Incarnation

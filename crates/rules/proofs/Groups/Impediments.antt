@@ -625,6 +625,11 @@ module _ {y : Layout} (few : y .transactors ≤ groupBits) {s : State} (well : W
 
 -- ---- asked about the next, the answer is the same but for the next of it
 
+data SameAgain (y : Layout) (s : State) : Impediment → Type 0 where
+  same-hopeless : {c u x : ℕ} → impedimentOf y s x ≡ Hopeless c u (nextAt s (y .transactors) c x) → SameAgain y s (Hopeless c u x)
+  same-exhausted : {c x : ℕ} → impedimentOf y s x ≡ Exhausted c (nextAt s (y .transactors) c x) → SameAgain y s (Exhausted c x)
+  same-unstable : {c x : ℕ} → impedimentOf y s x ≡ Unstable c (nextAt s (y .transactors) c x) → SameAgain y s (Unstable c x)
+
 module _ (y : Layout) (s : State) (t : ℕ) (low : t < y .transactors) where
   abbrev onward : ℕ → ℕ
   onward c = nextAt s (y .transactors) c t
@@ -669,21 +674,20 @@ module _ (y : Layout) (s : State) (t : ℕ) (low : t < y .transactors) where
         placeFrom-is (inWay y s kind (onward c)) 0 (y .transactors) (lowestFor y s kind t) (omega arith) (omega arith) (λ j a b. fewer kind j (lowest-place y s kind t .before j a b))
         (λ z. subst (λ (d : ℕ). inWay y s kind (onward c) d ≡ true) i (rw (onward-on c e) (subst (λ (d : ℕ). impedesAt y s kind d ≡ true) (sym i) (in-way y s kind t q .1))))
 
-  -- So a caller who asks again, about the next take each time, walks the chain to the one that is in the way.
-  pub asked-again : {o : Impediment} → impedimentOf y s t ≡ o → (o ≡ Nothing → ⊥) → Again y s o
+  asked-again : {o : Impediment} → impedimentOf y s t ≡ o → (o ≡ Nothing → ⊥) → SameAgain y s o
   asked-again {o} e some = go (found-as y s t e) some
     where
-      go : {o : Impediment} → Found y s t o → (o ≡ Nothing → ⊥) → Again y s o
-      go (found-hopeless h) n = again-hopeless (
+      go : {o : Impediment} → Found y s t o → (o ≡ Nothing → ⊥) → SameAgain y s o
+      go (found-hopeless h) n = same-hopeless (
           let c : ℕ = lowestFor y s 1 t in
           let r : lowestFor y s 1 (onward c) ≡ c = lowest-again c h (in-way y s 1 t h .0) 1 refl in
           subst (λ (d : ℕ). impedimentOf y s (onward c) ≡ Hopeless d (lostGround y s d) (nextAt s (y .transactors) d (onward c))) r (found-is y s (onward c) (found-hopeless (omega arith))))
-      go (found-exhausted a h) n = again-exhausted (
+      go (found-exhausted a h) n = same-exhausted (
           let c : ℕ = lowestFor y s 2 t in
           let i : throughAt s (y .transactors) c t ≡ true = in-way y s 2 t h .0 in
           let r : lowestFor y s 2 (onward c) ≡ c = lowest-again c h i 2 refl in
           subst (λ (d : ℕ). impedimentOf y s (onward c) ≡ Exhausted d (nextAt s (y .transactors) d (onward c))) r (found-is y s (onward c) (found-exhausted (none-again c h i 1 a) (omega arith))))
-      go (found-unstable a b h) n = again-unstable (
+      go (found-unstable a b h) n = same-unstable (
           let c : ℕ = lowestFor y s 3 t in
           let i : throughAt s (y .transactors) c t ≡ true = in-way y s 3 t h .0 in
           let r : lowestFor y s 3 (onward c) ≡ c = lowest-again c h i 3 refl in
@@ -714,17 +718,57 @@ module _ (y : Layout) (few : y .transactors ≤ groupBits) (img : List ℕ) (t :
       go (gone h) l n = absurd (n refl)
       go (alive {x} h a) l n = live-of formed (a .status) x refl
 
-  answer-is : impedimentAnswer y img t ≡ impedimentOf y (unpack y img) t
+  answer-as : (x : ℕ) → queryRefusal y img x ≡ 0 → impedimentAnswer y img x ≡ impedimentOf y (unpack y img) x
   unfolding impedimentAnswer
-  answer-is = rw (eq-eqb (queryRefusal y img t) 0 z)
+  answer-as x e = rw (eq-eqb (queryRefusal y img x) 0 e)
+
+  answer-is : impedimentAnswer y img t ≡ impedimentOf y (unpack y img) t
+  answer-is = answer-as t z
 
   -- What is answered is what the rules' words say of it.
   pub answer-impedes : Impedes y (unpack y img) t (impedimentAnswer y img t)
   answer-impedes = subst (Impedes y (unpack y img) t) (sym answer-is) (impedes few formed t (accepted .below) asked-live)
 
-  -- Asked about the next take, it is the same but for the next of it.
-  pub answer-again : (impedimentAnswer y img t ≡ Nothing → ⊥) → Again y (unpack y img) (impedimentAnswer y img t)
-  answer-again n = asked-again y (unpack y img) t (accepted .below) (sym answer-is) n
+  -- a live take can be asked about
+  live-asked : (x : ℕ) → live (transactorAt (unpack y img) x) ≡ true → queryRefusal y img x ≡ 0
+  unfolding queryRefusal
+  live-asked x e =
+      let a = pick-zero (wrongLength y img) 16 _ (omega arith) z in
+      let b = pick-zero (not (wellFormed y img)) 19 _ (omega arith) (a .1) in
+      let c = go (formed .transactors x (live-low formed x e)) e in
+      rw (a .0, b .0, lt-leb (unpack y img .opened) x (c .0), c .1)
+    where
+      there : {n : ℕ} → Live n → eqb n annihilated ≡ false
+      there is-idle = refl
+      there is-busy = refl
+
+      go : {q : Transactor} → TransactorFormed y (unpack y img .limits .checkpoints) (unpack y img .opened) x q → live q ≡ true → (x < unpack y img .opened) × (eqb (q .status) annihilated ≡ false)
+      go (not-opened h) e = absurd (false≢true e)
+      go (gone h) e = absurd (false≢true e)
+      go (alive h a) e = (h, there (a .status))
+
+  follows-live : {c x : ℕ} → live (transactorAt (unpack y img) c) ≡ true → Follows y (unpack y img) c x → live (transactorAt (unpack y img) x) ≡ true
+  unfolding restsAt
+  follows-live l arrived = l
+  follows-live l (link {t = x} q f) = both (live (transactorAt (unpack y img) x)) _ q .0
+
+  -- the next on the chain can be
+  next-asked : {c x : ℕ} → Leads y (unpack y img) t c x → queryRefusal y img x ≡ 0
+  next-asked {c} {x} l = live-asked x (subst (λ (u : ℕ). live (transactorAt (unpack y img) u) ≡ true) (sym (l .next)) (go (l .follows)))
+    where
+      go : {w : ℕ} → Follows y (unpack y img) c w → live (transactorAt (unpack y img) (nextAt (unpack y img) (y .transactors) c w)) ≡ true
+      go arrived = subst (λ (u : ℕ). live (transactorAt (unpack y img) u) ≡ true) (sym (next-self (unpack y img) (y .transactors) c)) (l .live)
+      go (link q f) = follows-live (l .live) f
+
+  -- Asked about the next take, the call is not refused and answers the same but for the next of it. So a caller who asks again, about the next each
+  -- time, walks the chain to the take that is in the way.
+  pub answer-again : (impedimentAnswer y img t ≡ Nothing → ⊥) → Again y img (impedimentAnswer y img t)
+  answer-again n = go answer-impedes (asked-again y (unpack y img) t (accepted .below) (sym answer-is) n)
+    where
+      go : {o : Impediment} → Impedes y (unpack y img) t o → SameAgain y (unpack y img) o → Again y img o
+      go (is-hopeless {x = x} l h stands m) (same-hopeless e) = again-hopeless (next-asked l) (answer-as x (next-asked l) ∙ e)
+      go (is-exhausted {x = x} l h) (same-exhausted e) = again-exhausted (next-asked l) (answer-as x (next-asked l) ∙ e)
+      go (is-unstable {x = x} l h) (same-unstable e) = again-unstable (next-asked l) (answer-as x (next-asked l) ∙ e)
 
   -- Nothing exactly if smallest_group names a volume.
   pub nothing-smallest : {a : Option ℕ} → Smallest y img t a → (impedimentAnswer y img t ≡ Nothing) ↔ (a ≡ none → ⊥)
@@ -743,7 +787,7 @@ module _ (img : List ℕ) (t : ℕ) (o : Octets img) (z : queryRefusal base img 
   pub answer-impedes-base : Impedes base (unpack base img) t (impedimentAnswer base img t)
   answer-impedes-base = answer-impedes base (omega arith) img t o z
 
-  pub answer-again-base : (impedimentAnswer base img t ≡ Nothing → ⊥) → Again base (unpack base img) (impedimentAnswer base img t)
+  pub answer-again-base : (impedimentAnswer base img t ≡ Nothing → ⊥) → Again base img (impedimentAnswer base img t)
   answer-again-base = answer-again base (omega arith) img t o z
 
   pub nothing-smallest-base : {a : Option ℕ} → Smallest base img t a → (impedimentAnswer base img t ≡ Nothing) ↔ (a ≡ none → ⊥)

@@ -5,11 +5,12 @@ use mathlib.Core.Path.{_≡_, refl, ap, sym, _∙_, subst}
 use mathlib.Core.Logic.{_↔_, _⊎_, inl, inr}
 use native.Mathlib.Omega.{arith}
 use mathlib.Core.List.{List}
-use lib.Dec.{eqb}
+use lib.Dec.{eqb, leb}
 use lib.ListN.{length}
-use borrow.Author.Tests.{eq-eqb, ne-eqb, eqb-true, le-leb, lt-leb}
+use borrow.Author.Tests.{eq-eqb, ne-eqb, eqb-true, leb-false, le-leb, lt-leb}
 use Rattle.octets.specs.Bytes.{pick, _and_, _or_}
-use Rattle.octets.proofs.Tests.{pick-view}
+use Rattle.octets.specs.Numbers.{bound}
+use Rattle.octets.proofs.Tests.{pick-view, pick-zero}
 use Rattle.octets.proofs.Zero.{both, every-all, every-at}
 use Rattle.marks.specs.declared.History.{History}
 use Rattle.marks.specs.Incarnation.{Incarnation, checkpointedIn, sameIncarnation, Checkpointed}
@@ -20,17 +21,18 @@ use Rattle.marks.proofs.Trail.{eq-or-lt}
 use Rattle.maps.specs.declared.DependenceMap.{DependenceMap}
 use Rattle.maps.specs.Map.{heldAt, historyAt}
 use Rattle.rules.specs.declared.Obstacle.{Obstacle}
-use Rattle.rules.specs.declared.Obstacle.the-variants.{Nothing, Unstable, Outside, Superseded}
-use Rattle.rules.specs.Layout.{Layout, imageBytes}
+use Rattle.rules.specs.declared.Obstacle.the-variants.{Nothing, Unstable, Outside, SupersededOrAnnihilated}
+use Rattle.rules.specs.Layout.{Layout, imageBytes, base}
 use Rattle.rules.specs.Pack.{unpack}
 use Rattle.rules.specs.Form.{wellFormed}
+use Rattle.rules.specs.Calls.{wrongLength}
 use Rattle.rules.specs.State.{Transactor, State, transactorAt, ownHistory, live}
 use Rattle.rules.specs.Step.{done}
 use Rattle.rules.specs.Refusals.{groupBits, named, malformed}
 use Rattle.rules.specs.Rules.{entryReady, mapReady, transactorReady, groupReady, refusal, stepOf}
 use Rattle.rules.specs.Groups.{signing, signingRefusal}
 use Rattle.rules.specs.Internal.Guards.{groupIn}
-use Rattle.rules.specs.Obstacle.{obstacleNumbers, orElse, firstOf, unstableAt, blocksIn, isPresent, groundOf, entryObstacle, mapObstacle, obstacleOf, obstacleRefusal, obstacleAnswer, StandsIn, in-state, in-creation, Obstructs, is-ready, is-unstable, is-outside, is-superseded}
+use Rattle.rules.specs.Obstacle.{obstacleNumbers, orElse, firstOf, unstableAt, blocksIn, isPresent, groundOf, entryObstacle, mapObstacle, obstacleOf, obstacleRefusal, obstacleAnswer, CouldSign, StandsIn, in-state, in-creation, Obstructs, is-ready, is-unstable, is-outside, is-withdrawn}
 use Rattle.rules.proofs.ByKind.Refused.{refuses}
 use Rattle.rules.proofs.Calls.Begin.{wrong-length, right-length}
 use Rattle.rules.proofs.Groups.Signable.{signing-done}
@@ -41,7 +43,7 @@ use Rattle.rules.proofs.Groups.Signable.{signing-done}
 pub data Found : Obstacle → Type 0 where
   found-unstable : (t : ℕ) → Found (Unstable t)
   found-outside : (t u : ℕ) → Found (Outside t u)
-  found-withdrawn : (t u : ℕ) → Found (Superseded t u)
+  found-withdrawn : (t u : ℕ) → Found (SupersededOrAnnihilated t u)
 
 found-not : {o : Obstacle} → Found o → o ≡ Nothing → ⊥
 found-not (found-unstable t) e = let z : _≡_ {A = ℕ} 1 0 = ap (λ o. obstacleNumbers o .kind) e in omega arith
@@ -52,14 +54,14 @@ found-or-not : (o : Obstacle) → Found o ⊎ (o ≡ Nothing)
 found-or-not Nothing = inr refl
 found-or-not (Unstable t) = inl (found-unstable t)
 found-or-not (Outside t u) = inl (found-outside t u)
-found-or-not (Superseded t u) = inl (found-withdrawn t u)
+found-or-not (SupersededOrAnnihilated t u) = inl (found-withdrawn t u)
 
 -- what holds of each one found, and of nothing where none is found
 or-else : (P : Obstacle → Type 0) (a b : Obstacle) → (Found a → P a) → (a ≡ Nothing → P b) → P (orElse a b)
 or-else P Nothing b f g = g refl
 or-else P (Unstable t) b f g = f (found-unstable t)
 or-else P (Outside t u) b f g = f (found-outside t u)
-or-else P (Superseded t u) b f g = f (found-withdrawn t u)
+or-else P (SupersededOrAnnihilated t u) b f g = f (found-withdrawn t u)
 
 first-of : (P : Obstacle → Type 0) (f : ℕ → Obstacle) (k n : ℕ) → ((i : ℕ) → k ≤ i → i < k + n → Found (f i) → P (f i))
     → (((i : ℕ) → k ≤ i → i < k + n → f i ≡ Nothing) → P Nothing) → P (firstOf f k n)
@@ -117,10 +119,10 @@ module _ (y : Layout) (s : State) (v : ℕ) where
             or-true true = refl
             or-true false = refl
 
-        go : (l : Bool) → live x ≡ l → (q : Bool) → sameIncarnation a b ≡ q → Obstructs y s v (pick (l and q) (Outside t u) (Superseded t u))
+        go : (l : Bool) → live x ≡ l → (q : Bool) → sameIncarnation a b ≡ q → Obstructs y s v (pick (l and q) (Outside t u) (SupersededOrAnnihilated t u))
         go true el true eq = is-outside low low-u n stands el (same-test a b .0 eq) (unnamed el eq (named v u) refl)
-        go true el false eq = is-superseded low low-u n stands (record { not-present = λ l p. false≢true (sym eq ∙ same-test a b .1 p); not-checkpointed = checkpointed })
-        go false el q eq = is-superseded low low-u n stands (record { not-present = λ l p. false≢true (sym el ∙ l); not-checkpointed = λ l c. false≢true (sym el ∙ l) })
+        go true el false eq = is-withdrawn low low-u n stands (record { not-present = λ l p. false≢true (sym eq ∙ same-test a b .1 p); not-checkpointed = checkpointed })
+        go false el q eq = is-withdrawn low low-u n stands (record { not-present = λ l p. false≢true (sym el ∙ l); not-checkpointed = λ l c. false≢true (sym el ∙ l) })
 
   blocks-to : (m : DependenceMap) (u : ℕ) → blocksIn s v m u ≡ true → (heldAt m u ≡ true) × (entryReady s v u (historyAt m u) ≡ false)
   unfolding blocksIn
@@ -261,7 +263,7 @@ module _ (y : Layout) (s : State) (v : ℕ) where
       go : Checkpointed (incarnationOf h) (incarnationOf (ownHistory u (transactorAt s u))) ⊎ ((named v u ≡ true) × (incarnationOf h ≡ incarnationOf (ownHistory u (transactorAt s u)))) → ⊥
       go (inl c) = checkpointed-ne c q
       go (inr p) = false≢true (sym k ∙ p .0)
-  obstructs-not-ready (is-superseded {t} {u} {h} l m n stands w) f g = let k = entry-to u h (stands-ready g t u h l m n stands) in go (k .0) (k .1)
+  obstructs-not-ready (is-withdrawn {t} {u} {h} l m n stands w) f g = let k = entry-to u h (stands-ready g t u h l m n stands) in go (k .0) (k .1)
     where
       go : live (transactorAt s u) ≡ true
           → Checkpointed (incarnationOf h) (incarnationOf (ownHistory u (transactorAt s u))) ⊎ ((named v u ≡ true) × (incarnationOf h ≡ incarnationOf (ownHistory u (transactorAt s u)))) → ⊥
@@ -323,3 +325,48 @@ module _ (y : Layout) (img : List ℕ) (v : ℕ) where
         pub obstacle-0 : r ≡ 0 → (o : Obstacle) → o ≡ obstacleOf y (unpack y img) v → (r ≡ obstacleRefusal y img v) × (o ≡ obstacleAnswer y img v)
         unfolding obstacleAnswer
         obstacle-0 z o q = (refusal-is, q ∙ rw (eq-eqb (obstacleRefusal y img v) 0 (sym refusal-is ∙ z)))
+
+-- ---- what the call answers, on every image
+
+module _ (y : Layout) (img : List ℕ) (v : ℕ) where
+  answer-is : obstacleRefusal y img v ≡ 0 → obstacleAnswer y img v ≡ obstacleOf y (unpack y img) v
+  unfolding obstacleAnswer
+  answer-is z = rw (eq-eqb (obstacleRefusal y img v) 0 z)
+
+  -- What is answered is what the rules' words say of it.
+  pub answer-obstructs : obstacleRefusal y img v ≡ 0 → Obstructs y (unpack y img) v (obstacleAnswer y img v)
+  answer-obstructs z = subst (Obstructs y (unpack y img) v) (sym (answer-is z)) (obstructs y (unpack y img) v)
+
+  -- Not refused and nothing exactly if the volume could be signed.
+  pub answer-nothing : ((obstacleRefusal y img v ≡ 0) × (obstacleAnswer y img v ≡ Nothing)) ↔ CouldSign y img v
+  unfolding obstacleRefusal signingRefusal bound
+  answer-nothing = (
+    λ k.
+        let a = pick-zero (wrongLength y img) 16 _ (omega arith) (k .0) in
+        let b = pick-zero (not (wellFormed y img)) 19 _ (omega arith) (a .1) in
+        let c = pick-zero (leb (2 ^ groupBits) v) 21 _ (omega arith) (b .1) in
+        let h = leb-false (2 ^ groupBits) v (c .0) in
+        record {
+          long = eqb-true (length img) (imageBytes y) (on (eqb (length img) (imageBytes y)) (a .0));
+          formed = on (wellFormed y img) (b .0);
+          bits = omega arith;
+          signs = nothing-exactly y (unpack y img) v .0 (c .1, sym (answer-is (k .0)) ∙ k .1);
+        },
+    λ k.
+        let q = nothing-exactly y (unpack y img) v .1 (k .signs) in
+        let h = k .bits in
+        let z : obstacleRefusal y img v ≡ 0 = rw (right-length y img (k .long), k .formed, lt-leb (2 ^ groupBits) v (omega arith)) (q .0) in
+        (z, answer-is z ∙ q .1),
+  )
+    where
+      on : (c : Bool) → not c ≡ false → c ≡ true
+      on true e = refl
+      on false e = absurd (false≢true (sym e))
+
+-- At the ledger's own layout.
+module _ (img : List ℕ) (v : ℕ) where
+  pub answer-obstructs-base : obstacleRefusal base img v ≡ 0 → Obstructs base (unpack base img) v (obstacleAnswer base img v)
+  answer-obstructs-base = answer-obstructs base img v
+
+  pub answer-nothing-base : ((obstacleRefusal base img v ≡ 0) × (obstacleAnswer base img v ≡ Nothing)) ↔ CouldSign base img v
+  answer-nothing-base = answer-nothing base img v
