@@ -6,7 +6,7 @@ import { whyNot } from "./reasons.mjs";
 import { fates, waitingAt } from "./parcels.mjs";
 import { present, trial } from "./offered.mjs";
 import { braces, counted, capital } from "./names.mjs";
-import { effect, tone, FALLEN_BACK, WRONG_STATUS } from "./words.mjs";
+import { effect, tone, FALLEN_BACK, GONE, WRONG_STATUS } from "./words.mjs";
 
 /** add(bytes) is told of a step that was chosen. */
 export function showBoard(host, record, names, add) {
@@ -67,6 +67,6 @@ function receipt(record, parcel, names, add) {
   const bytes = packStep("receive", { parcel: parcel.number }), reply = trial(record.end, bytes), news = tone(reply);
   const press = news === "refused" ? "" : [button("receive", () => add(bytes)), " "];
   if (news === "done") return el("td", {}, press);
-  const busy = reply.outcome === WRONG_STATUS && `At work: ${names.take(parcel.to)}; press done first.`;
-  return el("td", { class: "trouble" }, press, busy || `then: ${effect(readStep(bytes, 0), reply, names)}.`);
+  const turned = { [WRONG_STATUS]: `At work: ${names.take(parcel.to)}; press done first.`, [GONE]: "The take vanished: the parcel can only be lost." };
+  return el("td", { class: "trouble" }, press, turned[reply.outcome] ?? `then: ${effect(readStep(bytes, 0), reply, names)}.`);
 }
