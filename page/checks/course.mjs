@@ -50,6 +50,7 @@ export async function courseChecks(context) {
   await choosing(context);
   await links(context);
   await own(context);
+  await honest(context);
 }
 
 async function lessons({ browser, check, url, shots }) {
@@ -198,6 +199,8 @@ const NO_SUCH = [
   ["list=AAAA", /The address holds no whole list of steps\./],
   ["list=!", /The address holds no whole list of steps\./],
   ["step=abc", /The address names no step\./],
+  ["view=nosuch", /There is no view called “nosuch”\./],
+  ["limits=1,2&text=root%20text%201", /The address's limits are none that a session can have\./],
   ["lesson=00-a-first-session&step=NaN", /The address names no step\./],
   ["lesson=00-a-first-session&step=999", /There is no step 999\./],
   ["text=root%20text%201&limits=99,1,1", /The address's limits are none that a session can have\./],
@@ -237,5 +240,35 @@ async function own({ browser, check, url }) {
   await check("a reply in a comment is no name", async () => {
     await browser.go(`${url}#text=${encodeURIComponent("\ufeffroot text 7 # done take 0\nroot text 8 # page 12\n")}`);
     assert.deepEqual(await browser.all("#course-rows .lane-name"), ["take 0", "1 page 12"]);
+  });
+}
+
+/** Nothing gives a question's answer away or answers for another session than the one in view. */
+async function honest({ browser, check, url }) {
+  await check("a lesson and a link have their own limits, a list of one's own gets its back", async () => {
+    const takes = () => browser.eval(`document.querySelector("#limit-takes").value`);
+    await browser.go(`${url}#text=${encodeURIComponent("root text 1\nroot text 2\n")}&limits=1,2,3`);
+    assert.deepEqual(await browser.all("#course-rows .reply"), ["done", "25 all opened"]);
+    await browser.fill("#lesson", "00-a-first-session");
+    assert.deepEqual([await takes(), (await browser.all("#course-rows .reply"))[1]], ["16", "done"]);
+    await browser.fill("#lesson", "");
+    assert.deepEqual([await takes(), (await browser.all("#course-rows .reply"))[1]], ["1", "25 all opened"]);
+    await browser.eval(`location.hash = "#text=${encodeURIComponent("root text 1\nroot text 3\n")}"`);
+    await browser.until(`document.querySelector("#text").value.includes("text 3")`);
+    assert.equal(await takes(), "16");
+  });
+  await check("what a withdrawal reaches is folded away while a question is open, and says who is frozen", async () => {
+    await browser.go(`${url}#lesson=20-what-a-withdrawal-reaches`);
+    assert.equal(await browser.eval(`document.querySelector("#course-moment .cost").checkVisibility()`), false);
+    await browser.click("#reveal");
+    assert.equal(await browser.eval(`document.querySelector("#course-moment .cost").checkVisibility()`), true);
+    assert.match(await browser.text("#course-moment .cost"), /1 page 12\s+It is frozen, and does not fall of itself\. Page 40 rests on it directly\./);
+  });
+  await check("a window is so many whole replies wide", async () => {
+    await browser.go(`${url}#lesson=94-a-bad-hour&step=26`);
+    await browser.fill("#course-falls input", "2.5");
+    assert.match(await browser.text("#course-falls"), /Most falls within 2 replies: 2, in steps 18 to 19\./);
+    await browser.fill("#course-falls input", "");
+    assert.match(await browser.text("#course-falls"), /35, wrong width/);
   });
 }

@@ -6,6 +6,7 @@ import { Record } from "./record.mjs";
 import { Rows } from "./rows.mjs";
 import { Falls } from "./falls.mjs";
 import { legend } from "./shapes.mjs";
+import { onPaper } from "./paper.mjs";
 import { Editor } from "./editor.mjs";
 import { Stepper } from "./stepper.mjs";
 import { showMoment } from "./moment.mjs";
@@ -26,6 +27,7 @@ export class Course {
     this.answered = new Map();
     this.editor = new Editor(byId("editor"), () => this.edited(), line => this.atLine(line));
     this.rows = new Rows(byId("course-rows"), count => this.choose(count), () => this.closed());
+    onPaper(this.rows);
     this.falls = new Falls(byId("course-falls"));
     const textField = el("input", { type: "number", min: 0, max: LARGEST, value: 1, "aria-label": "text of the next step" });
     const textOf = () => Math.min(Math.max(0, Math.trunc(Number(textField.value) || 0)), LARGEST);
