@@ -187,9 +187,13 @@ async function links({ browser, check, url }) {
   };
   await check("a link holds the list as text", () => same("link with the text"));
   await check("a link holds the list as packed bytes", () => same("link with packed steps"));
-  await check("a link that holds no list says so at its place", async () => {
-    await browser.go(`${url}#text=${encodeURIComponent("root text 1\nnonsense")}`);
-    assert.match(await browser.text("#fault"), /line 2, column 1/);
+  await check("a link that holds no list says so at its place, on a phone too", async () => {
+    for (const room of [390, 1500]) {
+      await browser.size(room, 950);
+      await browser.go(`${url}#text=${encodeURIComponent("root text 1\nnonsense")}`);
+      assert.match(await browser.text("#fault"), /line 2, column 1/);
+      assert.ok((await browser.place("#fault")).height > 30);
+    }
   });
 }
 
@@ -199,6 +203,7 @@ const NO_SUCH = [
   ["list=AAAA", /The address holds no whole list of steps\./],
   ["list=!", /The address holds no whole list of steps\./],
   ["step=abc", /The address names no step\./],
+  ["list=&lesson=00-a-first-session", /The address holds no steps\./, 0],
   ["view=nosuch", /There is no view called “nosuch”\./],
   ["limits=1,2&text=root%20text%201", /The address's limits are none that a session can have\./],
   ["lesson=00-a-first-session&step=NaN", /The address names no step\./],
@@ -207,11 +212,11 @@ const NO_SUCH = [
 ];
 
 async function own({ browser, check, url }) {
-  for (const [asked, words] of NO_SUCH) {
+  for (const [asked, words, least = 1] of NO_SUCH) {
     await check(`an address that asks for nothing: ${asked}`, async () => {
       await browser.go(`${url}#${asked}`);
       assert.match(await browser.text("#course-notice"), words);
-      assert.ok(await browser.eval(`document.querySelectorAll("#course-rows li").length`) > 0);
+      assert.ok(await browser.eval(`document.querySelectorAll("#course-rows li").length`) >= least);
     });
   }
   await check("a list of one's own is kept while a lesson is looked at, and after a reload", async () => {

@@ -1,6 +1,6 @@
 // Hostile names, a list of 1,024 steps with times, a phone's width, reading by roles, print, no request and no error in the console.
 import assert from "node:assert/strict";
-import { readFileSync } from "node:fs";
+import { readFileSync, writeFileSync } from "node:fs";
 
 const HOSTILE = `<img src=x onerror="window.hacked=1"><script>window.hacked=1</script>`;
 
@@ -31,6 +31,22 @@ async function hostile({ browser, check, url, shots }) {
     await browser.shot(`${shots}hostile.png`);
     assert.equal(await browser.eval(`window.hacked ?? 0`), 0);
     assert.equal(await browser.eval(`document.querySelectorAll("img, main script").length`), 0);
+  });
+  await check("words that turn the direction keep it to themselves, and words without an end break", async () => {
+    const wide = "W".repeat(3000), texts = { 1: "\u202eturned", 2: wide }, steps = ["root text 1", "root text 2", "letter to 0 text 2", "letter to 1 text 2", "receive 0", "send 0 to 1 text 2"];
+    await browser.eval(`localStorage.setItem("take-ledger.desk", ${JSON.stringify(JSON.stringify({ format: "take ledger desk", version: 1, title: wide, steps, takes: ["a", wide], texts }))})`);
+    for (const room of [320, 1500]) for (const view of ["desk", "compare"]) {
+      await browser.size(room, 950);
+      await browser.go(`${url}#view=${view}`);
+      if (view === "compare") await browser.eval(`document.querySelectorAll(".side button")[0].click()`);
+      const wider = `[...document.querySelectorAll("main:not([hidden]) > section")].filter(s => s.scrollWidth > s.clientWidth + 1).map(s => s.className)`;
+      assert.deepEqual(await browser.eval(wider), [], `${view} in ${room}`);
+    }
+    writeFileSync(`${browser.profile}/none.steps`, "root text 9\n");
+    await browser.give("#compare-1", `${browser.profile}/none.steps`);
+    await browser.until(`document.querySelector("#difference").textContent`);
+    assert.match(await browser.text("#difference"), /text “\u2068\u202eturned\u2069”, done\. Right: “root text 9”/);
+    await browser.eval(`localStorage.clear()`);
   });
 }
 

@@ -45,7 +45,7 @@ function settled(session, take) {
 function hindered(record, takes, names) {
   if (!takes.length) return el("p", { class: "soft" }, "Nothing.");
   const said = ({ why, help }) => [...why, ...help].join(" ");
-  const why = t => el("td", {}, said(whyNot(record, record.length, 1 << t, names, true)));
+  const why = t => el("td", { class: "words" }, said(whyNot(record, record.length, 1 << t, names, true)));
   return el("table", {}, el("tbody", {}, takes.map(t => el("tr", {}, el("th", { scope: "row" }, names.numbered(t)), why(t)))));
 }
 
@@ -57,7 +57,7 @@ function waiting(record, names, add) {
   const row = p => el("tr", {},
     el("th", { scope: "row" }, names.numbered(p.to)),
     el("td", {}, p.number),
-    el("td", {}, p.made ? (p.from === null ? "outside" : names.take(p.from)) : "not known"),
+    el("td", { class: "words" }, p.made ? (p.from === null ? "outside" : names.take(p.from)) : "not known"),
     el("td", { class: "words" }, names.bare(p.text)),
     receipt(record, p, names, add));
   return el("table", {}, el("thead", {}, head), el("tbody", {}, parcels.map(row)));

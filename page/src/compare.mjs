@@ -10,7 +10,7 @@ import { Record } from "./record.mjs";
 import { verdict } from "./words.mjs";
 import { besideDifference } from "./besides.mjs";
 import { namesFrom, readText } from "./listing.mjs";
-import { counted } from "./names.mjs";
+import { counted, isolated } from "./names.mjs";
 
 const WHAT = { desk: "a file of the desk", list: "a packed list", text: "a text" };
 
@@ -54,7 +54,7 @@ function imageDifference(a, b) {
 /** A field's value, and where it is a text that has words, these too. */
 function worded({ beside }, field, value) {
   const words = field.endsWith("text") && beside.texts[value];
-  return words ? `${value} (\u201c${words}\u201d)` : value;
+  return words ? `${value} (\u201c${isolated(words)}\u201d)` : value;
 }
 
 function listDifference(a, b, beside) {
@@ -69,7 +69,7 @@ function listDifference(a, b, beside) {
 /** A step of one side, with its words and its reply. */
 function stepWords({ record, beside }, lines, at) {
   if (at >= record.length) return "it has ended";
-  const words = beside.texts[record.steps[at].text], text = words && / text /.test(lines[at]) ? `, text \u201c${words}\u201d` : "";
+  const words = beside.texts[record.steps[at].text], text = words && / text /.test(lines[at]) ? `, text \u201c${isolated(words)}\u201d` : "";
   return `\u201c${lines[at]}\u201d${text}, ${verdict(record.replies[at])}`;
 }
 
@@ -99,7 +99,7 @@ export class Compare {
     };
     const open = opener("open a file", (name, bytes) => put(side(name, bytes)), `compare-${i}`);
     const desk = button("the desk's hearing", () => put(played("the desk", this.desk(), "the hearing at the desk")));
-    const found = at && el("p", {}, el("strong", {}, at.name), at.reason ? ` can't be opened: ${at.reason}` : `: ${at.words}`);
+    const found = at && el("p", {}, el("strong", {}, isolated(at.name)), at.reason ? ` can't be opened: ${at.reason}` : `: ${at.words}`);
     return el("section", { class: "side" }, heading(i ? "Right" : "Left"), open, " ", desk, found);
   }
 }

@@ -11,6 +11,7 @@ import { Editor } from "./editor.mjs";
 import { Stepper } from "./stepper.mjs";
 import { showMoment } from "./moment.mjs";
 import { readText, namesFrom } from "./listing.mjs";
+import { isolated } from "./names.mjs";
 import { readLesson } from "./lessons.mjs";
 import { questionPart } from "./questions.mjs";
 import { moreOf } from "./coursebar.mjs";
@@ -135,6 +136,7 @@ export class Course {
   refresh(count) {
     const read = readText(this.editor.text);
     this.editor.showFault(read.fault);
+    if (read.fault) byId("course-list").open = true;
     if (read.fault) this.editor.markLine(null);
     const start = !(read.fault && this.record) && this.begin(this.limits);
     if (!start) return false;
@@ -233,7 +235,7 @@ export class Course {
     if (typeof found.text === "string" && found.kind !== "desk") return this.openText(found.text, Infinity);
     if (found.kind === "list") return this.openText(toText(found.list), Infinity);
     const reason = found.kind === "unknown" ? found.reason : "open it at the desk: the course plays lists from a fresh session";
-    return replace(this.editor.fault, el("strong", {}, `${name}: ${reason}`));
+    return replace(this.editor.fault, el("strong", {}, `${isolated(name)}: ${reason}`));
   }
 
   openText(text, step, limits = null) {

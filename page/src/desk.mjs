@@ -11,7 +11,7 @@ import { Stepper } from "./stepper.mjs";
 import { showMoment } from "./moment.mjs";
 import { showBoard } from "./board.mjs";
 import { showBar } from "./deskbar.mjs";
-import { Names, counted } from "./names.mjs";
+import { Names, counted, isolated } from "./names.mjs";
 import { readText, namesFrom } from "./listing.mjs";
 import { emptyHearing, begun, toFile, fromFile, textNumber, Unreadable } from "./hearing.mjs";
 import { kept, putAside } from "./store.mjs";
@@ -79,12 +79,19 @@ export class Desk {
     this.rows.show(this.record, this.lines, this.names, this.record.length);
     this.stepper.show(this.record.end, this.names);
     byId("desk-steps").prepend(el("p", { class: "fields" }, el("label", {}, "name ", this.takeName)), this.knownWords());
+    this.words.closest("p").append(this.last());
     this.falls.show(this.record);
     showBoard(byId("desk-board"), this.record, this.names, bytes => this.append(bytes));
     showBar(this);
     byId("desk-heading").textContent = this.hearing.title;
     this.rows.pick(Math.min(count, this.record.length));
     keepHearing(this);
+  }
+
+  /** What the last step did, beside the words, where the picture is out of view. */
+  last() {
+    const { replies, length } = this.record;
+    return el("span", { class: "last" }, length ? `step ${length}, ${verdict(replies[length - 1])}: ${this.lines[length - 1]}` : "");
   }
 
   knownWords() {
@@ -208,10 +215,10 @@ export class Desk {
     const found = recognize(bytes, name);
     try {
       if (found.kind === "unknown") throw new Unreadable(found.reason);
-      confirmOpening(this, hearingFrom(found), name);
+      confirmOpening(this, hearingFrom(found), isolated(name));
     } catch (e) {
       if (!(e instanceof Unreadable)) throw e;
-      tell(`${name} can't be opened: ${e.message}`);
+      tell(`${isolated(name)} can't be opened: ${e.message}`);
     }
   }
 

@@ -9,6 +9,9 @@ import { namedText } from "./listing.mjs";
 import { tell } from "./notices.mjs";
 import { counted } from "./names.mjs";
 
+// A file's name has room for so many letters of a title.
+const LONGEST_NAME = 60;
+
 export function showBar(desk) {
   const { hearing, record } = desk, open = Array.from(document.querySelectorAll("#desk-bar details[open]"), d => d.id);
   const part = (id, title, ...children) => el("details", { id, open: open.includes(id) }, el("summary", {}, title), children);
@@ -40,7 +43,7 @@ function namesTable(desk) {
 }
 
 function files(desk, part) {
-  const { hearing, record } = desk, base = (hearing.title || "hearing").replace(/[^\p{L}\p{M}\p{N}_-]+/gu, "-");
+  const { hearing, record } = desk, base = (hearing.title || "hearing").replace(/[^\p{L}\p{M}\p{N}_-]+/gu, "-").slice(0, LONGEST_NAME);
   const lines = () => toText(hearing.list).split("\n").slice(0, -1), saved = el("p", { role: "status", class: "soft" });
   const saver = (label, id, ending, content, type) => [button(label, () => {
     save(`${base}.${ending}`, content(), type);

@@ -4,7 +4,7 @@ import { aside, dropAside, dropKept, isKept, keep, keptElsewhere, putAside } fro
 import { fromFile, toFile, Unreadable } from "./hearing.mjs";
 import { save } from "./files.mjs";
 import { confirmOpening, tell } from "./notices.mjs";
-import { counted } from "./names.mjs";
+import { counted, isolated } from "./names.mjs";
 
 // What is said now, so that it is not said again at each step.
 let said = "";
@@ -74,5 +74,5 @@ function putBy(desk, text) {
 }
 
 function titled({ title, list }) {
-  return `A hearing of another window was put aside: ${title ? `\u201c${title}\u201d, ` : ""}${counted(list.length / 8, "step")}.`;
+  return `A hearing of another window was put aside: ${title ? `\u201c${isolated(title)}\u201d, ` : ""}${counted(list.length / 8, "step")}.`;
 }

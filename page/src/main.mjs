@@ -6,6 +6,7 @@ import { Desk } from "./desk.mjs";
 import { Compare } from "./compare.mjs";
 import { readAddress, fromBase64 } from "./address.mjs";
 import { toText } from "../../bindings/js/notation.mjs";
+import { isolated } from "./names.mjs";
 
 const VIEWS = ["course", "desk", "compare", "words"];
 const views = {};
@@ -66,9 +67,10 @@ function listText(list) {
 /** What the address asked for and can't be had, in sentences. */
 function troubles({ view, lesson, list, wrong, step, limits }, text, known, taken) {
   const found = [], without = known || lesson === null || text !== null;
-  if (view !== null && !VIEWS.includes(view)) found.push(`There is no view called \u201c${view}\u201d.`);
-  if (!without) found.push(`There is no lesson called \u201c${lesson}\u201d.`);
+  if (view !== null && !VIEWS.includes(view)) found.push(`There is no view called \u201c${isolated(view)}\u201d.`);
+  if (!without) found.push(`There is no lesson called \u201c${isolated(lesson)}\u201d.`);
   if (wrong.list || (list && text === null)) found.push("The address holds no whole list of steps.");
+  if (text?.trim() === "") found.push("The address holds no steps.");
   if (wrong.limits || (limits && !taken)) found.push("The address's limits are none that a session can have.");
   if (wrong.step) found.push("The address names no step.");
   else if (step !== null && step > views.course.record.length) found.push(`There is no step ${step}.`);

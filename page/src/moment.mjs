@@ -123,7 +123,7 @@ function parcelsTable(now, before, names) {
     const marks = p.map.map((mark, u) => ({ mark, u, changed: false })).filter(m => m.mark);
     const map = marks.length ? chips(marks, names) : el("span", { class: "soft" }, "empty");
     const number = cell(p.number, !known.has(p.number));
-    return el("tr", {}, number, el("td", {}, names.take(p.to)), el("td", WORDS, names.bare(p.text)), el("td", {}, map));
+    return el("tr", {}, number, el("td", WORDS, names.take(p.to)), el("td", WORDS, names.bare(p.text)), el("td", WORDS, map));
   });
   return el("table", {}, headRow("parcel", "for", "text", "its map"), el("tbody", {}, rows));
 }

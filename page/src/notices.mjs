@@ -6,7 +6,7 @@ import { trial } from "./offered.mjs";
 import { costWords } from "./withdrawal.mjs";
 import { save } from "./files.mjs";
 import { toFile, Unreadable } from "./hearing.mjs";
-import { capital } from "./names.mjs";
+import { capital, isolated } from "./names.mjs";
 import { verdict, tone, FALLEN_BACK, VANISHED } from "./words.mjs";
 
 /** Says something at the desk, with what can be done about it. */
@@ -79,7 +79,7 @@ export function confirmEmpty(desk, take, go) {
 
 /** Before a second take gets the name of another. */
 export function confirmName(name, known, go) {
-  ask("a name twice", el("p", {}, `Take ${known} is called \u201c${name}\u201d already.`), "open another of this name", go, "confirm-name");
+  ask("a name twice", el("p", {}, `Take ${known} is called \u201c${isolated(name)}\u201d already.`), "open another of this name", go, "confirm-name");
 }
 
 /** What a file's hearing lacks beside its steps. */
