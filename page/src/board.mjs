@@ -1,12 +1,13 @@
 // The state of a hearing at its end: what can be signed now, what stands in the way of the rest, and what waits for whom.
 import { el, replace, button, heading } from "./dom.mjs";
-import { packStep, readReply, readStep } from "../../bindings/js/packed.mjs";
+import { packStep, readReply } from "../../bindings/js/packed.mjs";
+import { REFUSALS } from "../../bindings/js/refusals.mjs";
 import { readTake } from "../../bindings/js/image.mjs";
 import { whyNot } from "./reasons.mjs";
 import { fates, waitingAt } from "./parcels.mjs";
 import { present, trial } from "./offered.mjs";
 import { braces, counted, capital } from "./names.mjs";
-import { effect, tone, FALLEN_BACK, GONE, WRONG_STATUS } from "./words.mjs";
+import { tone, FALLEN_BACK, GONE, WRONG_STATUS } from "./words.mjs";
 
 /** add(bytes) is told of a step that was chosen. */
 export function showBoard(host, record, names, add) {
@@ -68,5 +69,6 @@ function receipt(record, parcel, names, add) {
   const press = news === "refused" ? "" : [button("receive", () => add(bytes)), " "];
   if (news === "done") return el("td", {}, press);
   const turned = { [WRONG_STATUS]: `At work: ${names.take(parcel.to)}; press done first.`, [GONE]: "The take vanished: the parcel can only be lost." };
-  return el("td", { class: "trouble" }, press, turned[reply.outcome] ?? `then: ${effect(readStep(bytes, 0), reply, names)}.`);
+  const would = { fell: "The take falls by it: it shows that a ground was withdrawn.", dropped: "It is dropped: it carries a withdrawn life." };
+  return el("td", { class: "trouble" }, press, turned[reply.outcome] ?? would[news] ?? `Refused: ${REFUSALS[reply.outcome][1]}.`);
 }
