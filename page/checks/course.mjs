@@ -27,6 +27,8 @@ const SENTENCES = [
   ["50-not-mended-by-a-signing", 19, "Page 12 rests on the names, withdrawn at step 14."],
   ["60-frozen-takes-fall-too", 18, "vanished. Page 12 vanished: parcel 4 shows that the ground was withdrawn"],
   ["80-grounds-that-are-only-frozen", 11, "{0,1}, the names and page 12, is the smallest volume with page 12 that can be signed now."],
+  ["92-edits-in-either-order", 10, "The ledger says: vanished. The two steps are about different takes."],
+  ["94-a-bad-hour", 22, "The ledger says: fallen back, and the mark is (0; 5)."],
   ["98-a-house", 22, "Appraisal, offer and mortgage rest on it directly."],
   ["98-a-house", 24, "Offer rests on description, withdrawn at step 23."],
 ];
