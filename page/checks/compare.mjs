@@ -42,7 +42,7 @@ async function lists({ browser, check, shots }, put, held) {
   });
 }
 
-async function images({ check }, put, held) {
+async function images({ browser, check }, put, held) {
   await check("compare: the first field of two images", async () => {
     const image = Buffer.alloc(42616);
     image.set([1, 0, 0, 0, 16, 32, 15, 0, 0x40, 0, 0, 0, 7]);
@@ -54,6 +54,17 @@ async function images({ check }, put, held) {
     other[17] = 0xc0;
     const words = await held(put("a.image", image), put("b.image", other));
     assert.match(words, /take 0, state map, mark of take 0, .*: \(empty; 0\) against \(empty; 0\) frozen/);
+  });
+  await check("compare: a damaged image is compared all the same, and files that are nothing are the same or not", async () => {
+    const image = Buffer.alloc(42616), damaged = Buffer.alloc(42616);
+    for (const whole of [image, damaged]) whole.set([0, 0, 0, 0, 16, 32, 15, 0]);
+    damaged[8 + 1593 * 3 + 9 + 33 * 5] = 0x80;
+    assert.match(await held(put("a.image", image), put("b.image", damaged)), /take 3, state map, mark of take 5, .*: no mark against \(empty; 0\)/);
+    assert.match(await browser.text("#compare-part"), /b\.image can't be opened: refused with 19, .*; its bytes are compared as an image's/);
+    const nothing = put("n", Buffer.from([1, 2, 3]));
+    assert.match(await held(nothing, nothing), /The files are the same, byte for byte\./);
+    assert.match(await held(nothing, put("m", Buffer.from([1, 2, 4]))), /The files are not the same, byte for byte\./);
+    assert.match(await held(put("a.image", image), nothing), /Only the left file can be opened: there is nothing to compare\./);
   });
 }
 

@@ -114,7 +114,7 @@ async function signing({ browser, check, shots }, desk) {
     await desk.take("read", 0);
     await desk.take("done", 0);
     await browser.click("#desk-thin");
-    assert.match(await browser.text("#desk-notice"), /1 step left out/);
+    assert.match(await browser.text("#desk-done"), /1 step left out/);
     assert.equal((await desk.replies()).length, read.length + 1);
   });
   await check("the engine without maps gives the same replies", async () => {

@@ -95,20 +95,21 @@ async function back({ browser, check, url }) {
   const desk = await fresh(browser, url), replies = async () => (await desk.replies()).length;
   await check("an undone step, and a thinned list, can be brought back with their words", async () => {
     await desk.open("names", "as heard");
-    const whole = await stored(browser);
+    const whole = await stored(browser), { y } = await browser.place("#desk-undo");
     await browser.click("#desk-undo");
-    assert.match(await browser.text("#desk-notice"), /Taken back: opened: names, with “as heard”\./);
-    await browser.press("#desk-notice", "bring it back");
+    assert.match(await browser.text("#desk-done"), /Taken back: opened: names, with “as heard”\./);
+    assert.equal((await browser.place("#desk-undo")).y, y);
+    await browser.press("#desk-done", "bring it back");
     assert.equal(await stored(browser), whole);
     for (const kind of ["work", "read", "done"]) await desk.take(kind, 0);
     assert.equal(await browser.text("#desk-thin"), "thin the list: leave out 1 step");
     await browser.click("#desk-thin");
     assert.equal(await replies(), 4);
     assert.equal(await browser.eval(`document.querySelector("#desk-thin").hidden`), true);
-    await browser.press("#desk-notice", "bring it back");
+    await browser.press("#desk-done", "bring it back");
     assert.equal(await replies(), 5);
     await desk.take("work", 0);
-    assert.equal(await browser.text("#desk-notice"), "");
+    assert.equal(await browser.text("#desk-done"), "");
   });
   await check("a button pressed right after a title or a name was typed is pressed", async () => {
     for (const field of ["#desk-title", `[data-rename="0"]`]) {

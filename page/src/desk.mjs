@@ -1,5 +1,5 @@
 // The desk: a hearing of one's own, kept by names and words, stepped by buttons.
-import { el, byId, button, focusIn, announce, unpressed } from "./dom.mjs";
+import { el, replace, byId, button, focusIn, announce, unpressed } from "./dom.mjs";
 import { play, GREATEST, LONGEST } from "../../bindings/js/ledger.mjs";
 import { joined, readReply, readStep, sameBytes } from "../../bindings/js/packed.mjs";
 import { readImage } from "../../bindings/js/image.mjs";
@@ -155,13 +155,14 @@ export class Desk {
     return { ...this.hearing, takes: [...this.hearing.takes], texts: { ...this.hearing.texts } };
   }
 
-  /** Says what was done, and offers the hearing as it was before. */
+  /** Says what was done, under the button that did it, and offers the hearing as it was before. */
   tellOf(words, before) {
-    tell(words, button("bring it back", () => {
-      hush();
+    const back = button("bring it back", () => {
       this.take(before);
       this.rows.list.focus({ preventScroll: true });
-    }));
+    });
+    replace(byId("desk-done"), el("p", {}, `${words} `, back));
+    announce(words);
   }
 
   /** Forgets the words of a text that nothing has any more. */

@@ -28,6 +28,7 @@ export function showBar(desk) {
     el("p", {}, el("label", {}, "Hearing ", title)),
     el("p", { class: "soft" }, `${counted(record.length, "step")}; ${room}`),
     el("p", {}, undo, " ", thin),
+    el("div", { id: "desk-done" }),
     part("desk-names", "names of takes", namesTable(desk)),
     part("desk-files", "open and save", files(desk, part)),
     part("desk-new", "new hearing", fresh(desk)),

@@ -43,16 +43,14 @@ export function announce(text) {
   byId("announcement").textContent = text;
 }
 
-// Whether a button or a pointer is being pressed, and what waits until it is not.
+// Whether something is being pressed, and what waits until it is not.
 let pressing = false;
-const waiting = [];
+const waiting = [], release = () => {
+  pressing = false;
+  if (waiting.length) setTimeout(() => waiting.splice(0).forEach(action => action()));
+};
 window.addEventListener("pointerdown", () => (pressing = true), true);
-for (const end of ["pointerup", "pointercancel"]) {
-  window.addEventListener(end, () => {
-    pressing = false;
-    setTimeout(() => waiting.splice(0).forEach(action => action()));
-  }, true);
-}
+for (const end of ["pointerup", "pointercancel", "keydown", "pagehide"]) window.addEventListener(end, release, true);
 
 /** Draws anew now, or once what is being pressed was clicked: a field is left by pressing a button, which must not be gone by then. */
 export function unpressed(action) {

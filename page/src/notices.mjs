@@ -9,10 +9,9 @@ import { toFile, Unreadable } from "./hearing.mjs";
 import { capital, isolated } from "./names.mjs";
 import { verdict, tone, FALLEN_BACK, VANISHED } from "./words.mjs";
 
-/** Says something at the desk, with what can be done about it. */
-export function tell(words, ...more) {
+export function tell(words) {
   const host = byId("desk-notice");
-  replace(host, el("div", { class: "notice" }, el("p", {}, words), more, " ", button("close", () => replace(host))));
+  replace(host, el("div", { class: "notice" }, el("p", {}, words), button("close", () => replace(host))));
 }
 
 /** Nothing is said any more of what was done before. */
