@@ -31,17 +31,16 @@ function notice(name, words, ...more) {
 
 /** The question which of two windows' hearings is kept; the one that is not is put aside. */
 function elsewhere(desk, other) {
-  const put = text => {
-    const trouble = putAside(text);
+  const done = trouble => {
     if (trouble) tell(trouble);
     return !trouble;
   };
   const theirs = button("open the other one", () => {
     const text = toFile(desk.hearing);
-    if (isKept(text) || put(text)) desk.restore();
+    if (isKept(text) || done(putAside(text))) desk.restore();
   });
   const ours = button("keep this one", () => {
-    if (put(other)) keep(toFile(desk.hearing));
+    if (done(putAside(other))) done(keep(toFile(desk.hearing)));
     showKept(desk);
   });
   const words = "Another window of this page has kept a hearing since. The one in this window is not kept now; whichever you leave is put aside.";
