@@ -1,5 +1,5 @@
 // bundle WASM-FOLDER OUT: frame.html with the style, the lessons, the library's modules and the scripts in it, as one file.
-// Comments stay behind. Each module becomes a function that gives its exports; what it imports has come before it. A module says
+// Comments and indentation stay behind. Each module becomes a function that gives its exports; what it imports has come before it. A module says
 // `import { a, b as c } from "./x.mjs";` and `export function|class|const|async function`, nothing else.
 import { readFileSync, writeFileSync, readdirSync, mkdirSync } from "node:fs";
 import { createHash } from "node:crypto";
@@ -36,7 +36,8 @@ function wrapped(file, name, text) {
     })
     .replace(IMPORT, (_, names, from) => `const { ${rebound(names)} } = ${add(resolve(dirname(file), from))};`)
     .replace(EXPORT, "$1 $2");
-  const bare = body.replace(/^[ \t]*\/\*\*(?:(?!\*\/)[^])*\*\/\n/gm, "").replace(/^[ \t]*\/\/.*\n/gm, "");
+  const bare = body.replace(/\/\*\*(?:(?!\*\/)[^])*\*\/[ \t]*/g, "").replace(/^[ \t]*\/\/.*\n/gm, "").replace(/^[ \t]+|\n(?=[ \t]*\n)/gm, "");
+  if (bare.split("\n").some(line => line.split("`").length % 2 === 0)) throw new Error(`${file}: a text over several lines would lose its indentation`);
   const lost = /^\s*(import|export)\b/m.exec(bare);
   if (lost) throw new Error(`${file}: a form of import or export that this bundle does not know`);
   const title = `// ${file.slice(resolve(here, "..").length + 1)}`, gives = `return { ${exported.join(", ")} };`;

@@ -8,7 +8,7 @@ const FLAGS = [
   "--headless=new", "--no-sandbox", "--disable-gpu", "--hide-scrollbars", "--no-first-run", "--disable-dev-shm-usage",
   "--disable-background-networking", "--disable-component-update", "--remote-debugging-pipe",
 ];
-const CODES = { ArrowDown: 40, ArrowUp: 38, Home: 36, End: 35, ArrowRight: 39 };
+const CODES = { ArrowDown: 40, ArrowUp: 38, Home: 36, End: 35, ArrowRight: 39, Escape: 27 };
 const quoted = JSON.stringify;
 
 /** Works in the page: the element of a selector, which must be there. */
@@ -52,10 +52,23 @@ export class Browser {
   async attach(width, height) {
     const { targetId } = await this.call("Target.createTarget", { url: "about:blank" });
     const { sessionId } = await this.call("Target.attachToTarget", { targetId, flatten: true });
+    this.targetId = targetId;
     this.send = (method, params) => this.call(method, params, sessionId);
     for (const domain of ["Page", "Runtime", "Log", "DOM", "Network"]) await this.send(`${domain}.enable`);
     await this.call("Browser.setDownloadBehavior", { behavior: "allow", downloadPath: this.downloads, eventsEnabled: true });
     await this.size(width, height);
+  }
+
+  /** Another window of the same browser, which shares what is kept. */
+  async another(width = 1500, height = 950) {
+    const other = Object.assign(new Browser(), this);
+    await other.attach(width, height);
+    return other;
+  }
+
+  /** Shuts a window that is another. */
+  shut() {
+    return this.call("Target.closeTarget", { targetId: this.targetId });
   }
 
   size(width, height) {

@@ -4,8 +4,8 @@ import { writeFileSync } from "node:fs";
 
 const A = "root text 1\nroot text 2\nletter to 0 text 3\nreceive 0\n";
 
-export async function compareChecks({ browser, check, url, shots }) {
-  const put = (name, bytes) => {
+export async function compareChecks(context) {
+  const { browser, url } = context, put = (name, bytes) => {
     writeFileSync(`${browser.profile}/${name}`, bytes);
     return `${browser.profile}/${name}`;
   };
@@ -17,6 +17,12 @@ export async function compareChecks({ browser, check, url, shots }) {
     await browser.until(`document.querySelectorAll(".side p").length === 2`);
     return browser.text("#difference");
   };
+  await lists(context, put, held);
+  await images(context, put, held);
+  await beside(context, put, held);
+}
+
+async function lists({ browser, check, shots }, put, held) {
   const a = put("a.steps", A);
   await check("compare: the same", async () => {
     assert.match(await held(a, put("b.steps", `  ${A}# more\n`)), /The steps are the same, byte for byte/);
@@ -28,6 +34,15 @@ export async function compareChecks({ browser, check, url, shots }) {
     assert.match(await held(a, put("b.steps", `${A}freeze 0\n`)), /step 5\. Left: it has ended\. Right: “freeze 0”, done/);
     await browser.shot(`${shots}compare.png`);
   });
+  await check("compare: a file that is nothing is named", async () => {
+    await held(a, put("b", Buffer.from([1, 2, 3])));
+    assert.match(await browser.text("#compare-part"), /b can't be opened: it is no image/);
+    await held(a, put("cut.image", Buffer.alloc(20000)));
+    assert.match(await browser.text("#compare-part"), /cut\.image can't be opened: it is not a whole image\./);
+  });
+}
+
+async function images({ browser, check }, put, held) {
   await check("compare: the first field of two images", async () => {
     const image = Buffer.alloc(42616);
     image.set([1, 0, 0, 0, 16, 32, 15, 0, 0x40, 0, 0, 0, 7]);
@@ -40,12 +55,20 @@ export async function compareChecks({ browser, check, url, shots }) {
     const words = await held(put("a.image", image), put("b.image", other));
     assert.match(words, /take 0, state map, mark of take 0, .*: \(empty; 0\) against \(empty; 0\) frozen/);
   });
-  await check("compare: a file that is nothing is named", async () => {
-    await held(a, put("b", Buffer.from([1, 2, 3])));
-    assert.match(await browser.text("#compare-part"), /b can't be opened: it is no image/);
-    await held(a, put("cut.image", Buffer.alloc(20000)));
-    assert.match(await browser.text("#compare-part"), /cut\.image can't be opened: it is not a whole image\./);
+  await check("compare: a damaged image is compared all the same, and files that are nothing are the same or not", async () => {
+    const image = Buffer.alloc(42616), damaged = Buffer.alloc(42616);
+    for (const whole of [image, damaged]) whole.set([0, 0, 0, 0, 16, 32, 15, 0]);
+    damaged[8 + 1593 * 3 + 9 + 33 * 5] = 0x80;
+    assert.match(await held(put("a.image", image), put("b.image", damaged)), /take 3, state map, mark of take 5, .*: no mark against \(empty; 0\)/);
+    assert.match(await browser.text("#compare-part"), /b\.image can't be opened: refused with 19, .*; its bytes are compared as an image's/);
+    const nothing = put("n", Buffer.from([1, 2, 3]));
+    assert.match(await held(nothing, nothing), /The files are the same, byte for byte\./);
+    assert.match(await held(nothing, put("m", Buffer.from([1, 2, 4]))), /The files are not the same, byte for byte\./);
+    assert.match(await held(put("a.image", image), nothing), /Only the left file can be opened: there is nothing to compare\./);
   });
+}
+
+async function beside({ browser, check }, put, held) {
   await check("compare: names and words", async () => {
     const file = (title, name, words) => JSON.stringify({
       format: "take ledger desk", version: 1, title, limits: { takes: 16, parcels: 32, signings: 15 },

@@ -27,6 +27,8 @@ const SENTENCES = [
   ["50-not-mended-by-a-signing", 19, "Page 12 rests on the names, withdrawn at step 14."],
   ["60-frozen-takes-fall-too", 18, "vanished. Page 12 vanished: parcel 4 shows that the ground was withdrawn"],
   ["80-grounds-that-are-only-frozen", 11, "{0,1}, the names and page 12, is the smallest volume with page 12 that can be signed now."],
+  ["92-edits-in-either-order", 10, "The ledger says: vanished. The two steps are about different takes."],
+  ["94-a-bad-hour", 22, "The ledger says: fallen back, and the mark is (0; 5)."],
   ["98-a-house", 22, "Appraisal, offer and mortgage rest on it directly."],
   ["98-a-house", 24, "Offer rests on description, withdrawn at step 23."],
 ];
@@ -50,6 +52,7 @@ export async function courseChecks(context) {
   await choosing(context);
   await links(context);
   await own(context);
+  await honest(context);
 }
 
 async function lessons({ browser, check, url, shots }) {
@@ -186,9 +189,13 @@ async function links({ browser, check, url }) {
   };
   await check("a link holds the list as text", () => same("link with the text"));
   await check("a link holds the list as packed bytes", () => same("link with packed steps"));
-  await check("a link that holds no list says so at its place", async () => {
-    await browser.go(`${url}#text=${encodeURIComponent("root text 1\nnonsense")}`);
-    assert.match(await browser.text("#fault"), /line 2, column 1/);
+  await check("a link that holds no list says so at its place, on a phone too", async () => {
+    for (const room of [390, 1500]) {
+      await browser.size(room, 950);
+      await browser.go(`${url}#text=${encodeURIComponent("root text 1\nnonsense")}`);
+      assert.match(await browser.text("#fault"), /line 2, column 1/);
+      assert.ok((await browser.place("#fault")).height > 30);
+    }
   });
 }
 
@@ -198,17 +205,20 @@ const NO_SUCH = [
   ["list=AAAA", /The address holds no whole list of steps\./],
   ["list=!", /The address holds no whole list of steps\./],
   ["step=abc", /The address names no step\./],
+  ["list=&lesson=00-a-first-session", /The address holds no steps\./, 0],
+  ["view=nosuch", /There is no view called “nosuch”\./],
+  ["limits=1,2&text=root%20text%201", /The address's limits are none that a session can have\./],
   ["lesson=00-a-first-session&step=NaN", /The address names no step\./],
   ["lesson=00-a-first-session&step=999", /There is no step 999\./],
   ["text=root%20text%201&limits=99,1,1", /The address's limits are none that a session can have\./],
 ];
 
 async function own({ browser, check, url }) {
-  for (const [asked, words] of NO_SUCH) {
+  for (const [asked, words, least = 1] of NO_SUCH) {
     await check(`an address that asks for nothing: ${asked}`, async () => {
       await browser.go(`${url}#${asked}`);
       assert.match(await browser.text("#course-notice"), words);
-      assert.ok(await browser.eval(`document.querySelectorAll("#course-rows li").length`) > 0);
+      assert.ok(await browser.eval(`document.querySelectorAll("#course-rows li").length`) >= least);
     });
   }
   await check("a list of one's own is kept while a lesson is looked at, and after a reload", async () => {
@@ -237,5 +247,35 @@ async function own({ browser, check, url }) {
   await check("a reply in a comment is no name", async () => {
     await browser.go(`${url}#text=${encodeURIComponent("\ufeffroot text 7 # done take 0\nroot text 8 # page 12\n")}`);
     assert.deepEqual(await browser.all("#course-rows .lane-name"), ["take 0", "1 page 12"]);
+  });
+}
+
+/** Nothing gives a question's answer away or answers for another session than the one in view. */
+async function honest({ browser, check, url }) {
+  await check("a lesson and a link have their own limits, a list of one's own gets its back", async () => {
+    const takes = () => browser.eval(`document.querySelector("#limit-takes").value`);
+    await browser.go(`${url}#text=${encodeURIComponent("root text 1\nroot text 2\n")}&limits=1,2,3`);
+    assert.deepEqual(await browser.all("#course-rows .reply"), ["done", "25 all opened"]);
+    await browser.fill("#lesson", "00-a-first-session");
+    assert.deepEqual([await takes(), (await browser.all("#course-rows .reply"))[1]], ["16", "done"]);
+    await browser.fill("#lesson", "");
+    assert.deepEqual([await takes(), (await browser.all("#course-rows .reply"))[1]], ["1", "25 all opened"]);
+    await browser.eval(`location.hash = "#text=${encodeURIComponent("root text 1\nroot text 3\n")}"`);
+    await browser.until(`document.querySelector("#text").value.includes("text 3")`);
+    assert.equal(await takes(), "16");
+  });
+  await check("what a withdrawal reaches is folded away while a question is open, and says who is frozen", async () => {
+    await browser.go(`${url}#lesson=20-what-a-withdrawal-reaches`);
+    assert.equal(await browser.eval(`document.querySelector("#course-moment .cost").checkVisibility()`), false);
+    await browser.click("#reveal");
+    assert.equal(await browser.eval(`document.querySelector("#course-moment .cost").checkVisibility()`), true);
+    assert.match(await browser.text("#course-moment .cost"), /1 page 12\s+It is frozen, and does not fall of itself\. Page 40 rests on it directly\./);
+  });
+  await check("a window is so many whole replies wide", async () => {
+    await browser.go(`${url}#lesson=94-a-bad-hour&step=26`);
+    await browser.fill("#course-falls input", "2.5");
+    assert.match(await browser.text("#course-falls"), /Most falls within 2 replies: 2, in steps 18 to 19\./);
+    await browser.fill("#course-falls input", "");
+    assert.match(await browser.text("#course-falls"), /35, wrong width/);
   });
 }

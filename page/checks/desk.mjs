@@ -52,6 +52,7 @@ async function hearing(context) {
   const desk = await small(context.browser, context.url);
   await board(context, desk);
   await withdrawing(context, desk);
+  await signing(context, desk);
 }
 
 async function board({ browser, check, shots }, desk) {
@@ -73,7 +74,7 @@ async function board({ browser, check, shots }, desk) {
   });
 }
 
-async function withdrawing({ browser, check, shots }, desk) {
+async function withdrawing({ browser, check }, desk) {
   await check("what a withdrawal costs, before it is done", async () => {
     await desk.take("fail", 1);
     assert.match(await browser.text("#desk-confirm"), /Withdraw pages 1 to 30\? Nothing would happen: it is frozen\./);
@@ -100,6 +101,9 @@ async function withdrawing({ browser, check, shots }, desk) {
     assert.deepEqual(await browser.all(`#desk-steps .to[data-from="0"] option`), ["1 pages 1 to 30", "2 pages 31 to 60"]);
     assert.equal(await browser.eval(`document.querySelector('#desk-steps .to[data-from="0"]').value`), "2");
   });
+}
+
+async function signing({ browser, check, shots }, desk) {
   await check("sign by the board, undo, thin", async () => {
     await browser.click(`#desk-board [data-volume="3"]`);
     assert.equal((await desk.replies()).at(-1), "done");
@@ -110,7 +114,7 @@ async function withdrawing({ browser, check, shots }, desk) {
     await desk.take("read", 0);
     await desk.take("done", 0);
     await browser.click("#desk-thin");
-    assert.match(await browser.text("#desk-notice"), /1 step left out/);
+    assert.match(await browser.text("#desk-done"), /1 step left out/);
     assert.equal((await desk.replies()).length, read.length + 1);
   });
   await check("the engine without maps gives the same replies", async () => {
@@ -123,6 +127,7 @@ async function withdrawing({ browser, check, shots }, desk) {
     assert.equal((await desk.replies()).at(-1), "vanished");
     const n = (await desk.replies()).length;
     assert.match(await browser.text("#desk-falls"), new RegExp(`Most falls within 8 replies: 1, in steps ${n - 7} to ${n}\\.`));
+    assert.match(await desk.board(), /2 pages 31 to 60\s+3\s+speaker list\s+“one more”\s+The take vanished: the parcel can only be lost\./);
     await browser.shot(`${shots}desk-later.png`);
   });
 }

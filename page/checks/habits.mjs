@@ -18,6 +18,7 @@ export async function habitsChecks(context) {
   await growing(context);
   await fields(context);
   await deadEnd(context);
+  await throughOthers(context);
   await undoing(context);
   await onPaper(context);
 }
@@ -72,6 +73,7 @@ async function deadEnd({ browser, check, url }) {
   });
   await check("a receipt by which a take falls is asked about first", async () => {
     const before = (await desk.replies()).length;
+    assert.match(await desk.board(), /receive The take falls by it: it shows that a ground was withdrawn\./);
     await browser.click(`#desk-steps [data-kind=receive]`);
     const asked = await browser.text("#desk-confirm");
     assert.match(asked, /shows that a ground of page 12 was withdrawn: it falls\. It goes back to its signed text, “raw”; “set anew” is lost\./);
@@ -85,6 +87,36 @@ async function deadEnd({ browser, check, url }) {
     assert.equal((await desk.replies()).at(-1), "vanished");
     assert.deepEqual(await browser.all(`#desk-steps .to[data-from="0"] option`), ["1 page 12"]);
     assert.equal(await browser.eval(`document.querySelectorAll('#desk-steps [data-take="2"]').length`), 0);
+  });
+}
+
+// The names and page 12 signed, page 12 set from the names anew, page 40 set from page 12, the names withdrawn; then as the lines say.
+const THROUGH = ["root text 1", "root text 2", "root text 3", "letter to 0 text 0", "receive 0", "freeze 0", "sign {0}", "letter to 1 text 0", "receive 1", "freeze 1", "sign {1}"];
+const SET = ["letter to 0 text 0", "receive P", "send 0 to 1 text 4", "receive Q", "write 1 text 5", "done 1"];
+const ON = ["letter to 1 text 0", "receive P", "send 1 to 2 text 6", "receive Q", "write 2 text 7"];
+
+/** Lines with parcels numbered from a first one. */
+const from = (lines, first) => lines.map(line => line.replace("P", first).replace("Q", first + 1));
+const setFrom = first => [...from(SET, first), ...from(ON, first + 2)];
+
+async function throughOthers({ browser, check, url }) {
+  const shown = async steps => {
+    await browser.go(`${url}#view=desk`);
+    const file = { format: "take ledger desk", version: 1, steps, takes: ["names", "page 12", "page 40"] };
+    await browser.eval(`localStorage.setItem("take-ledger.desk", ${JSON.stringify(JSON.stringify(file))})`);
+    await browser.go(`${url}#view=desk`);
+    return browser.text("#desk-board");
+  };
+  const signed = ["letter to 2 text 0", "receive 2", "freeze 2", "sign {2}"];
+  await check("what would help a page that was set from a page: another take, its own fall, or its ground's fall and then its own", async () => {
+    const never = await shown([...THROUGH, ...setFrom(2), "fail 0"]);
+    assert.match(never, /2 page 40\s+Page 40 rests on page 12, which rests on names, withdrawn at step 23\.[^\n]* What would help: open another take for these pages\./);
+    const own = await shown([...THROUGH, ...signed, ...setFrom(3), "fail 0"]);
+    assert.match(own, /2 page 40\s+Page 40 rests on page 12, which [^\n]* What would help: withdraw page 40\./);
+    const after = await shown([...THROUGH, ...signed, ...setFrom(3), "freeze 2", "fail 0"]);
+    const way = "withdraw page 12; then start work on page 12, send from page 12 to page 40, press done for page 40, receive the parcel\\.";
+    assert.match(after, new RegExp(`2 page 40\\s+Page 40 rests on page 12, which [^\\n]* What would help: ${way}`));
+    await browser.eval(`localStorage.clear()`);
   });
 }
 

@@ -1,12 +1,13 @@
 // The state of a hearing at its end: what can be signed now, what stands in the way of the rest, and what waits for whom.
 import { el, replace, button, heading } from "./dom.mjs";
-import { packStep, readReply, readStep } from "../../bindings/js/packed.mjs";
+import { packStep, readReply } from "../../bindings/js/packed.mjs";
+import { REFUSALS } from "../../bindings/js/refusals.mjs";
 import { readTake } from "../../bindings/js/image.mjs";
 import { whyNot } from "./reasons.mjs";
 import { fates, waitingAt } from "./parcels.mjs";
 import { present, trial } from "./offered.mjs";
 import { braces, counted, capital } from "./names.mjs";
-import { effect, tone, FALLEN_BACK, WRONG_STATUS } from "./words.mjs";
+import { tone, FALLEN_BACK, GONE, WRONG_STATUS } from "./words.mjs";
 
 /** add(bytes) is told of a step that was chosen. */
 export function showBoard(host, record, names, add) {
@@ -45,7 +46,7 @@ function settled(session, take) {
 function hindered(record, takes, names) {
   if (!takes.length) return el("p", { class: "soft" }, "Nothing.");
   const said = ({ why, help }) => [...why, ...help].join(" ");
-  const why = t => el("td", {}, said(whyNot(record, record.length, 1 << t, names, true)));
+  const why = t => el("td", { class: "words" }, said(whyNot(record, record.length, 1 << t, names, true)));
   return el("table", {}, el("tbody", {}, takes.map(t => el("tr", {}, el("th", { scope: "row" }, names.numbered(t)), why(t)))));
 }
 
@@ -57,7 +58,7 @@ function waiting(record, names, add) {
   const row = p => el("tr", {},
     el("th", { scope: "row" }, names.numbered(p.to)),
     el("td", {}, p.number),
-    el("td", {}, p.made ? (p.from === null ? "outside" : names.take(p.from)) : "not known"),
+    el("td", { class: "words" }, p.made ? (p.from === null ? "outside" : names.take(p.from)) : "not known"),
     el("td", { class: "words" }, names.bare(p.text)),
     receipt(record, p, names, add));
   return el("table", {}, el("thead", {}, head), el("tbody", {}, parcels.map(row)));
@@ -67,6 +68,7 @@ function receipt(record, parcel, names, add) {
   const bytes = packStep("receive", { parcel: parcel.number }), reply = trial(record.end, bytes), news = tone(reply);
   const press = news === "refused" ? "" : [button("receive", () => add(bytes)), " "];
   if (news === "done") return el("td", {}, press);
-  const busy = reply.outcome === WRONG_STATUS && `At work: ${names.take(parcel.to)}; press done first.`;
-  return el("td", { class: "trouble" }, press, busy || `then: ${effect(readStep(bytes, 0), reply, names)}.`);
+  const turned = { [WRONG_STATUS]: `At work: ${names.take(parcel.to)}; press done first.`, [GONE]: "The take vanished: the parcel can only be lost." };
+  const would = { fell: "The take falls by it: it shows that a ground was withdrawn.", dropped: "It is dropped: it carries a withdrawn life." };
+  return el("td", { class: "trouble" }, press, turned[reply.outcome] ?? would[news] ?? `Refused: ${REFUSALS[reply.outcome][1]}.`);
 }

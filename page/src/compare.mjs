@@ -10,22 +10,22 @@ import { Record } from "./record.mjs";
 import { verdict } from "./words.mjs";
 import { besideDifference } from "./besides.mjs";
 import { namesFrom, readText } from "./listing.mjs";
-import { counted } from "./names.mjs";
+import { counted, isolated } from "./names.mjs";
 
 const WHAT = { desk: "a file of the desk", list: "a packed list", text: "a text" };
 
 const NONE = { title: "", takes: [], texts: {} };
 
-/** A file as something to compare: an image, or a hearing with its list; or why it is neither. */
+/** A file as something to compare: an image, or a hearing with its list; or why it is neither, and its bytes as an image's where they are as many. */
 function side(name, bytes) {
-  const found = recognize(bytes, name);
-  if (found.kind === "unknown") return { name, reason: found.reason };
+  const found = recognize(bytes, name), image = bytes.length === IMAGE ? bytes : null;
+  if (found.kind === "unknown") return { name, bytes, reason: found.reason, image, beside: NONE };
   if (found.kind === "image") return { name, image: found.image, beside: NONE, words: `an image${found.old ? " of the old form" : ""}` };
   try {
     return played(name, found.kind === "desk" ? fromFile(found.text) : { ...emptyHearing(), list: found.list }, WHAT[found.kind], found.text);
   } catch (e) {
     if (!(e instanceof Unreadable)) throw e;
-    return { name, reason: e.message };
+    return { name, bytes, reason: e.message };
   }
 }
 
@@ -36,7 +36,14 @@ function played(name, hearing, what, text = null) {
   return { name, record, image: record.end.image, beside, words: `${what}, ${counted(record.length, "step")}` };
 }
 
-/** What is to be said of two sides. */
+/** What is to be said of two sides; of files that can't be opened, whether they are the same. */
+function compared(a, b) {
+  if (!a || !b) return [];
+  if (a.image && b.image) return difference(a, b);
+  if (a.bytes && b.bytes) return [`The files are ${sameBytes(a.bytes, b.bytes) ? "" : "not "}the same, byte for byte.`];
+  return [`Only the ${a.image ? "left" : "right"} file can be opened: there is nothing to compare.`];
+}
+
 function difference(a, b) {
   const beside = besideDifference(a.beside, b.beside);
   if (a.record && b.record) return listDifference(a, b, beside);
@@ -54,7 +61,7 @@ function imageDifference(a, b) {
 /** A field's value, and where it is a text that has words, these too. */
 function worded({ beside }, field, value) {
   const words = field.endsWith("text") && beside.texts[value];
-  return words ? `${value} (\u201c${words}\u201d)` : value;
+  return words ? `${value} (\u201c${isolated(words)}\u201d)` : value;
 }
 
 function listDifference(a, b, beside) {
@@ -69,7 +76,7 @@ function listDifference(a, b, beside) {
 /** A step of one side, with its words and its reply. */
 function stepWords({ record, beside }, lines, at) {
   if (at >= record.length) return "it has ended";
-  const words = beside.texts[record.steps[at].text], text = words && / text /.test(lines[at]) ? `, text \u201c${words}\u201d` : "";
+  const words = beside.texts[record.steps[at].text], text = words && / text /.test(lines[at]) ? `, text \u201c${isolated(words)}\u201d` : "";
   return `\u201c${lines[at]}\u201d${text}, ${verdict(record.replies[at])}`;
 }
 
@@ -82,7 +89,7 @@ export class Compare {
   }
 
   draw() {
-    const [a, b] = this.sides, found = a?.image && b?.image ? difference(a, b) : [];
+    const found = compared(...this.sides);
     replace(
       byId("compare-part"),
       heading("Two files side by side", 2),
@@ -99,7 +106,7 @@ export class Compare {
     };
     const open = opener("open a file", (name, bytes) => put(side(name, bytes)), `compare-${i}`);
     const desk = button("the desk's hearing", () => put(played("the desk", this.desk(), "the hearing at the desk")));
-    const found = at && el("p", {}, el("strong", {}, at.name), at.reason ? ` can't be opened: ${at.reason}` : `: ${at.words}`);
+    const found = at && el("p", {}, el("strong", {}, isolated(at.name)), at.reason ? ` can't be opened: ${at.reason}${at.image ? "; its bytes are compared as an image's" : ""}` : `: ${at.words}`);
     return el("section", { class: "side" }, heading(i ? "Right" : "Left"), open, " ", desk, found);
   }
 }

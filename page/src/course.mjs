@@ -1,15 +1,17 @@
 // The course: lessons and lists of one's own, as text beside their picture.
-import { el, replace, byId, button, announce } from "./dom.mjs";
+import { el, replace, byId, button, announce, unpressed } from "./dom.mjs";
 import { GREATEST, Refusal, Session } from "../../bindings/js/ledger.mjs";
 import { toText } from "../../bindings/js/notation.mjs";
 import { Record } from "./record.mjs";
 import { Rows } from "./rows.mjs";
 import { Falls } from "./falls.mjs";
 import { legend } from "./shapes.mjs";
+import { onPaper } from "./paper.mjs";
 import { Editor } from "./editor.mjs";
 import { Stepper } from "./stepper.mjs";
 import { showMoment } from "./moment.mjs";
 import { readText, namesFrom } from "./listing.mjs";
+import { isolated } from "./names.mjs";
 import { readLesson } from "./lessons.mjs";
 import { questionPart } from "./questions.mjs";
 import { moreOf } from "./coursebar.mjs";
@@ -26,6 +28,7 @@ export class Course {
     this.answered = new Map();
     this.editor = new Editor(byId("editor"), () => this.edited(), line => this.atLine(line));
     this.rows = new Rows(byId("course-rows"), count => this.choose(count), () => this.closed());
+    onPaper(this.rows);
     this.falls = new Falls(byId("course-falls"));
     const textField = el("input", { type: "number", min: 0, max: LARGEST, value: 1, "aria-label": "text of the next step" });
     const textOf = () => Math.min(Math.max(0, Math.trunc(Number(textField.value) || 0)), LARGEST);
@@ -47,6 +50,8 @@ export class Course {
   openLesson(name) {
     const lesson = this.lessons.find(l => l.name === name);
     if (!lesson) return this.openOwn(name === EARLIER);
+    if (!this.lesson) this.ownLimits = { ...this.limits };
+    this.limitTo(GREATEST);
     this.lesson = lesson;
     this.mine = false;
     this.picker.value = lesson.name;
@@ -62,17 +67,26 @@ export class Course {
     const last = this.own ?? keptList();
     this.editor.text = (earlier ? keptList(true) : last) ?? this.editor.text;
     this.mine = !earlier && this.editor.text === keptList();
+    if (this.lesson && this.ownLimits) this.limitTo(this.ownLimits);
     this.leaveLesson();
-    if (earlier) this.keepOwn();
+    const trouble = earlier ? this.keepOwn() : null;
     if (!this.refresh(Infinity)) this.drawAgain();
+    if (trouble) this.say(trouble);
   }
 
-  /** Keeps the list that is being edited; the one that was kept before becomes the earlier one. */
+  /** Keeps the list that is being edited; the one that was kept before becomes the earlier one. Null, or why it is not kept. */
   keepOwn() {
-    const before = this.mine ? null : keptList();
-    if (before?.trim() && before !== this.editor.text) this.earlier.hidden = keepList(before, true) !== null;
-    keepList(this.own = this.editor.text);
-    this.mine = true;
+    const before = this.mine ? null : keptList(), another = before?.trim() && before !== this.editor.text;
+    this.own = this.editor.text;
+    const trouble = (another ? keepList(before, true) : null) ?? keepList(this.own);
+    this.earlier.hidden = keptList(true) === null;
+    this.mine = this.mine || trouble === null;
+    return trouble;
+  }
+
+  /** Takes these limits, and shows them. */
+  limitTo(limits) {
+    for (const name of Object.keys(limits)) byId(`limit-${name}`).value = this.limits[name] = limits[name];
   }
 
   leaveLesson() {
@@ -101,10 +115,10 @@ export class Course {
   }
 
   edited() {
-    const asking = this.lesson && this.record;
-    this.keepOwn();
+    const asking = this.lesson && this.record, trouble = this.keepOwn();
     if (this.lesson) this.leaveLesson();
     if (!this.refresh(Infinity) && asking) this.drawAgain();
+    if (trouble) this.say(trouble);
   }
 
   /** The picture as it was, beside a text that has a fault. */
@@ -115,13 +129,14 @@ export class Course {
 
   limited() {
     for (const name of Object.keys(this.limits)) this.limits[name] = Math.trunc(Number(byId(`limit-${name}`).value));
-    this.refresh(this.rows.count);
+    unpressed(() => this.refresh(this.rows.count));
   }
 
   /** Reads the text, plays it and draws it; a fault leaves the picture as it was, or empty. Whether it was played. */
   refresh(count) {
     const read = readText(this.editor.text);
     this.editor.showFault(read.fault);
+    if (read.fault) byId("course-list").open = true;
     if (read.fault) this.editor.markLine(null);
     const start = !(read.fault && this.record) && this.begin(this.limits);
     if (!start) return false;
@@ -163,7 +178,7 @@ export class Course {
   /** Says something over the picture, until a step is chosen. */
   say(words, ...more) {
     const host = byId("course-notice");
-    replace(host, el("div", { class: "notice", role: "status" }, words, " ", more, " ", button("close", () => replace(host))));
+    replace(host, el("div", { class: "notice" }, words, " ", more, " ", button("close", () => replace(host))));
   }
 
   /** Somebody asked for a reply that stays hidden for now. */
@@ -180,10 +195,12 @@ export class Course {
 
   choose(count) {
     replace(byId("course-notice"));
-    showMoment(byId("course-moment"), this.record, count, this.lines[count - 1], this.names, this.asked(count));
+    const asked = this.asked(count), go = by => this.rows.pick(count + by);
+    showMoment(byId("course-moment"), this.record, count, this.lines[count - 1], this.names, { ...asked, go, shown: this.shown() });
     this.editor.markLine(count ? this.places[count - 1] : null);
     const before = this.record.before(count), said = before && `${verdict(before.reply)}, ${effect(before.step, before.reply, this.names)}`;
-    announce(before ? `step ${count}, ${this.lines[count - 1]}: ${said}` : "before the first step");
+    const question = asked.asking ? ". A question stands before the next step" : "";
+    announce(`${before ? `step ${count}, ${this.lines[count - 1]}: ${said}` : "before the first step"}${question}`);
   }
 
   /** What the lesson asks before the next step, and what came of what it asked about this one. */
@@ -218,11 +235,11 @@ export class Course {
     if (typeof found.text === "string" && found.kind !== "desk") return this.openText(found.text, Infinity);
     if (found.kind === "list") return this.openText(toText(found.list), Infinity);
     const reason = found.kind === "unknown" ? found.reason : "open it at the desk: the course plays lists from a fresh session";
-    return replace(this.editor.fault, el("strong", {}, `${name}: ${reason}`));
+    return replace(this.editor.fault, el("strong", {}, `${isolated(name)}: ${reason}`));
   }
 
   openText(text, step, limits = null) {
-    if (limits) for (const name of Object.keys(limits)) byId(`limit-${name}`).value = this.limits[name] = limits[name];
+    if (limits) this.limitTo(limits);
     this.own = this.editor.text = text.replace(/^\ufeff/, "");
     this.mine = false;
     this.leaveLesson();

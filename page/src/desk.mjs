@@ -1,5 +1,5 @@
 // The desk: a hearing of one's own, kept by names and words, stepped by buttons.
-import { el, replace, byId, focusIn, announce } from "./dom.mjs";
+import { el, replace, byId, button, focusIn, announce, unpressed } from "./dom.mjs";
 import { play, GREATEST, LONGEST } from "../../bindings/js/ledger.mjs";
 import { joined, readReply, readStep, sameBytes } from "../../bindings/js/packed.mjs";
 import { readImage } from "../../bindings/js/image.mjs";
@@ -11,11 +11,12 @@ import { Stepper } from "./stepper.mjs";
 import { showMoment } from "./moment.mjs";
 import { showBoard } from "./board.mjs";
 import { showBar } from "./deskbar.mjs";
-import { Names, counted } from "./names.mjs";
+import { Names, counted, isolated } from "./names.mjs";
 import { readText, namesFrom } from "./listing.mjs";
 import { emptyHearing, begun, toFile, fromFile, textNumber, Unreadable } from "./hearing.mjs";
-import { keep, kept, putAside } from "./store.mjs";
-import { showAside, confirmFall, confirmReceipt, confirmEmpty, confirmName, confirmOpening, tell } from "./notices.mjs";
+import { kept, putAside } from "./store.mjs";
+import { keepHearing, showKept } from "./keeping.mjs";
+import { confirmFall, confirmReceipt, confirmEmpty, confirmName, confirmOpening, hush, tell } from "./notices.mjs";
 import { recognize } from "./files.mjs";
 import { effect, verdict, kindOf, REFUSED, WITH_TEXT } from "./words.mjs";
 
@@ -42,9 +43,14 @@ export class Desk {
       labels: LABELS,
     });
     this.stuck = null;
+    this.restore();
+    window.addEventListener("storage", () => showKept(this));
+  }
+
+  /** Takes the hearing that the browser keeps. */
+  restore() {
     this.hearing = this.restored();
     this.refresh(Infinity);
-    showAside(this.stuck === null ? [] : [kept()]);
   }
 
   /** The hearing that the browser kept; what can't be read again is put aside and shown. */
@@ -55,7 +61,7 @@ export class Desk {
       return fromFile(text);
     } catch (e) {
       if (!(e instanceof Unreadable)) throw e;
-      this.stuck = putAside(text) && "an earlier hearing, which can't be restored, fills the browser's room: this one is not kept";
+      this.stuck = putAside(text) ? text : null;
       return emptyHearing();
     }
   }
@@ -73,13 +79,19 @@ export class Desk {
     this.rows.show(this.record, this.lines, this.names, this.record.length);
     this.stepper.show(this.record.end, this.names);
     byId("desk-steps").prepend(el("p", { class: "fields" }, el("label", {}, "name ", this.takeName)), this.knownWords());
+    this.words.closest("p").append(this.last());
     this.falls.show(this.record);
     showBoard(byId("desk-board"), this.record, this.names, bytes => this.append(bytes));
     showBar(this);
     byId("desk-heading").textContent = this.hearing.title;
     this.rows.pick(Math.min(count, this.record.length));
-    const trouble = this.stuck ?? keep(toFile(this.hearing));
-    if (trouble) tell(trouble);
+    keepHearing(this);
+  }
+
+  /** What the last step did, beside the words, where the picture is out of view. */
+  last() {
+    const { replies, length } = this.record;
+    return el("span", { class: "last" }, length ? `step ${length}, ${verdict(replies[length - 1])}: ${this.lines[length - 1]}` : "");
   }
 
   knownWords() {
@@ -93,7 +105,8 @@ export class Desk {
 
   choose(count) {
     const line = count ? toText(this.hearing.list.subarray(8 * count - 8, 8 * count)).trim() : "";
-    showMoment(byId("desk-moment"), this.record, count, line, this.names);
+    const go = by => this.rows.pick(count + by);
+    showMoment(byId("desk-moment"), this.record, count, line, this.names, { go, shown: this.record.length });
   }
 
   /** What is asked before a step: what a withdrawal costs, words for a text, a name that no take has yet. */
@@ -116,7 +129,7 @@ export class Desk {
     if (WITH_TEXT.has(kindOf(step)) && reply.outcome === 0) this.words.value = "";
     this.hearing.list = joined([this.hearing.list, bytes]);
     const focused = focusIn(byId("desk"));
-    replace(byId("desk-confirm"));
+    hush();
     this.refresh(Infinity);
     focused(this.words);
     announce(`${verdict(reply)}: ${effect(step, reply, this.names)}`);
@@ -124,14 +137,32 @@ export class Desk {
 
   /** Takes back the last step, or a letter without words together with its receipt, and the names and words that came with it. */
   undo() {
-    const { steps, replies, length } = this.record, back = startsWork(this.record) ? 2 : 1, last = steps[length - 1];
+    const { steps, replies, length } = this.record, back = startsWork(this.record) ? 2 : 1, last = steps[length - 1], before = this.copy();
+    const lines = this.lines.slice(-back).join("; ");
     const opened = ["root", "new"].includes(kindOf(last)) && replies[length - 1].outcome < REFUSED;
     if (opened) this.hearing.takes.length = Math.min(this.hearing.takes.length, replies[length - 1].take);
     this.hearing.list = this.hearing.list.slice(0, -8 * back);
     const focused = focusIn(byId("desk"));
+    hush();
     this.refresh(Infinity);
     if (WITH_TEXT.has(kindOf(last)) && !this.used().has(last.text)) this.forget(last.text);
+    this.tellOf(`Taken back: ${lines}.`, before);
     focused(this.words);
+  }
+
+  /** The hearing as it stands, whatever is done to it. */
+  copy() {
+    return { ...this.hearing, takes: [...this.hearing.takes], texts: { ...this.hearing.texts } };
+  }
+
+  /** Says what was done, under the button that did it, and offers the hearing as it was before. */
+  tellOf(words, before) {
+    const back = button("bring it back", () => {
+      this.take(before);
+      this.rows.list.focus({ preventScroll: true });
+    });
+    replace(byId("desk-done"), el("p", {}, `${words} `, back));
+    announce(words);
   }
 
   /** Forgets the words of a text that nothing has any more. */
@@ -142,24 +173,29 @@ export class Desk {
 
   entitle(title) {
     this.hearing.title = title;
-    this.refresh(this.rows.count);
+    unpressed(() => this.refresh(this.rows.count));
   }
 
   rename(take, name) {
     this.hearing.takes[take] = name.trim();
-    this.refresh(this.rows.count);
+    unpressed(() => this.refresh(this.rows.count));
   }
 
-  /** Leaves out refused steps and unused reads, part by part; the image stays. */
-  thin() {
+  /** The list without refused steps and unused reads, part by part; the image stays. */
+  thinned() {
     const { list } = this.hearing, parts = [];
     for (let at = 0; at < list.length; at += LONGEST) {
       parts.push(this.record.at(at / 8).thin(list, at, Math.min(at + LONGEST, list.length)));
     }
-    const short = joined(parts), left = (list.length - short.length) / 8;
+    return joined(parts);
+  }
+
+  thin() {
+    const before = this.copy(), short = this.thinned(), left = (before.list.length - short.length) / 8;
     this.hearing.list = short;
+    hush();
     this.refresh(Infinity);
-    tell(left ? `${counted(left, "step")} left out; the hearing stands as it did.` : "Nothing to leave out.");
+    this.tellOf(`${counted(left, "step")} left out; the hearing stands as it did.`, before);
   }
 
   /** Holds the replies to those of the engine without maps. */
@@ -180,10 +216,10 @@ export class Desk {
     const found = recognize(bytes, name);
     try {
       if (found.kind === "unknown") throw new Unreadable(found.reason);
-      confirmOpening(this, hearingFrom(found), name);
+      confirmOpening(this, hearingFrom(found), isolated(name));
     } catch (e) {
       if (!(e instanceof Unreadable)) throw e;
-      tell(`${name} can't be opened: ${e.message}`);
+      tell(`${isolated(name)} can't be opened: ${e.message}`);
     }
   }
 
@@ -204,6 +240,7 @@ function startsWork({ steps, replies, length }) {
 function hearingFrom(found) {
   if (found.kind === "desk") return fromFile(found.text);
   if (found.kind === "image") return { ...emptyHearing(), image: found.image };
+  if (!found.list.length) throw new Unreadable("it has no steps.");
   const hearing = { ...emptyHearing(GREATEST), list: found.list };
   if (found.kind === "text") hearing.takes = namesFrom(new Record(begun(hearing), found.list), readText(found.text).comments).takes;
   return hearing;

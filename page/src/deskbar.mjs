@@ -8,7 +8,9 @@ import { toFile } from "./hearing.mjs";
 import { namedText } from "./listing.mjs";
 import { tell } from "./notices.mjs";
 import { counted } from "./names.mjs";
-import { kindOf, REFUSED } from "./words.mjs";
+
+// A file's name has room for so many letters of a title.
+const LONGEST_NAME = 60;
 
 export function showBar(desk) {
   const { hearing, record } = desk, open = Array.from(document.querySelectorAll("#desk-bar details[open]"), d => d.id);
@@ -17,7 +19,8 @@ export function showBar(desk) {
   const title = el("input", { type: "text", id: "desk-title", placeholder: "title", ...entitled });
   const undo = button("undo the last step", () => desk.undo(), { id: "desk-undo", disabled: !record.length });
   const shorter = "Leaves out refused steps, and reads that nothing used; what the ledger holds stays as it is.";
-  const thin = button("leave out refused steps", () => desk.thin(), { id: "desk-thin", title: shorter, hidden: !mayThin(record) });
+  const left = record.length - desk.thinned().length / 8, label = `thin the list: leave out ${counted(left, "step")}`;
+  const thin = button(label, () => desk.thin(), { id: "desk-thin", title: shorter, hidden: left === 0 });
   const { takes, parcels, signings } = readImage(record.at(0).image).limits;
   const room = `room for ${counted(takes, "take")}, ${counted(parcels, "parcel")}, ${counted(signings, "signing")}`;
   replace(
@@ -25,15 +28,11 @@ export function showBar(desk) {
     el("p", {}, el("label", {}, "Hearing ", title)),
     el("p", { class: "soft" }, `${counted(record.length, "step")}; ${room}`),
     el("p", {}, undo, " ", thin),
+    el("div", { id: "desk-done" }),
     part("desk-names", "names of takes", namesTable(desk)),
     part("desk-files", "open and save", files(desk, part)),
     part("desk-new", "new hearing", fresh(desk)),
   );
-}
-
-/** Whether there is anything that could be left out. */
-function mayThin(record) {
-  return record.steps.some((step, i) => kindOf(step) === "read" || record.replies[i].outcome >= REFUSED);
 }
 
 function namesTable(desk) {
@@ -45,7 +44,7 @@ function namesTable(desk) {
 }
 
 function files(desk, part) {
-  const { hearing, record } = desk, base = (hearing.title || "hearing").replace(/[^\w-]+/g, "-");
+  const { hearing, record } = desk, base = (hearing.title || "hearing").replace(/[^\p{L}\p{M}\p{N}_-]+/gu, "-").slice(0, LONGEST_NAME);
   const lines = () => toText(hearing.list).split("\n").slice(0, -1), saved = el("p", { role: "status", class: "soft" });
   const saver = (label, id, ending, content, type) => [button(label, () => {
     save(`${base}.${ending}`, content(), type);

@@ -43,6 +43,21 @@ export function announce(text) {
   byId("announcement").textContent = text;
 }
 
+// Whether something is being pressed, and what waits until it is not.
+let pressing = false;
+const waiting = [], release = () => {
+  pressing = false;
+  if (waiting.length) setTimeout(() => waiting.splice(0).forEach(action => action()));
+};
+window.addEventListener("pointerdown", () => (pressing = true), true);
+for (const end of ["pointerup", "pointercancel", "keydown", "pagehide"]) window.addEventListener(end, release, true);
+
+/** Draws anew now, or once what is being pressed was clicked: a field is left by pressing a button, which must not be gone by then. */
+export function unpressed(action) {
+  if (pressing) waiting.push(action);
+  else action();
+}
+
 /** Notes which button or field of a host has the cursor; to be called with a field once the host is drawn anew: the same one, or that field. */
 export function focusIn(host) {
   const from = document.activeElement, within = from !== document.body && host.contains(from), data = Object.entries(from?.dataset ?? {});

@@ -23,15 +23,14 @@ export class Falls {
   }
 
   draw() {
-    const worst = this.ask(this.record.packedReplies.subarray(0, 8 * this.shown));
-    replace(this.strip, drawn(this.record, this.shown, worst, Number(this.width.value)));
+    const wide = Math.trunc(Number(this.width.value)), worst = this.ask(this.record.packedReplies.subarray(0, 8 * this.shown), wide);
+    replace(this.strip, drawn(this.record, this.shown, worst, wide));
   }
 
   /** The worst window, or null with the reason in words. */
-  ask(replies) {
+  ask(replies, wide) {
     try {
-      const worst = worstWindow(replies, Math.trunc(Number(this.width.value)));
-      const wide = Number(this.width.value), last = Math.min(worst.place + wide, this.shown);
+      const worst = worstWindow(replies, wide), last = Math.min(worst.place + wide, this.shown);
       const steps = last > worst.place + 1 ? `steps ${worst.place + 1} to ${last}` : `step ${last}`;
       const found = `Most falls within ${counted(wide, "reply", "replies")}: ${worst.count}, in ${steps}.`;
       this.words.textContent = worst.count ? found : "No falls.";

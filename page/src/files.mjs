@@ -66,6 +66,7 @@ function textIn(text) {
 
 /** What a file holds: kind image, list, text or desk; or kind unknown with the reason. */
 export function recognize(bytes, name = "") {
+  if (!bytes.length) return unknown("it is empty.");
   const image = imageIn(bytes), whole = bytes.length === IMAGE || bytes.length === OLD_IMAGE;
   if (image.kind === "image" || /\.(old-)?image$/i.test(name) || (whole && bytes.length % 8)) return image;
   if (!binary(bytes)) return textIn(new TextDecoder().decode(bytes));

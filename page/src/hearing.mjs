@@ -27,12 +27,14 @@ function parsed(text) {
   try {
     return JSON.parse(text);
   } catch (e) {
-    throw new Unreadable(`it is no JSON: ${e.message}`);
+    throw new Unreadable(`it is no whole file of this desk (${e.message})`);
   }
 }
 
 const isRecord = value => typeof value === "object" && value !== null && !Array.isArray(value);
 const strings = values => values.every(v => typeof v === "string");
+const LARGEST_TEXT = 4294967295;
+const isText = word => /^(0|[1-9]\d{0,9})$/.test(word) && Number(word) <= LARGEST_TEXT;
 
 /** The hearing of such a file; throws Unreadable. */
 export function fromFile(text) {
@@ -43,6 +45,8 @@ export function fromFile(text) {
   if (!Array.isArray(steps) || !strings(steps)) throw new Unreadable("its steps are no lines of text");
   const named = Array.isArray(takes) && strings(takes) && isRecord(texts) && strings(Object.values(texts));
   if (!named) throw new Unreadable("its names are no words");
+  const odd = Object.keys(texts).find(word => !isText(word));
+  if (odd !== undefined) throw new Unreadable(`it has words for \u201c${odd}\u201d, which is no text`);
   const hearing = { title: String(title), limits, image: image ? imageOf(image) : null, list: listOf(steps), takes, texts };
   begun(hearing);
   return hearing;

@@ -1,11 +1,12 @@
 // Loads the library, and opens the view that the address asks for.
-import { load, Refusal } from "../../bindings/js/ledger.mjs";
+import { load, GREATEST, Refusal } from "../../bindings/js/ledger.mjs";
 import { byId } from "./dom.mjs";
 import { Course } from "./course.mjs";
 import { Desk } from "./desk.mjs";
 import { Compare } from "./compare.mjs";
 import { readAddress, fromBase64 } from "./address.mjs";
 import { toText } from "../../bindings/js/notation.mjs";
+import { isolated } from "./names.mjs";
 
 const VIEWS = ["course", "desk", "compare", "words"];
 const views = {};
@@ -43,7 +44,7 @@ function follow() {
   show(VIEWS.includes(asked.view) ? asked.view : "course");
   const known = course.lessons.some(l => l.name === asked.lesson), text = asked.text ?? listText(asked.list);
   const limits = asked.limits && course.begin(asked.limits) ? asked.limits : null;
-  if (text !== null) course.openText(text, asked.step ?? Infinity, limits);
+  if (text !== null) course.openText(text, asked.step ?? Infinity, limits ?? GREATEST);
   else if (known || !course.record) course.openLesson(known ? asked.lesson : course.lessons[0].name);
   if (text === null && known && asked.step !== null) {
     course.reveal();
@@ -64,10 +65,12 @@ function listText(list) {
 }
 
 /** What the address asked for and can't be had, in sentences. */
-function troubles({ lesson, list, wrong, step, limits }, text, known, taken) {
+function troubles({ view, lesson, list, wrong, step, limits }, text, known, taken) {
   const found = [], without = known || lesson === null || text !== null;
-  if (!without) found.push(`There is no lesson called \u201c${lesson}\u201d.`);
+  if (view !== null && !VIEWS.includes(view)) found.push(`There is no view called \u201c${isolated(view)}\u201d.`);
+  if (!without) found.push(`There is no lesson called \u201c${isolated(lesson)}\u201d.`);
   if (wrong.list || (list && text === null)) found.push("The address holds no whole list of steps.");
+  if (text?.trim() === "") found.push("The address holds no steps.");
   if (wrong.limits || (limits && !taken)) found.push("The address's limits are none that a session can have.");
   if (wrong.step) found.push("The address names no step.");
   else if (step !== null && step > views.course.record.length) found.push(`There is no step ${step}.`);

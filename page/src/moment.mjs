@@ -1,20 +1,27 @@
 // The moment after a step: the reply in words, why, the takes with their maps, the parcels, and what a withdrawal would cost.
-import { el, replace, heading } from "./dom.mjs";
+import { el, replace, heading, button, focusIn } from "./dom.mjs";
 import { readImage, life, markWords, MAPS } from "../../bindings/js/image.mjs";
 import { capital } from "./names.mjs";
 import { effect, tone, verdict, kindOf, NOT_READY, REFUSED } from "./words.mjs";
 import { whyNot, receiptReason } from "./reasons.mjs";
+import { packStep } from "../../bindings/js/packed.mjs";
+import { trial } from "./offered.mjs";
 import { costWords } from "./withdrawal.mjs";
 
 const WORDS = { class: "words" };
 const differs = (a, b) => JSON.stringify(a) !== JSON.stringify(b);
 
-/** Fills host with the moment after count steps; told stands before the reasons, and asking, an open question, after them. */
-export function showMoment(host, record, count, line, names, { told = null, asking = null } = {}) {
+/**
+ * Fills host with the moment after count steps, of which shown can be looked at; go(by) goes so many on. told stands before the reasons,
+ * and asking, an open question, after them.
+ */
+export function showMoment(host, record, count, line, names, { go, shown, told = null, asking = null }) {
   const session = record.at(count), now = readImage(session.image), before = count ? readImage(record.at(count - 1).image) : now;
+  const focused = focusIn(host), costs = costTable(session, now, names);
   replace(
     host,
     heading(count ? `After step ${count}` : "Before the first step", 2),
+    pager(count, shown, go),
     count ? saidOf(record, count, line, names) : el("p", {}, "A fresh session, or the one that was opened."),
     told,
     whyPart(record, count, names, !asking),
@@ -24,8 +31,15 @@ export function showMoment(host, record, count, line, names, { told = null, aski
     heading("Parcels waiting"),
     parcelsTable(now, before, names),
     heading("What if this take is withdrawn now?"),
-    costTable(session, now, names),
+    asking ? el("details", {}, el("summary", {}, "show it before the question is answered"), costs) : costs,
   );
+  focused(host.querySelector(".pager button:enabled") ?? host);
+}
+
+/** To the step before and the next one, where the picture is out of view. */
+function pager(count, shown, go) {
+  const to = (label, by, off) => button(label, () => go(by), { "data-by": by, disabled: off });
+  return el("p", { class: "pager" }, to("step before", -1, count === 0), " ", to("next step", 1, count >= shown));
 }
 
 function saidOf(record, count, line, names) {
@@ -109,7 +123,7 @@ function parcelsTable(now, before, names) {
     const marks = p.map.map((mark, u) => ({ mark, u, changed: false })).filter(m => m.mark);
     const map = marks.length ? chips(marks, names) : el("span", { class: "soft" }, "empty");
     const number = cell(p.number, !known.has(p.number));
-    return el("tr", {}, number, el("td", {}, names.take(p.to)), el("td", WORDS, names.bare(p.text)), el("td", {}, map));
+    return el("tr", {}, number, el("td", WORDS, names.take(p.to)), el("td", WORDS, names.bare(p.text)), el("td", WORDS, map));
   });
   return el("table", {}, headRow("parcel", "for", "text", "its map"), el("tbody", {}, rows));
 }
@@ -117,6 +131,7 @@ function parcelsTable(now, before, names) {
 function costTable(session, now, names) {
   const live = now.takes.map((_, t) => t).filter(t => now.takes[t].status !== "vanished");
   if (!live.length) return el("p", { class: "soft" }, "There is no take to withdraw.");
-  const row = t => el("tr", {}, el("th", { scope: "row" }, names.numbered(t)), el("td", {}, costWords(session, t, names).join(" ")));
+  const held = t => tone(trial(session, packStep("fail", { take: t }))) === "held" && "It is frozen, and does not fall of itself. ";
+  const row = t => el("tr", {}, el("th", { scope: "row" }, names.numbered(t)), el("td", {}, held(t), costWords(session, t, names).join(" ")));
   return el("table", { class: "cost" }, el("tbody", {}, live.map(row)));
 }

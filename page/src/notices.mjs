@@ -5,29 +5,23 @@ import { readHead } from "../../bindings/js/image.mjs";
 import { trial } from "./offered.mjs";
 import { costWords } from "./withdrawal.mjs";
 import { save } from "./files.mjs";
-import { aside, dropAside } from "./store.mjs";
 import { toFile, Unreadable } from "./hearing.mjs";
-import { capital } from "./names.mjs";
+import { capital, isolated } from "./names.mjs";
 import { verdict, tone, FALLEN_BACK, VANISHED } from "./words.mjs";
 
 export function tell(words) {
   const host = byId("desk-notice");
-  replace(host, el("div", { class: "notice", role: "status" }, el("p", {}, words), button("close", () => replace(host))));
+  replace(host, el("div", { class: "notice" }, el("p", {}, words), button("close", () => replace(host))));
 }
 
-/** What could not be restored, and could not be put aside (more): shown, to be saved as it is; gone only when told so. */
-export function showAside(more = []) {
-  const host = byId("desk-notice"), remove = text => {
-    dropAside(text);
-    replace(host);
-    showAside();
-  };
-  const notice = text => el("div", { class: "notice unrestored", role: "alert" },
-    el("p", {}, "A hearing that was kept here can't be restored. It is kept as it is:"),
-    el("pre", {}, text.slice(0, 2000)),
-    el("p", {}, button("save as it is", () => save("kept-hearing.txt", text, "text/plain")), " ", button("remove", () => remove(text))));
-  const texts = [...aside(), ...more];
-  if (texts.length) replace(host, texts.map(notice));
+/** Nothing is said any more of what was done before. */
+export function hush() {
+  for (const id of ["desk-notice", "desk-confirm"]) replace(byId(id));
+}
+
+/** A question that the escape key leaves. */
+function dialog(label, leave) {
+  return { class: "notice", role: "alertdialog", "aria-label": label, onkeydown: e => e.key === "Escape" && leave.click() };
 }
 
 /** A question at the desk's steps: yes does it; leaving it puts the cursor back where it was. */
@@ -42,8 +36,7 @@ function ask(label, paragraphs, yes, go, id) {
     replace(host);
     go();
   }, { id });
-  const notice = { class: "notice", role: "alertdialog", "aria-label": label };
-  replace(host, el("div", notice, paragraphs, el("p", {}, done, " ", leave)));
+  replace(host, el("div", dialog(label, leave), paragraphs, el("p", {}, done, " ", leave)));
   leave.focus();
 }
 
@@ -85,7 +78,7 @@ export function confirmEmpty(desk, take, go) {
 
 /** Before a second take gets the name of another. */
 export function confirmName(name, known, go) {
-  ask("a name twice", el("p", {}, `Take ${known} is called \u201c${name}\u201d already.`), "open another of this name", go, "confirm-name");
+  ask("a name twice", el("p", {}, `Take ${known} is called \u201c${isolated(name)}\u201d already.`), "open another of this name", go, "confirm-name");
 }
 
 /** What a file's hearing lacks beside its steps. */
@@ -115,8 +108,11 @@ export function confirmOpening(desk, hearing, name, { question = `Open ${name} i
     from?.focus();
   });
   const keep = button("save the present one", () => save("hearing.json", toFile(desk.hearing), "application/json"));
-  const open = button(yes, () => taken(desk, hearing, name), { id: "confirm-open" });
-  replace(host, el("div", { class: "notice", role: "alertdialog", "aria-label": "replace the hearing" },
+  const open = button(yes, () => {
+    taken(desk, hearing, name);
+    desk.rows.list.focus({ preventScroll: true });
+  }, { id: "confirm-open" });
+  replace(host, el("div", dialog("replace the hearing", leave),
     el("p", {}, question),
     el("p", {}, keep, " ", open, " ", leave)));
   return leave.focus();

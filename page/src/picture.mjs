@@ -42,6 +42,27 @@ export function picture(record, names, shown, wide) {
   return el("div", { class: "picture", "aria-hidden": "true" }, ground, bands);
 }
 
+/** The same in sheets of so many rows, of which each has what is drawn between its first and last row. */
+export function bands(record, names, shown, wide, size) {
+  const lanes = record.heads[shown].length, x = lanesOf(wide), width = pictureWidth(lanes, wide), own = `picture${++pictures}`, found = [];
+  const parcels = fates(record).filter(p => p.made <= shown), lines = Array.from({ length: lanes }, (_, t) => stretches(record, t, shown, x(t))).flat();
+  for (let first = 0; first < record.length; first += size) {
+    const last = Math.min(first + size, record.length), drawn = sheet(width, ROW * (last - first), first ? null : arrowheads(own));
+    drawn.setAttribute("viewBox", `0 ${ROW * first} ${width} ${ROW * (last - first)}`);
+    drawn.append(...lines.filter(line => crosses(line, ROW * first, ROW * last)).map(line => line.cloneNode()));
+    drawn.append(...parcels.filter(p => p.made <= last && (p.ended ?? shown) > first).map(p => arrow(p, shown, own, x)));
+    for (let i = first + 1; i <= Math.min(last, shown); i++) drawn.append(...events(record, i, names, x, rowY(i)));
+    found.push(drawn);
+  }
+  return found;
+}
+
+/** Whether a lane's stretch has a part between two heights. */
+function crosses(line, top, bottom) {
+  const y = Number(line.getAttribute("y"));
+  return y < bottom && y + Number(line.getAttribute("height")) > top;
+}
+
 function sheet(width, height, ...children) {
   return svg("svg", { width, height, viewBox: `0 0 ${width} ${height}` }, children);
 }

@@ -11,6 +11,13 @@ const KEYS = { ArrowDown: 1, j: 1, ArrowUp: -1, k: -1, PageDown: 10, PageUp: -10
 // A line so long may be cut, and is shown whole to the mouse.
 const LONG = 24;
 
+/** A take's name over its lane, as wide as that. */
+export function called(t, names, lane) {
+  const wide = lane - 10, name = el("span", { class: "lane-name", title: names.numbered(t) }, lane < NARROW ? String(t) : names.numbered(t));
+  Object.assign(name.style, { left: `calc(var(--rows) + ${lanesOf(lane)(t) - wide / 2}px)`, width: `${wide}px` });
+  return name;
+}
+
 export class Rows {
   /** host: an empty element; chosen(count) is told which moment was chosen, closed() that somebody asked for one that is not shown yet. */
   constructor(host, chosen, closed = () => {}) {
@@ -27,8 +34,7 @@ export class Rows {
 
   /** Draws a record; lines: each step's text; shown: how many replies are shown. */
   show(record, lines, names, shown) {
-    this.record = record;
-    this.shown = shown;
+    Object.assign(this, { record, shown, naming: names });
     replace(this.list, lines.map((line, i) => this.row(line, i + 1)));
     const count = record.heads[shown].length, wide = laneWidth(count, this.scroller.clientWidth - this.list.offsetWidth);
     this.showNames(count, names, wide);
@@ -38,13 +44,8 @@ export class Rows {
 
   /** The takes over their lanes, with a gap between them. */
   showNames(count, names, lane) {
-    const x = lanesOf(lane), wide = lane - 10, called = t => (lane < NARROW ? String(t) : names.numbered(t));
     this.names.style.width = `calc(var(--rows) + ${pictureWidth(count, lane)}px)`;
-    replace(this.names, el("span", { class: "corner" }, "step and reply"), Array.from({ length: count }, (_, t) => {
-      const name = el("span", { class: "lane-name", title: names.numbered(t) }, called(t));
-      Object.assign(name.style, { left: `calc(var(--rows) + ${x(t) - wide / 2}px)`, width: `${wide}px` });
-      return name;
-    }));
+    replace(this.names, el("span", { class: "corner" }, "step and reply"), Array.from({ length: count }, (_, t) => called(t, names, lane)));
   }
 
   row(line, i) {

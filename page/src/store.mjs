@@ -1,10 +1,13 @@
 // What the browser keeps: of the desk the hearing's file after each step, of the course the list that was edited.
-// What can't be read again is kept aside as it is. A browser that keeps nothing is told of once, by `keep`.
+// What can't be read again is kept aside as it is. Windows of this page share what is kept: each knows what it read or kept last.
 
 const KEY = "take-ledger.desk";
 const ASIDE = "take-ledger.desk.aside";
 const LIST = "take-ledger.course";
 const EARLIER = "take-ledger.course.earlier";
+
+// The hearing's file as this window read or kept it last.
+let mine = null;
 
 function stored(key) {
   try {
@@ -20,18 +23,38 @@ function store(key, text) {
     localStorage.setItem(key, text);
     return null;
   } catch (e) {
-    return `the browser does not keep this hearing (${e.message}): save it as a file`;
+    return `The browser does not keep this (${e.message}): save it as a file.`;
   }
 }
 
 /** Keeps a hearing's file; null, or why it could not. */
 export function keep(text) {
-  return store(KEY, text);
+  const trouble = store(KEY, text);
+  if (!trouble) mine = text;
+  return trouble;
 }
 
 /** The file that was kept, or null. */
 export function kept() {
-  return stored(KEY);
+  mine = stored(KEY);
+  return mine;
+}
+
+/** Whether this is what this window kept last. */
+export function isKept(text) {
+  return text === mine;
+}
+
+/** The file that another window has kept since, or null. */
+export function keptElsewhere() {
+  const now = stored(KEY);
+  return now === mine ? null : now;
+}
+
+/** Gives up what is kept. */
+export function dropKept() {
+  localStorage.removeItem(KEY);
+  mine = null;
 }
 
 /** Keeps the list of one's own that was edited in the course, or the one before it. */
@@ -50,7 +73,7 @@ export function aside() {
   if (text === null) return [];
   try {
     const texts = JSON.parse(text);
-    return Array.isArray(texts) ? texts.map(String) : [text];
+    return Array.isArray(texts) ? texts.map(t => (typeof t === "string" ? t : JSON.stringify(t))) : [text];
   } catch {
     return [text];
   }

@@ -44,10 +44,10 @@ function byParcel(session, take, ground, names) {
   return fallen(reply) ? { copy, outcome: reply.outcome, words } : null;
 }
 
-/** How a take falls whose grounds have fallen: the session then, the outcome and the way in words; null where it does not. */
+/** How a take falls whose grounds have fallen: the session then, the outcome, the way in words, and whether it falls alone; null where it does not. */
 function fallOf(session, take, grounds, names) {
   const copy = session.copy(), { outcome } = run(copy, "fail", { take });
-  if (outcome === FALLEN_BACK || outcome === VANISHED) return { copy, outcome, words: `withdraw ${names.take(take)}` };
+  if (outcome === FALLEN_BACK || outcome === VANISHED) return { copy, outcome, words: `withdraw ${names.take(take)}`, alone: true };
   for (const ground of grounds) {
     const found = byParcel(session, take, ground, names);
     if (found) return found;
@@ -82,8 +82,9 @@ export function lost(falls, names) {
   return found;
 }
 
-/** What would help the first of them. */
-export function wayOut([{ fall, gone }]) {
-  if (fall?.outcome === FALLEN_BACK) return [`What would help: ${fall.words}.`];
+/** What would help the last of them: its own fall, after those of its grounds where it does not fall alone; or another take. */
+export function wayOut(falls) {
+  const { fall, gone } = falls.at(-1), needed = fall?.alone ? [fall] : falls.map(f => f.fall).filter(Boolean);
+  if (fall?.outcome === FALLEN_BACK) return [`What would help: ${needed.map(f => f.words).join("; then ")}.`];
   return fall || gone ? ["What would help: open another take for these pages."] : [];
 }

@@ -10,7 +10,7 @@ import { FALLEN_BACK, VANISHED } from "./words.mjs";
 export function cost(session, take) {
   const { resting, through, unfinished, carried } = session.dependents(take), others = set => takesOf(set).filter(t => t !== take);
   const parcels = carried ? carriers(session.image, take) : [];
-  return { direct: others(resting), indirect: others(through & ~resting), busy: others(unfinished), parcels };
+  return { direct: others(resting), indirect: others(through & ~resting), busy: others(unfinished & ~(resting | through)), parcels };
 }
 
 /** The waiting parcels whose map has the take's present life. */

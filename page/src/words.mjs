@@ -6,6 +6,7 @@ export const DROPPED = 2;
 export const FALLEN_BACK = 3;
 export const VANISHED = 4;
 export const NOT_READY = 5;
+export const GONE = 22;
 export const WRONG_STATUS = 23;
 // From here on a reply is a refusal.
 export const REFUSED = 20;
