@@ -492,7 +492,10 @@ impl Session<'_> {
         if take.status != IDLE {
             return refuse(23);
         }
-        let answer = match compare(&parcel.map, take, opened) {
+        // a letter's map: nothing to compare and no news
+        let empty = parcel.map.iter().all(|m| m.head == 0);
+        let compared = if empty { Compared::Fit } else { compare(&parcel.map, take, opened) };
+        let answer = match compared {
             Compared::Unrelated => return refuse(31),
             Compared::Dropped => reply(DROPPED, t, number, 0),
             Compared::Fallen => match take.fall(t) {
@@ -500,8 +503,10 @@ impl Session<'_> {
                 None => return refuse(28),
             },
             Compared::Fit => {
-                hear(&mut take.state, &parcel.map, t);
-                hear(&mut take.creation, &parcel.map, t);
+                if !empty {
+                    hear(&mut take.state, &parcel.map, t);
+                    hear(&mut take.creation, &parcel.map, t);
+                }
                 take.status = AT_WORK;
                 take.behaviour = parcel.map;
                 reply(DONE, t, number, u32::from_be_bytes(parcel.text))

@@ -67,18 +67,21 @@ module _ (n t : ℕ) (a b : DependenceMap) where
 pub same-informed : (n t : ℕ) (a b : DependenceMap) → SameIncarnations n a (informedOf n t a b)
 same-informed n t a b = record { held = held-informed n t a b; incarnation = same-incarnation n t a b }
 
--- a map that holds nothing hears nothing
-module _ (l n t : ℕ) (b : DependenceMap) where
-  sized-informed : Sized n (informedOf n t (emptyMap l n) b)
+-- where no take has a mark in both, nothing is told
+module _ (n t : ℕ) (a b : DependenceMap) (sized : Sized n a) (apart : (u : ℕ) → u < n → heldAt a u and heldAt b u ≡ false) where
+  sized-informed : Sized n (informedOf n t a b)
   unfolding informedOf
-  sized-informed = record { helds = sized-empty l n .helds; histories = length-tabulate (informedHistoryAt t (emptyMap l n) b) n }
+  sized-informed = record { helds = sized .helds; histories = length-tabulate (informedHistoryAt t a b) n }
 
-  empty-entry : (i : ℕ) → i < n → historyAt (informedOf n t (emptyMap l n) b) i ≡ historyAt (emptyMap l n) i
+  entry-apart : (i : ℕ) → i < n → historyAt (informedOf n t a b) i ≡ historyAt a i
   unfolding informedHistoryAt informedHistory
-  empty-entry i h = history-informed n t (emptyMap l n) b i h ∙ rw (held-empty l n i) (both-same (eqb i t) (historyAt (emptyMap l n) i))
+  entry-apart i h = history-informed n t a b i h ∙ rw (apart i h) (both-same (eqb i t) (historyAt a i))
 
-  pub informed-empty : informedOf n t (emptyMap l n) b ≡ emptyMap l n
-  informed-empty = same-map sized-informed (sized-empty l n) (λ i h. held-informed n t (emptyMap l n) b i) empty-entry
+  pub informed-apart : informedOf n t a b ≡ a
+  informed-apart = same-map sized-informed sized (λ i h. held-informed n t a b i) entry-apart
+
+pub informed-empty : (l n t : ℕ) (b : DependenceMap) → informedOf n t (emptyMap l n) b ≡ emptyMap l n
+informed-empty l n t b = informed-apart n t (emptyMap l n) b (sized-empty l n) (λ u h. rw (held-empty l n u))
 
 -- ---- form is kept
 

@@ -24,7 +24,7 @@ module _ (w l n : ℕ) (s : List ℕ) (at : ℕ) (fits : at + mapSize w l n ≤ 
   abbrev m : DependenceMap
   m = mapIn w l n s at
 
-  absent : (i : ℕ) → i < n → heldAt m i ≡ false
+  pub absent : (i : ℕ) → i < n → heldAt m i ≡ false
   absent i h = unlooked-held w l n s at fits 0 (sym (looked-none n (part at (mapSize w l n) s) z)) i (omega arith) h
 
   related-at : (i : ℕ) → i < n → unrelatedAt m known i ≡ false

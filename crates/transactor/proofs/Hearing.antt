@@ -1,18 +1,22 @@
 -- A receipt's news in the image: state and creation maps of take t after the parcel in place k.
 use Prim.Native.Nat.{ℕ, _+_, _≤_, _<_}
+use mathlib.Core.Bool.{Bool, true, false}
 use mathlib.Core.Path.{_≡_, sym, ap, _∙_, subst}
 use mathlib.Core.List.{List}
 use native.Mathlib.Omega.{arith}
 use lib.ListN.{length}
-use Rattle.octets.specs.Bytes.{put, part}
+use Rattle.octets.specs.Bytes.{_and_, put, part, allZero}
+use Rattle.octets.proofs.Tests.{and-false}
 use Rattle.octets.proofs.Put.{length-put, part-put-after}
 use Rattle.octets.proofs.Chunks.{step}
 use Rattle.maps.specs.declared.DependenceMap.{DependenceMap}
+use Rattle.maps.specs.Map.{heldAt, Sized}
 use Rattle.maps.specs.News.{informedOf}
 use Rattle.maps.specs.Packed.{unpackMap}
 use Rattle.maps.specs.Internal.Fitting.{Exact}
 use Rattle.maps.specs.Internal.Informing.{Apart, behind}
-use Rattle.maps.proofs.Packed.{length-packMap}
+use Rattle.maps.proofs.News.{informed-apart}
+use Rattle.maps.proofs.Packed.{sized-unpack, length-packMap}
 use Rattle.rules.specs.Layout.{Layout, base, mapBytes, stateAt, creationAt, transactorBytes, dependencesAt, messageBytes, transactorAddress, messageAddress, imageBytes}
 use Rattle.rules.specs.State.{Transactor, State, transactorAt, messageAt, withState, withTransactor}
 use Rattle.rules.specs.Rules.{informedBy}
@@ -22,11 +26,12 @@ use Rattle.rules.specs.Internal.Well.{WellFormed}
 use Rattle.rules.proofs.Good.{good-pack}
 use Rattle.rules.proofs.Pack.Exact.{state-exact, creation-exact}
 use Rattle.rules.proofs.Pack.Sizes.{length-pack}
-use Rattle.rules.proofs.Pack.Stores.{put-state, put-creation, withTransactor-many, withTransactor-here, withTransactor-again, pack-inTransactor}
+use Rattle.rules.proofs.Pack.Stores.{put-state, put-creation, withTransactor-many, withTransactor-here, withTransactor-same, withTransactor-again, pack-inTransactor}
 use Rattle.rules.proofs.Pack.Loads.{unpack-many, unpack-waiting, waiting-few, read-state, read-creation, read-dependences}
 use Rattle.rules.proofs.Pack.RoundTrip.{unpack-pack}
 use Rattle.rules.proofs.Keep.Kinds.{well-informed}
 use Rattle.transactor.specs.Internal.Effects.{takenIn}
+use Rattle.transactor.proofs.Comparing.{absent}
 
 module _ (y : Layout) (img : List ℕ) (t : ℕ) (below : t < y .transactors) (k : ℕ) (waits : k < waitingIn y img) (packed : pack y (unpack y img) ≡ img) where
   abbrev s : State
@@ -122,6 +127,23 @@ module _ (y : Layout) (img : List ℕ) (t : ℕ) (below : t < y .transactors) (k
         ∙ pack-inTransactor y (withTransactor s t told) t below many z (creationAt y) (packDependences y heardCreation) (omega arith)
         (ap (λ (w : Transactor). put (creationAt y) (packDependences y heardCreation) (packTransactor y w)) here ∙ put-creation y told heardCreation)
         ∙ ap (pack y) (withTransactor-again s t told z)
+
+  -- ---- a parcel whose map has no entry tells nothing
+
+  module _ (z : allZero (part from (mapBytes y) img) ≡ true) where
+    untold : (a : DependenceMap) → Sized (y .transactors) a → informedOf (y .transactors) t a deps ≡ a
+    untold a sized =
+        informed-apart (y .transactors) t a deps sized
+        (λ u h.
+          let e : heldAt deps u ≡ false = ap (λ (d : DependenceMap). heldAt d u) (read-dependences y img k waits) ∙ absent (y .width) (y .places) (y .transactors) img from from-fits z deps u h in
+          ap (λ (q : Bool). heldAt a u and q) e ∙ and-false (heldAt a u))
+
+    pub unheard : img ≡ pack y (withTransactor s t (informedBy y t x deps))
+    unheard =
+        let p : informedOf (y .transactors) t (x .state) deps ≡ x .state = untold (x .state) (rw (read-state y img t below) (sized-unpack (y .width) (y .places) (y .transactors) (part (at + stateAt) (mapBytes y) img))) in
+        let q : informedOf (y .transactors) t (x .creation) deps ≡ x .creation = untold (x .creation) (rw (read-creation y img t below) (sized-unpack (y .width) (y .places) (y .transactors) (part (at + creationAt y) (mapBytes y) img))) in
+        let same : informedBy y t x deps ≡ x = λ i. record { status = x .status; value = x .value; saved = x .saved; state = p i; creation = q i; behaviour = x .behaviour } in
+        sym packed ∙ ap (pack y) (sym (withTransactor-same s t)) ∙ ap (λ (w : Transactor). pack y (withTransactor s t w)) (sym same)
 
 -- ---- the image after the news
 

@@ -14,7 +14,7 @@ ghost use Rattle.rules.specs.Pack.{waitingIn, pack, unpack};
 ghost use Rattle.rules.specs.Internal.Good.{Good};
 
 // State and creation maps of transactor t after the news of the message in place k.
-pub fn hear(image: &mut [u8], t: usize, k: usize)
+fn inform(image: &mut [u8], t: usize, k: usize)
     requires { ⌜ Good (now image) × (t < base .transactors) × (k < waitingIn base (now image)) ⌝ }
     ensures { λ _. ⌜ now (image .exit) ≡ pack base (withTransactor (unpack base (now (image .entry))) t
         (informedBy base t (transactorAt (unpack base (now (image .entry))) t) (messageAt (unpack base (now (image .entry))) k .dependences))) ⌝ }
@@ -23,4 +23,17 @@ pub fn hear(image: &mut [u8], t: usize, k: usize)
     let from = map_at(k);
     stability::inform(image, from, at + STATE, t);
     stability::inform(image, from, at + CREATION, t);
+}
+
+// The same, at once where the message's map has no entry: a letter's shows nothing.
+pub fn hear(image: &mut [u8], t: usize, k: usize)
+    requires { ⌜ Good (now image) × (t < base .transactors) × (k < waitingIn base (now image)) ⌝ }
+    ensures { λ _. ⌜ now (image .exit) ≡ pack base (withTransactor (unpack base (now (image .entry))) t
+        (informedBy base t (transactorAt (unpack base (now (image .entry))) t) (messageAt (unpack base (now (image .entry))) k .dependences))) ⌝ }
+{
+    let from = map_at(k);
+    if octets::all_zero(image, from, maps::SIZE) {
+        return;
+    }
+    inform(image, t, k);
 }
