@@ -5,9 +5,6 @@ use Rattle.ledger_c.proofs.Answers.{shown-length, part-shown, part-refu
 use Rattle.ledger_c.proofs.ledger_show.Statement.{statement}
 use Rattle.ledger_c.proofs.ledger_show.Tie as tie
 
-waiting-requires : tie.Need-waiting-requires
-waiting-requires c κs = shown-length _ _ (sym (c .before .before .show .ensures .1) ∙ c .if1 .left)
-
 place-numbered-requires : tie.Need-place-numbered-requires
 place-numbered-requires c κs = (shown-length _ _ (sym (c .before .before .before .show .ensures .1) ∙ c .before .if1 .left), search needs, search needs)
 
@@ -17,7 +14,7 @@ ledger-show-spec =
     (tie.spec
     (λ c κs. search needs)
     (λ c. (search needs, part-refused _ _ (search needs)))
-    waiting-requires
+    (λ c κs. shown-length _ _ (sym (c .before .before .show .ensures .1) ∙ c .if1 .left))
     place-numbered-requires
     (λ c. search needs)
     (λ c. search needs)
