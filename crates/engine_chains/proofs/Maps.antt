@@ -1,4 +1,5 @@
--- Document 02, W11: the ledger's maps and tests by the way back over the steps, for every list of steps from a fresh session.
+-- Document 02, W11: the sets that a receipt compares and the test of a signing by the way back over the steps, for every list of steps
+-- from a fresh session.
 use Prim.Native.Nat.{ℕ, zero, suc, _≤_, _<_}
 use mathlib.Core.Bool.{Bool, true, false≢true}
 use mathlib.Core.Path.{_≡_, refl, subst}

@@ -1,4 +1,4 @@
--- The way back by the replies and by the lives after the last step: the same as by the book's steps.
+-- What a step did, by its reply and the lives after it: the same as by the book's step.
 use Prim.Native.Nat.{ℕ, _≤_}
 use mathlib.Core.Bool.{Bool, true, false, true≢false, false≢true}
 use mathlib.Core.Path.{_≡_, refl, ap, sym, _∙_}

@@ -1,9 +1,9 @@
--- Document 02, W11: the ledger's tests by the way back over the steps and their replies, for every list of steps from a fresh session.
+-- Document 02, W11: one step of the ledger beside the book's: its reply tells the book's event, and how each life went on.
 use Prim.Native.Nat.{ℕ, _≤_}
 use mathlib.Core.Bool.{Bool, false, true}
 use mathlib.Core.Path.{_≡_, refl, ap, sym, _∙_, subst}
 use mathlib.Core.List.{List}
-use mathlib.Core.Logic.{_⊎_, inl, inr, ⊎-elim}
+use mathlib.Core.Logic.{⊎-elim}
 use mathlib.Core.Option.{none}
 use native.Mathlib.Omega.{arith}
 use lib.Dec.{eqb}
@@ -18,10 +18,11 @@ use Rattle.rules.specs.Status as number
 use Rattle.rules.specs.declared.Step.{Step}
 use Rattle.rules.specs.declared.Reply.{Reply}
 use Rattle.rules.specs.Step.{stepAt, done, fallenBack, notReady, sign, isRefusal}
-use Rattle.rules.specs.Refusals.{Seen, named, refusalOf, malformed, notWaiting, emptyGroup, unopened, isGone, wrongStatus, unrelatedReceipt, allOpened, allWaiting, allNumbered, allCheckpointed, lastRollsBack}
+use Rattle.rules.specs.Refusals.{named}
 use Rattle.rules.specs.Rules.{Result, answer, apply, stepOf}
 use Rattle.rules.specs.Internal.Well.{WellFormed}
 use Rattle.rules.specs.Calls.{stateAfter}
+use Rattle.rules.proofs.Keep.Accepted.{refusal-large}
 use Rattle.rules.proofs.Keep.Step.{applied-same}
 use Rattle.session.specs.Provenance.{unused, Live, Provenance}
 use Rattle.session.specs.Steps.{provenanceSeen, provenanceRefusal, applied, signs, ProvenanceStep, refuses, applies, signing, not-ready}
@@ -33,31 +34,10 @@ use Rattle.engine_chains.specs.Internal.Walk.{wasRolledBack, wasCheckpoi
 use Rattle.engine_chains.proofs.Walked.{Turned, stays}
 use Rattle.engine_chains.specs.Internal.Book.{appliedEvent, signEvent, stepEvent, incarnationsIn}
 use Rattle.session.proofs.Model.{Ledger, view}
-use Rattle.octets.proofs.Tests.{pick-view}
 use Rattle.session.proofs.Relation.{Rel}
 use Rattle.session.proofs.ViewStep.{same-refusal}
 use Rattle.engine_chains.proofs.Replies.{Alike, alike-same, applied-replied, sign-alike, sign-turned, unready-turned, unready-alike, appliedTold}
 use Rattle.engine_chains.proofs.Replied.{told-same}
-
--- a refusal is no outcome
-refusal-large : (y : Layout) (v : Seen) (p : Step) → (refusalOf y v p ≡ 0) ⊎ (20 ≤ refusalOf y v p)
-unfolding refusalOf
-refusal-large y v p =
-    let P : ℕ → Type 0 = λ n. (n ≡ 0) ⊎ (20 ≤ n) in
-    pick-view P (malformed p) 20 _ (λ e. inr (omega arith)) λ e.
-    pick-view P (notWaiting v p) 24 _ (λ e. inr (omega arith)) λ e.
-    pick-view P (emptyGroup p) 29 _ (λ e. inr (omega arith)) λ e.
-    pick-view P (unopened v p) 21 _ (λ e. inr (omega arith)) λ e.
-    pick-view P (isGone v p) 22 _ (λ e. inr (omega arith)) λ e.
-    pick-view P (wrongStatus v p) 23 _ (λ e. inr (omega arith)) λ e.
-    pick-view P (unrelatedReceipt v p) 31 _ (λ e. inr (omega arith)) λ e.
-    pick-view P (allOpened v p) 25 _ (λ e. inr (omega arith)) λ e.
-    pick-view P (allWaiting v p) 26 _ (λ e. inr (omega arith)) λ e.
-    pick-view P (allNumbered v p) 27 _ (λ e. inr (omega arith)) λ e.
-    pick-view P (allCheckpointed v p) 30 _ (λ e. inr (omega arith)) λ e.
-    pick-view P (lastRollsBack y v p) 28 0 (λ e. inr (omega arith)) (λ e. inl refl)
-
--- ---- one step
 
 -- the event by the reply w and the lives after the step is e
 pub record Followed (b c : Provenance) (p : Step) (w : Told) (e : Event) : Type 0 where
@@ -92,7 +72,7 @@ module _ {y : Layout} {s : State} {b : Provenance} {p : Step} (well : WellFormed
   step-followed : {c : Provenance} (k : ProvenanceStep y b p c) → StepRight y s b p c → Followed b c p (told (stepOf y s p .reply)) (stepEvent k)
   unfolding provenanceRefusal
   step-followed (refuses z) k = ⊎-elim (λ e. absurd (z e))
-      (λ e. subst (λ (o : Reply). Followed b b p (told o) chain.nothing) (sym (k .refused z .0)) (refused-followed b p _ e)) (refusal-large y (provenanceSeen b) p)
+      (λ e. subst (λ (o : Reply). Followed b b p (told o) chain.nothing) (sym (k .refused z .0)) (refused-followed b p _ (e .low))) (refusal-large y (provenanceSeen b) p)
   step-followed (applies z k) q =
       let e : stepOf y s p ≡ apply y s p = applied-same y s p (same-refusal well r p ∙ z) in
       let x = applied-replied b p k (λ t. r .holders t .first) (opening-incarnation (view s) b r) in

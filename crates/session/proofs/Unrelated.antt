@@ -1,7 +1,7 @@
 -- Document 02, W3: "A session grown from fresh never meets an unrelated pair", so it never gets a 31.
 use Prim.Native.Nat.{ℕ, _-_, _*_, _<_}
-use mathlib.Core.Bool.{Bool, true, false}
-use mathlib.Core.Path.{_≡_, refl, subst}
+use mathlib.Core.Bool.{Bool, true, false, true≢false}
+use mathlib.Core.Path.{_≡_, refl, sym, _∙_, subst}
 use mathlib.Core.List.{List}
 use native.Mathlib.Omega.{arith}
 use native.Mathlib.Decide.{ℕ-discrete}
@@ -14,10 +14,11 @@ use Rattle.rules.specs.Layout.{Layout, base, Fitting}
 use Rattle.rules.specs.State.{State}
 use Rattle.rules.specs.declared.Step.{Step}
 use Rattle.rules.specs.Step.{stepBytes, stepAt, receive}
-use Rattle.rules.specs.Refusals.{Seen, malformed, notWaiting, emptyGroup, unopened, isGone, wrongStatus, unrelatedReceipt, allOpened, allWaiting, allNumbered, allCheckpointed, lastRollsBack, refusalOf}
+use Rattle.rules.specs.Refusals.{Seen, unrelatedReceipt, refusalOf}
 use Rattle.rules.specs.Rules.{receiptUnrelated, seen, refusal, answer, apply, stepOf}
 use Rattle.rules.specs.Pack.{unpack}
 use Rattle.rules.specs.Calls.{stateAfter, stepsIn, runAnswer, runReplies, ranReplies}
+use Rattle.rules.proofs.Keep.Accepted.{refusal-view}
 use Rattle.rules.proofs.Keep.Step.{fitting-base}
 use Rattle.session.specs.Provenance.{Provenance}
 use Rattle.session.specs.Fed.{ProvenanceOf}
@@ -34,27 +35,7 @@ use Rattle.session.proofs.Grown.{grown}
 -- ---- 31 is that one condition
 
 refusal-31 : (y : Layout) (v : Seen) (p : Step) → unrelatedReceipt v p ≡ false → refusalOf y v p ≡ 31 → ⊥
-unfolding refusalOf
-refusal-31 y v p e =
-    other (malformed p) 20 _ (omega arith)
-    (other (notWaiting v p) 24 _ (omega arith)
-    (other (emptyGroup p) 29 _ (omega arith)
-    (other (unopened v p) 21 _ (omega arith)
-    (other (isGone v p) 22 _ (omega arith)
-    (other (wrongStatus v p) 23 _ (omega arith)
-    (none (unrelatedReceipt v p) 31 _ e
-    (other (allOpened v p) 25 _ (omega arith)
-    (other (allWaiting v p) 26 _ (omega arith)
-    (other (allNumbered v p) 27 _ (omega arith)
-    (other (allCheckpointed v p) 30 _ (omega arith)
-    (other (lastRollsBack y v p) 28 0 (omega arith) (omega arith))))))))))))
-  where
-    other : (c : Bool) (n r : ℕ) → (n ≡ 31 → ⊥) → (r ≡ 31 → ⊥) → pick c n r ≡ 31 → ⊥
-    other true n r h k = h
-    other false n r h k = k
-
-    none : (c : Bool) (n r : ℕ) → c ≡ false → (r ≡ 31 → ⊥) → pick c n r ≡ 31 → ⊥
-    none c n r e k = rw e k
+refusal-31 y v p e = refusal-view (λ n. n ≡ 31 → ⊥) y v p (λ n low high k i. omega arith) (λ f i. true≢false (sym f ∙ e)) (λ f i. omega arith) (λ i. omega arith)
 
 state-31 : (y : Layout) (s : State) (p : Step) → ((n : ℕ) → receiptUnrelated y s n ≡ false) → refusal y s p ≡ 31 → ⊥
 unfolding refusal unrelatedReceipt seen

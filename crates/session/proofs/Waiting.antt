@@ -1,6 +1,6 @@
 -- Document 02, W14, "Nothing lost by waiting": the fact to show first, and that a volume that is ready stays so.
 use Prim.Native.Nat.{ℕ, zero, suc, _-_, _≤_, _<_}
-use mathlib.Core.Bool.{Bool, true, false, not, false≢true}
+use mathlib.Core.Bool.{Bool, true, false, not, true≢false, false≢true}
 use mathlib.Core.Path.{_≡_, refl, ap, sym, _∙_, subst}
 use mathlib.Core.List.{List}
 use mathlib.Core.Logic.{_⊎_, inl, inr, _↔_}
@@ -9,7 +9,7 @@ use native.Mathlib.Decide.{ℕ-discrete}
 use native.Mathlib.Omega.{arith}
 use lib.Dec.{eqb}
 use borrow.Author.Tests.{eqb-true}
-use Rattle.octets.specs.Bytes.{pick, _and_, part, Octets}
+use Rattle.octets.specs.Bytes.{_and_, part, Octets}
 use Rattle.octets.specs.Numbers.{bound}
 use Rattle.octets.proofs.Put.{octets-part}
 use Rattle.marks.specs.History.{HistoryView}
@@ -22,7 +22,7 @@ use Rattle.rules.specs.State.{Message, State, transactorAt, messageAt, placeOf}
 use Rattle.rules.specs.declared.Step.{Step}
 use Rattle.rules.specs.declared.Reply.{Reply}
 use Rattle.rules.specs.Step.{stepAt, receive, sign, done, notReady}
-use Rattle.rules.specs.Refusals.{Seen, groupBits, named, malformed, notWaiting, emptyGroup, unopened, isGone, wrongStatus, unrelatedReceipt, allOpened, allWaiting, allNumbered, allCheckpointed, atLast, lastRollsBack, refusalOf}
+use Rattle.rules.specs.Refusals.{Seen, groupBits, named, atLast, lastRollsBack, refusalOf}
 use Rattle.rules.specs.Rules.{Effect, Result, entryReady, messageSuperseded, receiptRollsBack, receiveBy, seen, refusal, applyReceive, apply, stepOf}
 use Rattle.rules.specs.Groups as groups
 use Rattle.rules.specs.Pack.{unpack}
@@ -30,6 +30,7 @@ use Rattle.rules.specs.Calls.{beginAnswer, beginImage, stateAfter, stepsIn, run
 use Rattle.rules.specs.Internal.Well.{StepOk, WellFormed}
 use Rattle.rules.proofs.ByKind.Applied.{applies}
 use Rattle.rules.proofs.Pack.RoundTrip.{unpack-pack}
+use Rattle.rules.proofs.Keep.Accepted.{refusal-view}
 use Rattle.rules.proofs.Keep.Run.{stepOk-at}
 use Rattle.rules.proofs.Keep.Step.{refused-same, applied-same, keeps, keeps-after, fitting-base}
 use Rattle.session.specs.Provenance.{Live, Holder, Provenance}
@@ -55,29 +56,9 @@ use Rattle.session.proofs.Remainder.{Beside, beside-on}
 
 -- ---- what a receipt replies that makes nobody fall
 
-module _ (x : ℕ) (free : 0 ≡ x → ⊥) (others : (n : ℕ) → 20 ≤ n → (n ≡ 28 → ⊥) → n ≡ x → ⊥) where
-  other : (c : Bool) (n r : ℕ) → 20 ≤ n → (n ≡ 28 → ⊥) → (r ≡ x → ⊥) → pick c n r ≡ x → ⊥
-  other true n r h k i = others n h k
-  other false n r h k i = i
-
-  refusal-else : (y : Layout) (w : Seen) (p : Step) → lastRollsBack y w p ≡ false → refusalOf y w p ≡ x → ⊥
-  unfolding refusalOf
-  refusal-else y w p e =
-      other (malformed p) 20 _ (omega arith) (omega arith)
-      (other (notWaiting w p) 24 _ (omega arith) (omega arith)
-      (other (emptyGroup p) 29 _ (omega arith) (omega arith)
-      (other (unopened w p) 21 _ (omega arith) (omega arith)
-      (other (isGone w p) 22 _ (omega arith) (omega arith)
-      (other (wrongStatus w p) 23 _ (omega arith) (omega arith)
-      (other (unrelatedReceipt w p) 31 _ (omega arith) (omega arith)
-      (other (allOpened w p) 25 _ (omega arith) (omega arith)
-      (other (allWaiting w p) 26 _ (omega arith) (omega arith)
-      (other (allNumbered w p) 27 _ (omega arith) (omega arith)
-      (other (allCheckpointed w p) 30 _ (omega arith) (omega arith)
-      (last (lastRollsBack y w p) e)))))))))))
-    where
-      last : (c : Bool) → c ≡ false → pick c 28 0 ≡ x → ⊥
-      last c f = rw f free
+refusal-else : (x : ℕ) → (0 ≡ x → ⊥) → ((n : ℕ) → 20 ≤ n → (n ≡ 28 → ⊥) → n ≡ x → ⊥) → (y : Layout) (w : Seen) (p : Step) → lastRollsBack y w p ≡ false → refusalOf y w p ≡ x → ⊥
+refusal-else x free others y w p e =
+    refusal-view (λ n. n ≡ x → ⊥) y w p (λ n low high k. others n low k) (λ f. others 31 (omega arith) (omega arith)) (λ f. absurd (true≢false (sym f ∙ e))) free
 
 rolls-no-refusal : {x : ℕ} → Rolls x → (y : Layout) (w : Seen) (p : Step) → lastRollsBack y w p ≡ false → refusalOf y w p ≡ x → ⊥
 rolls-no-refusal rolls-back = refusal-else 3 (λ e. omega arith) (λ n h k e. omega arith)

@@ -23,24 +23,6 @@ well c = sym (c .before .malformed .ensures) ∙ c .if1 .left
 returns : tie.Need-returns
 returns c = advance-any _ _ _ _ _ _ (c .before .before .before .before .before .pre .0 .within) (malformed-done (sym (c .before .before .malformed .ensures) ∙ c .before .if1 .taken) _ (c .answered .ensures))
 
-root-requires : tie.Need-root-requires
-root-requires c κs = asked (start (c .before) .pre .0) (well (c .before)) root (c .match .keys1)
-
-letter-requires : tie.Need-letter-requires
-letter-requires c κs = asked (start (c .before) .pre .0) (well (c .before)) letter (c .match .keys2)
-
-receive-requires : tie.Need-receive-requires
-receive-requires c κs = (start (c .before) .pre .0, well (c .before), c .match .keys3)
-
-new-requires : tie.Need-new-requires
-new-requires c κs = asked (start (c .before) .pre .0) (well (c .before)) new (c .match .keys4)
-
-send-requires : tie.Need-send-requires
-send-requires c κs = asked (start (c .before) .pre .0) (well (c .before)) send (c .match .keys5)
-
-lose-requires : tie.Need-lose-requires
-lose-requires c κs = asked (start (c .before) .pre .0) (well (c .before)) lose (c .match .keys6)
-
 local-requires : tie.Need-local-requires
 local-requires c κs =
     let e = c .before in
@@ -58,12 +40,12 @@ advance-spec =
     (λ c κs. search needs)
     (λ c κs. search needs)
     returns
-    root-requires
-    letter-requires
-    receive-requires
-    new-requires
-    send-requires
-    lose-requires
+    (λ c κs. asked (start (c .before) .pre .0) (well (c .before)) root (c .match .keys1))
+    (λ c κs. asked (start (c .before) .pre .0) (well (c .before)) letter (c .match .keys2))
+    (λ c κs. (start (c .before) .pre .0, well (c .before), c .match .keys3))
+    (λ c κs. asked (start (c .before) .pre .0) (well (c .before)) new (c .match .keys4))
+    (λ c κs. asked (start (c .before) .pre .0) (well (c .before)) send (c .match .keys5))
+    (λ c κs. asked (start (c .before) .pre .0) (well (c .before)) lose (c .match .keys6))
     local-requires
     (λ c. advance-any _ _ _ _ _ _ (within (c .before .before)) (c .root .ensures))
     (λ c. advance-any _ _ _ _ _ _ (within (c .before .before)) (c .letter .ensures))

@@ -37,9 +37,6 @@ bytes l = octets-of _ (l .before .before .before .shared-slice-known .given)
 short : (b : tie.In-loop Inv-loop μ-loop) → b .before .loop .i < most
 short b = let p = start (b .before) .pre in omega (arith, b .loop-test .taken)
 
-loop-holds : tie.Need-loop-holds Inv-loop μ-loop
-loop-holds c = (omega arith, rw (c .fresh .ensures) (playing-none _ _ _ _ _ _ refl _ refl), refl)
-
 -- ---- a signing
 
 sign-requires : tie.Need-sign-requires Inv-loop μ-loop
@@ -91,9 +88,6 @@ advance-requires c κs =
 abbrev looked : tie.After-put Inv-loop μ-loop → tie.After-place Inv-loop μ-loop
 looked c = c .before .before .before .before .before .before .before .before .before .before
 
-mul-rows : tie.Need-mul-rows Inv-loop μ-loop
-mul-rows c = record { fits = omega (arith, c .before .before .before .advance .ensures .within) }
-
 encode-requires-2 : tie.Need-encode-requires-2 Inv-loop μ-loop
 encode-requires-2 c κs =
     let b = turn (looked (c .before .before)) in
@@ -144,7 +138,7 @@ play-steps-spec =
     Inv-loop
     μ-loop
     (λ c κs. search needs)
-    loop-holds
+    (λ c. (omega arith, rw (c .fresh .ensures) (playing-none _ _ _ _ _ _ refl _ refl), refl))
     (λ c. search needs)
     (λ c κs. search needs)
     sign-requires
@@ -157,7 +151,7 @@ play-steps-spec =
     (λ c. among c)
     (λ c κs. search needs)
     advance-requires
-    mul-rows
+    (λ c. record { fits = omega (arith, c .before .before .before .advance .ensures .within) })
     (λ c. c .before .before .before .advance .ensures .within)
     (λ c. record { fits = omega (arith, within (looked c)) })
     (λ c. omega (arith, within (looked c)))

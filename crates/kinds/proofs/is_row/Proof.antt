@@ -18,9 +18,6 @@ Inv-loop w k n i₀ i = (i ≤ n) × (sameList (take i w) (take i (wordOf k)) �
 abbrev μ-loop : tie.MeasureT-loop
 μ-loop w k n i₀ i = n - i
 
-returns : tie.Need-returns Inv-loop μ-loop
-returns c = sym (same-length _ _ (λ e. c .if1 .taken (e ∙ sym (c .before .letters-of .ensures .0))))
-
 loop-holds : tie.Need-loop-holds Inv-loop μ-loop
 loop-holds c = let a = c .before .before .before .args in (omega arith, same-none (a .w .now) (wordOf (a .k)))
 
@@ -49,7 +46,7 @@ is-row-spec =
     Inv-loop
     μ-loop
     (λ c κs. search needs)
-    returns
+    (λ c. sym (same-length _ _ (λ e. c .if1 .taken (e ∙ sym (c .before .letters-of .ensures .0)))))
     loop-holds
     (λ c. search needs)
     (λ c κs. search needs)

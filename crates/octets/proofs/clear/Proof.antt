@@ -15,9 +15,6 @@ Inv-loop image₀ at n i₀ image i = (i ≤ n) × (image ≡ put at (zeros i) i
 abbrev μ-loop : tie.MeasureT-loop
 μ-loop image₀ at n i₀ image i = n - i
 
-loop-again : tie.Need-loop-again Inv-loop μ-loop
-loop-again c = (search needs, clear-more _ _ _ _ (c .before .loop .inv .1) (omega arith), search needs)
-
 pub clear-spec : {M : Type 1} → statement M
 clear-spec =
     tie.close
@@ -29,6 +26,6 @@ clear-spec =
     (λ c. search needs)
     (λ c. search needs)
     (λ c. search needs)
-    loop-again
+    (λ c. (search needs, clear-more _ _ _ _ (c .before .loop .inv .1) (omega arith), search needs))
     (λ c. search needs)
     (λ c. clear-all _ _ _ _ _ (c .before .loop .inv .1) (omega arith)))

@@ -4,9 +4,6 @@ use borrow.Author.Needs.{needs}
 use Rattle.octets.proofs.little32.Statement.{statement}
 use Rattle.octets.proofs.little32.Tie as tie
 
-returns : tie.Need-returns
-returns c = turned-is _ _ _ _ _ _ (search needs) (search needs) (search needs) (search needs)
-
 pub little32-spec : {M : Type 1} → statement M
 little32-spec =
     tie.close
@@ -28,4 +25,4 @@ little32-spec =
     (λ c. search needs)
     (λ c κs. search needs)
     (λ c. search needs)
-    returns)
+    (λ c. turned-is _ _ _ _ _ _ (search needs) (search needs) (search needs) (search needs)))

@@ -18,9 +18,6 @@ abbrev μ-loop : tie.MeasureT-loop
 loop-again : tie.Need-loop-again Inv-loop μ-loop
 loop-again c = (search needs, lower-more _ _ _ _ _ (c .before .before .loop .inv .1) (omega arith), search needs)
 
-returns : tie.Need-returns Inv-loop μ-loop
-returns c = lower-all _ _ _ _ _ _ (c .before .loop .inv .1) (omega arith)
-
 pub lower-spec : {M : Type 1} → statement M
 lower-spec =
     tie.close
@@ -37,4 +34,4 @@ lower-spec =
     (λ c. search needs)
     loop-again
     (λ c. search needs)
-    returns)
+    (λ c. lower-all _ _ _ _ _ _ (c .before .loop .inv .1) (omega arith)))

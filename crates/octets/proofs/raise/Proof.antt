@@ -18,9 +18,6 @@ abbrev μ-loop : tie.MeasureT-loop
 loop-again : tie.Need-loop-again Inv-loop μ-loop
 loop-again c = (search needs, raise-more _ _ _ _ _ (c .before .before .loop .inv .1) (omega arith) (omega arith), search needs)
 
-returns : tie.Need-returns Inv-loop μ-loop
-returns c = raise-all _ _ _ _ _ _ (c .before .loop .inv .1) (omega arith)
-
 pub raise-spec : {M : Type 1} → statement M
 raise-spec =
     tie.close
@@ -36,4 +33,4 @@ raise-spec =
     (λ c. search needs)
     loop-again
     (λ c. search needs)
-    returns)
+    (λ c. raise-all _ _ _ _ _ _ (c .before .loop .inv .1) (omega arith)))

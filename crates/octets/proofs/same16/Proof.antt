@@ -6,9 +6,6 @@ use borrow.Author.Needs.{needs}
 use Rattle.octets.proofs.same16.Statement.{statement}
 use Rattle.octets.proofs.same16.Tie as tie
 
-returns : tie.Need-returns
-returns c = alike-first _ _ _ (failed (c .before .same8 .ensures) (c .if1 .taken))
-
 returns-2 : tie.Need-returns-2
 returns-2 c = c .same82 .ensures ∙ alike-second _ _ _ (passed (c .before .before .same8 .ensures) (c .before .if1 .left))
 
@@ -17,7 +14,7 @@ same16-spec =
     tie.close
     (tie.spec
     (λ c κs. search needs)
-    returns
+    (λ c. alike-first _ _ _ (failed (c .before .same8 .ensures) (c .if1 .taken)))
     (λ c. search needs)
     (λ c. search needs)
     (λ c κs. search needs)

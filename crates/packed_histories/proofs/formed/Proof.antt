@@ -8,12 +8,6 @@ use borrow.Author.Needs.{needs}
 use Rattle.packed_histories.proofs.formed.Statement.{statement}
 use Rattle.packed_histories.proofs.formed.Tie as tie
 
-returns : tie.Need-returns
-returns c = formed-over width places _ _ (omega arith) _ (omega arith) (omega arith) (omega arith)
-
-returns-2 : tie.Need-returns-2
-returns-2 c = formed-first width places _ _ (omega arith) _ (omega arith) (omega arith)
-
 rest-zero-requires : tie.Need-rest-zero-requires
 rest-zero-requires c κs = (search needs, ⊎-elim (λ w. omega (arith, w .2)) (λ w. omega (arith, w .2)) (c .if1 .came), search needs)
 
@@ -28,11 +22,11 @@ formed-spec =
     tie.close
     (tie.spec
     (λ c. search needs)
-    returns
+    (λ c. formed-over width places _ _ (omega arith) _ (omega arith) (omega arith) (omega arith))
     (λ c. search needs)
     (λ c. search needs)
     (λ c. search needs)
-    returns-2
+    (λ c. formed-first width places _ _ (omega arith) _ (omega arith) (omega arith))
     (λ c. search needs)
     rest-zero-requires
     returns-3)

@@ -20,9 +20,6 @@ abbrev μ-loop : tie.MeasureT-loop
 loop-again : tie.Need-loop-again Inv-loop μ-loop
 loop-again c = (search needs, number-filled _ _ _ _ _ _ (c .before .before .loop .inv .1) (c .load-number .ensures) (omega arith), search needs)
 
-returns : tie.Need-returns Inv-loop μ-loop
-returns c = numbers-filled _ _ _ _ _ _ (c .before .loop .inv .1) (omega arith) (omega arith)
-
 pub load-numbers-spec : {M : Type 1} → statement M
 load-numbers-spec =
     tie.close
@@ -38,4 +35,4 @@ load-numbers-spec =
     (λ c. search needs)
     (λ c. search needs)
     loop-again
-    returns)
+    (λ c. numbers-filled _ _ _ _ _ _ (c .before .loop .inv .1) (omega arith) (omega arith)))

@@ -9,9 +9,6 @@ use borrow.Author.Needs.{needs}
 use Rattle.packed_histories.proofs.store.Statement.{statement}
 use Rattle.packed_histories.proofs.store.Tie as tie
 
-store-numbers-requires : tie.Need-store-numbers-requires
-store-numbers-requires c κs = omega (arith, simp length-set at (c .before .before .before .before .store-number .kept .0))
-
 same-length : tie.Need-same-length
 same-length c = c .before .before .store-numbers .kept .0 ∙ simp length-set at (c .before .before .before .before .before .before .before .store-number .kept .0)
 
@@ -34,6 +31,6 @@ store-spec =
     (λ c κs. simp length-set (omega arith))
     (λ c. search needs)
     (λ c. search needs)
-    store-numbers-requires
+    (λ c κs. omega (arith, simp length-set at (c .before .before .before .before .store-number .kept .0)))
     same-length
     returns)

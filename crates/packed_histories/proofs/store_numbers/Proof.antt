@@ -20,9 +20,6 @@ abbrev μ-loop : tie.MeasureT-loop
 loop-again : tie.Need-loop-again Inv-loop μ-loop
 loop-again c = (search needs, number-put _ _ _ _ _ _ _ (c .before .before .before .before .before .loop .inv .1) (c .before .before .store-number .ensures) (omega arith), search needs)
 
-returns : tie.Need-returns Inv-loop μ-loop
-returns c = numbers-put _ _ _ _ _ _ _ (c .before .loop .inv .1) (omega arith)
-
 pub store-numbers-spec : {M : Type 1} → statement M
 store-numbers-spec =
     tie.close
@@ -39,4 +36,4 @@ store-numbers-spec =
     (λ c. search needs)
     loop-again
     (λ c. search needs)
-    returns)
+    (λ c. numbers-put _ _ _ _ _ _ _ (c .before .loop .inv .1) (omega arith)))

@@ -22,9 +22,6 @@ loop-again c = c .before .before .before .loop .inv ∙ run-more (otherThan _) _
 returns : tie.Need-returns Inv-loop μ-loop
 returns c = sym (run-stop (otherThan _) _ _ (omega arith) (other-off _ _ (c .if1 .left))) ∙ sym (c .before .before .before .loop .inv) ∙ endOf-def _ _ _
 
-returns-2 : tie.Need-returns-2 Inv-loop μ-loop
-returns-2 c = sym (run-end (otherThan _) _ _ (omega arith)) ∙ sym (c .before .loop .inv) ∙ endOf-def _ _ _
-
 pub find-spec : {M : Type 1} → statement M
 find-spec =
     tie.close
@@ -37,4 +34,4 @@ find-spec =
     (λ c. search needs)
     loop-again
     returns
-    returns-2)
+    (λ c. sym (run-end (otherThan _) _ _ (omega arith)) ∙ sym (c .before .loop .inv) ∙ endOf-def _ _ _))

@@ -7,9 +7,6 @@ use Rattle.parser.proofs.line_of.Tie as tie
 part-bare-line-end : tie.Need-part-bare-line-end
 part-bare-line-end c = let h = said-inside _ _ (c .find .ensures) in search needs
 
-returns : tie.Need-returns
-returns c = line-said _ _ (c .before .before .find .ensures) _ _ (c .bare-line .ensures)
-
 pub line-of-spec : {M : Type 1} → statement M
 line-of-spec =
     tie.close
@@ -19,4 +16,4 @@ line-of-spec =
     (λ c. search needs)
     part-bare-line-end
     (λ c κs. search needs)
-    returns)
+    (λ c. line-said _ _ (c .before .before .find .ensures) _ _ (c .bare-line .ensures)))

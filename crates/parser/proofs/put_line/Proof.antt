@@ -6,9 +6,6 @@ use borrow.Author.Needs.{needs}
 use Rattle.parser.proofs.put_line.Statement.{statement}
 use Rattle.parser.proofs.put_line.Tie as tie
 
-returns : tie.Need-returns
-returns c = stored-none _ _ _ _ (not-true _ (c .if1 .taken))
-
 store-step-requires : tie.Need-store-step-requires
 store-step-requires c κs =
     let a = c .before .before .before .before .before .before in
@@ -19,9 +16,6 @@ add-result c =
     let a = c .before .before .before .before .before .before .before .before .before in
     omega (arith, put-fits (a .args .y) (a .args .at) (a .args .most) (not-false _ (c .before .before .before .before .before .before .if1 .left)) (a .pre .1))
 
-same-length : tie.Need-same-length
-same-length c = search needs
-
 returns-2 : tie.Need-returns-2
 returns-2 c = stored-put _ _ _ _ (c .before .before .before .before .if2 .taken) (not-false _ (c .before .before .before .before .before .before .if1 .left)) _ (c .before .before .store-step .ensures)
 
@@ -30,10 +24,14 @@ add-result-2 c =
     let a = c .before .before .before .before .before in
     omega (arith, put-fits (a .args .y) (a .args .at) (a .args .most) (not-false _ (c .before .before .if1 .left)) (a .pre .1))
 
-returns-3 : tie.Need-returns-3
-returns-3 c = stored-kept _ _ _ _ (c .if2 .left) (not-false _ (c .before .before .if1 .left))
-
 pub put-line-spec : {M : Type 1} → statement M
 put-line-spec =
     tie.close
-    (tie.spec returns store-step-requires add-result same-length returns-2 add-result-2 returns-3)
+    (tie.spec
+    (λ c. stored-none _ _ _ _ (not-true _ (c .if1 .taken)))
+    store-step-requires
+    add-result
+    (λ c. search needs)
+    returns-2
+    add-result-2
+    (λ c. stored-kept _ _ _ _ (c .if2 .left) (not-false _ (c .before .before .if1 .left))))

@@ -16,9 +16,6 @@ abbrev μ-loop : tie.MeasureT-loop
 part-line-of-end : tie.Need-part-line-of-end Inv-loop μ-loop
 part-line-of-end c = let h = cut-inside _ _ _ (omega arith) (c .find .ensures) in search needs
 
-same-length : tie.Need-same-length Inv-loop μ-loop
-same-length c = c .before .before .before .before .before .before .loop .inv .wide
-
 returns : tie.Need-returns Inv-loop μ-loop
 returns c =
     let l = c .before .before .before .before .before .before in
@@ -53,9 +50,6 @@ loop-again c =
     upto-again _ _ _ _ _ _ _ _ (l .loop .inv) (omega arith) _ (f .find .ensures) _ (c .before .before .before .before .before .before .line-of .ensures) (c .before .before .before .before .if1 .left)
     (l .before .before .before .pre) _ _ (c .before .before .put-line .kept .0) (c .before .before .put-line .ensures)
 
-returns-2 : tie.Need-returns-2 Inv-loop μ-loop
-returns-2 c = upto-end _ _ _ _ _ _ _ _ (c .before .loop .inv) (omega arith)
-
 pub read-lines-spec : {M : Type 1} → statement M
 read-lines-spec =
     tie.close
@@ -69,7 +63,7 @@ read-lines-spec =
     (λ c. search needs)
     part-line-of-end
     (λ c κs. search needs)
-    same-length
+    (λ c. c .before .before .before .before .before .before .loop .inv .wide)
     returns
     put-line-requires
     add-line
@@ -77,4 +71,4 @@ read-lines-spec =
     loop-less
     loop-again
     (λ c. c .before .loop .inv .wide)
-    returns-2)
+    (λ c. upto-end _ _ _ _ _ _ _ _ (c .before .loop .inv) (omega arith)))

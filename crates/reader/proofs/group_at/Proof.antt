@@ -5,9 +5,6 @@ use borrow.Author.Needs.{needs}
 use Rattle.reader.proofs.group_at.Statement.{statement}
 use Rattle.reader.proofs.group_at.Tie as tie
 
-returns : tie.Need-returns
-returns c = volume-no _ _ _ _ (c .before .byte-at .ensures) (c .if1 .taken)
-
 members-at-requires : tie.Need-members-at-requires
 members-at-requires c κs =
     let a = c .before .before .before .before .args in
@@ -22,7 +19,7 @@ group-at-spec =
     tie.close
     (tie.spec
     (λ c κs. search needs)
-    returns
+    (λ c. volume-no _ _ _ _ (c .before .byte-at .ensures) (c .if1 .taken))
     (λ c. search needs)
     (λ c κs. search needs)
     members-at-requires

@@ -5,9 +5,6 @@ use borrow.Author.Needs.{needs}
 use Rattle.reader.proofs.members_at.Statement.{statement}
 use Rattle.reader.proofs.members_at.Tie as tie
 
-returns : tie.Need-returns
-returns c = members-none _ _ _ _ (c .before .byte-at .ensures) (c .if1 .taken)
-
 more-members-requires : tie.Need-more-members-requires
 more-members-requires c κs = let a = c .before .before .before .before in stands (a .args .s .now) _ _ (c .member-at .ensures) (member-within _ _ _ (a .pre))
 
@@ -27,7 +24,7 @@ members-at-spec =
     (tie.spec
     (λ c κs. search needs)
     (λ c. search needs)
-    returns
+    (λ c. members-none _ _ _ _ (c .before .byte-at .ensures) (c .if1 .taken))
     (λ c κs. search needs)
     more-members-requires
     closed-at-requires

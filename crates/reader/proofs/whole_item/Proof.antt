@@ -22,9 +22,6 @@ returns-2 c =
     let q = b .before .before .pre in
     whole-other _ _ _ (q .0) (b .word-end .ensures) _ _ (q .1) (q .2) (q .3) _ (c .before .before .is-whole .ensures) (not-false _ (c .before .if1 .left)) (c .if2 .taken)
 
-whole-requires : tie.Need-whole-requires
-whole-requires c κs = sym (c .before .before .is-whole .ensures) ∙ not-false _ (c .before .if1 .left)
-
 returns-3 : tie.Need-returns-3
 returns-3 c =
     let b = c .before .before .before .before .before in
@@ -42,5 +39,5 @@ whole-item-spec =
     (λ c κs. search needs)
     returns
     returns-2
-    whole-requires
+    (λ c κs. sym (c .before .before .is-whole .ensures) ∙ not-false _ (c .before .if1 .left))
     returns-3)

@@ -1,15 +1,15 @@
 -- A step that is not refused is answered with an outcome, 0 to 5; one that is refused with 20 or more.
 use Prim.Native.Nat.{ℕ, _≤_}
-use mathlib.Core.Bool.{Bool, true, false}
-use mathlib.Core.Path.{_≡_, refl}
+use mathlib.Core.Bool.{Bool}
+use mathlib.Core.Path.{_≡_}
+use mathlib.Core.Logic.{⊎-elim}
+use Rattle.rules.proofs.Keep.Accepted.{refusal-large}
 use native.Mathlib.Omega.{arith}
 use lib.Dec.{eqb}
-use Rattle.octets.specs.Bytes.{pick}
 use Rattle.octets.proofs.Tests.{pick-view}
 use Rattle.rules.specs.Layout.{Layout}
 use Rattle.rules.specs.State.{Transactor, Message, State, ownHistory, transactorAt, messageAt, placeOf}
 use Rattle.rules.specs.Step.{Step, notReady, root, letter, receive, new, send, read, write, freeze, finish, fall, lose, sign}
-use Rattle.rules.specs.Refusals.{Seen, malformed, notWaiting, emptyGroup, unopened, isGone, wrongStatus, unrelatedReceipt, allOpened, allWaiting, allNumbered, allCheckpointed, lastRollsBack, refusalOf}
 use Rattle.rules.specs.Rules.{Effect, Result, rollback, readBy, writeBy, freezeBy, finishBy, fallBy, failBy, localBy, messageSuperseded, receiverSuperseded, receiveBy, groupReady, seen, refusal, applyRoot, applyLetter, applyReceive, applyNew, applySend, applyLocal, applyLose, applySign, apply, stepOf}
 use Rattle.rules.proofs.Keep.Step.{refused-same, applied-same}
 
@@ -59,30 +59,6 @@ apply-outcome y s p =
 
 -- ---- refused
 
-data Table (n : ℕ) : Type 0 where
-  none : n ≡ 0 → Table n
-  some : 20 ≤ n → Table n
-
-table : (y : Layout) (v : Seen) (p : Step) → Table (refusalOf y v p)
-unfolding refusalOf
-table y v p =
-    pass (malformed p) 20 _ (omega arith)
-    (pass (notWaiting v p) 24 _ (omega arith)
-    (pass (emptyGroup p) 29 _ (omega arith)
-    (pass (unopened v p) 21 _ (omega arith)
-    (pass (isGone v p) 22 _ (omega arith)
-    (pass (wrongStatus v p) 23 _ (omega arith)
-    (pass (unrelatedReceipt v p) 31 _ (omega arith)
-    (pass (allOpened v p) 25 _ (omega arith)
-    (pass (allWaiting v p) 26 _ (omega arith)
-    (pass (allNumbered v p) 27 _ (omega arith)
-    (pass (allCheckpointed v p) 30 _ (omega arith)
-    (pass (lastRollsBack y v p) 28 0 (omega arith) (none refl))))))))))))
-  where
-    pass : (c : Bool) (n r : ℕ) → 20 ≤ n → Table r → Table (pick c n r)
-    pass true n r h k = some h
-    pass false n r h k = k
-
 -- A step is refused, with 20 or more, and nothing changes; or not, and its outcome is at most 5.
 pub data Judged (y : Layout) (s : State) (p : Step) : Type 0 where
   refused : 20 ≤ stepOf y s p .reply .outcome → stepOf y s p .state ≡ s → Judged y s p
@@ -90,10 +66,7 @@ pub data Judged (y : Layout) (s : State) (p : Step) : Type 0 where
 
 pub judged : (y : Layout) (s : State) (p : Step) → Judged y s p
 unfolding refusal
-judged y s p = go (table y (seen y s) p)
-  where
-    go : Table (refusalOf y (seen y s) p) → Judged y s p
-    go (none e) = applied e (rw (applied-same y s p e) (apply-outcome y s p))
-    go (some h) =
-        let e = refused-same y s p (λ (z : refusal y s p ≡ 0). omega arith) in
-        refused (rw e h) (rw e)
+judged y s p = ⊎-elim
+    (λ e. applied e (rw (applied-same y s p e) (apply-outcome y s p)))
+    (λ i. let e = refused-same y s p (λ (z : refusal y s p ≡ 0). omega arith) in refused (rw e (i .low)) (rw e))
+    (refusal-large y (seen y s) p)

@@ -2,15 +2,16 @@
 use Prim.Native.Nat.{ℕ, _≤_, _<_}
 use mathlib.Core.Bool.{Bool, true, false, not}
 use mathlib.Core.Path.{_≡_, refl}
+use mathlib.Core.Logic.{_⊎_, inl, inr, ⊎-elim}
 use native.Mathlib.Omega.{arith}
 use lib.Dec.{eqb, ltb, leb}
 use borrow.Author.Tests.{leb-false, ltb-false, lt-ltb, eqb-true, eqb-false, not-false}
-use Rattle.octets.specs.Bytes.{pick, _and_, _or_}
+use Rattle.octets.specs.Bytes.{_and_, _or_}
 use Rattle.rules.specs.Layout.{Layout, largest, lastNumber}
 use Rattle.rules.specs.Status.{idle, busy, annihilated}
 use Rattle.rules.specs.Step.{Step, root, receive, new, send, fall, fail, lose, sign}
 use Rattle.rules.specs.Refusals.{Seen, groupBits, named, anyNamed, acts, usesTransactor, sends, malformed, notWaiting, emptyGroup, unopened, isGone, wrongStatus, unrelatedReceipt, allOpened, allWaiting, allNumbered, allCheckpointed, atLast, lastRollsBack, refusalOf}
-use Rattle.octets.proofs.Tests.{pick-zero, or-off, and-off}
+use Rattle.octets.proofs.Tests.{pick-view, pick-zero, or-off, and-off}
 use Rattle.rules.proofs.Bits.{named-at}
 
 -- ---- none of the conditions holds
@@ -165,22 +166,30 @@ pub record InTable (n : ℕ) : Type 0 where
   pub low : 20 ≤ n
   pub high : n ≤ 31
 
-pub refusal-range : (y : Layout) (v : Seen) (p : Step) → (refusalOf y v p ≡ 0 → ⊥) → InTable (refusalOf y v p)
+-- What holds of 0, of 28 and 31 on their conditions, and of the table's other numbers, holds of the refusal.
+pub refusal-view : (P : ℕ → Type 0) (y : Layout) (v : Seen) (p : Step) → ((n : ℕ) → 20 ≤ n → n ≤ 30 → (n ≡ 28 → ⊥) → P n) → (unrelatedReceipt v p ≡ true → P 31) → (lastRollsBack y v p ≡ true → P 28) → P 0
+    → P (refusalOf y v p)
 unfolding refusalOf
-refusal-range y v p =
-    one (malformed p) 20 _ (omega arith) (omega arith)
-    (one (notWaiting v p) 24 _ (omega arith) (omega arith)
-    (one (emptyGroup p) 29 _ (omega arith) (omega arith)
-    (one (unopened v p) 21 _ (omega arith) (omega arith)
-    (one (isGone v p) 22 _ (omega arith) (omega arith)
-    (one (wrongStatus v p) 23 _ (omega arith) (omega arith)
-    (one (unrelatedReceipt v p) 31 _ (omega arith) (omega arith)
-    (one (allOpened v p) 25 _ (omega arith) (omega arith)
-    (one (allWaiting v p) 26 _ (omega arith) (omega arith)
-    (one (allNumbered v p) 27 _ (omega arith) (omega arith)
-    (one (allCheckpointed v p) 30 _ (omega arith) (omega arith)
-    (one (lastRollsBack y v p) 28 0 (omega arith) (omega arith) (λ n. absurd (n refl)))))))))))))
-  where
-    one : (c : Bool) (n r : ℕ) → 20 ≤ n → n ≤ 31 → ((r ≡ 0 → ⊥) → InTable r) → (pick c n r ≡ 0 → ⊥) → InTable (pick c n r)
-    one true n r low high f h = record { low = low; high = high }
-    one false n r low high f h = f h
+refusal-view P y v p other unrelated last none =
+    pick-view P (malformed p) 20 _ (λ e. other 20 (omega arith) (omega arith) (omega arith)) λ e.
+    pick-view P (notWaiting v p) 24 _ (λ e. other 24 (omega arith) (omega arith) (omega arith)) λ e.
+    pick-view P (emptyGroup p) 29 _ (λ e. other 29 (omega arith) (omega arith) (omega arith)) λ e.
+    pick-view P (unopened v p) 21 _ (λ e. other 21 (omega arith) (omega arith) (omega arith)) λ e.
+    pick-view P (isGone v p) 22 _ (λ e. other 22 (omega arith) (omega arith) (omega arith)) λ e.
+    pick-view P (wrongStatus v p) 23 _ (λ e. other 23 (omega arith) (omega arith) (omega arith)) λ e.
+    pick-view P (unrelatedReceipt v p) 31 _ unrelated λ e.
+    pick-view P (allOpened v p) 25 _ (λ e. other 25 (omega arith) (omega arith) (omega arith)) λ e.
+    pick-view P (allWaiting v p) 26 _ (λ e. other 26 (omega arith) (omega arith) (omega arith)) λ e.
+    pick-view P (allNumbered v p) 27 _ (λ e. other 27 (omega arith) (omega arith) (omega arith)) λ e.
+    pick-view P (allCheckpointed v p) 30 _ (λ e. other 30 (omega arith) (omega arith) (omega arith)) λ e.
+    pick-view P (lastRollsBack y v p) 28 0 last (λ e. none)
+
+pub refusal-large : (y : Layout) (v : Seen) (p : Step) → (refusalOf y v p ≡ 0) ⊎ InTable (refusalOf y v p)
+refusal-large y v p = refusal-view (λ n. (n ≡ 0) ⊎ InTable n) y v p
+    (λ n low high k. inr (record { low = low; high = omega arith }))
+    (λ e. inr (record { low = omega arith; high = omega arith }))
+    (λ e. inr (record { low = omega arith; high = omega arith }))
+    (inl refl)
+
+pub refusal-range : (y : Layout) (v : Seen) (p : Step) → (refusalOf y v p ≡ 0 → ⊥) → InTable (refusalOf y v p)
+refusal-range y v p h = ⊎-elim (λ e. absurd (h e)) (λ i. i) (refusal-large y v p)

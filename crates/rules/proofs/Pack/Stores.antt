@@ -370,25 +370,11 @@ module _ (s : State) (f : ℕ → Transactor) where
   unfolding upTo
   upTo-more i = rw add-one
 
-  pub upTo-limits : (i : ℕ) → upTo s f i .limits ≡ s .limits
+  -- nothing but the takes changes
+  upTo-rest : (i : ℕ) → upTo s f i ≡ record { limits = s .limits; opened = s .opened; next = s .next; transactors = upTo s f i .transactors; messages = s .messages }
   unfolding upTo withTransactor
-  upTo-limits zero = refl
-  upTo-limits (suc i) = upTo-limits i
-
-  pub upTo-opened : (i : ℕ) → upTo s f i .opened ≡ s .opened
-  unfolding upTo withTransactor
-  upTo-opened zero = refl
-  upTo-opened (suc i) = upTo-opened i
-
-  pub upTo-next : (i : ℕ) → upTo s f i .next ≡ s .next
-  unfolding upTo withTransactor
-  upTo-next zero = refl
-  upTo-next (suc i) = upTo-next i
-
-  pub upTo-messages : (i : ℕ) → upTo s f i .messages ≡ s .messages
-  unfolding upTo withTransactor
-  upTo-messages zero = refl
-  upTo-messages (suc i) = upTo-messages i
+  upTo-rest zero = refl
+  upTo-rest (suc i) = ap (λ (x : State). withTransactor x i (f i)) (upTo-rest i)
 
   pub upTo-many : (i : ℕ) → length (upTo s f i .transactors) ≡ length (s .transactors)
   unfolding upTo withTransactor
@@ -420,9 +406,5 @@ module _ (y : Layout) (s : State) (f : ℕ → Transactor) (many : length (s .tr
   upTo-transactors = fill-all f (upTo s f (y .transactors) .transactors) (y .transactors) (upTo-take s f (y .transactors) (omega arith)) (upTo-many s f (y .transactors) ∙ many)
 
   pub upTo-all : upTo s f (y .transactors) ≡ record { limits = s .limits; opened = s .opened; next = s .next; transactors = tabulate (y .transactors) f; messages = s .messages }
-  upTo-all =
-      let l : upTo s f (y .transactors) .limits ≡ s .limits = upTo-limits s f (y .transactors) in
-      let a : upTo s f (y .transactors) .opened ≡ s .opened = upTo-opened s f (y .transactors) in
-      let b : upTo s f (y .transactors) .next ≡ s .next = upTo-next s f (y .transactors) in
-      let c : upTo s f (y .transactors) .messages ≡ s .messages = upTo-messages s f (y .transactors) in
-      λ i. record { limits = l i; opened = a i; next = b i; transactors = upTo-transactors i; messages = c i }
+  upTo-all = upTo-rest s f (y .transactors)
+      ∙ ap (λ (l : List Transactor). record { limits = s .limits; opened = s .opened; next = s .next; transactors = l; messages = s .messages }) upTo-transactors

@@ -26,9 +26,6 @@ returns-3 c = refused-over _ _ (c .before .before .before .before .before .loop 
 loop-again : tie.Need-loop-again Inv-loop μ-loop
 loop-again c = (omega arith, omega arith, kept-more _ _ (c .before .before .before .before .before .loop .i) _ (c .before .before .before .before .before .loop .inv .2) (omega arith) (omega arith) (omega arith))
 
-returns-4 : tie.Need-returns-4 Inv-loop μ-loop
-returns-4 c = refused-none _ (c .before .before .loop .i) _ (omega arith) (omega arith)
-
 returns-5 : tie.Need-returns-5 Inv-loop μ-loop
 returns-5 c = accepted _ _ (c .before .before .loop .i) _ (c .before .before .loop .inv .2) (omega arith) (omega arith) (omega arith)
 
@@ -53,5 +50,5 @@ number-spec =
     (λ c. search needs)
     loop-again
     (λ c. search needs)
-    returns-4
+    (λ c. refused-none _ (c .before .before .loop .i) _ (omega arith) (omega arith))
     returns-5)

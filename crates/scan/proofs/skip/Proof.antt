@@ -21,9 +21,6 @@ loop-again c = c .before .before .before .before .loop .inv ∙ run-more blank _
 returns : tie.Need-returns Inv-loop μ-loop
 returns c = sym (run-stop blank _ _ (omega arith) (sym (c .before .is-blank .ensures) ∙ c .if1 .left)) ∙ sym (c .before .before .before .before .loop .inv) ∙ next-def _ _
 
-returns-2 : tie.Need-returns-2 Inv-loop μ-loop
-returns-2 c = sym (run-end blank _ _ (omega arith)) ∙ sym (c .before .loop .inv) ∙ next-def _ _
-
 pub skip-spec : {M : Type 1} → statement M
 skip-spec =
     tie.close
@@ -37,4 +34,4 @@ skip-spec =
     (λ c. search needs)
     loop-again
     returns
-    returns-2)
+    (λ c. sym (run-end blank _ _ (omega arith)) ∙ sym (c .before .loop .inv) ∙ next-def _ _))

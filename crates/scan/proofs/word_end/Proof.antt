@@ -21,9 +21,6 @@ loop-again c = c .before .before .before .before .loop .inv ∙ run-more inWord 
 returns : tie.Need-returns Inv-loop μ-loop
 returns c = sym (run-stop inWord _ _ (omega arith) (sym (c .before .is-word .ensures) ∙ c .if1 .left)) ∙ sym (c .before .before .before .before .loop .inv) ∙ endOf-def _ _ _
 
-returns-2 : tie.Need-returns-2 Inv-loop μ-loop
-returns-2 c = sym (run-end inWord _ _ (omega arith)) ∙ sym (c .before .loop .inv) ∙ endOf-def _ _ _
-
 pub word-end-spec : {M : Type 1} → statement M
 word-end-spec =
     tie.close
@@ -37,4 +34,4 @@ word-end-spec =
     (λ c. search needs)
     loop-again
     returns
-    returns-2)
+    (λ c. sym (run-end inWord _ _ (omega arith)) ∙ sym (c .before .loop .inv) ∙ endOf-def _ _ _))

@@ -31,9 +31,6 @@ loop-again c =
       search needs,
     )
 
-returns : tie.Need-returns Inv-loop μ-loop
-returns c = put-map-all width places _ _ _ _ _ _ (c .before .loop .inv .1) (omega arith)
-
 pub inform-spec : {M : Type 1} → statement M
 inform-spec =
     tie.close
@@ -49,4 +46,4 @@ inform-spec =
     (λ c. search needs)
     loop-again
     (λ c. search needs)
-    returns)
+    (λ c. put-map-all width places _ _ _ _ _ _ (c .before .loop .inv .1) (omega arith)))

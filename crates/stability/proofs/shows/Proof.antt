@@ -12,9 +12,6 @@ use Rattle.stability.proofs.shows.Tie as tie
 returns : tie.Need-returns
 returns c = shown-off width places _ _ _ _ (omega arith) (sym (c .before .may-show .ensures) ∙ not-true _ (c .if1 .taken))
 
-returns-2 : tie.Need-returns-2
-returns-2 c = shown-none _ _ _ _ (sym (c .before .present .ensures) ∙ not-true _ (c .if2 .taken))
-
 shown-stable-requires : tie.Need-shown-stable-requires
 shown-stable-requires c κs =
     (loaded-count width places _ _ (omega arith) (c .before .load .ensures), loaded-count width places _ _ (omega arith) (c .load2 .ensures))
@@ -34,7 +31,7 @@ shows-spec =
     (λ c κs. search needs)
     returns
     (λ c κs. search needs)
-    returns-2
+    (λ c. shown-none _ _ _ _ (sym (c .before .present .ensures) ∙ not-true _ (c .if2 .taken)))
     (λ c κs. search needs)
     (λ c κs. search needs)
     shown-stable-requires

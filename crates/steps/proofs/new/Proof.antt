@@ -8,9 +8,6 @@ use Rattle.steps.proofs.new.Tie as tie
 abbrev start : tie.After-carry-arg → tie.Start
 start c = c .before .before .before .before .before .before .before .before .before .before .before .before
 
-carry-requires : tie.Need-carry-requires
-carry-requires c κs = (good-lent _ (start c .pre .good) _ (start c .pre .step .transactor), search needs)
-
 adopt-requires : tie.Need-adopt-requires
 adopt-requires c κs = (good-lent _ (start (c .before .before) .pre .good) _ (start (c .before .before) .pre .step .transactor), search needs)
 
@@ -46,7 +43,7 @@ new-spec =
     (λ c. search needs)
     (λ c. search needs)
     (λ c. search needs)
-    carry-requires
+    (λ c κs. (good-lent _ (start c .pre .good) _ (start c .pre .step .transactor), search needs))
     (λ c. search needs)
     (λ c. search needs)
     (λ c. search needs)

@@ -31,9 +31,6 @@ loop-again c =
     let b = c .before .before .before .before .before .before .before .loop in
     (omega arith, put-map-more width places _ _ (b .i) _ _ _ (b .inv .1) (c .before .before .store-entry .ensures) (omega arith), search needs)
 
-returns-2 : tie.Need-returns-2 Inv-loop μ-loop
-returns-2 c = put-map-all width places _ _ _ _ _ _ (c .before .loop .inv .1) (omega arith)
-
 pub store-spec : {M : Type 1} → statement M
 store-spec =
     tie.close
@@ -55,4 +52,4 @@ store-spec =
     (λ c. search needs)
     loop-again
     (λ c. search needs)
-    returns-2)
+    (λ c. put-map-all width places _ _ _ _ _ _ (c .before .loop .inv .1) (omega arith)))

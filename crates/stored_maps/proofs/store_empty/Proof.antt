@@ -23,9 +23,6 @@ loop-again c =
     let b = c .before .before .before .before .before .loop in
     (omega arith, put-empty-more width places _ entries (b .i) _ _ _ _ (b .inv .1) (c .before .before .store-entry .ensures) (omega arith), search needs)
 
-returns : tie.Need-returns Inv-loop μ-loop
-returns c = put-map-all width places _ _ _ _ _ _ (c .before .loop .inv .1) (omega arith)
-
 pub store-empty-spec : {M : Type 1} → statement M
 store-empty-spec =
     tie.close
@@ -40,4 +37,4 @@ store-empty-spec =
     (λ c. search needs)
     loop-again
     (λ c. search needs)
-    returns)
+    (λ c. put-map-all width places _ _ _ _ _ _ (c .before .loop .inv .1) (omega arith)))

@@ -17,9 +17,6 @@ loop-holds : tie.Need-loop-holds Inv-loop μ-loop
 unfolding tabulate
 loop-holds c = gathering-none _ _ (c .before .before .pre .0) (c .before .before .pre .1) _ says-none
 
-with-requires : tie.Need-with-requires Inv-loop μ-loop
-with-requires c κs = known-transactor _ (c .before .before .before .before .before .before .decode .ensures)
-
 loop-again : tie.Need-loop-again Inv-loop μ-loop
 loop-again c =
     let d = c .before .before .before .before .before .before .before in
@@ -44,7 +41,7 @@ gather-spec =
     (λ c. search needs)
     (λ c κs. known-transactor _ (c .before .decode .ensures))
     (λ c κs. search needs)
-    with-requires
+    (λ c κs. known-transactor _ (c .before .before .before .before .before .before .decode .ensures))
     (λ c. search needs)
     loop-again
     (λ c. search needs)

@@ -5,9 +5,6 @@ use Rattle.thin.proofs.Gathering.{unplaced, placed}
 use Rattle.thin.proofs.place.Statement.{statement}
 use Rattle.thin.proofs.place.Tie as tie
 
-returns : tie.Need-returns
-returns c = unplaced (not-true (c .before .before .before .args .kept) (c .if1 .taken))
-
 returns-2 : tie.Need-returns-2
 returns-2 c = placed (not-false (c .before .before .before .before .before .before .before .before .args .kept) (c .before .before .before .before .before .if1 .left)) (c .before .before .write .ensures)
 
@@ -15,7 +12,7 @@ pub place-spec : {M : Type 1} → statement M
 place-spec =
     tie.close
     (tie.spec
-    returns
+    (λ c. unplaced (not-true (c .before .before .before .args .kept) (c .if1 .taken)))
     (λ c. search needs)
     (λ c. search needs)
     (λ c. search needs)

@@ -23,12 +23,6 @@ abbrev μ-loop : tie.MeasureT-loop
 fine : (c : tie.Else2 Inv-loop μ-loop) → wrongPart (c .before .before .before .before .before .before .args .list .now) (c .before .before .before .before .before .before .args .start) (c .before .before .before .before .before .before .args .end) ≡ false
 fine c = sym (c .before .wrong-part .ensures) ∙ c .if2 .left
 
-returns-2 : tie.Need-returns-2 Inv-loop μ-loop
-returns-2 c = ran-no-part _ _ _ _ _ (search needs) (sym (c .before .wrong-part .ensures) ∙ c .if2 .taken)
-
-returns-3 : tie.Need-returns-3 Inv-loop μ-loop
-returns-3 c = ran-no-room _ _ _ _ _ (search needs) (fine (c .before)) (search needs)
-
 loop-again : tie.Need-loop-again Inv-loop μ-loop
 loop-again c = (search needs, copy-more _ _ _ (c .before .before .loop .inv .1) (omega arith) (omega arith), search needs)
 
@@ -46,9 +40,9 @@ run-copy-spec =
     μ-loop
     (λ c. ran-wrong _ _ _ _ _ (search needs))
     (λ c κs. search needs)
-    returns-2
+    (λ c. ran-no-part _ _ _ _ _ (search needs) (sym (c .before .wrong-part .ensures) ∙ c .if2 .taken))
     (λ c. omega (arith, right-part _ _ _ (fine c) .forth))
-    returns-3
+    (λ c. ran-no-room _ _ _ _ _ (search needs) (fine (c .before)) (search needs))
     (λ c. (search needs, copy-none _ _, search needs))
     (λ c. search needs)
     (λ c. search needs)

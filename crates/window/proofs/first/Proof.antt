@@ -17,12 +17,6 @@ abbrev μ-loop : tie.MeasureT-loop
 add-count : tie.Need-add-count Inv-loop μ-loop
 add-count c = let h = rollbacks-sum _ _ _ _ _ _ (c .before .before .loop .inv .1) (c .rollback .ensures) in search needs
 
-loop-again : tie.Need-loop-again Inv-loop μ-loop
-loop-again c = (search needs, rollbacks-more _ _ _ _ (c .before .before .loop .inv .1) (c .rollback .ensures))
-
-returns : tie.Need-returns Inv-loop μ-loop
-returns c = rollbacks-end _ _ _ _ (c .before .loop .inv .1) (omega arith)
-
 pub first-spec : {M : Type 1} → statement M
 first-spec =
     tie.close
@@ -34,5 +28,5 @@ first-spec =
     add-count
     (λ c. search needs)
     (λ c. search needs)
-    loop-again
-    returns)
+    (λ c. (search needs, rollbacks-more _ _ _ _ (c .before .before .loop .inv .1) (c .rollback .ensures)))
+    (λ c. rollbacks-end _ _ _ _ (c .before .loop .inv .1) (omega arith)))

@@ -14,9 +14,6 @@ Inv-loop replies width n count₀ best₀ place₀ count best place = (place + w
 abbrev μ-loop : tie.MeasureT-loop
 μ-loop replies width n count₀ best₀ place₀ count best place = n - place
 
-loop-holds : tie.Need-loop-holds Inv-loop μ-loop
-loop-holds c = (omega arith, c .first .ensures, upTo-first _ _ _ (c .first .ensures))
-
 add-count : tie.Need-add-count Inv-loop μ-loop
 add-count c = let h = rollbacks-sum _ _ _ _ _ _ (c .before .before .loop .inv .1) (c .rollback .ensures) in search needs
 
@@ -36,7 +33,7 @@ slide-spec =
     Inv-loop
     μ-loop
     (λ c κs. search needs)
-    loop-holds
+    (λ c. (omega arith, c .first .ensures, upTo-first _ _ _ (c .first .ensures)))
     (λ c. search needs)
     (λ c. search needs)
     (λ c κs. omega arith)

@@ -34,9 +34,6 @@ numbers-requires-2 c κs = let s = c .before .before .before .before in (search 
 put-numbers-requires-2 : tie.Need-put-numbers-requires-2
 put-numbers-requires-2 c κs = let s = c .before .before .before .before .before .before in (search needs, search needs, simp length-set (omega (arith, sum s, low s, high s)))
 
-same-length-2 : tie.Need-same-length-2
-same-length-2 c = simp length-set at (c .before .before .put-numbers2 .kept .0)
-
 returns-2 : tie.Need-returns-2
 returns-2 c =
     let n = c .before .before .before .before in
@@ -61,5 +58,5 @@ history-spec =
     numbers-requires-2
     (λ c. search needs)
     put-numbers-requires-2
-    same-length-2
+    (λ c. simp length-set at (c .before .before .put-numbers2 .kept .0))
     returns-2)

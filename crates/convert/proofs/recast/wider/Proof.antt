@@ -17,12 +17,6 @@ slice-aggregate-write c = let s = c .before .before .before .before in sym (leng
 write-requires : tie.Need-write-requires
 write-requires c κs = let s = c .before .before .before .before in omega (arith, s .pre .0, s .pre .1, length-take-le 4 (s .args .source .now) (omega (arith, s .pre .0)))
 
-records-requires : tie.Need-records-requires
-records-requires c κs = (widening, omega arith, omega arith, search needs, search needs)
-
-records-requires-2 : tie.Need-records-requires-2
-records-requires-2 c κs = (widening, omega arith, omega arith, search needs, search needs)
-
 returns : tie.Need-returns
 unfolding part widened
 returns c =
@@ -44,7 +38,7 @@ wider-spec =
     (λ c. search needs)
     (λ c. search needs)
     (λ c κs. search needs)
-    records-requires
-    records-requires-2
+    (λ c κs. (widening, omega arith, omega arith, search needs, search needs))
+    (λ c κs. (widening, omega arith, omega arith, search needs, search needs))
     (λ c. search needs)
     returns)

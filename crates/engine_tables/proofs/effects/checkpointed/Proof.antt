@@ -6,13 +6,10 @@ use Rattle.engine_tables.proofs.Rows.{checkpointed-not, checkpointed-na
 use Rattle.engine_tables.proofs.effects.checkpointed.Statement.{statement}
 use Rattle.engine_tables.proofs.effects.checkpointed.Tie as tie
 
-add-t4 : tie.Need-add-t4
-add-t4 c = omega (arith, fits-named _ _ (c .before .before .pre) (not-false _ (c .before .if1 .left)))
-
 pub checkpointed-spec : {M : Type 1} → statement M
 checkpointed-spec =
     tie.close
     (tie.spec
     (λ c. checkpointed-not _ _ (not-true _ (c .if1 .taken)))
-    add-t4
+    (λ c. omega (arith, fits-named _ _ (c .before .before .pre) (not-false _ (c .before .if1 .left))))
     (λ c. checkpointed-named _ _ (not-false _ (c .before .if1 .left)) _ refl))

@@ -15,9 +15,6 @@ returns-2 c =
     let b = c .before .before .before .before in
     new-full (b .before .before .before .pre) _ (b .busy .ensures) (search needs) (search needs) _ (c .answered2 .ensures)
 
-opening-requires : tie.Need-opening-requires
-opening-requires c κs = omega (arith, c .before .before .before .before .before .before .pre .limits)
-
 returns-3 : tie.Need-returns-3
 returns-3 c =
     let b = c .before .before .before .before in
@@ -32,5 +29,5 @@ new-spec =
     returns
     (λ c κs. search needs)
     returns-2
-    opening-requires
+    (λ c κs. omega (arith, c .before .before .before .before .before .before .pre .limits))
     returns-3)

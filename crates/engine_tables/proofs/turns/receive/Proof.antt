@@ -11,9 +11,6 @@ returns c =
     let s = b .before .before in
     receive-last (s .pre .0) (s .pre .1) (s .args .dropped) (s .args .rolls) (sym (b .last-receipt .ensures) ∙ c .before .if1 .taken) _ (c .answered .ensures)
 
-receive-requires : tie.Need-receive-requires
-receive-requires c κs = sym (c .before .before .last-receipt .ensures) ∙ c .before .if1 .left
-
 returns-2 : tie.Need-returns-2
 returns-2 c =
     let e = c .before .before .before in
@@ -28,6 +25,6 @@ receive-spec =
     (λ c κs. search needs)
     (λ c κs. search needs)
     returns
-    receive-requires
+    (λ c κs. sym (c .before .before .last-receipt .ensures) ∙ c .before .if1 .left)
     (λ c κs. search needs)
     returns-2)

@@ -22,9 +22,6 @@ returns c = lost-found base _ _ (passed-found (c .before .before .before .loop .
 loop-again : tie.Need-loop-again Inv-loop μ-loop
 loop-again c = passed-more (c .before .before .before .loop .inv) (search needs) (sym (c .before .superseded .ensures) ∙ c .if1 .left)
 
-returns-2 : tie.Need-returns-2 Inv-loop μ-loop
-returns-2 c = lost-found base _ _ (passed-all (c .before .loop .inv) (search needs))
-
 pub lost-ground-spec : {M : Type 1} → statement M
 lost-ground-spec =
     tie.close
@@ -37,4 +34,4 @@ lost-ground-spec =
     (λ c. search needs)
     (λ c. search needs)
     loop-again
-    returns-2)
+    (λ c. lost-found base _ _ (passed-all (c .before .loop .inv) (search needs))))

@@ -27,9 +27,6 @@ loop-again c =
     let p = n .before .before .pre in
     passed-more (n .loop .inv) (search needs) (sym (way-is base _ _ _ (p .2) _ (search needs) (p .1) refl (c .before .in-way .ensures)) ∙ c .if1 .left)
 
-returns-2 : tie.Need-returns-2 Inv-loop μ-loop
-returns-2 c = lowest-found base _ _ _ (passed-all (c .before .loop .inv) (search needs))
-
 pub lowest-spec : {M : Type 1} → statement M
 lowest-spec =
     tie.close
@@ -44,4 +41,4 @@ lowest-spec =
     (λ c. search needs)
     (λ c. search needs)
     loop-again
-    returns-2)
+    (λ c. lowest-found base _ _ _ (passed-all (c .before .loop .inv) (search needs))))

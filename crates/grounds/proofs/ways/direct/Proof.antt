@@ -16,9 +16,6 @@ Inv-loop resting through₀ next₀ c₀ through next c = Both (firstRow (restin
 abbrev μ-loop : tie.MeasureT-loop
 μ-loop resting through₀ next₀ c₀ through next c = base .transactors - c
 
-loop-holds : tie.Need-loop-holds Inv-loop μ-loop
-loop-holds c = record { first = filling-none _ _ _ refl; second = filling-none _ _ _ refl }
-
 loop-again : tie.Need-loop-again Inv-loop μ-loop
 loop-again c =
     let l = c .before .before .loop .inv in
@@ -33,7 +30,7 @@ direct-spec =
     (tie.spec
     Inv-loop
     μ-loop
-    loop-holds
+    (λ c. record { first = filling-none _ _ _ refl; second = filling-none _ _ _ refl })
     (λ c. search needs)
     (λ c. search needs)
     (λ c. search needs)

@@ -14,9 +14,6 @@ Inv-loop t k reach through₀ next₀ by other c₀ through next c = Both (wider
 abbrev μ-loop : tie.MeasureT-loop
 μ-loop t k reach through₀ next₀ by other c₀ through next c = base .transactors - c
 
-loop-holds : tie.Need-loop-holds Inv-loop μ-loop
-loop-holds c = record { first = filling-none _ _ _ refl; second = filling-none _ _ _ refl }
-
 loop-again : tie.Need-loop-again Inv-loop μ-loop
 loop-again c =
     let l = c .before .before .before .before .before .loop .inv in
@@ -34,7 +31,7 @@ one-more-spec =
     (λ c. search needs)
     (λ c. search needs)
     (λ c. search needs)
-    loop-holds
+    (λ c. record { first = filling-none _ _ _ refl; second = filling-none _ _ _ refl })
     (λ c. search needs)
     (λ c. search needs)
     (λ c. search needs)

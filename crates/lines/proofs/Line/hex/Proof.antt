@@ -17,9 +17,6 @@ Inv-loop b r₀ i₀ r i = (i ≤ length b) × (written r ≡ plus (written r₀
 abbrev μ-loop : tie.MeasureT-loop
 μ-loop b r₀ i₀ r i = length b - i
 
-hex-digit-requires : tie.Need-hex-digit-requires Inv-loop μ-loop
-hex-digit-requires c κs = omega (arith, c .shared-slice-known2 .given (c .before .before .loop .i))
-
 loop-again : tie.Need-loop-again Inv-loop μ-loop
 loop-again c =
     let b = c .before .before .before .before .before .before in
@@ -33,7 +30,7 @@ hex-spec =
     μ-loop
     (λ c. (search needs, hex-start _ (search needs) _))
     (λ c. search needs)
-    hex-digit-requires
+    (λ c κs. omega (arith, c .shared-slice-known2 .given (c .before .before .loop .i)))
     (λ c κs. search needs)
     (λ c κs. search needs)
     (λ c κs. search needs)

@@ -20,9 +20,6 @@ abbrev μ-loop : tie.MeasureT-loop
 loop-again : tie.Need-loop-again Inv-loop μ-loop
 loop-again c = (search needs, member-more _ _ _ _ _ (c .before .before .loop .inv .1) (c .member .ensures) (omega arith), plus-settled _ _ _ (c .member .ensures))
 
-returns : tie.Need-returns Inv-loop μ-loop
-returns c = members-all _ _ _ _ (c .before .loop .inv .1) (c .before .loop .inv .2) (omega arith)
-
 pub members-spec : {M : Type 1} → statement M
 members-spec =
     tie.close
@@ -34,4 +31,4 @@ members-spec =
     (λ c. search needs)
     (λ c. search needs)
     loop-again
-    returns)
+    (λ c. members-all _ _ _ _ (c .before .loop .inv .1) (c .before .loop .inv .2) (omega arith)))

@@ -6,9 +6,6 @@ use Rattle.lines.proofs.Lining.{digits-said, digits-inside}
 use Rattle.lines.proofs.Line.number.Statement.{statement}
 use Rattle.lines.proofs.Line.number.Tie as tie
 
-array-share-prefix-digits : tie.Need-array-share-prefix-digits
-array-share-prefix-digits c = digits-inside _ _ _ _ (c .before .put-decimal .ensures) (search needs)
-
 slice-aggregate-word : tie.Need-slice-aggregate-word
 slice-aggregate-word c = sym (length-take-le _ _ (digits-inside _ _ _ _ (c .before .before .put-decimal .ensures) (search needs)))
 
@@ -21,7 +18,7 @@ number-spec =
     (tie.spec
     (λ c. search needs)
     (λ c κs. search needs)
-    array-share-prefix-digits
+    (λ c. digits-inside _ _ _ _ (c .before .put-decimal .ensures) (search needs))
     slice-aggregate-word
     (λ c κs. search needs)
     returns)

@@ -19,9 +19,6 @@ abbrev μ-loop : tie.MeasureT-loop
 loop-again : tie.Need-loop-again Inv-loop μ-loop
 loop-again c = (search needs, word-more _ _ _ _ _ (c .before .before .before .loop .inv .1) (c .byte .ensures) (omega arith))
 
-returns : tie.Need-returns Inv-loop μ-loop
-returns c = plus-all (λ x. x) _ _ _ _ (c .before .loop .inv .1) (omega arith)
-
 pub word-spec : {M : Type 1} → statement M
 word-spec =
     tie.close
@@ -34,4 +31,4 @@ word-spec =
     (λ c. search needs)
     (λ c. search needs)
     loop-again
-    returns)
+    (λ c. plus-all (λ x. x) _ _ _ _ (c .before .loop .inv .1) (omega arith)))

@@ -4,9 +4,6 @@ use Rattle.lists.proofs.Decoding.{step-fields}
 use Rattle.lists.proofs.packed.decode.Statement.{statement}
 use Rattle.lists.proofs.packed.decode.Tie as tie
 
-returns : tie.Need-returns
-returns c = step-fields _ _ _ _ (c .before .load16 .ensures) (c .load32 .ensures)
-
 pub decode-spec : {M : Type 1} → statement M
 decode-spec =
     tie.close
@@ -18,4 +15,4 @@ decode-spec =
     (λ c κs. search needs)
     (λ c. search needs)
     (λ c κs. search needs)
-    returns)
+    (λ c. step-fields _ _ _ _ (c .before .load16 .ensures) (c .load32 .ensures)))

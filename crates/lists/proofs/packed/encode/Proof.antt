@@ -10,9 +10,6 @@ use Rattle.lists.proofs.packed.encode.Tie as tie
 abbrev message : tie.After-store32 → tie.After-store16
 message c = c .before .before .before .before
 
-store32-requires : tie.Need-store32-requires
-store32-requires c κs = omega (arith, simp length-set at (c .before .before .before .store16 .kept .0))
-
 same-length : tie.Need-same-length
 same-length c = c .before .before .store32 .kept .0 ∙ simp length-set at (message (c .before .before) .store16 .kept .0)
 
@@ -32,6 +29,6 @@ encode-spec =
     (λ c. search needs)
     (λ c κs. simp length-set (omega arith))
     (λ c. search needs)
-    store32-requires
+    (λ c κs. omega (arith, simp length-set at (c .before .before .before .store16 .kept .0)))
     same-length
     returns)

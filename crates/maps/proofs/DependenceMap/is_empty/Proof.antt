@@ -16,12 +16,6 @@ Inv-loop self i₀ i = (i ≤ entries) × (isEmpty i self ≡ true)
 abbrev μ-loop : tie.MeasureT-loop
 μ-loop self i₀ i = entries - i
 
-loop-again : tie.Need-loop-again Inv-loop μ-loop
-loop-again c = (omega arith, isEmpty-more _ _ (c .before .before .before .loop .inv .1) (c .if1 .left))
-
-returns-2 : tie.Need-returns-2 Inv-loop μ-loop
-returns-2 c = sym (isEmpty-all _ entries _ (c .before .loop .inv .1) (omega arith))
-
 pub is-empty-spec : {M : Type 1} → statement M
 is-empty-spec =
     tie.close
@@ -33,5 +27,5 @@ is-empty-spec =
     (λ c. sym (isEmpty-off _ entries _ (omega arith) (c .if1 .taken)))
     (λ c. search needs)
     (λ c. search needs)
-    loop-again
-    returns-2)
+    (λ c. (omega arith, isEmpty-more _ _ (c .before .before .before .loop .inv .1) (c .if1 .left)))
+    (λ c. sym (isEmpty-all _ entries _ (c .before .loop .inv .1) (omega arith))))

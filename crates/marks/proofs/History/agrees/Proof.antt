@@ -17,9 +17,6 @@ Inv-loop n self other i₀ i = (i ≤ n) × (sameList (take i (self .checkpoints
 abbrev μ-loop : tie.MeasureT-loop
 μ-loop n self other i₀ i = n - i
 
-loop-holds : tie.Need-loop-holds Inv-loop μ-loop
-loop-holds c = (search needs, same-none (c .args .t1 .checkpoints) (c .args .t2 .checkpoints))
-
 returns : tie.Need-returns Inv-loop μ-loop
 returns c =
     let h = c .before .before .before .before in
@@ -43,7 +40,7 @@ agrees-spec =
     (tie.spec
     Inv-loop
     μ-loop
-    loop-holds
+    (λ c. (search needs, same-none (c .args .t1 .checkpoints) (c .args .t2 .checkpoints)))
     (λ c. search needs)
     (λ c. search needs)
     (λ c. search needs)

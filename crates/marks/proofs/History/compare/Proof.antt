@@ -10,9 +10,6 @@ use borrow.Author.Needs.{needs}
 use Rattle.marks.proofs.History.compare.Statement.{statement}
 use Rattle.marks.proofs.History.compare.Tie as tie
 
-returns : tie.Need-returns
-returns c = c .turned .ensures ∙ ap turned (c .before .compare-longer .ensures) ∙ sym (relation-turned _ _)
-
 returns-3 : tie.Need-returns-3
 returns-3 c =
     let a = c .before .before .before .before .before .before .before .before .before .args in
@@ -36,7 +33,7 @@ compare-spec =
     (tie.spec
     (λ c κs. search needs)
     (λ c κs. search needs)
-    returns
+    (λ c. c .turned .ensures ∙ ap turned (c .before .compare-longer .ensures) ∙ sym (relation-turned _ _))
     (λ c κs. search needs)
     (λ c. search needs)
     (λ c. search needs)

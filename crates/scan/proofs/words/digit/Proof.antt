@@ -5,9 +5,6 @@ use borrow.Author.Needs.{needs}
 use Rattle.scan.proofs.words.digit.Statement.{statement}
 use Rattle.scan.proofs.words.digit.Tie as tie
 
-sub-result-2 : tie.Need-sub-result-2
-sub-result-2 c = omega (arith, digit-letter _ (c .before .pre) (search needs))
-
 pub digit-spec : {M : Type 1} → statement M
 digit-spec =
     tie.close
@@ -15,6 +12,6 @@ digit-spec =
     (λ c. omega (arith, digit-from _ (c .before .pre)))
     (λ c. search needs)
     (λ c. digit-low _ (c .before .pre) (search needs))
-    sub-result-2
+    (λ c. omega (arith, digit-letter _ (c .before .pre) (search needs)))
     (λ c. search needs)
     (λ c. digit-high _ (c .before .pre) (search needs)))

@@ -14,12 +14,6 @@ Inv-loop w at n x₀ i₀ x i = (i ≤ n) × ((x ≡ hexValue w at i) × (x < 16
 abbrev μ-loop : tie.MeasureT-loop
 μ-loop w at n x₀ i₀ x i = n - i
 
-shared-slice-read-digit : tie.Need-shared-slice-read-digit Inv-loop μ-loop
-shared-slice-read-digit c = omega (arith, digits-length _ (c .before .before .before .before .pre .0))
-
-digit-requires : tie.Need-digit-requires Inv-loop μ-loop
-digit-requires c κs = digit-at _ (c .before .before .before .before .pre .0) _ (omega arith)
-
 mul-x : tie.Need-mul-x Inv-loop μ-loop
 mul-x c = let l = c .before .before .before in let h = hex-fits _ (l .before .before .pre .0) 0 (l .loop .i) (l .loop .x) (omega arith) (l .loop .inv .1 .1) in omega arith
 
@@ -31,9 +25,6 @@ loop-again c =
     let l = c .before .before .before in
     (omega arith, hex-more _ (l .before .before .pre .0) _ (l .loop .i) (l .loop .x) (l .loop .inv .1 .0) (l .loop .inv .1 .1) _ (c .digit .ensures .0) (c .digit .ensures .1))
 
-returns : tie.Need-returns Inv-loop μ-loop
-returns c = hex-end _ _ (c .before .loop .i) _ _ (omega arith) (c .before .loop .inv .1)
-
 pub hex-number-spec : {M : Type 1} → statement M
 hex-number-spec =
     tie.close
@@ -42,11 +33,11 @@ hex-number-spec =
     μ-loop
     (λ c. (omega arith, (hex-none _ _, omega arith)))
     (λ c. search needs)
-    shared-slice-read-digit
-    digit-requires
+    (λ c. omega (arith, digits-length _ (c .before .before .before .before .pre .0)))
+    (λ c κs. digit-at _ (c .before .before .before .before .pre .0) _ (omega arith))
     mul-x
     add-x
     (λ c. search needs)
     (λ c. search needs)
     loop-again
-    returns)
+    (λ c. hex-end _ _ (c .before .loop .i) _ _ (omega arith) (c .before .loop .inv .1)))

@@ -4,9 +4,6 @@ use borrow.Author.Needs.{needs}
 use Rattle.scan.proofs.words.with_field.Statement.{statement}
 use Rattle.scan.proofs.words.with_field.Tie as tie
 
-returns-5 : tie.Need-returns-5
-returns-5 c = with-none _ _ _ (search needs) (search needs) (search needs) (search needs) (search needs)
-
 pub with-field-spec : {M : Type 1} → statement M
 with-field-spec =
     tie.close
@@ -19,4 +16,4 @@ with-field-spec =
     (λ c. with-3 _ _ _ (search needs) (search needs))
     (λ c. search needs)
     (λ c. with-4 _ _ _ (search needs) (search needs))
-    returns-5)
+    (λ c. with-none _ _ _ (search needs) (search needs) (search needs) (search needs) (search needs)))

@@ -4,9 +4,6 @@ use borrow.Author.Needs.{needs}
 use Rattle.scan.proofs.words.with_member.Statement.{statement}
 use Rattle.scan.proofs.words.with_member.Tie as tie
 
-add-result : tie.Need-add-result
-add-result c = record { fits = member-fits _ _ (c .if1 .left) (search needs) (search needs) }
-
 pub with-member-spec : {M : Type 1} → statement M
 with-member-spec =
     tie.close
@@ -16,5 +13,5 @@ with-member-spec =
     (λ c. member-on _ _ (c .if1 .taken))
     (λ c. search needs)
     (λ c. search needs)
-    add-result
+    (λ c. record { fits = member-fits _ _ (c .if1 .left) (search needs) (search needs) })
     (λ c. member-off _ _ (c .if1 .left) (search needs)))

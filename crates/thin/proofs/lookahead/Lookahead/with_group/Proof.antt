@@ -29,9 +29,6 @@ loop-again c =
           (c .if1 .came),
     )
 
-returns : tie.Need-returns Inv-loop μ-loop
-returns c = named-all _ _ (c .before .loop .t) (c .before .loop .inv .1) (omega arith)
-
 pub with-group-spec : {M : Type 1} → statement M
 with-group-spec =
     tie.close
@@ -44,4 +41,4 @@ with-group-spec =
     (λ c. search needs)
     (λ c. search needs)
     loop-again
-    returns)
+    (λ c. named-all _ _ (c .before .loop .t) (c .before .loop .inv .1) (omega arith)))
