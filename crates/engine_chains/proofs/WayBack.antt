@@ -17,7 +17,8 @@ use Rattle.rules.specs.State as state
 use Rattle.rules.specs.Status as number
 use Rattle.rules.specs.declared.Step.{Step}
 use Rattle.rules.specs.declared.Reply.{Reply}
-use Rattle.rules.specs.Step.{stepAt, done, fallenBack, notReady, sign, isRefusal}
+use Rattle.rules.specs.declared.Told.{Told}
+use Rattle.rules.specs.Step.{stepAt, done, fallenBack, notReady, sign, isRefusal, told}
 use Rattle.rules.specs.Refusals.{named}
 use Rattle.rules.specs.Rules.{Result, answer, apply, stepOf}
 use Rattle.rules.specs.Internal.Well.{WellFormed}
@@ -29,7 +30,7 @@ use Rattle.session.specs.Steps.{provenanceSeen, provenanceRefusal, applied, sig
 use Rattle.session.proofs.Step.{SigningRight, checkpointed, uncheckpointed, StepRight}
 use Rattle.engine_chains.specs.Chain as chain
 use Rattle.engine_chains.specs.Chain.{Event}
-use Rattle.engine_chains.specs.Back.{Told, told, eventFrom}
+use Rattle.engine_chains.specs.Back.{eventFrom}
 use Rattle.engine_chains.specs.Internal.Walk.{wasRolledBack, wasCheckpointed}
 use Rattle.engine_chains.proofs.Walked.{Turned, stays}
 use Rattle.engine_chains.specs.Internal.Book.{appliedEvent, signEvent, stepEvent, incarnationsIn}
