@@ -222,9 +222,6 @@ module _ (y : Layout) (v w : ℕ) (old new : Bool) (img : List ℕ) (whole : len
     run = lengths (transactorBytes d) count (recastTransactorAt s w img) transactor-wide
 
     module _ (l2 : List ℕ) (g : l2 ≡ put first (chunks count (recastTransactorAt s w img)) l1) where
-      long1 : length l1 ≡ length l
-      long1 = ap length e ∙ length-put 0 (recastFront d img) l (omega (arith, front-short))
-
       pub image-done : (r : List ℕ) → r ≡ put (transactorAddress d count) (chunks (y .messages) (recastMessageAt s w img)) l2 → r ≡ recast s d img
       unfolding recast
       image-done r q =

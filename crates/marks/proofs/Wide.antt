@@ -29,9 +29,6 @@ module _ (s : List ℕ) where
   two at = sym (ofBe-more at 2 1 (getD s at 0) (getD s (at + 1) 0) s (omega arith) (ofBe-first at 2 (getD s at 0) s (omega arith) refl) refl)
 
   module _ (a : ℕ) (h : a + historySize width places ≤ length s) where
-    list : List ℕ
-    list = historyIn width places s a .checkpoints
-
     place-is : (i : ℕ) → i < places → getD (historyIn width places s a .checkpoints) i 0 ≡ getD s (a + 1 + width + width * i) 0 * 256 + getD s (a + 1 + width + width * i + 1) 0
     place-is i p = sym (place-here width places a s h i p) ∙ two (a + 1 + width + width * i)
 

@@ -1,18 +1,16 @@
--- Runs: parts side by side, chunks of which the first n are as wide as they should be, stores into zeros.
-use Prim.Native.Nat.{ℕ, zero, suc, _+_, _-_, _*_, _≤_, _<_}
+-- Runs: parts side by side, chunks of which the first n are as wide as they should be.
+use Prim.Native.Nat.{ℕ, zero, suc, _+_, _*_, _≤_, _<_}
 use mathlib.Core.Bool.{Bool, true, false}
-use mathlib.Core.Path.{_≡_, refl, sym, ap, _∙_, subst}
-use mathlib.Core.List.{List, [], _∷_, _++_}
+use mathlib.Core.Path.{_≡_, refl, sym, _∙_}
+use mathlib.Core.List.{List, _++_}
 use mathlib.Core.Logic.{⊎-elim}
 use native.Mathlib.Nat.{zero-add, add-zero, add-suc, mul-zero, mul-suc}
 use native.Mathlib.Numerals.{add-one}
 use native.Mathlib.Omega.{arith}
-use lib.ListN.{length, getD, set, drop, length-append}
-use lib.Seq.{drop-drop, getD-drop}
-use Rattle.octets.specs.Bytes.{_and_, put, part, chunks, every, allZero}
-use Rattle.octets.proofs.Put.{put-append, put-one, drop-put, part-left, part-right, part-part, part-add, part-whole, length-part}
+use lib.ListN.{length, length-append}
+use Rattle.octets.specs.Bytes.{_and_, put, part, chunks, every}
+use Rattle.octets.proofs.Put.{put-append, part-left, part-right, part-part, part-add, part-whole, length-part}
 use Rattle.octets.proofs.Tests.{and-assoc}
-use Rattle.octets.proofs.Zero.{allZero-at, allZero-drop}
 use Rattle.octets.proofs.Chunks.{step, cases, chunks-suc, chunks-same, chunks-parts}
 
 -- ---- parts of b one after the other
@@ -62,19 +60,3 @@ every-add a zero f = rw add-zero (last (every a f))
     last true = refl
     last false = refl
 every-add a (suc b) f = rw (add-suc, every-add a b f) (and-assoc (every a f) (every b (λ i. f (a + i))) (f (a + b)))
-
--- ---- a list that is zero from a place on
-
-module _ (at : ℕ) (l : List ℕ) (z : allZero (drop at l) ≡ true) where
-  -- what is put there leaves zeros behind it
-  pub zero-behind : (bs : List ℕ) → at + length bs ≤ length l → allZero (drop (at + length bs) (put at bs l)) ≡ true
-  zero-behind bs h = rw (drop-put at bs l h, ← drop-drop (length bs) at l) (allZero-drop (length bs) (drop at l) z)
-
-  -- and so does a single byte
-  pub zero-past : (x : ℕ) → at < length l → allZero (drop (at + 1) (set l at x)) ≡ true
-  zero-past x h = subst (λ (y : List ℕ). allZero (drop (at + 1) y) ≡ true) (put-one at x l h) (zero-behind (x ∷ []) (omega arith))
-
-  pub zero-at : (k : ℕ) → at ≤ k → getD l k 0 ≡ 0
-  zero-at k h =
-      let a : at + (k - at) ≡ k = omega arith in
-      ap (λ (i : ℕ). getD l i 0) (sym a) ∙ sym (getD-drop at l (k - at) 0) ∙ allZero-at (drop at l) (k - at) z
