@@ -8,7 +8,7 @@ use lib.Seq.{take-take, getD-take}
 use Rattle.rules.specs.declared.Step.{Step}
 use Rattle.rules.specs.Step.{stepBytes}
 use Rattle.notation.specs.Notation.{packStep}
-use Rattle.notation.specs.Reading.{room, linesOf, said}
+use Rattle.notation.specs.Reading.{linesOf, said}
 use Rattle.notation.specs.Grammar.{Blanks, Says, Lines, none, skip, step}
 use Rattle.notation.specs.Faults.{Stop, unsaid, filled, First}
 use Rattle.notation.proofs.Packing.{length-packStep}
@@ -16,7 +16,6 @@ use Rattle.notation.proofs.Accepted.{accepted}
 use Rattle.notation.proofs.Texts.{blank-end}
 use Rattle.notation.proofs.Numbered.{says-one}
 use mathlib.Core.Logic.{_⊎_, inl, inr, ⊎-elim}
-use Rattle.notation.proofs.Alone.{column-one}
 
 -- a line that was passed: blank, or its step had room
 data Passed (l : List ℕ) (long all : ℕ) : Type 0 where

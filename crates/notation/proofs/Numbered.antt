@@ -80,14 +80,10 @@ lines-short (c ∷ t) = pick-view (λ (ls : List (List ℕ)). length ls ≤ suc 
     go [] h = omega arith
     go (l ∷ ls) h = omega arith
 
-pub said-short : (ls : List (List ℕ)) (m : List ℕ) → Lines ls m → length m ≤ 8 * length ls
+said-short : (ls : List (List ℕ)) (m : List ℕ) → Lines ls m → length m ≤ 8 * length ls
 said-short ls m none = omega arith
 said-short ls m (skip l ls' _ a d) = omega (arith, said-short ls' m d)
 said-short ls m (step l ls' p n _ c d e) = omega (arith, ap length e, length-append (packStep p) n, length-packStep p, said-short ls' n d)
-
--- A list has at most eight bytes for each byte of its text.
-pub text-room : (t m : List ℕ) → Lines (linesOf t) m → length m ≤ 8 * length t
-text-room t m d = omega (arith, said-short (linesOf t) m d, lines-short t)
 
 roomy : (most : ℕ) (l : List ℕ) (long at e : ℕ) → Stop most l long at e → long + 8 ≤ most → (p : Step) → Says (said l) p → ⊥
 roomy most l long at e (unsaid a b r c) h p d = b p d

@@ -5,16 +5,15 @@ use mathlib.Core.Path.{_≡_, refl}
 use mathlib.Core.Logic.{⊎-elim}
 use mathlib.Core.List.{List, [], _∷_, _++_}
 use native.Mathlib.Omega.{arith}
-use borrow.Author.Tests.{leb-true, lt-ltb, le-ltb, ne-eqb}
-use lib.Dec.{eqb, ltb, leb}
+use borrow.Author.Tests.{leb-true, lt-ltb, le-ltb}
+use lib.Dec.{ltb, leb}
 use lib.ListN.{length, drop, getD, length-append, length-drop}
-use Rattle.octets.specs.Bytes.{pick, _or_, every, chunks}
+use Rattle.octets.specs.Bytes.{pick, every, chunks}
 use Rattle.octets.specs.Numbers.{bound}
 use Rattle.octets.proofs.Chunks.{sides}
-use Rattle.octets.proofs.Tests.{otherwise}
 use Rattle.octets.proofs.Zero.{both, every-at}
 use Rattle.rules.specs.declared.Step.{Step}
-use Rattle.rules.specs.Step.{stepAt, sign}
+use Rattle.rules.specs.Step.{stepAt}
 use Rattle.rules.specs.Calls.{stepsIn}
 use Rattle.rules.specs.Refusals.{named, groupBits, malformed}
 use Rattle.rules.specs.Internal.Well.{StepOk}
@@ -139,21 +138,6 @@ module _ (p : Step) (ok : StepOk p) where
       let k : ℕ = rowOf p in
       let a = leb-true 6 (length (nameOf k) + total least (templateOf k)) (every-at (λ k. leb 6 (length (nameOf k) + total least (templateOf k))) 14 k rows-least (row-known p)) in
       omega (arith, length-append (nameOf k ++ itemsText p (templateOf k)) (10 ∷ []), length-append (nameOf k) (itemsText p (templateOf k)), items-least p ok (templateOf k) (row k (row-known p) .fields))
-
--- ---- lines that are no sign
-
-rows-short : every 14 (λ k. eqb k sign or leb (length (nameOf k) + total most (templateOf k)) 29) ≡ true
-unfolding every total most nameOf templateOf
-rows-short = refl
-
--- at most 30 bytes, as send 10 to 10 text 1000000000 has
-pub step-short : (p : Step) → StepOk p → (rowOf p ≡ sign → ⊥) → length (stepText p) ≤ 30
-unfolding stepText lineText
-step-short p ok n =
-    let k : ℕ = rowOf p in
-    let e = every-at (λ k. eqb k sign or leb (length (nameOf k) + total most (templateOf k)) 29) 14 k rows-short (row-known p) in
-    let a = leb-true (length (nameOf k) + total most (templateOf k)) 29 (otherwise (eqb k sign) (leb (length (nameOf k) + total most (templateOf k)) 29) e (ne-eqb k sign n)) in
-    omega (arith, length-append (nameOf k ++ itemsText p (templateOf k)) (10 ∷ []), length-append (nameOf k) (itemsText p (templateOf k)), items-most p ok (templateOf k) (row k (row-known p) .fields))
 
 -- ---- texts
 
