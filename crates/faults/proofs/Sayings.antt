@@ -1,5 +1,5 @@
 -- What was expected, in words: the code's rows are the definition's.
-use Prim.Native.Nat.{ℕ, zero, suc, _+_, _-_, _≤_, _<_}
+use Prim.Native.Nat.{ℕ, suc, _+_, _-_, _≤_, _<_}
 use mathlib.Core.Bool.{true}
 use mathlib.Core.Path.{_≡_, refl, sym, ap, _∙_, subst}
 use mathlib.Core.List.{List, [], _∷_, _++_}
@@ -8,6 +8,7 @@ use borrow.Author.Tests.{leb-true, le-leb, lt-leb}
 use lib.Dec.{leb}
 use lib.ListN.{length, take, getD, List·getD-eq-default}
 use Rattle.octets.specs.Bytes.{_and_, every, part}
+use Rattle.octets.proofs.Tables.{read-within}
 use Rattle.octets.proofs.Zero.{both, every-at}
 use Rattle.marks.specs.Incarnation.{sameList}
 use Rattle.marks.proofs.Tests.{sameList-test}
@@ -61,11 +62,6 @@ pub expected-past : (n : ℕ) → 12 ≤ n → Room ≡ expectedOf n
 unfolding expectedOf
 expected-past n h = sym (List·getD-eq-default (Room ∷ Transactor ∷ Addressee ∷ Message ∷ Value ∷ Group ∷ WordTo ∷ WordText ∷ SixteenDigits ∷ Kind ∷ CommaOrBrace ∷ LineEnd ∷ []) Room {n = n} h)
 
-getD-same {ℓ} : {A : Type ℓ} (l : List A) (i : ℕ) (d e : A) → i < length l → getD l i d ≡ getD l i e
-getD-same [] i d e h = absurd (omega arith)
-getD-same (x ∷ l) zero d e h = refl
-getD-same (x ∷ l) (suc i) d e h = getD-same l i d e (omega arith)
-
 pub expected-at : (n : ℕ) → n < 12 → getD (Room ∷ Transactor ∷ Addressee ∷ Message ∷ Value ∷ Group ∷ WordTo ∷ WordText ∷ SixteenDigits ∷ Kind ∷ CommaOrBrace ∷ LineEnd ∷ []) n Transactor ≡ expectedOf n
 unfolding expectedOf
-expected-at n h = getD-same (Room ∷ Transactor ∷ Addressee ∷ Message ∷ Value ∷ Group ∷ WordTo ∷ WordText ∷ SixteenDigits ∷ Kind ∷ CommaOrBrace ∷ LineEnd ∷ []) n Transactor Room h
+expected-at n h = read-within (Room ∷ Transactor ∷ Addressee ∷ Message ∷ Value ∷ Group ∷ WordTo ∷ WordText ∷ SixteenDigits ∷ Kind ∷ CommaOrBrace ∷ LineEnd ∷ []) n Transactor Room h
