@@ -182,9 +182,9 @@ module _ (x : Transactor) where
     abbrev live : Bool → List ℕ
     live t = pick t (bytes ": idle, text ") (bytes ": at work, text ") ++ valuesText x
 
-    pub status-vanished : st ≡ 3 → b ≡ plus a (bytes ": vanished\n") → b ≡ plus a (statusText x)
+    pub status-annihilated : st ≡ 3 → b ≡ plus a (bytes ": vanished\n") → b ≡ plus a (statusText x)
     unfolding statusText
-    status-vanished h p = p ∙ ap (λ (t : Bool). plus a (pick t (bytes ": vanished\n") (live (eqb (x .status) 1)))) (sym (eq-eqb (x .status) 3 (sym is ∙ h)))
+    status-annihilated h p = p ∙ ap (λ (t : Bool). plus a (pick t (bytes ": vanished\n") (live (eqb (x .status) 1)))) (sym (eq-eqb (x .status) 3 (sym is ∙ h)))
 
     living : (st ≡ 3 → ⊥) → (t : Bool) → eqb (x .status) 1 ≡ t → c ≡ plus a (live t) → c ≡ plus a (statusText x)
     unfolding statusText
@@ -195,8 +195,8 @@ module _ (x : Transactor) where
     pub status-idle : (st ≡ 3 → ⊥) → st ≡ 1 → b ≡ plus a (bytes ": idle, text ") → c ≡ plus b (valuesText x) → c ≡ plus a (statusText x)
     status-idle n h p q = living n true (eq-eqb (x .status) 1 (sym is ∙ h)) (plus-two a b c (bytes ": idle, text ") (valuesText x) p q)
 
-    pub status-working : (st ≡ 3 → ⊥) → (st ≡ 1 → ⊥) → b ≡ plus a (bytes ": at work, text ") → c ≡ plus b (valuesText x) → c ≡ plus a (statusText x)
-    status-working n m p q = living n false (ne-eqb (x .status) 1 (λ (e : x .status ≡ 1). m (is ∙ e))) (plus-two a b c (bytes ": at work, text ") (valuesText x) p q)
+    pub status-busy : (st ≡ 3 → ⊥) → (st ≡ 1 → ⊥) → b ≡ plus a (bytes ": at work, text ") → c ≡ plus b (valuesText x) → c ≡ plus a (statusText x)
+    status-busy n m p q = living n false (ne-eqb (x .status) 1 (λ (e : x .status ≡ 1). m (is ∙ e))) (plus-two a b c (bytes ": at work, text ") (valuesText x) p q)
 
   values-short : length (valuesText x) ≤ 29
   unfolding valuesText
@@ -222,20 +222,20 @@ module _ (x : Transactor) where
       (says-short l z (piece (bytes "take ") t ++ statusText x) h (plus-two z a (written l) (piece (bytes "take ") t) (statusText x) p q) (omega (arith, length-append (piece (bytes "take ") t) (statusText x), piece-short (bytes "take ") t, status-short)) sized)
 
 module _ (img : List ℕ) (t m u : ℕ) (l : Line) (h : t < 16) where
-  abbrev taken : Transactor
-  taken = transactorAt (unpack base img) t
+  abbrev chosen : Transactor
+  chosen = transactorAt (unpack base img) t
 
-  pub map-state : m ≡ 0 → Says l (entryText (bytes "  state: take ") u (unpackDependences base (8 + 1593 * t + 9) img)) → Says l (mapText taken m u)
+  pub map-state : m ≡ 0 → Says l (entryText (bytes "  state: take ") u (unpackDependences base (8 + 1593 * t + 9) img)) → Says l (mapText chosen m u)
   unfolding mapText
   map-state e s = says-left l (eqb m 0) _ _ (eq-eqb m 0 e) (subst (λ (d : DependenceMap). Says l (entryText (bytes "  state: take ") u d)) (sym (read-state base img t h)) s)
 
-  pub map-creation : (m ≡ 0 → ⊥) → m ≡ 1 → Says l (entryText (bytes "  creation: take ") u (unpackDependences base (8 + 1593 * t + 537) img)) → Says l (mapText taken m u)
+  pub map-creation : (m ≡ 0 → ⊥) → m ≡ 1 → Says l (entryText (bytes "  creation: take ") u (unpackDependences base (8 + 1593 * t + 537) img)) → Says l (mapText chosen m u)
   unfolding mapText
   map-creation n e s =
       says-right l (eqb m 0) _ _ (ne-eqb m 0 n)
       (says-left l (eqb m 1) _ _ (eq-eqb m 1 e) (subst (λ (d : DependenceMap). Says l (entryText (bytes "  creation: take ") u d)) (sym (read-creation base img t h)) s))
 
-  pub map-behaviour : (m ≡ 0 → ⊥) → (m ≡ 1 → ⊥) → Says l (entryText (bytes "  behaviour: take ") u (unpackDependences base (8 + 1593 * t + 1065) img)) → Says l (mapText taken m u)
+  pub map-behaviour : (m ≡ 0 → ⊥) → (m ≡ 1 → ⊥) → Says l (entryText (bytes "  behaviour: take ") u (unpackDependences base (8 + 1593 * t + 1065) img)) → Says l (mapText chosen m u)
   unfolding mapText
   map-behaviour n k s =
       says-right l (eqb m 0) _ _ (ne-eqb m 0 n)

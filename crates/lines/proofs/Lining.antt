@@ -13,7 +13,7 @@ use lib.Seq.{take-all, take-at, take-suc-set, length-take-le}
 use Rattle.octets.specs.Bytes.{pick, part}
 use Rattle.octets.proofs.Put.{part-def, part-front, part-suc, part-whole, length-put, front-put}
 use Rattle.rules.specs.Refusals.{named, groupBits}
-use Rattle.notation.specs.Notation.{decimal, places, hexDigit, hex, members, volume}
+use Rattle.notation.specs.Notation.{decimal, places, hexDigit, hex, members, groupText}
 use Rattle.lines.specs.Internal.Written.{Written}
 use Rattle.lines.specs.Lines.{Line, lineRoom, written, plus, Says, letters}
 use Rattle.lines.proofs.Putting.{decimal-places}
@@ -209,8 +209,8 @@ members-fit l e g z f h =
     let k : written l ≡ members groupBits 0 g = f ∙ rw h (members-short g) in
     omega (arith, said-length l (members groupBits 0 g) z k (omega (arith, members-most g)), members-most g)
 
-pub volume-said : (a e m b r v : List ℕ) (g : ℕ) → m ≡ plus e (members groupBits 0 g) → e ≡ [] → b ≡ plus a (123 ∷ []) → r ≡ plus b (drop 1 m) → v ≡ plus r (125 ∷ []) → v ≡ plus a (volume g)
-unfolding volume
-volume-said a e m b r v g f h p q s =
+pub group-said : (a e m b r v : List ℕ) (g : ℕ) → m ≡ plus e (members groupBits 0 g) → e ≡ [] → b ≡ plus a (123 ∷ []) → r ≡ plus b (drop 1 m) → v ≡ plus r (125 ∷ []) → v ≡ plus a (groupText g)
+unfolding groupText
+group-said a e m b r v g f h p q s =
     let k : m ≡ members groupBits 0 g = f ∙ rw h (members-short g) in
     s ∙ rw (q, p, k, plus-plus a (123 ∷ []) (drop 1 (members groupBits 0 g)), plus-plus)

@@ -6,7 +6,7 @@ ghost use lib.ListN.{length, drop};
 ghost use Rattle.octets.specs.Bytes.{pick};
 ghost use Rattle.rules.specs.Refusals.{named, groupBits};
 ghost use Rattle.lines.specs.Internal.Written.{Written};
-ghost use Rattle.notation.specs.Notation.{decimal, places, hexDigit, hex, members, volume};
+ghost use Rattle.notation.specs.Notation.{decimal, places, hexDigit, hex, members, groupText};
 ghost use Rattle.lines.specs.Lines.{lineRoom, written, plus, letters, rowIn};
 
 // Bytes of a line.
@@ -139,7 +139,7 @@ impl Line {
 
     // The transactors that g names, in braces.
     pub fn group(self, g: u16) -> Line
-        ensures { λ r. ⌜ written r ≡ plus (written self) (volume g) ⌝ }
+        ensures { λ r. ⌜ written r ≡ plus (written self) (groupText g) ⌝ }
     {
         let named = Line::EMPTY.members(g);
         self.byte(b'{').rest(named).byte(b'}')

@@ -11,11 +11,11 @@ use lib.ListN.{length, drop, getD, length-append, length-drop}
 use Rattle.octets.proofs.Zero.{both}
 use Rattle.marks.specs.Incarnation.{sameList}
 use Rattle.rules.specs.declared.Step.{Step}
-use Rattle.notation.specs.Notation.{parcelField, volumeField, nameOf, templateOf}
-use Rattle.notation.specs.Reading.{Reader, blank, inWord, all, next, wordAt, isDigit, isHex, isNumber, mostOf, fits, withField, withItem, withMember, nothing, reached, wordItem, memberAt, commaNext, oneMore, moreMembers, closed, membersAt, volumeAt, item as itemOf, items, ended, emptyStep, lineAt}
-use Rattle.notation.specs.Grammar.{Blanks, Digits, More, close, comma, Volume, empty, takes, Item, field, volume, to, text, whole, brace, blanks, Items, none, item, Says, line}
+use Rattle.notation.specs.Notation.{messageField, groupField, nameOf, templateOf}
+use Rattle.notation.specs.Reading.{Reader, blank, inWord, all, next, wordAt, isDigit, isHex, isNumber, mostOf, fits, withField, withItem, withMember, nothing, reached, wordItem, memberAt, commaNext, oneMore, moreMembers, closed, membersAt, groupAt, item as itemOf, items, ended, emptyStep, lineAt}
+use Rattle.notation.specs.Grammar.{Blanks, Digits, More, close, comma, Group, empty, transactors, Item, field, group, to, text, whole, brace, blanks, Items, none, item, Says, line}
 use Rattle.notation.proofs.Words.{all-weaker, stops, past, past-byte, byte-here, word-here, run-append}
-use Rattle.notation.proofs.Volumes.{digit-word, stops-word, idle, not-brace}
+use Rattle.notation.proofs.Groups.{digit-word, stops-word, idle, not-brace}
 use Rattle.notation.proofs.Items.{hex-word}
 use Rattle.notation.proofs.Rows.{row}
 
@@ -52,7 +52,7 @@ digits-number w n m d h = rw (lt-ltb 0 (length w) (d .some), d .only, d .give, l
 
 -- the step p with the volume g
 abbrev grouped : ℕ → Step → Step
-grouped g p = withField parcelField g p
+grouped g p = withField messageField g p
 
 member-said : (s w rest : List ℕ) (at g t : ℕ) (p : Step) → drop at s ≡ w ++ rest → Digits w t → t ≤ 15 → stops inWord rest ≡ true
     → memberAt s at (grouped g p) ≡ reached (at + length w) (grouped (withMember g t) p)
@@ -138,16 +138,16 @@ module _ (s after : List ℕ) (p : Step) where
   more-said g h r (close _ _ b e a) = more-close g r b e a
   more-said g h r (comma _ _ t _ b c w rest e a d n m u) = more-comma g h t r b c w rest e a d n m (more-stop (withMember g t) h rest after u) (more-said (withMember g t) h rest u)
 
-volume-said : (s rest w : List ℕ) (at g : ℕ) (p : Step) → Volume w g → drop at s ≡ w ++ rest → volumeAt s at p ≡ reached (at + length w) (grouped g p)
-unfolding volumeAt membersAt
-volume-said s rest w at g p (empty _ b e a) d =
+groupAt-said : (s rest w : List ℕ) (at g : ℕ) (p : Step) → Group w g → drop at s ≡ w ++ rest → groupAt s at p ≡ reached (at + length w) (grouped g p)
+unfolding groupAt membersAt
+groupAt-said s rest w at g p (empty _ b e a) d =
     let e0 : drop at s ≡ 123 ∷ (b ++ (125 ∷ rest)) = d ∙ ap (λ (x : List ℕ). x ++ rest) e ∙ ap (λ (x : List ℕ). 123 ∷ x) (append-assoc b (125 ∷ []) rest) in
     let e1 : drop (at + 1) s ≡ b ++ (125 ∷ rest) = past-byte s at 123 (b ++ (125 ∷ rest)) e0 in
     let n : next s (at + 1) ≡ at + 1 + length b = next-blanks s (at + 1) b (125 ∷ rest) e1 a (comma-solid 125 rest (marks-blank .1)) in
     let y : getD s (at + 1 + length b) 0 ≡ 125 = byte-here s (at + 1 + length b) 125 rest (past s (at + 1) b (125 ∷ rest) e1) in
     let z : at + 1 + length b + 1 ≡ at + length w = omega (arith, ap length e, length-append b (125 ∷ [])) in
     rw (byte-here s at 123 (b ++ (125 ∷ rest)) e0, n, y) (λ i. reached (z i) (grouped 0 p))
-volume-said s rest w at g p (takes _ t _ b v more e a n m u) d =
+groupAt-said s rest w at g p (transactors _ t _ b v more e a n m u) d =
     let l : List ℕ = v ++ (more ++ rest) in
     let e0 : drop at s ≡ 123 ∷ (b ++ l) =
     d ∙ ap (λ (x : List ℕ). x ++ rest) e ∙ ap (λ (x : List ℕ). 123 ∷ x) (append-assoc b (v ++ more) rest ∙ ap (λ (x : List ℕ). b ++ x) (append-assoc v more rest)) in
@@ -164,20 +164,20 @@ volume-said s rest w at g p (takes _ t _ b v more e a n m u) d =
 
 -- ---- one item
 
-volume-solid : (w rest : List ℕ) (g : ℕ) → Volume w g → stops blank (w ++ rest) ≡ true
-volume-solid w rest g (empty _ b e a) = subst (λ (l : List ℕ). stops blank (l ++ rest) ≡ true) (sym e) (comma-solid 123 ((b ++ (125 ∷ [])) ++ rest) (marks-blank .2))
-volume-solid w rest g (takes _ t _ b v more e a n m u) = subst (λ (l : List ℕ). stops blank (l ++ rest) ≡ true) (sym e) (comma-solid 123 ((b ++ (v ++ more)) ++ rest) (marks-blank .2))
+group-solid : (w rest : List ℕ) (g : ℕ) → Group w g → stops blank (w ++ rest) ≡ true
+group-solid w rest g (empty _ b e a) = subst (λ (l : List ℕ). stops blank (l ++ rest) ≡ true) (sym e) (comma-solid 123 ((b ++ (125 ∷ [])) ++ rest) (marks-blank .2))
+group-solid w rest g (transactors _ t _ b v more e a n m u) = subst (λ (l : List ℕ). stops blank (l ++ rest) ≡ true) (sym e) (comma-solid 123 ((b ++ (v ++ more)) ++ rest) (marks-blank .2))
 
 module _ (s : List ℕ) (at : ℕ) (b rest : List ℕ) (a : Blanks b) (q : Step) where
-  word-said : (c : ℕ) (w : List ℕ) → eqb c volumeField ≡ false → fits c w ≡ true → all inWord w ≡ true → 0 < length w → drop at s ≡ b ++ (w ++ rest) → stops inWord rest ≡ true
+  word-said : (c : ℕ) (w : List ℕ) → eqb c groupField ≡ false → fits c w ≡ true → all inWord w ≡ true → 0 < length w → drop at s ≡ b ++ (w ++ rest) → stops inWord rest ≡ true
       → itemOf s (reached at q) c ≡ reached (at + length b + length w) (withItem c w q)
   unfolding itemOf wordItem
   word-said c w v f i l e h =
       rw (v, next-blanks s at b (w ++ rest) e a (stops-word w rest i l), word-here s (at + length b) w rest (past s at b (w ++ rest) e) i h, f)
 
-  group-said : (w : List ℕ) (g : ℕ) → Volume w g → drop at s ≡ b ++ (w ++ rest) → itemOf s (reached at q) volumeField ≡ reached (at + length b + length w) (grouped g q)
+  group-said : (w : List ℕ) (g : ℕ) → Group w g → drop at s ≡ b ++ (w ++ rest) → itemOf s (reached at q) groupField ≡ reached (at + length b + length w) (grouped g q)
   unfolding itemOf
-  group-said w g v e = rw (next-blanks s at b (w ++ rest) e a (volume-solid w rest g v)) (volume-said s rest w (at + length b) g q v (past s at b (w ++ rest) e))
+  group-said w g v e = rw (next-blanks s at b (w ++ rest) e a (group-solid w rest g v)) (groupAt-said s rest w (at + length b) g q v (past s at b (w ++ rest) e))
 
   item-said : (c : ℕ) (w : List ℕ) (r : Step) → Item q c w r → drop at s ≡ b ++ (w ++ rest) → stops inWord rest ≡ true → itemOf s (reached at q) c ≡ reached (at + length b + length w) r
   unfolding fits withItem sameList all inWord blank
@@ -187,7 +187,7 @@ module _ (s : List ℕ) (at : ℕ) (b rest : List ℕ) (a : Blanks b) (q : Step)
       let u : fits c w ≡ true = rw (k, digits-number w n (mostOf c) d m) in
       let x : withItem c w q ≡ r = rw (k, d .give) (sym f) in
       word-said c w v u (digits-word w n d) (d .some) e h ∙ ap (reached (at + length b + length w)) x
-  item-said c w r (volume g _ _ v f) e h = group-said w g v e ∙ ap (reached (at + length b + length w)) (sym f)
+  item-said c w r (group g _ _ v f) e h = group-said w g v e ∙ ap (reached (at + length b + length w)) (sym f)
   item-said c w r (to _ f) e h =
       word-said 6 w refl (rw f) (rw f) (omega (arith, ap length f)) e h
   item-said c w r (text _ f) e h =

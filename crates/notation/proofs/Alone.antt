@@ -16,7 +16,7 @@ use Rattle.octets.proofs.Zero.{every-at}
 use Rattle.rules.specs.declared.Step.{Step}
 use Rattle.notation.specs.Notation.{bytes, nameOf}
 use Rattle.notation.specs.Reading.{blank, inWord, notHash, run, all, wordAt, isDigit, isHex, said}
-use Rattle.notation.specs.Grammar.{Blanks, Digits, More, close, comma, Volume, empty, takes, Item, field, volume, to, text, whole, Items, none, item, Says, line}
+use Rattle.notation.specs.Grammar.{Blanks, Digits, More, close, comma, Group, empty, transactors, Item, field, group, to, text, whole, Items, none, item, Says, line}
 use Rattle.notation.specs.Faults.{lastOr, parted, Column}
 use Rattle.notation.proofs.Words.{all-append, all-weaker, all-cons, run-whole}
 use Rattle.notation.proofs.Stopping.{word-same, said-same, said-front}
@@ -72,9 +72,9 @@ more-clear g h s (comma _ _ t _ b c w rest e a d n m k) =
     (all-append notHash b (44 ∷ (c ++ (w ++ rest))) (blanks-clear b a)
     (all-cons notHash 44 (c ++ (w ++ rest)) comma-said (all-append notHash c (w ++ rest) (blanks-clear c d) (all-append notHash w rest (digits-clear w t n) (more-clear _ h rest k)))))
 
-volume-clear : (s : List ℕ) (g : ℕ) → Volume s g → Clear s
-volume-clear s g (empty _ b e a) = subst Clear (sym e) (all-cons notHash 123 (b ++ (125 ∷ [])) open-said (all-append notHash b (125 ∷ []) (blanks-clear b a) close-clear))
-volume-clear s g (takes _ t _ b w rest e a d m k) =
+group-clear : (s : List ℕ) (g : ℕ) → Group s g → Clear s
+group-clear s g (empty _ b e a) = subst Clear (sym e) (all-cons notHash 123 (b ++ (125 ∷ [])) open-said (all-append notHash b (125 ∷ []) (blanks-clear b a) close-clear))
+group-clear s g (transactors _ t _ b w rest e a d m k) =
     subst Clear (sym e) (all-cons notHash 123 (b ++ (w ++ rest)) open-said (all-append notHash b (w ++ rest) (blanks-clear b a) (all-append notHash w rest (digits-clear w t d) (more-clear _ g rest k))))
 
 to-clear : Clear (bytes "to")
@@ -87,7 +87,7 @@ text-clear = refl
 
 item-clear : (q r : Step) (c : ℕ) (w : List ℕ) → Item q c w r → Clear w
 item-clear q r c w (field _ n _ _ i j d m e) = digits-clear w n d
-item-clear q r c w (volume g _ _ v e) = volume-clear w g v
+item-clear q r c w (group g _ _ v e) = group-clear w g v
 item-clear q r c w (to _ e) = subst Clear (sym e) to-clear
 item-clear q r c w (text _ e) = subst Clear (sym e) text-clear
 item-clear q r c w (whole _ _ l a e) = all-weaker isHex notHash hex-said w a

@@ -13,17 +13,17 @@ use Rattle.octets.proofs.Tests.{pick-view}
 use Rattle.octets.proofs.Zero.{both, every-at}
 use Rattle.rules.specs.declared.Step.{Step}
 use Rattle.rules.specs.Step.{unpackStep}
-use Rattle.notation.specs.Notation.{bytes, parcelField, volumeField, nameOf, templateOf}
-use Rattle.notation.specs.Reading.{Reader, blank, inWord, all, next, wordAt, isDigit, isHex, isNumber, ofDecimal, ofHex, mostOf, fits, withField, withMember, good, reached, wordItem, memberAt, commaNext, moreMembers, closed, membersAt, volumeAt, item as itemOf, items, ended, rowNamed, emptyStep, lineAt}
-use Rattle.notation.specs.Grammar.{Blanks, Digits, More, close, comma, Volume, empty, takes, Item, field, volume, to, text, whole, brace, blanks, Items, none, item, Says, line}
+use Rattle.notation.specs.Notation.{bytes, messageField, groupField, nameOf, templateOf}
+use Rattle.notation.specs.Reading.{Reader, blank, inWord, all, next, wordAt, isDigit, isHex, isNumber, ofDecimal, ofHex, mostOf, fits, withField, withMember, good, reached, wordItem, memberAt, commaNext, moreMembers, closed, membersAt, groupAt, item as itemOf, items, ended, rowNamed, emptyStep, lineAt}
+use Rattle.notation.specs.Grammar.{Blanks, Digits, More, close, comma, Group, empty, transactors, Item, field, group, to, text, whole, brace, blanks, Items, none, item, Says, line}
 use Rattle.notation.specs.Faults.{Next, lastOr}
 use Rattle.notation.proofs.Words.{stops}
 use Rattle.notation.proofs.Parting.{space-out, comma-out, open-out, close-out, last-blanks, last-out, parted-last, parted-head}
 use Rattle.notation.proofs.Within.{next-within, word-within, byte-within, member-within, item-within, items-within}
-use Rattle.notation.proofs.Volumes.{idle}
-use Rattle.notation.proofs.Items.{Item as ItemKind, isItem, item-view, isTake, isOther, isParcel, isText, isVolume, isWordTo, isWordText, isWhole}
+use Rattle.notation.proofs.Groups.{idle}
+use Rattle.notation.proofs.Items.{Item as ItemKind, isItem, item-view, isTransactor, isOther, isMessage, isValue, isGroup, isWordTo, isWordText, isWhole}
 use Rattle.notation.proofs.Rows.{row}
-use Rattle.notation.proofs.Sound.{gap, gap-blank, gap-cut, word-cut, word-stops, byte-cut, member-sound, item-sound, items-sound, volumeLast, rows-last, name-of-row, one-comma, more-suc, more-zero, volume-apart}
+use Rattle.notation.proofs.Sound.{gap, gap-blank, gap-cut, word-cut, word-stops, byte-cut, member-sound, item-sound, items-sound, groupLast, rows-last, name-of-row, one-comma, more-suc, more-zero, group-apart}
 
 -- the text u goes on, its last word perhaps too
 record Goes (u : List ℕ) : Type 0 where
@@ -65,11 +65,11 @@ record Plain (q : Step) (c : ℕ) : Type 0 where
 
 plain : (q : Step) (c : ℕ) → ItemKind c → Plain q c
 unfolding nought all isHex isDigit blank
-plain q c isTake = record { step = withField 1 0 q; is = field 1 0 (48 ∷ []) (withField 1 0 q) (omega arith) (omega arith) zero-digits (omega arith) refl }
+plain q c isTransactor = record { step = withField 1 0 q; is = field 1 0 (48 ∷ []) (withField 1 0 q) (omega arith) (omega arith) zero-digits (omega arith) refl }
 plain q c isOther = record { step = withField 2 0 q; is = field 2 0 (48 ∷ []) (withField 2 0 q) (omega arith) (omega arith) zero-digits (omega arith) refl }
-plain q c isParcel = record { step = withField 3 0 q; is = field 3 0 (48 ∷ []) (withField 3 0 q) (omega arith) (omega arith) zero-digits (omega arith) refl }
-plain q c isText = record { step = withField 4 0 q; is = field 4 0 (48 ∷ []) (withField 4 0 q) (omega arith) (omega arith) zero-digits (omega arith) refl }
-plain q c isVolume = record { step = withField 3 0 q; is = volume 0 (bytes "{}") (withField 3 0 q) (empty (bytes "{}") [] refl refl) refl }
+plain q c isMessage = record { step = withField 3 0 q; is = field 3 0 (48 ∷ []) (withField 3 0 q) (omega arith) (omega arith) zero-digits (omega arith) refl }
+plain q c isValue = record { step = withField 4 0 q; is = field 4 0 (48 ∷ []) (withField 4 0 q) (omega arith) (omega arith) zero-digits (omega arith) refl }
+plain q c isGroup = record { step = withField 3 0 q; is = group 0 (bytes "{}") (withField 3 0 q) (empty (bytes "{}") [] refl refl) refl }
 plain q c isWordTo = record { step = q; is = to (bytes "to") refl }
 plain q c isWordText = record { step = q; is = text (bytes "text") refl }
 plain q c isWhole = record { step = unpackStep (ofHex (bytes "0000000000000000")); is = whole (bytes "0000000000000000") (unpackStep (ofHex (bytes "0000000000000000"))) refl refl refl }
@@ -193,12 +193,12 @@ module _ (s : List ℕ) where
       let n : ℕ = next s (next s (r .at) + 1) in
       let a = member-sound s n (r .step) (ap (λ (y : Reader). y .expected) (sym q) ∙ z) in
       let w : List ℕ = wordAt s n in
-      let x : m ≡ reached (n + length w) (withField parcelField (withMember (r .step .message) (a .take)) (r .step)) = q ∙ a .is in
+      let x : m ≡ reached (n + length w) (withField messageField (withMember (r .step .message) (a .transactor)) (r .step)) = q ∙ a .is in
       let b : List ℕ = gap s (r .at) in
       let d : List ℕ = gap s (next s (r .at) + 1) in
-      let i : m .step .message ≡ withMember (r .step .message) (a .take) = ap (λ (y : Reader). y .step .message) x in
+      let i : m .step .message ≡ withMember (r .step .message) (a .transactor) = ap (λ (y : Reader). y .step .message) x in
       let l : List ℕ = b ++ (44 ∷ (d ++ (w ++ v))) in
-      let o : More (r .step .message) l g = comma (r .step .message) g (a .take) l b d w v refl (gap-blank s (r .at)) (gap-blank s (next s (r .at) + 1)) (a .digits) (a .most) (subst (λ (j : ℕ). More j v g) i u) in
+      let o : More (r .step .message) l g = comma (r .step .message) g (a .transactor) l b d w v refl (gap-blank s (r .at)) (gap-blank s (next s (r .at) + 1)) (a .digits) (a .most) (subst (λ (j : ℕ). More j v g) i u) in
       let f : take (m .at) s ≡ take n s ++ w =
       ap (λ (y : Reader). take (y .at) s) x ∙ front n (n + length w) w (word-cut s n) (comma-front r h c .0) (word-within s n (comma-front r h c .0)) in
       let e : take (r .at) s ++ l ≡ take (m .at) s ++ v =
@@ -235,7 +235,7 @@ module _ (s : List ℕ) where
 
   -- after the opening brace
   abbrev Opened : ℕ → Type 0
-  Opened at = (w : List ℕ) (g : ℕ) → ((b : List ℕ) → Blanks b → Volume (123 ∷ (b ++ w)) g) → Goes (take at s ++ w)
+  Opened at = (w : List ℕ) (g : ℕ) → ((b : List ℕ) → Blanks b → Group (123 ∷ (b ++ w)) g) → Goes (take at s ++ w)
 
   members-goes : (at : ℕ) (p : Step) → p .message ≡ 0 → at ≤ length s → inWord (lastOr 32 (take at s)) ≡ false → Opened at → Faulty (membersAt s at p) → Next (take (membersAt s at p .at) s)
   unfolding membersAt withField
@@ -253,21 +253,21 @@ module _ (s : List ℕ) where
           let m = member-sound s at p c in
           let w : List ℕ = wordAt s at in
           let a : take (f .at) s ≡ take at s ++ w = ap (λ (y : Reader). take (y .at) s) (m .is) ∙ front at (at + length w) w (word-cut s at) h (word-within s at h) in
-          let i : f .step .message ≡ withMember 0 (m .take) = ap (λ (y : Reader). y .step .message) (m .is) ∙ ap (λ (j : ℕ). withMember j (m .take)) z in
+          let i : f .step .message ≡ withMember 0 (m .transactor) = ap (λ (y : Reader). y .step .message) (m .is) ∙ ap (λ (j : ℕ). withMember j (m .transactor)) z in
           more-goes (length s) f (member-within s at p h) c
           (λ v g u. subst Goes (sym (append-assoc (take at s) w v) ∙ ap (λ (y : List ℕ). y ++ v) (sym a))
-          (k (w ++ v) g (λ b x. takes g (m .take) (123 ∷ (b ++ (w ++ v))) b w v refl x (m .digits) (m .most) (subst (λ (j : ℕ). More j v g) i u)))) n
+          (k (w ++ v) g (λ b x. transactors g (m .transactor) (123 ∷ (b ++ (w ++ v))) b w v refl x (m .digits) (m .most) (subst (λ (j : ℕ). More j v g) i u)))) n
       go false e n =
           let a : Faulty f = eqb-false (f .expected) 0 e in
           let q : closed s (moreMembers (length s) s f) ≡ f = ap (closed s) (more-stays (length s) f a) ∙ closed-stays f a in
           let u : closed s (moreMembers (length s) s f) .at ≡ at = ap (λ (x : Reader). x .at) q ∙ member-fault at p a in
           subst (λ (x : ℕ). Next (take x s)) (sym u)
           (cut-last (take at s) (48 ∷ 125 ∷ []) o
-          (k (48 ∷ 125 ∷ []) (withMember 0 0) (λ b x. takes (withMember 0 0) 0 (123 ∷ (b ++ (48 ∷ 125 ∷ []))) b (48 ∷ []) (125 ∷ []) refl x zero-digits (omega arith) (close (withMember 0 0) (125 ∷ []) [] refl no-blank))))
+          (k (48 ∷ 125 ∷ []) (withMember 0 0) (λ b x. transactors (withMember 0 0) 0 (123 ∷ (b ++ (48 ∷ 125 ∷ []))) b (48 ∷ []) (125 ∷ []) refl x zero-digits (omega arith) (close (withMember 0 0) (125 ∷ []) [] refl no-blank))))
 
-  volume-goes : (at : ℕ) (p : Step) → at ≤ length s → ((w : List ℕ) (g : ℕ) → Volume w g → Goes (take at s ++ w)) → Faulty (volumeAt s at p) → Next (take (volumeAt s at p .at) s)
-  unfolding volumeAt withField
-  volume-goes at p h k =
+  groupAt-goes : (at : ℕ) (p : Step) → at ≤ length s → ((w : List ℕ) (g : ℕ) → Group w g → Goes (take at s ++ w)) → Faulty (groupAt s at p) → Next (take (groupAt s at p .at) s)
+  unfolding groupAt withField
+  groupAt-goes at p h k =
       pick-view (λ (y : Reader). Faulty y → Next (take (y .at) s)) (eqb (getD s at 0) 123) _ _
       (λ e n.
       let a : at < length s = byte-within s at 123 (omega arith) e in
@@ -275,7 +275,7 @@ module _ (s : List ℕ) where
       let i : ℕ = next s (at + 1) in
       let c : i ≤ length s = next-within s (at + 1) (omega arith) in
       let f : take i s ≡ take at s ++ (123 ∷ b) = front at i (123 ∷ b) (byte-cut s at 123 (omega arith) e ∙ ap (λ (l : List ℕ). 123 ∷ l) (gap-cut s (at + 1))) h c in
-      members-goes i (withField parcelField 0 p) refl c (subst (λ (x : List ℕ). inWord (lastOr 32 x) ≡ false) (sym f) (last-out (take at s) 123 b open-out (gap-blank s (at + 1))))
+      members-goes i (withField messageField 0 p) refl c (subst (λ (x : List ℕ). inWord (lastOr 32 x) ≡ false) (sym f) (last-out (take at s) 123 b open-out (gap-blank s (at + 1))))
       (λ w g u. subst Goes (sym (append-assoc (take at s) (123 ∷ b) w) ∙ ap (λ (y : List ℕ). y ++ w) (sym f)) (k (123 ∷ (b ++ w)) g (u b (gap-blank s (at + 1))))) n)
       (λ e n. cut-head (take at s) 123 (125 ∷ []) open-out (k (123 ∷ 125 ∷ []) 0 (empty (123 ∷ 125 ∷ []) [] refl no-blank)))
 
@@ -297,14 +297,14 @@ module _ (s : List ℕ) where
         (subst Goes (ap (λ (y : List ℕ). take (r .at) s ++ y) (append-assoc b (32 ∷ []) x) ∙ sym (append-assoc (take (r .at) s) b (32 ∷ x)) ∙ ap (λ (y : List ℕ). y ++ (32 ∷ x)) (sym (gap-front (r .at) h)))
         (k ((b ++ (32 ∷ [])) ++ x) (l .step) v))
 
-    group-goes : c ≡ volumeField → (w : List ℕ) (g : ℕ) → Volume w g → Goes (take (next s (r .at)) s ++ w)
+    group-goes : c ≡ groupField → (w : List ℕ) (g : ℕ) → Group w g → Goes (take (next s (r .at)) s ++ w)
     group-goes e w g u =
         let b : List ℕ = gap s (r .at) in
-        let q : Step = withField parcelField g (r .step) in
+        let q : Step = withField messageField g (r .step) in
         let l = plains q cs a in
         let x : List ℕ = b ++ (w ++ l .words) in
         let v : Items (r .step) (c ∷ cs) x (l .step) =
-        item (r .step) q (l .step) c cs x b w (l .words) refl (gap-blank s (r .at)) (volume-apart b w g u) (subst (λ (j : ℕ). Item (r .step) j w q) (sym e) (volume g w q u refl)) (l .are) in
+        item (r .step) q (l .step) c cs x b w (l .words) refl (gap-blank s (r .at)) (group-apart b w g u) (subst (λ (j : ℕ). Item (r .step) j w q) (sym e) (group g w q u refl)) (l .are) in
         shorter (take (next s (r .at)) s ++ w) (l .words)
         (subst Goes (sym (append-assoc (take (r .at) s) b (w ++ l .words)) ∙ ap (λ (y : List ℕ). y ++ (w ++ l .words)) (sym (gap-front (r .at) h)) ∙ sym (append-assoc (take (next s (r .at)) s) w (l .words)))
         (k x (l .step) v))
@@ -317,15 +317,15 @@ module _ (s : List ℕ) where
     unfolding itemOf
     item-goes =
         pick-view (λ (y : Reader). Faulty y → Next (take (y .at) s)) (good r) _ _
-        (λ g. pick-view (λ (y : Reader). Faulty y → Next (take (y .at) s)) (eqb c volumeField) _ _
-        (λ e n. volume-goes (next s (r .at)) (r .step) (next-within s (r .at) h) (group-goes (eqb-true c volumeField e)) n)
+        (λ g. pick-view (λ (y : Reader). Faulty y → Next (take (y .at) s)) (eqb c groupField) _ _
+        (λ e n. groupAt-goes (next s (r .at)) (r .step) (next-within s (r .at) h) (group-goes (eqb-true c groupField e)) n)
         (λ e n. word-goes n))
         (λ g n. absurd (n z))
 
   pub items-stays : (cs : List ℕ) (r : Reader) → Faulty r → items s cs r ≡ r
   unfolding items itemOf
   items-stays [] r n = refl
-  items-stays (c ∷ cs) r n = ap (items s cs) (ap (λ (b : Bool). pick b (pick (eqb c volumeField) (volumeAt s (next s (r .at)) (r .step)) (wordItem c s (next s (r .at)) (r .step))) r) (ne-eqb (r .expected) 0 n)) ∙ items-stays cs r n
+  items-stays (c ∷ cs) r n = ap (items s cs) (ap (λ (b : Bool). pick b (pick (eqb c groupField) (groupAt s (next s (r .at)) (r .step)) (wordItem c s (next s (r .at)) (r .step))) r) (ne-eqb (r .expected) 0 n)) ∙ items-stays cs r n
 
   -- after an item without fault
   left-next : (r : Reader) (c : ℕ) (cs : List ℕ) → isItem c ≡ true → r .at ≤ length s → stops inWord (drop (r .at) s) ≡ true → itemOf s r c .expected ≡ 0 → Left r (c ∷ cs) → Left (itemOf s r c) cs
@@ -338,9 +338,9 @@ module _ (s : List ℕ) where
       ap (λ (y : List ℕ). take (r .at) s ++ y) (sym (append-assoc (q .gaps) (q .words) w)) ∙ sym (append-assoc (take (r .at) s) (q .gaps ++ q .words) w) ∙ ap (λ (y : List ℕ). y ++ w) (sym f) in
       subst Goes d (k x p (item (r .step) (itemOf s r c .step) p c cs x (q .gaps) (q .words) w refl (q .blank) (q .apart) (q .item) u))
 
-  items-goes : (cs : List ℕ) (r : Reader) → all isItem cs ≡ true → volumeLast cs ≡ true → r .at ≤ length s → stops inWord (drop (r .at) s) ≡ true → r .expected ≡ 0 → Left r cs
+  items-goes : (cs : List ℕ) (r : Reader) → all isItem cs ≡ true → groupLast cs ≡ true → r .at ≤ length s → stops inWord (drop (r .at) s) ≡ true → r .expected ≡ 0 → Left r cs
       → Faulty (items s cs r) → Next (take (items s cs r .at) s)
-  unfolding items all volumeLast
+  unfolding items all groupLast
   items-goes [] r a v h t z k n = absurd (n z)
   items-goes (c ∷ []) r a v h t z k n = item-goes r c [] (both (isItem c) true a .0) refl h z k n
   items-goes (c ∷ d ∷ cs) r a v h t z k n = go (eqb (itemOf s r c .expected) 0) refl (items-goes (d ∷ cs)) n
@@ -348,14 +348,14 @@ module _ (s : List ℕ) where
       m : Reader
       m = itemOf s r c
 
-      go : (b : Bool) → eqb (m .expected) 0 ≡ b → ((r : Reader) → all isItem (d ∷ cs) ≡ true → volumeLast (d ∷ cs) ≡ true → r .at ≤ length s → stops inWord (drop (r .at) s) ≡ true → r .expected ≡ 0 → Left r (d ∷ cs)
+      go : (b : Bool) → eqb (m .expected) 0 ≡ b → ((r : Reader) → all isItem (d ∷ cs) ≡ true → groupLast (d ∷ cs) ≡ true → r .at ≤ length s → stops inWord (drop (r .at) s) ≡ true → r .expected ≡ 0 → Left r (d ∷ cs)
           → Faulty (items s (d ∷ cs) r) → Next (take (items s (d ∷ cs) r .at) s)) → Faulty (items s (d ∷ cs) m) → Next (take (items s (d ∷ cs) m .at) s)
       go true e ih y =
           let b = both (isItem c) (isItem d and all isItem cs) a in
-          let u = both (not (eqb c volumeField)) (volumeLast (d ∷ cs)) v in
+          let u = both (not (eqb c groupField)) (groupLast (d ∷ cs)) v in
           let x : m .expected ≡ 0 = eqb-true (m .expected) 0 e in
           let q = item-sound s r t c (b .0) x in
-          ih m (b .1) (u .1) (item-within s r c h) (q .ends (eqb-false c volumeField (not-true (eqb c volumeField) (u .0)))) x (left-next r c (d ∷ cs) (b .0) h t x k) y
+          ih m (b .1) (u .1) (item-within s r c h) (q .ends (eqb-false c groupField (not-true (eqb c groupField) (u .0)))) x (left-next r c (d ∷ cs) (b .0) h t x k) y
       go false e ih y =
           let x : Faulty m = eqb-false (m .expected) 0 e in
           let b = both (isItem c) (isItem d and all isItem cs) a in
@@ -420,8 +420,8 @@ module _ (s : List ℕ) where
     line-fields : all isItem (templateOf k) ≡ true
     line-fields = row k b .fields
 
-    line-last : volumeLast (templateOf k) ≡ true
-    line-last = every-at (λ j. volumeLast (templateOf j)) 14 k rows-last b
+    line-last : groupLast (templateOf k) ≡ true
+    line-last = every-at (λ j. groupLast (templateOf j)) 14 k rows-last b
 
     known-goes : Faulty (ended s (items s (templateOf k) r)) → Next (take (ended s (items s (templateOf k) r) .at) s)
     known-goes n = go (eqb (x .expected) 0) refl

@@ -12,8 +12,8 @@ use Rattle.octets.proofs.Tests.{pick-view}
 use Rattle.octets.proofs.Zero.{both, every-at}
 use Rattle.rules.specs.declared.Step.{Step}
 use Rattle.rules.specs.Step.{stepBytes}
-use Rattle.notation.specs.Notation.{takeField, parcelField, volumeField, templateOf}
-use Rattle.notation.specs.Reading.{Reader, room, next, wordAt, isNumber, mostOf, fits, withField, good, nothing, reached, wordItem, memberAt, commaNext, oneMore, moreMembers, closed, membersAt, volumeAt, item, items, ended, rowNamed, emptyStep, lineAt, all, linesOf, said, Progress, withStep, lineRead, linesRead, start, progress, steps, fault, outcome, read}
+use Rattle.notation.specs.Notation.{transactorField, messageField, groupField, templateOf}
+use Rattle.notation.specs.Reading.{Reader, room, next, wordAt, isNumber, mostOf, fits, withField, good, nothing, reached, wordItem, memberAt, commaNext, oneMore, moreMembers, closed, membersAt, groupAt, item, items, ended, rowNamed, emptyStep, lineAt, all, linesOf, said, Progress, withStep, lineRead, linesRead, start, progress, steps, fault, outcome, read}
 use Rattle.notation.specs.Parsing.{Expected, Transactor, Addressee, Message, Value, Group, WordTo, WordText, SixteenDigits, Kind, CommaOrBrace, LineEnd, Room, numberOf, expectedOf}
 use Rattle.notation.proofs.Items.{isItem}
 use Rattle.notation.proofs.Rows.{row}
@@ -26,7 +26,7 @@ Known r = r .expected < 12
 module _ (s : List ℕ) where
   member-known : (at : ℕ) (p : Step) → Known (memberAt s at p)
   unfolding memberAt
-  member-known at p = pick-view Known (isNumber (mostOf takeField) (wordAt s at)) _ _ (λ e. omega arith) (λ e. omega arith)
+  member-known at p = pick-view Known (isNumber (mostOf transactorField) (wordAt s at)) _ _ (λ e. omega arith) (λ e. omega arith)
 
   one-known : (r : Reader) → Known r → Known (oneMore s r)
   unfolding oneMore
@@ -46,9 +46,9 @@ module _ (s : List ℕ) where
   members-known at p = pick-view Known (eqb (getD s at 0) 125) _ _ (λ e. omega arith)
       (λ e. closed-known (moreMembers (length s) s (memberAt s at p)) (more-known (length s) (memberAt s at p) (member-known at p)))
 
-  volume-known : (at : ℕ) (p : Step) → Known (volumeAt s at p)
-  unfolding volumeAt
-  volume-known at p = pick-view Known (eqb (getD s at 0) 123) _ _ (λ e. members-known (next s (at + 1)) (withField parcelField 0 p)) (λ e. omega arith)
+  group-known : (at : ℕ) (p : Step) → Known (groupAt s at p)
+  unfolding groupAt
+  group-known at p = pick-view Known (eqb (getD s at 0) 123) _ _ (λ e. members-known (next s (at + 1)) (withField messageField 0 p)) (λ e. omega arith)
 
   word-known : (c at : ℕ) (p : Step) → c < 12 → Known (wordItem c s at p)
   unfolding wordItem
@@ -57,7 +57,7 @@ module _ (s : List ℕ) where
   item-known : (r : Reader) (c : ℕ) → isItem c ≡ true → Known r → Known (item s r c)
   unfolding item isItem
   item-known r c i h = pick-view Known (good r) _ _
-      (λ g. pick-view Known (eqb c volumeField) _ _ (λ e. volume-known (next s (r .at)) (r .step))
+      (λ g. pick-view Known (eqb c groupField) _ _ (λ e. group-known (next s (r .at)) (r .step))
       (λ e. word-known c (next s (r .at)) (r .step) (omega (arith, leb-true c 8 (both (leb 1 c) (leb c 8) i .1)))))
       (λ g. h)
 

@@ -12,12 +12,12 @@ use Rattle.octets.proofs.Tests.{pick-view, never, and-off}
 use Rattle.octets.proofs.Zero.{both}
 use Rattle.marks.specs.Incarnation.{sameList}
 use Rattle.rules.specs.declared.Step.{Step}
-use Rattle.notation.specs.Notation.{takeField, parcelField, volumeField, nameOf, templateOf}
-use Rattle.notation.specs.Reading.{Reader, next, wordAt, isNumber, mostOf, fits, withField, good, reached, wordItem, memberAt, commaNext, moreMembers, closed, membersAt, volumeAt, item as itemOf, items, all, ended, rowNamed, emptyStep, lineAt}
-use Rattle.notation.specs.Grammar.{Item, field, volume, to, text, whole}
-use Rattle.notation.specs.Faults.{Lacking, noItem, noVolume, noComma, noKind, noEnd}
+use Rattle.notation.specs.Notation.{transactorField, messageField, groupField, nameOf, templateOf}
+use Rattle.notation.specs.Reading.{Reader, next, wordAt, isNumber, mostOf, fits, withField, good, reached, wordItem, memberAt, commaNext, moreMembers, closed, membersAt, groupAt, item as itemOf, items, all, ended, rowNamed, emptyStep, lineAt}
+use Rattle.notation.specs.Grammar.{Item, field, group, to, text, whole}
+use Rattle.notation.specs.Faults.{Lacking, noItem, noGroup, noComma, noKind, noEnd}
 use Rattle.notation.proofs.Within.{next-from}
-use Rattle.notation.proofs.Volumes.{idle}
+use Rattle.notation.proofs.Groups.{idle}
 use Rattle.notation.proofs.Items.{isItem}
 use Rattle.notation.proofs.Rows.{row}
 use Rattle.notation.proofs.Accepted.{digits-number}
@@ -25,15 +25,15 @@ use Rattle.notation.proofs.Sound.{member-sound, one-comma, more-suc, mo
 use Rattle.notation.proofs.Columns.{Faulty, closed-stays, more-stays, items-stays, ended-stays}
 
 -- a word that is an item fits it
-item-fits : (q r : Step) (c : ℕ) (w : List ℕ) → Item q c w r → (c ≡ volumeField → ⊥) → fits c w ≡ true
+item-fits : (q r : Step) (c : ℕ) (w : List ℕ) → Item q c w r → (c ≡ groupField → ⊥) → fits c w ≡ true
 unfolding fits sameList
 item-fits q r c w (field _ n _ _ i j d m f) v = rw (le-leb c 4 j, digits-number w n (mostOf c) d m)
-item-fits q r c w (volume g _ _ u f) v = absurd (v refl)
+item-fits q r c w (group g _ _ u f) v = absurd (v refl)
 item-fits q r c w (to _ f) v = rw f
 item-fits q r c w (text _ f) v = rw f
 item-fits q r c w (whole _ _ l x f) v = rw (l, x)
 
-no-item : (s : List ℕ) (at c : ℕ) → isItem c ≡ true → (c ≡ volumeField → ⊥) → fits c (wordAt s at) ≡ false → Lacking s at c
+no-item : (s : List ℕ) (at c : ℕ) → isItem c ≡ true → (c ≡ groupField → ⊥) → fits c (wordAt s at) ≡ false → Lacking s at c
 unfolding isItem
 no-item s at c k v f = let b = both (leb 1 c) (leb c 8) k in noItem c (leb-true 1 c (b .0)) (leb-true c 8 (b .1)) v (λ q r i. never (sym (item-fits q r c (wordAt s at) i v) ∙ f))
 
@@ -41,19 +41,19 @@ module _ (s : List ℕ) where
   abbrev Lacks : Reader → Type 0
   Lacks y = Faulty s y → Lacking s (y .at) (y .expected)
 
-  word-lacks : (c at : ℕ) (p : Step) → isItem c ≡ true → (c ≡ volumeField → ⊥) → Lacks (wordItem c s at p)
+  word-lacks : (c at : ℕ) (p : Step) → isItem c ≡ true → (c ≡ groupField → ⊥) → Lacks (wordItem c s at p)
   unfolding wordItem
   word-lacks c at p k v = pick-view Lacks (fits c (wordAt s at)) _ _ (λ e n. absurd (n refl)) (λ e n. no-item s at c k v e)
 
-  fits-take : (w : List ℕ) → fits takeField w ≡ isNumber (mostOf takeField) w
+  fits-transactor : (w : List ℕ) → fits transactorField w ≡ isNumber (mostOf transactorField) w
   unfolding fits
-  fits-take w = refl
+  fits-transactor w = refl
 
   member-lacks : (at : ℕ) (p : Step) → Lacks (memberAt s at p)
   unfolding memberAt isItem
   member-lacks at p =
-      pick-view Lacks (isNumber (mostOf takeField) (wordAt s at)) _ _ (λ e n. absurd (n refl))
-      (λ e n. no-item s at takeField refl (λ (q : takeField ≡ volumeField). omega arith) (fits-take (wordAt s at) ∙ e))
+      pick-view Lacks (isNumber (mostOf transactorField) (wordAt s at)) _ _ (λ e n. absurd (n refl))
+      (λ e n. no-item s at transactorField refl (λ (q : transactorField ≡ groupField). omega arith) (fits-transactor (wordAt s at) ∙ e))
 
   closed-lacks : (r : Reader) → r .expected ≡ 0 → (getD s (next s (r .at)) 0 ≡ 44 → ⊥) → Lacks (closed s r)
   unfolding closed
@@ -107,15 +107,15 @@ module _ (s : List ℕ) where
           let a : Faulty s (memberAt s at p) = eqb-false (memberAt s at p .expected) 0 e in
           subst Lacks (sym (ap (closed s) (more-stays s (length s) (memberAt s at p) a) ∙ closed-stays s (memberAt s at p) a)) (member-lacks at p)
 
-  volume-lacks : (at : ℕ) (p : Step) → Lacks (volumeAt s at p)
-  unfolding volumeAt
-  volume-lacks at p = pick-view Lacks (eqb (getD s at 0) 123) _ _ (λ e. members-lacks (next s (at + 1)) (withField parcelField 0 p)) (λ e n. noVolume (eqb-false (getD s at 0) 123 e))
+  group-lacks : (at : ℕ) (p : Step) → Lacks (groupAt s at p)
+  unfolding groupAt
+  group-lacks at p = pick-view Lacks (eqb (getD s at 0) 123) _ _ (λ e. members-lacks (next s (at + 1)) (withField messageField 0 p)) (λ e n. noGroup (eqb-false (getD s at 0) 123 e))
 
   item-lacks : (r : Reader) (c : ℕ) → isItem c ≡ true → r .expected ≡ 0 → Lacks (itemOf s r c)
   unfolding itemOf
   item-lacks r c k z =
       pick-view Lacks (good r) _ _
-      (λ g. pick-view Lacks (eqb c volumeField) _ _ (λ e. volume-lacks (next s (r .at)) (r .step)) (λ e. word-lacks c (next s (r .at)) (r .step) k (eqb-false c volumeField e)))
+      (λ g. pick-view Lacks (eqb c groupField) _ _ (λ e. group-lacks (next s (r .at)) (r .step)) (λ e. word-lacks c (next s (r .at)) (r .step) k (eqb-false c groupField e)))
       (λ g n. absurd (n z))
 
   items-lacks : (cs : List ℕ) (r : Reader) → all isItem cs ≡ true → r .expected ≡ 0 → Lacks (items s cs r)

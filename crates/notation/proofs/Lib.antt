@@ -2,7 +2,7 @@ pub mod Examples
 mod Words
 pub mod Numerals
 pub mod Packing
-pub mod Volumes
+pub mod Groups
 mod Items
 pub mod Rows
 pub mod Lines

@@ -17,11 +17,11 @@ use Rattle.rules.specs.Step.{stepAt}
 use Rattle.rules.specs.Calls.{stepsIn}
 use Rattle.rules.specs.Refusals.{named, groupBits, malformed}
 use Rattle.rules.specs.Internal.Well.{StepOk}
-use Rattle.notation.specs.Notation.{decimal, places, members, volume, packStep, nameOf, templateOf, itemText, itemsText, rowOf, lineText, stepText, text, longestLine, shortestLine, Whole}
+use Rattle.notation.specs.Notation.{decimal, places, members, groupText, packStep, nameOf, templateOf, itemText, itemsText, rowOf, lineText, stepText, text, longestLine, shortestLine, Whole}
 use Rattle.notation.specs.Reading.{all}
 use Rattle.notation.proofs.Numerals.{decimal-some, length-decimal, length-hex}
 use Rattle.notation.proofs.Packing.{length-packStep}
-use Rattle.notation.proofs.Items.{Item, isTake, isOther, isParcel, isText, isVolume, isWordTo, isWordText, isWhole, isItem, item-view}
+use Rattle.notation.proofs.Items.{Item, isTransactor, isOther, isMessage, isValue, isGroup, isWordTo, isWordText, isWhole, isItem, item-view}
 use Rattle.notation.proofs.Rows.{row, row-known}
 use Rattle.notation.proofs.RoundTrip.{step-ok}
 
@@ -32,8 +32,8 @@ width : ℕ → ℕ → ℕ
 width zero t = 0
 width (suc n) t = pick (ltb t 10) 2 3 + width n (suc t)
 
-take-width : (t : ℕ) → t < 16 → length (decimal places t) + 1 ≤ pick (ltb t 10) 2 3
-take-width t h = ⊎-elim
+transactor-width : (t : ℕ) → t < 16 → length (decimal places t) + 1 ≤ pick (ltb t 10) 2 3
+transactor-width t h = ⊎-elim
     (λ (l : t < 10). rw (lt-ltb t 10 l) (omega (arith, length-decimal places 0 t l)))
     (λ (l : 10 ≤ t). rw (le-ltb t 10 l) (omega (arith, length-decimal places 1 t (omega arith))))
     (sides t 10)
@@ -45,8 +45,8 @@ members-width (suc n) t g h =
     omega (arith, length-append (pick (named g t) (44 ∷ decimal places t) []) (members n (suc t) g), members-width n (suc t) g (omega arith), go (named g t))
   where
     go : (b : Bool) → length (pick b (44 ∷ decimal places t) []) ≤ pick (ltb t 10) 2 3
-    go true = omega (arith, take-width t (omega arith))
-    go false = omega (arith, take-width t (omega arith))
+    go true = omega (arith, transactor-width t (omega arith))
+    go false = omega (arith, transactor-width t (omega arith))
 
 all-width : width groupBits 0 ≡ 38
 unfolding width
@@ -55,13 +55,13 @@ all-width = refl
 pub members-most : (g : ℕ) → length (members groupBits 0 g) ≤ 38
 members-most g = omega (arith, members-width groupBits 0 g (omega arith), all-width)
 
-volume-most : (g : ℕ) → length (volume g) ≤ 39
-unfolding volume
-volume-most g = omega (arith, length-append (drop 1 (members groupBits 0 g)) (125 ∷ []), length-drop 1 (members groupBits 0 g), members-width groupBits 0 g (omega arith), all-width)
+group-most : (g : ℕ) → length (groupText g) ≤ 39
+unfolding groupText
+group-most g = omega (arith, length-append (drop 1 (members groupBits 0 g)) (125 ∷ []), length-drop 1 (members groupBits 0 g), members-width groupBits 0 g (omega arith), all-width)
 
-volume-least : (g : ℕ) → 2 ≤ length (volume g)
-unfolding volume
-volume-least g = omega (arith, length-append (drop 1 (members groupBits 0 g)) (125 ∷ []))
+group-least : (g : ℕ) → 2 ≤ length (groupText g)
+unfolding groupText
+group-least g = omega (arith, length-append (drop 1 (members groupBits 0 g)) (125 ∷ []))
 
 -- ---- items
 
@@ -74,22 +74,22 @@ least c = getD (0 ∷ 1 ∷ 1 ∷ 1 ∷ 1 ∷ 2 ∷ 2 ∷ 4 ∷ 16 ∷ []) c 0
 module _ (p : Step) (ok : StepOk p) where
   item-most : (c : ℕ) → Item c → length (itemText p c) ≤ most c
   unfolding most itemText bound
-  item-most c isTake = length-decimal places 1 (p .transactor) (omega (arith, ok .transactor))
+  item-most c isTransactor = length-decimal places 1 (p .transactor) (omega (arith, ok .transactor))
   item-most c isOther = length-decimal places 1 (p .other) (omega (arith, ok .other))
-  item-most c isParcel = length-decimal places 4 (p .message) (omega (arith, ok .message))
-  item-most c isText = length-decimal places 9 (p .value) (omega (arith, ok .value))
-  item-most c isVolume = volume-most (p .message)
+  item-most c isMessage = length-decimal places 4 (p .message) (omega (arith, ok .message))
+  item-most c isValue = length-decimal places 9 (p .value) (omega (arith, ok .value))
+  item-most c isGroup = group-most (p .message)
   item-most c isWordTo = omega arith
   item-most c isWordText = omega arith
   item-most c isWhole = omega (arith, length-hex (packStep p), length-packStep p)
 
   item-least : (c : ℕ) → Item c → least c ≤ length (itemText p c)
   unfolding least itemText
-  item-least c isTake = decimal-some 9 (p .transactor)
+  item-least c isTransactor = decimal-some 9 (p .transactor)
   item-least c isOther = decimal-some 9 (p .other)
-  item-least c isParcel = decimal-some 9 (p .message)
-  item-least c isText = decimal-some 9 (p .value)
-  item-least c isVolume = volume-least (p .message)
+  item-least c isMessage = decimal-some 9 (p .message)
+  item-least c isValue = decimal-some 9 (p .value)
+  item-least c isGroup = group-least (p .message)
   item-least c isWordTo = omega arith
   item-least c isWordText = omega arith
   item-least c isWhole = omega (arith, length-hex (packStep p), length-packStep p)
@@ -164,7 +164,7 @@ module _ (l : List ℕ) (w : Whole l) where
 
 -- Both are attained: sign {0,1,2,3,4,5,6,7,8,9,10,11,12,13,14,15}, and read 0.
 pub longest-attained : length (stepText (record { kind = 12; transactor = 0; other = 0; zero = 0; message = 65535; value = 0 })) ≡ longestLine
-unfolding stepText lineText rowOf nameOf templateOf itemsText itemText volume members decimal malformed named
+unfolding stepText lineText rowOf nameOf templateOf itemsText itemText groupText members decimal malformed named
 longest-attained = refl
 
 pub shortest-attained : length (stepText (record { kind = 5; transactor = 0; other = 0; zero = 0; message = 0; value = 0 })) ≡ shortestLine

@@ -16,13 +16,13 @@ use Rattle.marks.specs.Incarnation.{sameList}
 use Rattle.marks.proofs.Tests.{sameList-test}
 use Rattle.rules.specs.declared.Step.{Step}
 use Rattle.rules.specs.Step.{unpackStep}
-use Rattle.notation.specs.Notation.{bytes, parcelField, volumeField, names, nameOf, templateOf}
-use Rattle.notation.specs.Reading.{Reader, blank, inWord, run, all, next, wordAt, isDigit, isHex, isNumber, ofDecimal, ofHex, mostOf, fits, withField, withItem, withMember, nothing, good, reached, wordItem, memberAt, commaNext, oneMore, moreMembers, closed, membersAt, volumeAt, item as itemOf, items, ended, rowFrom, rowNamed, emptyStep, lineAt}
-use Rattle.notation.specs.Grammar.{Blanks, Digits, More, close, comma, Volume, empty, takes, Item, field, volume, to, text, whole, Apart, brace, blanks, Items, none, item, Says, line}
+use Rattle.notation.specs.Notation.{bytes, messageField, groupField, names, nameOf, templateOf}
+use Rattle.notation.specs.Reading.{Reader, blank, inWord, run, all, next, wordAt, isDigit, isHex, isNumber, ofDecimal, ofHex, mostOf, fits, withField, withItem, withMember, nothing, good, reached, wordItem, memberAt, commaNext, oneMore, moreMembers, closed, membersAt, groupAt, item as itemOf, items, ended, rowFrom, rowNamed, emptyStep, lineAt}
+use Rattle.notation.specs.Grammar.{Blanks, Digits, More, close, comma, Group, empty, transactors, Item, field, group, to, text, whole, Apart, brace, blanks, Items, none, item, Says, line}
 use Rattle.notation.proofs.Words.{stops}
 use Rattle.notation.proofs.Within.{run-most, byte-within}
-use Rattle.notation.proofs.Volumes.{idle}
-use Rattle.notation.proofs.Items.{Item as ItemKind, isItem, item-view, isTake, isOther, isParcel, isText, isVolume, isWordTo, isWordText, isWhole}
+use Rattle.notation.proofs.Groups.{idle}
+use Rattle.notation.proofs.Items.{Item as ItemKind, isItem, item-view, isTransactor, isOther, isMessage, isValue, isGroup, isWordTo, isWordText, isWhole}
 use Rattle.notation.proofs.Rows.{row}
 
 -- ---- a line cut at its blanks and words
@@ -95,16 +95,16 @@ number-digits m w e =
 
 -- x is the reader after the take at place at
 pub record MemberAt (s : List ℕ) (at : ℕ) (p : Step) (x : Reader) : Type 0 where
-  pub take : ℕ
-  pub digits : Digits (wordAt s at) take
-  pub most : take ≤ 15
-  pub is : x ≡ reached (at + length (wordAt s at)) (withField parcelField (withMember (p .message) take) p)
+  pub transactor : ℕ
+  pub digits : Digits (wordAt s at) transactor
+  pub most : transactor ≤ 15
+  pub is : x ≡ reached (at + length (wordAt s at)) (withField messageField (withMember (p .message) transactor) p)
 
 pub member-sound : (s : List ℕ) (at : ℕ) (p : Step) → memberAt s at p .expected ≡ 0 → MemberAt s at p (memberAt s at p)
 unfolding memberAt mostOf
 member-sound s at p =
     pick-view (λ (y : Reader). y .expected ≡ 0 → MemberAt s at p y) (isNumber 15 (wordAt s at)) _ _
-    (λ e h. let d = number-digits 15 (wordAt s at) e in record { take = ofDecimal 0 (wordAt s at); digits = d .0; most = d .1; is = refl })
+    (λ e h. let d = number-digits 15 (wordAt s at) e in record { transactor = ofDecimal 0 (wordAt s at); digits = d .0; most = d .1; is = refl })
     (λ e h. absurd (omega arith))
 
 -- x is the reader after what follows the takes of the step of r
@@ -114,9 +114,9 @@ record Closing (s : List ℕ) (r x : Reader) : Type 0 where
   group : ℕ
   more : More (r .step .message) words group
   place : drop (r .at) s ≡ words ++ drop (x .at) s
-  is : x .step ≡ withField parcelField group (r .step)
+  is : x .step ≡ withField messageField group (r .step)
 
-same-group : (p : Step) → p ≡ withField parcelField (p .message) p
+same-group : (p : Step) → p ≡ withField messageField (p .message) p
 unfolding withField
 same-group p = refl
 
@@ -146,7 +146,7 @@ module _ (s : List ℕ) where
       let m = member-sound s n (r .step) (k .clean) in
       let w : List ℕ = wordAt s n in
       let e : drop (memberAt s n (r .step) .at) s ≡ drop (n + length w) s = ap (λ (y : Reader). drop (y .at) s) (m .is) in
-      let q : memberAt s n (r .step) .step ≡ withField parcelField (withMember (r .step .message) (m .take)) (r .step) = ap (λ (y : Reader). y .step) (m .is) in
+      let q : memberAt s n (r .step) .step ≡ withField messageField (withMember (r .step .message) (m .transactor)) (r .step) = ap (λ (y : Reader). y .step) (m .is) in
       let b : List ℕ = gap s (r .at) in
       let d : List ℕ = gap s (a + 1) in
       let words : List ℕ = b ++ (44 ∷ (d ++ (w ++ k .words))) in
@@ -154,7 +154,7 @@ module _ (s : List ℕ) where
         clean = eqb-true (r .expected) 0 (h .0);
         words = words;
         group = k .group;
-        more = comma (r .step .message) (k .group) (m .take) words b d w (k .words) refl (gap-blank s (r .at)) (gap-blank s (a + 1)) (m .digits) (m .most)
+        more = comma (r .step .message) (k .group) (m .transactor) words b d w (k .words) refl (gap-blank s (r .at)) (gap-blank s (a + 1)) (m .digits) (m .most)
             (subst (λ (p : Step). More (p .message) (k .words) (k .group)) q (k .more));
         place =
             gap-cut s (r .at)
@@ -164,7 +164,7 @@ module _ (s : List ℕ) where
             ∙ sym (append-assoc w (k .words) (drop (x .at) s)))
             ∙ sym (append-assoc d (w ++ k .words) (drop (x .at) s))))
             ∙ sym (append-assoc b (44 ∷ (d ++ (w ++ k .words))) (drop (x .at) s));
-        is = k .is ∙ ap (withField parcelField (k .group)) q;
+        is = k .is ∙ ap (withField messageField (k .group)) q;
       }
 
   pub one-comma : (r : Reader) → commaNext s r ≡ true → oneMore s r ≡ memberAt s (next s (next s (r .at) + 1)) (r .step)
@@ -195,21 +195,21 @@ module _ (s : List ℕ) where
           subst (λ (x : Reader). Closing s r (closed s x)) (sym e) (closed-sound s r (ap (λ (x : Reader). closed s x .expected) (sym e) ∙ h))
 
 -- x is the reader after the volume at place at
-record VolumeAt (s : List ℕ) (at : ℕ) (p : Step) (x : Reader) : Type 0 where
+record GroupAt (s : List ℕ) (at : ℕ) (p : Step) (x : Reader) : Type 0 where
   words : List ℕ
   group : ℕ
-  volume : Volume words group
+  form : Group words group
   place : drop at s ≡ words ++ drop (x .at) s
-  is : x .step ≡ withField parcelField group p
+  is : x .step ≡ withField messageField group p
 
 module _ (s : List ℕ) where
   -- after the opening brace
   record Inside (at : ℕ) (p : Step) (x : Reader) : Type 0 where
     words : List ℕ
     group : ℕ
-    volume : (b : List ℕ) → Blanks b → Volume (123 ∷ (b ++ words)) group
+    form : (b : List ℕ) → Blanks b → Group (123 ∷ (b ++ words)) group
     place : drop at s ≡ words ++ drop (x .at) s
-    is : x .step ≡ withField parcelField group p
+    is : x .step ≡ withField messageField group p
 
   members-sound : (at : ℕ) (p : Step) → p .message ≡ 0 → membersAt s at p .expected ≡ 0 → Inside at p (membersAt s at p)
   unfolding membersAt withField
@@ -218,41 +218,41 @@ module _ (s : List ℕ) where
       (λ e h. record {
         words = 125 ∷ [];
         group = 0;
-        volume = λ b a. empty (123 ∷ (b ++ (125 ∷ []))) b refl a;
+        form = λ b a. empty (123 ∷ (b ++ (125 ∷ []))) b refl a;
         place = byte-cut s at 125 (omega arith) e;
-        is = same-group p ∙ ap (λ (g : ℕ). withField parcelField g p) z;
+        is = same-group p ∙ ap (λ (g : ℕ). withField messageField g p) z;
       })
       (λ e h.
       let f : Reader = memberAt s at p in
       let k = more-sound s (length s) f h in
       let m = member-sound s at p (k .clean) in
       let w : List ℕ = wordAt s at in
-      let q : f .step ≡ withField parcelField (withMember (p .message) (m .take)) p = ap (λ (y : Reader). y .step) (m .is) in
-      let g : withMember (p .message) (m .take) ≡ withMember 0 (m .take) = ap (λ (n : ℕ). withMember n (m .take)) z in
+      let q : f .step ≡ withField messageField (withMember (p .message) (m .transactor)) p = ap (λ (y : Reader). y .step) (m .is) in
+      let g : withMember (p .message) (m .transactor) ≡ withMember 0 (m .transactor) = ap (λ (n : ℕ). withMember n (m .transactor)) z in
       record {
         words = w ++ k .words;
         group = k .group;
-        volume = λ b a. takes (k .group) (m .take) (123 ∷ (b ++ (w ++ k .words))) b w (k .words) refl a (m .digits) (m .most)
+        form = λ b a. transactors (k .group) (m .transactor) (123 ∷ (b ++ (w ++ k .words))) b w (k .words) refl a (m .digits) (m .most)
             (subst (λ (n : ℕ). More n (k .words) (k .group)) (ap (λ (y : Step). y .message) q ∙ g) (k .more));
         place = word-cut s at ∙ ap (λ (l : List ℕ). w ++ l) (ap (λ (y : Reader). drop (y .at) s) (sym (m .is)) ∙ k .place) ∙ sym (append-assoc w (k .words) (drop (closed s (moreMembers (length s) s f) .at) s));
-        is = k .is ∙ ap (withField parcelField (k .group)) q;
+        is = k .is ∙ ap (withField messageField (k .group)) q;
       })
 
-  volume-sound : (at : ℕ) (p : Step) → volumeAt s at p .expected ≡ 0 → VolumeAt s at p (volumeAt s at p)
-  unfolding volumeAt withField
-  volume-sound at p =
-      pick-view (λ (y : Reader). y .expected ≡ 0 → VolumeAt s at p y) (eqb (getD s at 0) 123) _ _
+  group-sound : (at : ℕ) (p : Step) → groupAt s at p .expected ≡ 0 → GroupAt s at p (groupAt s at p)
+  unfolding groupAt withField
+  group-sound at p =
+      pick-view (λ (y : Reader). y .expected ≡ 0 → GroupAt s at p y) (eqb (getD s at 0) 123) _ _
       (λ e h.
       let n : ℕ = next s (at + 1) in
       let b : List ℕ = gap s (at + 1) in
-      let k = members-sound n (withField parcelField 0 p) refl h in
+      let k = members-sound n (withField messageField 0 p) refl h in
       record {
         words = 123 ∷ (b ++ k .words);
         group = k .group;
-        volume = k .volume b (gap-blank s (at + 1));
+        form = k .form b (gap-blank s (at + 1));
         place =
             byte-cut s at 123 (omega arith) e
-            ∙ ap (λ (l : List ℕ). 123 ∷ l) (gap-cut s (at + 1) ∙ ap (λ (l : List ℕ). b ++ l) (k .place) ∙ sym (append-assoc b (k .words) (drop (membersAt s n (withField parcelField 0 p) .at) s)));
+            ∙ ap (λ (l : List ℕ). 123 ∷ l) (gap-cut s (at + 1) ∙ ap (λ (l : List ℕ). b ++ l) (k .place) ∙ sym (append-assoc b (k .words) (drop (membersAt s n (withField messageField 0 p) .at) s)));
         is = k .is;
       })
       (λ e h. absurd (omega arith))
@@ -272,9 +272,9 @@ apart-word [] (x ∷ w) l rest e h a n =
     never (sym (both (inWord x) (all inWord w) a .0) ∙ not-true (inWord x) i)
 apart-word (y ∷ b) w l rest e h a n = blanks (y ∷ b) w (omega arith)
 
-pub volume-apart : (b w : List ℕ) (g : ℕ) → Volume w g → Apart b w
-volume-apart b w g (empty _ c e a) = subst (Apart b) (sym e) (brace b (c ++ (125 ∷ [])))
-volume-apart b w g (takes _ t _ c v more e a n m u) = subst (Apart b) (sym e) (brace b (c ++ (v ++ more)))
+pub group-apart : (b w : List ℕ) (g : ℕ) → Group w g → Apart b w
+group-apart b w g (empty _ c e a) = subst (Apart b) (sym e) (brace b (c ++ (125 ∷ [])))
+group-apart b w g (transactors _ t _ c v more e a n m u) = subst (Apart b) (sym e) (brace b (c ++ (v ++ more)))
 
 -- x is the reader after item c, from r on
 pub record ItemAt (s : List ℕ) (r : Reader) (c : ℕ) (x : Reader) : Type 0 where
@@ -284,7 +284,7 @@ pub record ItemAt (s : List ℕ) (r : Reader) (c : ℕ) (x : Reader) : Type 0 wh
   pub apart : Apart gaps words
   pub item : Item (r .step) c words (x .step)
   pub place : drop (r .at) s ≡ gaps ++ (words ++ drop (x .at) s)
-  pub ends : (c ≡ volumeField → ⊥) → stops inWord (drop (x .at) s) ≡ true
+  pub ends : (c ≡ groupField → ⊥) → stops inWord (drop (x .at) s) ≡ true
 
 module _ (s : List ℕ) (r : Reader) (h : stops inWord (drop (r .at) s) ≡ true) where
   abbrev here : ℕ
@@ -317,11 +317,11 @@ module _ (s : List ℕ) (r : Reader) (h : stops inWord (drop (r .at) s) ≡ true
           (d .0 .some, field c (ofDecimal 0 word) word (withField c (ofDecimal 0 word) (r .step)) a b (d .0) (d .1) refl)
 
       go : (c : ℕ) → ItemKind c → (c ≡ 5 → ⊥) → fits c word ≡ true → (0 < length word) × Item (r .step) c word (withItem c word (r .step))
-      go c isTake v f = number 1 (omega arith) (omega arith) f
+      go c isTransactor v f = number 1 (omega arith) (omega arith) f
       go c isOther v f = number 2 (omega arith) (omega arith) f
-      go c isParcel v f = number 3 (omega arith) (omega arith) f
-      go c isText v f = number 4 (omega arith) (omega arith) f
-      go c isVolume v f = absurd (v refl)
+      go c isMessage v f = number 3 (omega arith) (omega arith) f
+      go c isValue v f = number 4 (omega arith) (omega arith) f
+      go c isGroup v f = absurd (v refl)
       go c isWordTo v f = let e = sameList-test word (bytes "to") .0 f in (omega (arith, ap length e), to word e)
       go c isWordText v f = let e = sameList-test word (bytes "text") .0 f in (omega (arith, ap length e), text word e)
       go c isWhole v f =
@@ -340,19 +340,19 @@ module _ (s : List ℕ) (r : Reader) (h : stops inWord (drop (r .at) s) ≡ true
   unfolding itemOf
   item-sound c i =
       pick-view (λ (y : Reader). y .expected ≡ 0 → ItemAt s r c y) (good r) _ _
-      (λ g. pick-view (λ (y : Reader). y .expected ≡ 0 → ItemAt s r c y) (eqb c volumeField) _ _
+      (λ g. pick-view (λ (y : Reader). y .expected ≡ 0 → ItemAt s r c y) (eqb c groupField) _ _
       (λ v e.
-      let k = volume-sound s here (r .step) e in
+      let k = group-sound s here (r .step) e in
       record {
         gaps = gap s (r .at);
         words = k .words;
         blank = gap-blank s (r .at);
-        apart = volume-apart (gap s (r .at)) (k .words) (k .group) (k .volume);
-        item = subst (λ (n : ℕ). Item (r .step) n (k .words) (volumeAt s here (r .step) .step)) (sym (eqb-true c volumeField v)) (volume (k .group) (k .words) (volumeAt s here (r .step) .step) (k .volume) (k .is));
+        apart = group-apart (gap s (r .at)) (k .words) (k .group) (k .form);
+        item = subst (λ (n : ℕ). Item (r .step) n (k .words) (groupAt s here (r .step) .step)) (sym (eqb-true c groupField v)) (group (k .group) (k .words) (groupAt s here (r .step) .step) (k .form) (k .is));
         place = gap-cut s (r .at) ∙ ap (λ (l : List ℕ). gap s (r .at) ++ l) (k .place);
-        ends = λ n. absurd (n (eqb-true c volumeField v));
+        ends = λ n. absurd (n (eqb-true c groupField v));
       })
-      (λ v e. word-item-sound c i (eqb-false c volumeField v) e))
+      (λ v e. word-item-sound c i (eqb-false c groupField v) e))
       (λ g e. absurd (eqb-false (r .expected) 0 g e))
 
 -- ---- one after the other
@@ -368,13 +368,13 @@ module _ (s : List ℕ) where
   items-clean (c ∷ cs) r e = item-clean r c (items-clean cs (itemOf s r c) e)
 
 -- a volume is a template's last item
-unfoldable pub volumeLast : List ℕ → Bool
-volumeLast [] = true
-volumeLast (c ∷ []) = true
-volumeLast (c ∷ d ∷ cs) = not (eqb c volumeField) and volumeLast (d ∷ cs)
+unfoldable pub groupLast : List ℕ → Bool
+groupLast [] = true
+groupLast (c ∷ []) = true
+groupLast (c ∷ d ∷ cs) = not (eqb c groupField) and groupLast (d ∷ cs)
 
-pub rows-last : every 14 (λ k. volumeLast (templateOf k)) ≡ true
-unfolding every volumeLast templateOf
+pub rows-last : every 14 (λ k. groupLast (templateOf k)) ≡ true
+unfolding every groupLast templateOf
 rows-last = refl
 
 -- x is the reader after the items cs, from r on
@@ -400,15 +400,15 @@ module _ (s : List ℕ) where
   items-none : (x : Reader) → ItemsAt s x [] x
   items-none x = record { words = []; items = none (x .step); place = refl }
 
-  pub items-sound : (cs : List ℕ) (r : Reader) → all isItem cs ≡ true → volumeLast cs ≡ true → stops inWord (drop (r .at) s) ≡ true → items s cs r .expected ≡ 0 → ItemsAt s r cs (items s cs r)
-  unfolding items all volumeLast
+  pub items-sound : (cs : List ℕ) (r : Reader) → all isItem cs ≡ true → groupLast cs ≡ true → stops inWord (drop (r .at) s) ≡ true → items s cs r .expected ≡ 0 → ItemsAt s r cs (items s cs r)
+  unfolding items all groupLast
   items-sound [] r a v h e = items-none r
   items-sound (c ∷ []) r a v h e = items-first r c [] (itemOf s r c) (item-sound s r h c (both (isItem c) true a .0) e) (items-none (itemOf s r c))
   items-sound (c ∷ d ∷ cs) r a v h e =
       let b = both (isItem c) (isItem d and all isItem cs) a in
-      let u = both (not (eqb c volumeField)) (volumeLast (d ∷ cs)) v in
+      let u = both (not (eqb c groupField)) (groupLast (d ∷ cs)) v in
       let k = item-sound s r h c (b .0) (items-clean s (d ∷ cs) (itemOf s r c) e) in
-      let f : stops inWord (drop (itemOf s r c .at) s) ≡ true = k .ends (eqb-false c volumeField (not-true (eqb c volumeField) (u .0))) in
+      let f : stops inWord (drop (itemOf s r c .at) s) ≡ true = k .ends (eqb-false c groupField (not-true (eqb c groupField) (u .0))) in
       items-first r c (d ∷ cs) (items s (d ∷ cs) (itemOf s r c)) k (items-sound (d ∷ cs) (itemOf s r c) (b .1) (u .1) f e)
 
 -- ---- names
@@ -467,7 +467,7 @@ sound s =
     let r : Reader = reached (at + length w) (emptyStep k) in
     let x : Reader = items s (templateOf k) r in
     let d = ended-sound s x h in
-    let i = items-sound s (templateOf k) r (row k b .fields) (every-at (λ j. volumeLast (templateOf j)) 14 k rows-last b) (word-stops s at) (d .clean) in
+    let i = items-sound s (templateOf k) r (row k b .fields) (every-at (λ j. groupLast (templateOf j)) 14 k rows-last b) (word-stops s at) (d .clean) in
     let n : nameOf k ≡ w = name-of-row w b in
     let p : Step = ended s x .step in
     let q : x .step ≡ p = ap (λ (y : Reader). y .step) (sym (d .same)) in

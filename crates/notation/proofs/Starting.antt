@@ -10,8 +10,8 @@ use Rattle.octets.specs.Bytes.{_and_}
 use Rattle.octets.proofs.Tests.{pick-view}
 use Rattle.octets.proofs.Zero.{both}
 use Rattle.rules.specs.declared.Step.{Step}
-use Rattle.notation.specs.Notation.{takeField, parcelField, volumeField, templateOf}
-use Rattle.notation.specs.Reading.{Reader, blank, inWord, all, next, wordAt, isNumber, mostOf, fits, withField, good, reached, wordItem, memberAt, commaNext, oneMore, moreMembers, closed, membersAt, volumeAt, item as itemOf, items, ended, rowNamed, emptyStep, lineAt}
+use Rattle.notation.specs.Notation.{transactorField, messageField, groupField, templateOf}
+use Rattle.notation.specs.Reading.{Reader, blank, inWord, all, next, wordAt, isNumber, mostOf, fits, withField, good, reached, wordItem, memberAt, commaNext, oneMore, moreMembers, closed, membersAt, groupAt, item as itemOf, items, ended, rowNamed, emptyStep, lineAt}
 use Rattle.notation.specs.Grammar.{Blanks}
 use Rattle.notation.specs.Faults.{lastOr, parted}
 use Rattle.notation.proofs.Words.{all-nil}
@@ -60,7 +60,7 @@ module _ (s : List ℕ) where
 
   member-split : (at : ℕ) (p : Step) → Split at → Split (memberAt s at p .at)
   unfolding memberAt
-  member-split at p k = pick-view (λ (y : Reader). Split (y .at)) (isNumber (mostOf takeField) (wordAt s at)) _ _ (λ e. split-word at) (λ e. k)
+  member-split at p k = pick-view (λ (y : Reader). Split (y .at)) (isNumber (mostOf transactorField) (wordAt s at)) _ _ (λ e. split-word at) (λ e. k)
 
   one-split : (r : Reader) → r .at ≤ length s → Split (r .at) → Split (oneMore s r .at)
   unfolding oneMore commaNext
@@ -93,13 +93,13 @@ module _ (s : List ℕ) where
       (λ e. closed-split (moreMembers (length s) s (memberAt s at p)) (members-within s (length s) (memberAt s at p) (member-within s at p h))
       (more-split (length s) (memberAt s at p) (member-within s at p h) (member-split at p k)))
 
-  volume-split : (at : ℕ) (p : Step) → at ≤ length s → Split at → Split (volumeAt s at p .at)
-  unfolding volumeAt
-  volume-split at p h k =
+  group-split : (at : ℕ) (p : Step) → at ≤ length s → Split at → Split (groupAt s at p .at)
+  unfolding groupAt
+  group-split at p h k =
       pick-view (λ (y : Reader). Split (y .at)) (eqb (getD s at 0) 123) _ _
       (λ e.
       let i = byte-within s at 123 (omega arith) e in
-      members-split (next s (at + 1)) (withField parcelField 0 p) (next-within s (at + 1) (omega arith)) (split-next (at + 1) (omega arith) (split-mark at 123 (omega arith) open-out e)))
+      members-split (next s (at + 1)) (withField messageField 0 p) (next-within s (at + 1) (omega arith)) (split-next (at + 1) (omega arith) (split-mark at 123 (omega arith) open-out e)))
       (λ e. k)
 
   word-split : (c at : ℕ) (p : Step) → Split at → Split (wordItem c s at p .at)
@@ -110,8 +110,8 @@ module _ (s : List ℕ) where
   unfolding itemOf
   item-split r c h k =
       pick-view (λ (y : Reader). Split (y .at)) (good r) _ _
-      (λ g. pick-view (λ (y : Reader). Split (y .at)) (eqb c volumeField) _ _
-      (λ e. volume-split (next s (r .at)) (r .step) (next-within s (r .at) h) (split-next (r .at) h k)) (λ e. word-split c (next s (r .at)) (r .step) (split-next (r .at) h k)))
+      (λ g. pick-view (λ (y : Reader). Split (y .at)) (eqb c groupField) _ _
+      (λ e. group-split (next s (r .at)) (r .step) (next-within s (r .at) h) (split-next (r .at) h k)) (λ e. word-split c (next s (r .at)) (r .step) (split-next (r .at) h k)))
       (λ g. k)
 
   items-split : (cs : List ℕ) (r : Reader) → r .at ≤ length s → Split (r .at) → Split (items s cs r .at)

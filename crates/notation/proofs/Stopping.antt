@@ -12,12 +12,12 @@ use Rattle.octets.specs.Bytes.{pick, _and_}
 use Rattle.octets.proofs.Tests.{pick-view}
 use Rattle.octets.proofs.Zero.{both}
 use Rattle.rules.specs.declared.Step.{Step}
-use Rattle.notation.specs.Notation.{takeField, parcelField, volumeField, templateOf}
-use Rattle.notation.specs.Reading.{Reader, blank, inWord, notHash, run, all, aKind, commaOrBrace, lineEnd, next, wordAt, isNumber, mostOf, fits, ofDecimal, withField, withItem, withMember, good, reached, missing, wordItem, memberAt, commaNext, oneMore, moreMembers, closed, membersAt, volumeAt, item as itemOf, items, ended, rowNamed, emptyStep, lineAt, said}
+use Rattle.notation.specs.Notation.{transactorField, messageField, groupField, templateOf}
+use Rattle.notation.specs.Reading.{Reader, blank, inWord, notHash, run, all, aKind, commaOrBrace, lineEnd, next, wordAt, isNumber, mostOf, fits, ofDecimal, withField, withItem, withMember, good, reached, missing, wordItem, memberAt, commaNext, oneMore, moreMembers, closed, membersAt, groupAt, item as itemOf, items, ended, rowNamed, emptyStep, lineAt, said}
 use Rattle.notation.specs.Grammar.{Blanks, Says}
 use Rattle.notation.specs.Faults.{parted, Next, Lacking, aWord, Column, FirstByte}
 use Rattle.notation.proofs.Within.{run-most, next-from, byte-within}
-use Rattle.notation.proofs.Volumes.{idle}
+use Rattle.notation.proofs.Groups.{idle}
 use Rattle.notation.proofs.Items.{isItem}
 use Rattle.notation.proofs.Rows.{row}
 use Rattle.notation.proofs.Accepted.{accepted}
@@ -66,7 +66,7 @@ drop-same (suc i) n (suc b) (d ∷ x) (c ∷ y) h e = drop-same i n b x y (omega
 module _ (s : List ℕ) where
   member-from : (at : ℕ) (p : Step) → at ≤ memberAt s at p .at
   unfolding memberAt
-  member-from at p = pick-view (λ (y : Reader). at ≤ y .at) (isNumber (mostOf takeField) (wordAt s at)) _ _ (λ e. omega arith) (λ e. omega arith)
+  member-from at p = pick-view (λ (y : Reader). at ≤ y .at) (isNumber (mostOf transactorField) (wordAt s at)) _ _ (λ e. omega arith) (λ e. omega arith)
 
   one-from : (r : Reader) → r .at ≤ oneMore s r .at
   unfolding oneMore
@@ -100,11 +100,11 @@ module _ (s : List ℕ) where
       pick-view (λ (y : Reader). at ≤ y .at) (eqb (getD s at 0) 125) _ _ (λ e. omega arith)
       (λ e. omega (arith, member-from at p, more-from (length s) (memberAt s at p), closed-from (moreMembers (length s) s (memberAt s at p))))
 
-  volume-from : (at : ℕ) (p : Step) → at ≤ volumeAt s at p .at
-  unfolding volumeAt
-  volume-from at p =
+  group-from : (at : ℕ) (p : Step) → at ≤ groupAt s at p .at
+  unfolding groupAt
+  group-from at p =
       pick-view (λ (y : Reader). at ≤ y .at) (eqb (getD s at 0) 123) _ _
-      (λ e. omega (arith, next-from s (at + 1), members-from (next s (at + 1)) (withField parcelField 0 p))) (λ e. omega arith)
+      (λ e. omega (arith, next-from s (at + 1), members-from (next s (at + 1)) (withField messageField 0 p))) (λ e. omega arith)
 
   word-from : (c at : ℕ) (p : Step) → at ≤ wordItem c s at p .at
   unfolding wordItem
@@ -114,15 +114,15 @@ module _ (s : List ℕ) where
   unfolding itemOf
   item-next r c z =
       pick-view (λ (y : Reader). next s (r .at) ≤ y .at) (good r) _ _
-      (λ g. pick-view (λ (y : Reader). next s (r .at) ≤ y .at) (eqb c volumeField) _ _ (λ e. volume-from (next s (r .at)) (r .step)) (λ e. word-from c (next s (r .at)) (r .step)))
+      (λ g. pick-view (λ (y : Reader). next s (r .at) ≤ y .at) (eqb c groupField) _ _ (λ e. group-from (next s (r .at)) (r .step)) (λ e. word-from c (next s (r .at)) (r .step)))
       (λ g. absurd (eqb-false (r .expected) 0 g z))
 
   item-from : (r : Reader) (c : ℕ) → r .at ≤ itemOf s r c .at
   unfolding itemOf
   item-from r c =
       pick-view (λ (y : Reader). r .at ≤ y .at) (good r) _ _
-      (λ g. pick-view (λ (y : Reader). r .at ≤ y .at) (eqb c volumeField) _ _
-      (λ e. omega (arith, next-from s (r .at), volume-from (next s (r .at)) (r .step))) (λ e. omega (arith, next-from s (r .at), word-from c (next s (r .at)) (r .step))))
+      (λ g. pick-view (λ (y : Reader). r .at ≤ y .at) (eqb c groupField) _ _
+      (λ e. omega (arith, next-from s (r .at), group-from (next s (r .at)) (r .step))) (λ e. omega (arith, next-from s (r .at), word-from c (next s (r .at)) (r .step))))
       (λ g. omega arith)
 
   items-from : (cs : List ℕ) (r : Reader) → r .at ≤ items s cs r .at
@@ -190,20 +190,20 @@ module _ (s m : List ℕ) (b : ℕ) (h : take (suc b) m ≡ take (suc b) s) wher
   word-item c at p z v l k =
       ap (λ (w : List ℕ). pick (fits c w) (reached (at + length w) (withItem c w p)) (missing at p c)) (word-read c at p z v l k)
 
-  take-word : aWord takeField ≡ true
+  transactor-word : aWord transactorField ≡ true
   unfolding aWord
-  take-word = refl
+  transactor-word = refl
 
   member-read : (at : ℕ) (p : Step) → memberAt s at p .at ≤ b → Known (memberAt s at p) → wordAt m at ≡ wordAt s at
   unfolding memberAt
   member-read at p =
-      pick-view (λ (y : Reader). y .at ≤ b → Known y → wordAt m at ≡ wordAt s at) (isNumber (mostOf takeField) (wordAt s at)) _ _
-      (λ e l k. word-same at l) (λ e l k. k (λ (q : takeField ≡ 0). omega arith) take-word)
+      pick-view (λ (y : Reader). y .at ≤ b → Known y → wordAt m at ≡ wordAt s at) (isNumber (mostOf transactorField) (wordAt s at)) _ _
+      (λ e l k. word-same at l) (λ e l k. k (λ (q : transactorField ≡ 0). omega arith) transactor-word)
 
   member-same : (at : ℕ) (p : Step) → memberAt s at p .at ≤ b → Known (memberAt s at p) → memberAt m at p ≡ memberAt s at p
   unfolding memberAt
   member-same at p l k =
-      ap (λ (w : List ℕ). pick (isNumber (mostOf takeField) w) (reached (at + length w) (withField parcelField (withMember (p .message) (ofDecimal 0 w)) p)) (missing at p takeField))
+      ap (λ (w : List ℕ). pick (isNumber (mostOf transactorField) w) (reached (at + length w) (withField messageField (withMember (p .message) (ofDecimal 0 w)) p)) (missing at p transactorField))
       (member-read at p l k)
 
   -- ---- volumes
@@ -243,8 +243,8 @@ module _ (s m : List ℕ) (b : ℕ) (h : take (suc b) m ≡ take (suc b) s) wher
   More f = (g : ℕ) (r : Reader) → r .expected ≡ 0 → length s ≤ r .at + f → length m ≤ r .at + g → closed s (moreMembers f s r) .at ≤ b → Known (closed s (moreMembers f s r))
       → closed m (moreMembers g m r) ≡ closed s (moreMembers f s r)
 
-  volume-stays : (l : List ℕ) (f : ℕ) (x : Reader) → Faulty l x → closed l (moreMembers f l x) ≡ x
-  volume-stays l f x n = ap (closed l) (more-stays l f x n) ∙ closed-stays l x n
+  group-stays : (l : List ℕ) (f : ℕ) (x : Reader) → Faulty l x → closed l (moreMembers f l x) ≡ x
+  group-stays l f x n = ap (closed l) (more-stays l f x n) ∙ closed-stays l x n
 
   -- from the take x on, with or without fault
   more-on : (f g : ℕ) (x : Reader) → More f → length s ≤ x .at + f → length m ≤ x .at + g → closed s (moreMembers f s x) .at ≤ b → Known (closed s (moreMembers f s x))
@@ -253,12 +253,12 @@ module _ (s m : List ℕ) (b : ℕ) (h : take (suc b) m ≡ take (suc b) s) wher
     where
       go : (t : Bool) → eqb (x .expected) 0 ≡ t → closed m (moreMembers g m x) ≡ closed s (moreMembers f s x)
       go true e = ih g x (eqb-true (x .expected) 0 e) u v l k
-      go false e = let n = eqb-false (x .expected) 0 e in volume-stays m g x n ∙ sym (volume-stays s f x n)
+      go false e = let n = eqb-false (x .expected) 0 e in group-stays m g x n ∙ sym (group-stays s f x n)
 
   -- the take after a comma is known
-  take-known : (f : ℕ) (x : Reader) → closed s (moreMembers f s x) .at ≤ b → Known (closed s (moreMembers f s x)) → (x .at ≤ b) × Known x
-  take-known f x l k =
-      (omega (arith, more-from s f x, closed-from s (moreMembers f s x)), known-stays x (closed s (moreMembers f s x)) (volume-stays s f x) k)
+  transactor-known : (f : ℕ) (x : Reader) → closed s (moreMembers f s x) .at ≤ b → Known (closed s (moreMembers f s x)) → (x .at ≤ b) × Known x
+  transactor-known f x l k =
+      (omega (arith, more-from s f x, closed-from s (moreMembers f s x)), known-stays x (closed s (moreMembers f s x)) (group-stays s f x) k)
 
   comma-more : (f g : ℕ) (r : Reader) → More f → commaNext s r ≡ true → length s ≤ r .at + suc f → length m ≤ r .at + g
       → closed s (moreMembers f s (memberAt s (next s (next s (r .at) + 1)) (r .step))) .at ≤ b → Known (closed s (moreMembers f s (memberAt s (next s (next s (r .at) + 1)) (r .step))))
@@ -275,12 +275,12 @@ module _ (s m : List ℕ) (b : ℕ) (h : take (suc b) m ≡ take (suc b) s) wher
       from = omega (arith, next-from s (next s (r .at) + 1), member-from s (next s (next s (r .at) + 1)) (r .step))
 
       same : commaNext m r ≡ true
-      same = comma-same r (let j : x .at ≤ b = take-known f x l k .0 in omega (arith, from)) ∙ c
+      same = comma-same r (let j : x .at ≤ b = transactor-known f x l k .0 in omega (arith, from)) ∙ c
 
       go : (g : ℕ) → length m ≤ r .at + g → closed m (moreMembers g m r) ≡ y
       go zero v = absurd (omega (arith, comma-there m r same))
       go (suc g) v =
-          let j = take-known f x l k in
+          let j = transactor-known f x l k in
           let a = next-from s (r .at) in
           ap (closed m) (more-suc m g r ∙ ap (moreMembers g m) (one-comma m r same ∙ member-next r (j .0) (j .1)))
           ∙ more-on f g x ih (omega (arith, from)) (omega (arith, from)) l k
@@ -306,7 +306,7 @@ module _ (s m : List ℕ) (b : ℕ) (h : take (suc b) m ≡ take (suc b) s) wher
   first-same : (at : ℕ) (p : Step) → closed s (moreMembers (length s) s (memberAt s at p)) .at ≤ b → Known (closed s (moreMembers (length s) s (memberAt s at p)))
       → closed m (moreMembers (length m) m (memberAt m at p)) ≡ closed s (moreMembers (length s) s (memberAt s at p))
   first-same at p l k =
-      let j = take-known (length s) (memberAt s at p) l k in
+      let j = transactor-known (length s) (memberAt s at p) l k in
       ap (λ (x : Reader). closed m (moreMembers (length m) m x)) (member-same at p (j .0) (j .1))
       ∙ more-on (length s) (length m) (memberAt s at p) (more-same (length s)) (omega arith) (omega arith) l k
 
@@ -323,16 +323,16 @@ module _ (s m : List ℕ) (b : ℕ) (h : take (suc b) m ≡ take (suc b) s) wher
       let a : next s (at + 1) ≤ b = omega (arith, members-from s (next s (at + 1)) p) in
       ap (λ (n : ℕ). membersAt m n p) (next-same (at + 1) a) ∙ members-same (next s (at + 1)) p a l k
 
-  volume-same : (at : ℕ) (p : Step) → at ≤ b → volumeAt s at p .at ≤ b → Known (volumeAt s at p) → volumeAt m at p ≡ volumeAt s at p
-  unfolding volumeAt
-  volume-same at p a =
-      pick-view (λ (y : Reader). y .at ≤ b → Known y → pick (eqb (getD m at 0) 123) (membersAt m (next m (at + 1)) (withField parcelField 0 p)) (missing at p volumeField) ≡ y) (eqb (getD s at 0) 123) _ _
-      (λ e l k. ap (λ (t : Bool). pick t (membersAt m (next m (at + 1)) (withField parcelField 0 p)) (missing at p volumeField)) (ap (λ (c : ℕ). eqb c 123) (byte-same at a) ∙ e) ∙ brace-same at (withField parcelField 0 p) l k)
-      (λ e l k. ap (λ (t : Bool). pick t (membersAt m (next m (at + 1)) (withField parcelField 0 p)) (missing at p volumeField)) (ap (λ (c : ℕ). eqb c 123) (byte-same at a) ∙ e))
+  group-same : (at : ℕ) (p : Step) → at ≤ b → groupAt s at p .at ≤ b → Known (groupAt s at p) → groupAt m at p ≡ groupAt s at p
+  unfolding groupAt
+  group-same at p a =
+      pick-view (λ (y : Reader). y .at ≤ b → Known y → pick (eqb (getD m at 0) 123) (membersAt m (next m (at + 1)) (withField messageField 0 p)) (missing at p groupField) ≡ y) (eqb (getD s at 0) 123) _ _
+      (λ e l k. ap (λ (t : Bool). pick t (membersAt m (next m (at + 1)) (withField messageField 0 p)) (missing at p groupField)) (ap (λ (c : ℕ). eqb c 123) (byte-same at a) ∙ e) ∙ brace-same at (withField messageField 0 p) l k)
+      (λ e l k. ap (λ (t : Bool). pick t (membersAt m (next m (at + 1)) (withField messageField 0 p)) (missing at p groupField)) (ap (λ (c : ℕ). eqb c 123) (byte-same at a) ∙ e))
 
   -- ---- items
 
-  item-word : (c : ℕ) → isItem c ≡ true → (c ≡ volumeField → ⊥) → (0 < c) × (aWord c ≡ true)
+  item-word : (c : ℕ) → isItem c ≡ true → (c ≡ groupField → ⊥) → (0 < c) × (aWord c ≡ true)
   unfolding isItem aWord
   item-word c i v =
       let h = both (leb 1 c) (leb c 8) i in
@@ -342,22 +342,22 @@ module _ (s m : List ℕ) (b : ℕ) (h : take (suc b) m ≡ take (suc b) s) wher
 
   -- item c at its place
   place-same : (c at : ℕ) (p : Step) → isItem c ≡ true → at ≤ b
-      → pick (eqb c volumeField) (volumeAt s at p) (wordItem c s at p) .at ≤ b → Known (pick (eqb c volumeField) (volumeAt s at p) (wordItem c s at p))
-      → pick (eqb c volumeField) (volumeAt m at p) (wordItem c m at p) ≡ pick (eqb c volumeField) (volumeAt s at p) (wordItem c s at p)
-  place-same c at p i a = go (eqb c volumeField) refl
+      → pick (eqb c groupField) (groupAt s at p) (wordItem c s at p) .at ≤ b → Known (pick (eqb c groupField) (groupAt s at p) (wordItem c s at p))
+      → pick (eqb c groupField) (groupAt m at p) (wordItem c m at p) ≡ pick (eqb c groupField) (groupAt s at p) (wordItem c s at p)
+  place-same c at p i a = go (eqb c groupField) refl
     where
-      go : (t : Bool) → eqb c volumeField ≡ t → pick t (volumeAt s at p) (wordItem c s at p) .at ≤ b → Known (pick t (volumeAt s at p) (wordItem c s at p))
-          → pick t (volumeAt m at p) (wordItem c m at p) ≡ pick t (volumeAt s at p) (wordItem c s at p)
-      go true e l k = volume-same at p a l k
-      go false e l k = let v = item-word c i (eqb-false c volumeField e) in word-item c at p (v .0) (v .1) l k
+      go : (t : Bool) → eqb c groupField ≡ t → pick t (groupAt s at p) (wordItem c s at p) .at ≤ b → Known (pick t (groupAt s at p) (wordItem c s at p))
+          → pick t (groupAt m at p) (wordItem c m at p) ≡ pick t (groupAt s at p) (wordItem c s at p)
+      go true e l k = group-same at p a l k
+      go false e l k = let v = item-word c i (eqb-false c groupField e) in word-item c at p (v .0) (v .1) l k
 
   item-good : (r : Reader) (c : ℕ) → isItem c ≡ true → r .expected ≡ 0 → next s (r .at) ≤ b → itemOf s r c .at ≤ b → Known (itemOf s r c) → itemOf m r c ≡ itemOf s r c
   unfolding itemOf
   item-good r c i z a =
-      pick-view (λ (y : Reader). y .at ≤ b → Known y → pick (good r) (pick (eqb c volumeField) (volumeAt m (next m (r .at)) (r .step)) (wordItem c m (next m (r .at)) (r .step))) r ≡ y) (good r) _ _
+      pick-view (λ (y : Reader). y .at ≤ b → Known y → pick (good r) (pick (eqb c groupField) (groupAt m (next m (r .at)) (r .step)) (wordItem c m (next m (r .at)) (r .step))) r ≡ y) (good r) _ _
       (λ g l k.
-      ap (λ (t : Bool). pick t (pick (eqb c volumeField) (volumeAt m (next m (r .at)) (r .step)) (wordItem c m (next m (r .at)) (r .step))) r) g
-      ∙ ap (λ (n : ℕ). pick (eqb c volumeField) (volumeAt m n (r .step)) (wordItem c m n (r .step))) (next-same (r .at) a)
+      ap (λ (t : Bool). pick t (pick (eqb c groupField) (groupAt m (next m (r .at)) (r .step)) (wordItem c m (next m (r .at)) (r .step))) r) g
+      ∙ ap (λ (n : ℕ). pick (eqb c groupField) (groupAt m n (r .step)) (wordItem c m n (r .step))) (next-same (r .at) a)
       ∙ place-same c (next s (r .at)) (r .step) i a l k)
       (λ g l k. absurd (eqb-false (r .expected) 0 g z))
 

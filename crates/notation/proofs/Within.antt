@@ -13,8 +13,8 @@ use Rattle.octets.proofs.Chunks.{sides}
 use Rattle.octets.proofs.Tests.{pick-view}
 use Rattle.octets.proofs.Zero.{both}
 use Rattle.rules.specs.declared.Step.{Step}
-use Rattle.notation.specs.Notation.{parcelField, volumeField, names, templateOf, takeField}
-use Rattle.notation.specs.Reading.{Reader, blank, inWord, run, next, wordAt, isNumber, mostOf, fits, withField, good, reached, wordItem, memberAt, commaNext, oneMore, moreMembers, closed, membersAt, volumeAt, item, items, ended, rowNamed, emptyStep, lineAt}
+use Rattle.notation.specs.Notation.{messageField, groupField, names, templateOf, transactorField}
+use Rattle.notation.specs.Reading.{Reader, blank, inWord, run, next, wordAt, isNumber, mostOf, fits, withField, good, reached, wordItem, memberAt, commaNext, oneMore, moreMembers, closed, membersAt, groupAt, item, items, ended, rowNamed, emptyStep, lineAt}
 
 pub run-most : (f : ℕ → Bool) (l : List ℕ) → run f l ≤ length l
 unfolding run
@@ -52,7 +52,7 @@ module _ (s : List ℕ) where
 
   pub member-within : (at : ℕ) (p : Step) → at ≤ length s → Within (memberAt s at p)
   unfolding memberAt
-  member-within at p h = pick-view Within (isNumber (mostOf takeField) (wordAt s at)) _ _ (λ e. word-within at h) (λ e. h)
+  member-within at p h = pick-view Within (isNumber (mostOf transactorField) (wordAt s at)) _ _ (λ e. word-within at h) (λ e. h)
 
   pub more-within : (r : Reader) → Within r → Within (oneMore s r)
   unfolding oneMore commaNext
@@ -79,16 +79,16 @@ module _ (s : List ℕ) where
       (λ e. omega (arith, byte-within at 125 (omega arith) e))
       (λ e. closed-within (moreMembers (length s) s (memberAt s at p)) (members-within (length s) (memberAt s at p) (member-within at p h)))
 
-  pub volume-within : (at : ℕ) (p : Step) → at ≤ length s → Within (volumeAt s at p)
-  unfolding volumeAt
-  volume-within at p h = pick-view Within (eqb (getD s at 0) 123) _ _
-      (λ e. first-within (next s (at + 1)) (withField parcelField 0 p) (next-within (at + 1) (omega (arith, byte-within at 123 (omega arith) e))))
+  pub group-within : (at : ℕ) (p : Step) → at ≤ length s → Within (groupAt s at p)
+  unfolding groupAt
+  group-within at p h = pick-view Within (eqb (getD s at 0) 123) _ _
+      (λ e. first-within (next s (at + 1)) (withField messageField 0 p) (next-within (at + 1) (omega (arith, byte-within at 123 (omega arith) e))))
       (λ e. h)
 
   pub item-within : (r : Reader) (c : ℕ) → Within r → Within (item s r c)
   unfolding item
   item-within r c h = pick-view Within (good r) _ _
-      (λ g. pick-view Within (eqb c volumeField) _ _ (λ e. volume-within (next s (r .at)) (r .step) (next-within (r .at) h)) (λ e. item-word c (next s (r .at)) (r .step) (next-within (r .at) h)))
+      (λ g. pick-view Within (eqb c groupField) _ _ (λ e. group-within (next s (r .at)) (r .step) (next-within (r .at) h)) (λ e. item-word c (next s (r .at)) (r .step) (next-within (r .at) h)))
       (λ g. h)
 
   pub items-within : (cs : List ℕ) (r : Reader) → Within r → Within (items s cs r)

@@ -8,7 +8,7 @@ use lib.ListN.{length, take, drop, getD}
 use Rattle.octets.specs.Bytes.{_and_, _or_}
 use Rattle.rules.specs.declared.Step.{Step}
 use Rattle.rules.specs.Step.{stepBytes}
-use Rattle.notation.specs.Notation.{volumeField, wholeStep, nameOf}
+use Rattle.notation.specs.Notation.{groupField, wholeStep, nameOf}
 use Rattle.notation.specs.Reading.{blank, inWord, wordAt, aKind, commaOrBrace, lineEnd, room, linesOf, said}
 use Rattle.notation.specs.Grammar.{Blanks, Item, Says, Lines}
 
@@ -37,15 +37,15 @@ pub record Next (u : List ℕ) : Type 0 where
 
 -- at place at of the line s there is no e
 pub data Lacking (s : List ℕ) (at : ℕ) : ℕ → Type 0 where
-  noItem : (c : ℕ) → 1 ≤ c → c ≤ wholeStep → (c ≡ volumeField → ⊥) → ((q r : Step) → Item q c (wordAt s at) r → ⊥) → Lacking s at c
-  noVolume : (getD s at 0 ≡ 123 → ⊥) → Lacking s at volumeField
+  noItem : (c : ℕ) → 1 ≤ c → c ≤ wholeStep → (c ≡ groupField → ⊥) → ((q r : Step) → Item q c (wordAt s at) r → ⊥) → Lacking s at c
+  noGroup : (getD s at 0 ≡ 123 → ⊥) → Lacking s at groupField
   noComma : (getD s at 0 ≡ 44 → ⊥) → (getD s at 0 ≡ 125 → ⊥) → Lacking s at commaOrBrace
   noKind : ((k : ℕ) → k < 14 → nameOf k ≡ wordAt s at → ⊥) → Lacking s at aKind
   noEnd : at < length s → Lacking s at lineEnd
 
 -- whether e is a word: a kind, a number, to, text or sixteen digits; else it is a brace, a comma or the line's end
 unfoldable pub aWord : ℕ → Bool
-aWord e = not (eqb e volumeField or eqb e commaOrBrace or eqb e lineEnd)
+aWord e = not (eqb e groupField or eqb e commaOrBrace or eqb e lineEnd)
 
 -- Place at of the line l, from 0, where e was expected.
 pub record Column (l : List ℕ) (at e : ℕ) : Type 0 where

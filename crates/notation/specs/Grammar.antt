@@ -7,7 +7,7 @@ use mathlib.Core.List.{List, [], _∷_, _++_}
 use lib.ListN.{length}
 use Rattle.rules.specs.declared.Step.{Step}
 use Rattle.rules.specs.Step.{unpackStep}
-use Rattle.notation.specs.Notation.{bytes, parcelField, textField, volumeField, wordTo, wordText, wholeStep, nameOf, templateOf, packStep}
+use Rattle.notation.specs.Notation.{bytes, messageField, valueField, groupField, wordTo, wordText, wholeStep, nameOf, templateOf, packStep}
 use Rattle.notation.specs.Reading.{blank, all, isDigit, isHex, ofDecimal, ofHex, mostOf, withField, withMember, emptyStep, said}
 
 -- spaces, tabs and CRs, as many as one likes
@@ -26,15 +26,15 @@ pub data More : ℕ → List ℕ → ℕ → Type 0 where
   close : (g : ℕ) (s b : List ℕ) → s ≡ b ++ (125 ∷ []) → Blanks b → More g s g
   comma : (g h t : ℕ) (s b c w rest : List ℕ) → s ≡ b ++ (44 ∷ (c ++ (w ++ rest))) → Blanks b → Blanks c → Digits w t → t ≤ 15 → More (withMember g t) rest h → More g s h
 
--- {} or takes in braces
-pub data Volume : List ℕ → ℕ → Type 0 where
-  empty : (s b : List ℕ) → s ≡ 123 ∷ (b ++ (125 ∷ [])) → Blanks b → Volume s 0
-  takes : (h t : ℕ) (s b w rest : List ℕ) → s ≡ 123 ∷ (b ++ (w ++ rest)) → Blanks b → Digits w t → t ≤ 15 → More (withMember 0 t) rest h → Volume s h
+-- a group (document 01: volume): {} or takes in braces
+pub data Group : List ℕ → ℕ → Type 0 where
+  empty : (s b : List ℕ) → s ≡ 123 ∷ (b ++ (125 ∷ [])) → Blanks b → Group s 0
+  transactors : (h t : ℕ) (s b w rest : List ℕ) → s ≡ 123 ∷ (b ++ (w ++ rest)) → Blanks b → Digits w t → t ≤ 15 → More (withMember 0 t) rest h → Group s h
 
 -- w as item c of the step q makes r of it
 pub data Item (q : Step) : ℕ → List ℕ → Step → Type 0 where
-  field : (c n : ℕ) (w : List ℕ) (r : Step) → 0 < c → c ≤ textField → Digits w n → n ≤ mostOf c → r ≡ withField c n q → Item q c w r
-  volume : (g : ℕ) (w : List ℕ) (r : Step) → Volume w g → r ≡ withField parcelField g q → Item q volumeField w r
+  field : (c n : ℕ) (w : List ℕ) (r : Step) → 0 < c → c ≤ valueField → Digits w n → n ≤ mostOf c → r ≡ withField c n q → Item q c w r
+  group : (g : ℕ) (w : List ℕ) (r : Step) → Group w g → r ≡ withField messageField g q → Item q groupField w r
   to : (w : List ℕ) → w ≡ bytes "to" → Item q wordTo w q
   text : (w : List ℕ) → w ≡ bytes "text" → Item q wordText w q
   whole : (w : List ℕ) (r : Step) → length w ≡ 16 → all isHex w ≡ true → r ≡ unpackStep (ofHex w) → Item q wholeStep w r

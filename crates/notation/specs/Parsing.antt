@@ -5,7 +5,7 @@ use lib.Dec.{leb}
 use lib.ListN.{getD}
 use Rattle.octets.specs.Bytes.{pick, _and_, put}
 use Rattle.rules.specs.Calls.{stepsIn}
-use Rattle.notation.specs.Notation.{bytes, takeField, otherField, parcelField, textField, volumeField, wordTo, wordText, wholeStep}
+use Rattle.notation.specs.Notation.{bytes, transactorField, otherField, messageField, valueField, groupField, wordTo, wordText, wholeStep}
 use Rattle.notation.specs.Reading.{aKind, commaOrBrace, lineEnd, room, Read, steps, fault}
 pub use Rattle.notation.specs.declared.Parsed.{Parsed}
 pub use Rattle.notation.specs.declared.Parsed.the-variants.{Steps, Fault}
@@ -14,11 +14,11 @@ pub use Rattle.notation.specs.declared.Expected.the-variants.{Transactor
 
 -- the number of what was expected
 abbrev pub numberOf : Expected → ℕ
-numberOf Transactor = takeField
+numberOf Transactor = transactorField
 numberOf Addressee = otherField
-numberOf Message = parcelField
-numberOf Value = textField
-numberOf Group = volumeField
+numberOf Message = messageField
+numberOf Value = valueField
+numberOf Group = groupField
 numberOf WordTo = wordTo
 numberOf WordText = wordText
 numberOf SixteenDigits = wholeStep

@@ -21,7 +21,7 @@ use Rattle.rules.specs.Calls.{stepsIn, longest}
 use Rattle.rules.specs.Refusals.{malformed}
 use Rattle.rules.specs.Internal.Well.{StepOk}
 use Rattle.rules.proofs.Keep.Run.{stepOk-unpack}
-use Rattle.notation.specs.Notation.{bytes, decimal, places, hex, volume, raw, packStep, nameOf, templateOf, itemText, itemsText, rowOf, lineText, stepText, text, longestLine}
+use Rattle.notation.specs.Notation.{bytes, decimal, places, hex, groupText, raw, packStep, nameOf, templateOf, itemText, itemsText, rowOf, lineText, stepText, text, longestLine}
 use Rattle.printer.specs.Internal.Fields.{fieldOf}
 use Rattle.printer.specs.Printing.{wrongList, lengthAnswer, noRoom, printAnswer, printedOut}
 use Rattle.printer.specs.declared.Printed.the-variants.{Length, Refused}
@@ -65,9 +65,9 @@ module _ (p : Step) (c : ℕ) where
   unfolding fieldOf
   field-4 e = rw e
 
-  pub item-volume : c ≡ 5 → itemText p c ≡ volume (p .message)
+  pub item-group : c ≡ 5 → itemText p c ≡ groupText (p .message)
   unfolding itemText
-  item-volume e = rw e
+  item-group e = rw e
 
   pub item-to : c ≡ 6 → itemText p c ≡ bytes "to"
   unfolding itemText

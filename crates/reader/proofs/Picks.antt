@@ -18,7 +18,7 @@ use Rattle.rules.specs.declared.Step.{Step}
 use Rattle.rules.specs.Step.{unpackStep}
 use Rattle.notation.specs.Notation.{templateOf}
 use Rattle.notation.specs.declared.Reader.{Reader}
-use Rattle.notation.specs.Reading.{inWord, run, next, wordAt, all, isDigit, isNumber, ofDecimal, ofHex, mostOf, fits, withField, withItem, reached, missing, good, wordItem, withMember, memberAt, commaNext, oneMore, moreMembers, closed, membersAt, volumeAt, item, items, ended, rowNamed, emptyStep, lineAt}
+use Rattle.notation.specs.Reading.{inWord, run, next, wordAt, all, isDigit, isNumber, ofDecimal, ofHex, mostOf, fits, withField, withItem, reached, missing, good, wordItem, withMember, memberAt, commaNext, oneMore, moreMembers, closed, membersAt, groupAt, item, items, ended, rowNamed, emptyStep, lineAt}
 use Rattle.scan.specs.declared.Numeral.{Numeral}
 use Rattle.scan.specs.Internal.Scan.{bounded, numberAt}
 use Rattle.kinds.specs.Internal.Table.{wordOf}
@@ -218,9 +218,9 @@ module _ (s : List ℕ) (r : Reader) where
     unfolding ended
     ended-none h = rw (eq-eqb (r .expected) 0 e, ← f, le-ltb k (length s) h)
 
-    pub item-volume : (c : ℕ) → c ≡ 5 → (q : Reader) → q ≡ volumeAt s k (r .step) → q ≡ item s r c
+    pub item-group : (c : ℕ) → c ≡ 5 → (q : Reader) → q ≡ groupAt s k (r .step) → q ≡ item s r c
     unfolding item
-    item-volume c h q g = g ∙ rw (eq-eqb (r .expected) 0 e, eq-eqb c 5 h, f)
+    item-group c h q g = g ∙ rw (eq-eqb (r .expected) 0 e, eq-eqb c 5 h, f)
 
     pub item-other : (c : ℕ) → (c ≡ 5 → ⊥) → (q : Reader) → q ≡ wordItem c s k (r .step) → q ≡ item s r c
     unfolding item
@@ -235,14 +235,14 @@ module _ (s : List ℕ) (at b : ℕ) (p : Step) (g : b ≡ getD s at 0) where
   unfolding membersAt
   members-some h f m q a c d = d ∙ ap (closed s) (c ∙ ap (moreMembers (length s) s) a) ∙ rw (← g, ne-eqb b 125 h)
 
-  pub volume-no : (b ≡ 123 → ⊥) → missing at p 5 ≡ volumeAt s at p
-  unfolding volumeAt
-  volume-no h = rw (← g, ne-eqb b 123 h)
+  pub group-no : (b ≡ 123 → ⊥) → missing at p 5 ≡ groupAt s at p
+  unfolding groupAt
+  group-no h = rw (← g, ne-eqb b 123 h)
 
-  pub volume-yes : b ≡ 123 → (k : ℕ) → k ≡ next s (at + 1) → (q : Reader)
-      → q ≡ membersAt s k (record { kind = p .kind; transactor = p .transactor; other = p .other; zero = p .zero; message = 0; value = p .value }) → q ≡ volumeAt s at p
-  unfolding volumeAt withField
-  volume-yes h k f q e = e ∙ rw (← g, eq-eqb b 123 h, f)
+  pub group-yes : b ≡ 123 → (k : ℕ) → k ≡ next s (at + 1) → (q : Reader)
+      → q ≡ membersAt s k (record { kind = p .kind; transactor = p .transactor; other = p .other; zero = p .zero; message = 0; value = p .value }) → q ≡ groupAt s at p
+  unfolding groupAt withField
+  group-yes h k f q e = e ∙ rw (← g, eq-eqb b 123 h, f)
 
 -- ---- the items of a row
 

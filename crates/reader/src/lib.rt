@@ -4,7 +4,7 @@ ghost use mathlib.Core.Bool.{true};
 ghost use Prim.Native.Nat.{_+_, _≤_, _<_};
 ghost use lib.ListN.{length};
 ghost use Rattle.notation.specs.Notation.{templateOf};
-ghost use Rattle.notation.specs.Reading.{wordItem, memberAt, commaNext, oneMore, moreMembers, closed, membersAt, volumeAt, item, items, ended, lineAt};
+ghost use Rattle.notation.specs.Reading.{wordItem, memberAt, commaNext, oneMore, moreMembers, closed, membersAt, groupAt, item, items, ended, lineAt};
 use notation::Reader;
 use rules::Step;
 use scan::words;
@@ -229,7 +229,7 @@ fn members_at(s: &[u8], at: usize, p: Step) -> Reader
 // A group (document 01: volume) in braces.
 fn group_at(s: &[u8], at: usize, p: Step) -> Reader
     requires { ⌜ at ≤ length (now s) ⌝ }
-    ensures { λ x. ⌜ x ≡ volumeAt (now (s .entry)) at p ⌝ }
+    ensures { λ x. ⌜ x ≡ groupAt (now (s .entry)) at p ⌝ }
 {
     if scan::byte_at(s, at) != 123 {
         return Reader {

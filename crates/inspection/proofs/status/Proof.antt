@@ -1,5 +1,5 @@
 -- By the status.
-use Rattle.inspection.proofs.Inspecting.{status-vanished, status-idle, status-working}
+use Rattle.inspection.proofs.Inspecting.{status-annihilated, status-idle, status-busy}
 use mathlib.Core.List.{[]}
 use borrow.Author.Needs.{needs}
 use Rattle.inspection.proofs.status.Statement.{statement}
@@ -12,7 +12,7 @@ word-requires : tie.Need-word-requires
 word-requires c κs = search needs
 
 returns : tie.Need-returns
-returns c = status-vanished _ _ (c .before .before .before .before .pre .2) _ _ [] (c .before .before .if1 .taken) (c .word .ensures)
+returns c = status-annihilated _ _ (c .before .before .before .before .pre .2) _ _ [] (c .before .before .if1 .taken) (c .word .ensures)
 
 slice-aggregate-word-2 : tie.Need-slice-aggregate-word-2
 slice-aggregate-word-2 c = search needs
@@ -36,7 +36,7 @@ put-values-requires-2 : tie.Need-put-values-requires-2
 put-values-requires-2 c κs = search needs
 
 returns-3 : tie.Need-returns-3
-returns-3 c = status-working _ _ (c .before .before .before .before .before .before .pre .2) _ _ _ (c .before .before .before .before .if1 .left) (c .before .before .before .if2 .left) (c .before .word3 .ensures) (c .put-values2 .ensures)
+returns-3 c = status-busy _ _ (c .before .before .before .before .before .before .pre .2) _ _ _ (c .before .before .before .before .if1 .left) (c .before .before .before .if2 .left) (c .before .word3 .ensures) (c .put-values2 .ensures)
 
 pub status-spec : {M : Type 1} → statement M
 status-spec =

@@ -4,12 +4,12 @@ use native.Mathlib.Omega.{arith}
 use borrow.Author.Needs.{needs}
 use Rattle.notation.specs.Notation.{hex, decimal, places}
 use Rattle.lines.specs.Lines.{plus}
-use Rattle.printer.proofs.Printer.{item-volume, item-to, item-text, item-whole, item-field}
+use Rattle.printer.proofs.Printer.{item-group, item-to, item-text, item-whole, item-field}
 use Rattle.printer.proofs.item.Statement.{statement}
 use Rattle.printer.proofs.item.Tie as tie
 
 returns : tie.Need-returns
-returns c = c .group .ensures ∙ ap (plus _) (sym (item-volume _ _ (search needs)))
+returns c = c .group .ensures ∙ ap (plus _) (sym (item-group _ _ (search needs)))
 
 returns-2 : tie.Need-returns-2
 returns-2 c = c .word .ensures ∙ ap (plus _) (sym (item-to _ _ (search needs)))

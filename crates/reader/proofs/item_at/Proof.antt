@@ -1,5 +1,5 @@
 -- Test by test.
-use Rattle.reader.proofs.Picks.{next-inside, item-fault, item-volume, item-other}
+use Rattle.reader.proofs.Picks.{next-inside, item-fault, item-group, item-other}
 use borrow.Author.Needs.{needs}
 use Rattle.reader.proofs.item_at.Statement.{statement}
 use Rattle.reader.proofs.item_at.Tie as tie
@@ -14,7 +14,7 @@ group-at-requires : tie.Need-group-at-requires
 group-at-requires c κs = next-inside _ _ _ (c .before .before .before .before .before .before .pre) (c .before .skip .ensures)
 
 returns-2 : tie.Need-returns-2
-returns-2 c = let b = c .before .before in item-volume _ _ (b .before .before .if1 .left) _ (b .skip .ensures) _ (c .before .if2 .taken) _ (c .group-at .ensures)
+returns-2 c = let b = c .before .before in item-group _ _ (b .before .before .if1 .left) _ (b .skip .ensures) _ (c .before .if2 .taken) _ (c .group-at .ensures)
 
 word-item-requires : tie.Need-word-item-requires
 word-item-requires c κs = next-inside _ _ _ (c .before .before .before .before .before .before .pre) (c .before .skip .ensures)

@@ -6,7 +6,7 @@ use native.Mathlib.Omega.{arith}
 use borrow.Author.Tests.{not-true, not-false}
 use lib.ListN.{length}
 use Rattle.notation.specs.Reading.{moreMembers}
-use Rattle.notation.proofs.Volumes.{idle}
+use Rattle.notation.proofs.Groups.{idle}
 use borrow.Author.Needs.{needs}
 use Rattle.reader.proofs.more_members.Statement.{statement}
 use Rattle.reader.proofs.more_members.Tie as tie

@@ -15,8 +15,8 @@ use Rattle.octets.proofs.Zero.{both}
 use Rattle.rules.specs.declared.Step.{Step}
 use Rattle.rules.specs.Refusals.{named, groupBits}
 use Rattle.rules.proofs.Bits.{named-past}
-use Rattle.notation.specs.Notation.{decimal, places, members, volume, parcelField}
-use Rattle.notation.specs.Reading.{Reader, blank, inWord, all, isDigit, reached, mostOf, withField, withMember, memberAt, commaNext, oneMore, moreMembers, closed, membersAt, volumeAt}
+use Rattle.notation.specs.Notation.{decimal, places, members, groupText, messageField}
+use Rattle.notation.specs.Reading.{Reader, blank, inWord, all, isDigit, reached, mostOf, withField, withMember, memberAt, commaNext, oneMore, moreMembers, closed, membersAt, groupAt}
 use Rattle.notation.proofs.Words.{all-weaker, stops, past, past-byte, byte-here, word-here, next-here}
 use Rattle.notation.proofs.Numerals.{decimal-digits, decimal-some, decimal-back, decimal-number}
 
@@ -75,7 +75,7 @@ module _ (g t : ℕ) where
 module _ (s rest : List ℕ) (p : Step) (g : ℕ) where
   -- the step with the takes below t
   abbrev upTo : ℕ → Step
-  upTo t = withField parcelField (below g t) p
+  upTo t = withField messageField (below g t) p
 
   member-here : (t at : ℕ) → t ≤ 15 → named g t ≡ true → drop at s ≡ decimal places t ++ rest → stops inWord rest ≡ true
       → memberAt s at (upTo t) ≡ reached (at + length (decimal places t)) (upTo (suc t))
@@ -122,7 +122,7 @@ module _ (s rest : List ℕ) (p : Step) (g : ℕ) where
   no-comma at q e = rw (next-here s at (125 ∷ rest) e (solid-brace rest), byte-here s at 125 rest e)
 
   abbrev with : ℕ → Step
-  with t = withField parcelField (below g t) p
+  with t = withField messageField (below g t) p
 
   more-none : (t f at : ℕ) → drop at s ≡ members 0 t g ++ (125 ∷ rest) → moreMembers f s (reached at (with t)) ≡ reached (at + length (members 0 t g)) (with (t + 0))
   unfolding members
@@ -242,14 +242,14 @@ members-solid (suc n) t g rest = go (named g t) (members-solid n (suc t) g rest)
 
 -- ---- all of it
 
-pub volume-back : (s rest : List ℕ) (at g : ℕ) (p : Step) → g < 65536 → drop at s ≡ volume g ++ rest → volumeAt s at p ≡ reached (at + length (volume g)) (withField parcelField g p)
-unfolding volumeAt volume
-volume-back s rest at g p h e =
+pub group-back : (s rest : List ℕ) (at g : ℕ) (p : Step) → g < 65536 → drop at s ≡ groupText g ++ rest → groupAt s at p ≡ reached (at + length (groupText g)) (withField messageField g p)
+unfolding groupAt groupText
+group-back s rest at g p h e =
     let x : List ℕ = drop 1 (members groupBits 0 g) in
     let e1 : drop at s ≡ 123 ∷ (x ++ (125 ∷ rest)) = e ∙ ap (λ (l : List ℕ). 123 ∷ l) (append-assoc x (125 ∷ []) rest) in
     let e2 : drop (at + 1) s ≡ x ++ (125 ∷ rest) = past-byte s at 123 (x ++ (125 ∷ rest)) e1 in
     let z : below g 0 ≡ 0 = omega arith in
     let f : below g 16 ≡ g = mod-eq-of-lt h in
-    let c : at + 1 + length x + 1 ≡ at + length (volume g) = omega (arith, length-append x (125 ∷ [])) in
+    let c : at + 1 + length x + 1 ≡ at + length (groupText g) = omega (arith, length-append x (125 ∷ [])) in
     rw (byte-here s at 123 (x ++ (125 ∷ rest)) e1, next-here s (at + 1) (x ++ (125 ∷ rest)) e2 (members-solid groupBits 0 g rest))
-    (ap (λ (k : ℕ). membersAt s (at + 1) (withField parcelField k p)) (sym z) ∙ first-back s rest p g groupBits 0 (at + 1) (omega arith) e2 ∙ (λ i. reached (c i) (withField parcelField (f i) p)))
+    (ap (λ (k : ℕ). membersAt s (at + 1) (withField messageField k p)) (sym z) ∙ first-back s rest p g groupBits 0 (at + 1) (omega arith) e2 ∙ (λ i. reached (c i) (withField messageField (f i) p)))
