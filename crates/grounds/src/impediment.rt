@@ -1,6 +1,6 @@
 // Why no group with a transactor could be checkpointed (document 01: no volume with a take could be signed).
-use crate::obstacle::is_nothing;
 use crate::obstacle::history;
+use crate::obstacle::is_nothing;
 use crate::ways::Reach;
 use crate::ways::reach_of;
 use group::is_full;

@@ -135,8 +135,8 @@ module _ (y : Layout) (img : List ℕ) (t : ℕ) (below : t < y .transactors) (k
     untold a sized =
         informed-apart (y .transactors) t a deps sized
         (λ u h.
-          let e : heldAt deps u ≡ false = ap (λ (d : DependenceMap). heldAt d u) (read-dependences y img k waits) ∙ absent (y .width) (y .places) (y .transactors) img from from-fits z deps u h in
-          ap (λ (q : Bool). heldAt a u and q) e ∙ and-false (heldAt a u))
+        let e : heldAt deps u ≡ false = ap (λ (d : DependenceMap). heldAt d u) (read-dependences y img k waits) ∙ absent (y .width) (y .places) (y .transactors) img from from-fits z deps u h in
+        ap (λ (q : Bool). heldAt a u and q) e ∙ and-false (heldAt a u))
 
     pub unheard : img ≡ pack y (withTransactor s t (informedBy y t x deps))
     unheard =
