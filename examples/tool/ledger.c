@@ -3,19 +3,23 @@
  *     ledger fmt TEXT            a step list as text in its canonical form, comments kept; TEXT is replaced
  *     ledger pack TEXT STEPS     the packed steps of a text
  *     ledger unpack STEPS TEXT   and back
- *     ledger run TEXT [IMAGE]    plays the list from a fresh session: each step with its reply; IMAGE takes the image
+ *     ledger run TEXT [IMAGE]    plays the list from a fresh session: each step with its reply, and in brackets the name that a comment
+ *                                gives to a take; IMAGE takes the image
  *     ledger show IMAGE          an image as text
  *     ledger why IMAGE TAKE..    why the volume of these takes can't be signed; of one take, why no volume with it can
  *     ledger who IMAGE TAKE      who rests on a take, itself among them
  *     ledger diff IMAGE IMAGE    the first line in which two images differ, as text
  *
- * Exit status: 0 done, or yes; 1 the file or the question was turned back, or no; 2 wrong use, or a file can't be read or written. A
- * file is written beside its place, synced and renamed, so that it is the old one or the new one whatever happens. */
-#define _POSIX_C_SOURCE 200809L
+ * Exit status: 0 done, yes, or the same; 1 the file or the question was turned back, no, or a difference; 2 wrong use, a file or the output
+ * can't be read or written, or diff was given what is no image. A file has at most a mebibyte, read or written. It is written beside its
+ * place, synced and renamed, so that it is the old one or the new one whatever happens; a link and the file's mode stay. */
+#define _XOPEN_SOURCE 700
+#include <errno.h>
 #include <fcntl.h>
 #include <stdio.h>
 #include <stdlib.h>
 #include <string.h>
+#include <sys/stat.h>
 #include <unistd.h>
 
 #include "ledger.h"
@@ -38,27 +42,86 @@ static struct bytes room(size_t length) {
     return b.at ? b : (fail("no memory for", "a file"), b);
 }
 
+/* The output is out, or this fails: nobody is to take a part for the whole. */
+static int finished(int status) {
+    if (fflush(stdout) || ferror(stdout)) fail("can't write", "the output");
+    return status;
+}
+
+/* ---- files */
+
 static struct bytes load(const char *name) {
-    struct bytes b = room(MOST);
+    struct bytes b = room(MOST + 1);
     FILE *f = fopen(name, "rb");
     if (!f) fail("can't read", name);
-    b.length = fread(b.at, 1, MOST, f);
-    if (ferror(f) || !feof(f)) fail("can't read, or over a mebibyte:", name);
+    b.length = fread(b.at, 1, MOST + 1, f);
+    if (ferror(f)) fail("can't read", name);
+    if (b.length > MOST) fail("over a mebibyte:", name);
     fclose(f);
     return b;
 }
 
-static void save(const char *name, const uint8_t *at, size_t length) {
-    char beside[4096];
-    if (snprintf(beside, sizeof beside, "%s.new", name) >= (int)sizeof beside) fail("a name too long:", name);
-    int f = open(beside, O_WRONLY | O_CREAT | O_TRUNC, 0666);
-    if (f < 0) fail("can't write", beside);
-    for (size_t done = 0; done < length;) {
-        ssize_t n = write(f, at + done, length - done);
-        if (n <= 0) fail("can't write", beside);
-        done += (size_t)n;
+static int put(int f, const uint8_t *at, size_t length) {
+    while (length > 0) {
+        ssize_t n = write(f, at, length);
+        if (n < 0 && errno == EINTR) continue;
+        if (n <= 0) return 0;
+        at += n;
+        length -= (size_t)n;
     }
-    if (fsync(f) || close(f) || rename(beside, name)) fail("can't write", name);
+    return 1;
+}
+
+/* A name in the folder of a file. */
+static char *beside(const char *place, const char *name) {
+    const char *slash = strrchr(place, '/');
+    size_t folder = slash ? (size_t)(slash - place) + 1 : 0;
+    char *path = (char *)room(folder + strlen(name)).at;
+    memcpy(path, place, folder);
+    memcpy(path + folder, name, strlen(name));
+    return path;
+}
+
+/* A rename lasts once its folder is synced; a file system that knows no such sync answers EINVAL. */
+static int synced(const char *folder) {
+    int f = open(folder, O_RDONLY | O_DIRECTORY);
+    int done = f >= 0 && (fsync(f) == 0 || errno == EINVAL);
+    if (f >= 0) close(f);
+    return done;
+}
+
+static void replace(const char *name, const char *place, mode_t mode, const uint8_t *at, size_t length) {
+    char *fresh = beside(place, ".ledger-XXXXXX");
+    int f = mkstemp(fresh);
+    if (f < 0) fail("can't write beside", name);
+    int whole = put(f, at, length) && fchmod(f, mode) == 0 && fsync(f) == 0;
+    if (close(f) || !whole || rename(fresh, place)) {
+        unlink(fresh);
+        fail("can't write", name);
+    }
+    if (!synced(beside(place, "."))) fail("written, but its folder can't be synced:", name);
+}
+
+/* A device or a pipe is no file to be replaced. */
+static void pour(const char *name, const uint8_t *at, size_t length) {
+    int f = open(name, O_WRONLY);
+    if (f < 0 || !put(f, at, length) || close(f)) fail("can't write", name);
+}
+
+static void save(const char *name, const uint8_t *at, size_t length) {
+    struct stat was;
+    int there = stat(name, &was) == 0;
+    if (length > MOST) fail("over a mebibyte, so not written:", name);
+    if (there && !S_ISREG(was.st_mode)) {
+        pour(name, at, length);
+        return;
+    }
+    if (!there && lstat(name, &was) == 0) fail("a link to no file:", name);
+    const char *place = there ? realpath(name, NULL) : name;
+    if (!place) fail("can't write", name);
+    mode_t mask = umask(0); /* the only way to ask for it */
+    umask(mask);
+    replace(name, place, there ? was.st_mode & 07777 : 0666 & ~mask, at, length);
 }
 
 /* ---- texts */
@@ -77,34 +140,51 @@ static struct bytes steps_of(const char *name, struct bytes text) {
     return list;
 }
 
+/* The next line, without its LF; whether there is one. */
+static int next_line(struct bytes text, size_t *from, struct bytes *line) {
+    if (*from >= text.length) return 0;
+    uint8_t *start = text.at + *from, *end = memchr(start, '\n', text.length - *from);
+    line->at = start;
+    line->length = end ? (size_t)(end - start) : text.length - *from;
+    *from += line->length + 1;
+    return 1;
+}
+
+static int step_in(struct bytes line, uint8_t *step) {
+    size_t l, c;
+    uint8_t expected;
+    return notation_parse(line.at, line.length, step, LEDGER_STEP, &l, &c, &expected) == 1;
+}
+
+static int blank(uint8_t c) { return c == ' ' || c == '\t' || c == '\r'; }
+
+/* From # on, without the blanks at its end; empty where there is none. */
+static struct bytes comment_in(struct bytes line) {
+    uint8_t *hash = memchr(line.at, '#', line.length);
+    struct bytes c = {hash, hash ? line.length - (size_t)(hash - line.at) : 0};
+    while (c.length > 0 && blank(c.at[c.length - 1])) c.length--;
+    return c;
+}
+
 /* One line: its step in canonical form, and its comment. */
-static size_t fmt_line(const uint8_t *line, size_t length, uint8_t *out) {
-    const uint8_t *hash = memchr(line, '#', length);
-    size_t said = hash ? (size_t)(hash - line) : length, n = 0, l, c;
-    uint8_t step[LEDGER_STEP], expected;
-    if (notation_parse(line, said, step, sizeof step, &l, &c, &expected) == 1)
-        n = notation_step(step, sizeof step, 0, out, NOTATION_LINE).length - 1;
-    if (hash) {
+static size_t fmt_line(struct bytes line, uint8_t *out) {
+    struct bytes comment = comment_in(line);
+    uint8_t step[LEDGER_STEP];
+    size_t n = step_in(line, step) ? notation_step(step, sizeof step, 0, out, NOTATION_LINE).length - 1 : 0;
+    if (comment.length > 0) {
         if (n > 0) out[n++] = ' ';
-        size_t end = length - said;
-        while (end > 0 && strchr(" \t\r", hash[end - 1])) end--;
-        memcpy(out + n, hash, end);
-        n += end;
+        memcpy(out + n, comment.at, comment.length);
+        n += comment.length;
     }
     out[n] = '\n';
     return n + 1;
 }
 
 static int fmt(const char *name) {
-    struct bytes text = load(name), out = room(2 * MOST + 128 * (text.length + 1));
+    struct bytes text = load(name), out = room(2 * MOST + 128 * (text.length + 1)), line;
     steps_of(name, text);
-    size_t n = 0;
-    for (size_t from = 0; from < text.length;) {
-        const uint8_t *end = memchr(text.at + from, '\n', text.length - from);
-        size_t length = end ? (size_t)(end - text.at) - from : text.length - from;
-        n += fmt_line(text.at + from, length, out.at + n);
-        from += length + 1;
-    }
+    size_t n = 0, from = 0;
+    while (next_line(text, &from, &line)) n += fmt_line(line, out.at + n);
     save(name, out.at, n);
     return 0;
 }
@@ -126,27 +206,72 @@ static int unpack(const char *name, const char *to) {
     return 0;
 }
 
+/* ---- names */
+
+/* The comment of each step's line, without # and blanks around it. */
+static struct bytes *comments_of(struct bytes text, size_t steps) {
+    struct bytes *comments = (struct bytes *)(void *)room(sizeof *comments * steps).at, line;
+    uint8_t step[LEDGER_STEP];
+    for (size_t from = 0, i = 0; i < steps && next_line(text, &from, &line);) {
+        if (!step_in(line, step)) continue;
+        struct bytes c = comment_in(line);
+        if (c.length > 0) c.at++, c.length--;
+        while (c.length > 0 && blank(*c.at)) c.at++, c.length--;
+        comments[i++] = c;
+    }
+    return comments;
+}
+
+/* The name that a comment gives to a take. One that is a reply, from a text that was run before, gives what it has in brackets: so a name
+ * stays what it is however often the text is run, also where the reply is no longer the same. */
+static struct bytes name_in(const uint8_t *step, struct bytes comment) {
+    for (unsigned i = 0; i < 32; i++) {
+        uint8_t reply[LEDGER_STEP] = {0}, words[NOTATION_LINE];
+        reply[i < LEDGER_TRANSACTORS ? 1 : 0] = (uint8_t)i; /* done, by the take opened; from 16 on a refusal */
+        size_t n = notation_reply(step, LEDGER_STEP, reply, sizeof reply, 0, words, sizeof words).length;
+        if (comment.length < n || memcmp(comment.at, words, n) != 0) continue;
+        struct bytes rest = {comment.at + n, comment.length - n};
+        if (rest.length == 0) return rest;
+        if (rest.length < 3 || memcmp(rest.at, " (", 2) != 0 || rest.at[rest.length - 1] != ')') continue;
+        return (struct bytes){rest.at + 2, rest.length - 3};
+    }
+    return comment;
+}
+
+/* A name has any bytes, so printf won't do. */
+static void tell_name(const uint8_t *step, const uint8_t *reply, struct bytes comment) {
+    unsigned kind = step[0] >> 4;
+    if ((kind != LEDGER_ROOT && kind != LEDGER_NEW) || ledger_reply_outcome(reply) != LEDGER_DONE) return;
+    struct bytes name = name_in(step, comment);
+    if (name.length == 0) return;
+    fputs(" (", stdout);
+    fwrite(name.at, 1, name.length, stdout);
+    putchar(')');
+}
+
 /* ---- sessions */
 
-static void tell(struct bytes list, size_t from, const uint8_t *replies, size_t steps) {
+static void tell(const uint8_t *part, const uint8_t *replies, size_t steps, const struct bytes *comments) {
     for (size_t i = 0; i < steps; i++) {
-        uint8_t line[NOTATION_LINE], said[NOTATION_LINE];
-        const uint8_t *part = list.at + LEDGER_STEP * from;
+        uint8_t line[NOTATION_LINE], words[NOTATION_LINE];
         size_t n = notation_step(part, LEDGER_STEP * steps, i, line, sizeof line).length;
-        size_t m = notation_reply(part, LEDGER_STEP * steps, replies, LEDGER_STEP * steps, i, said, sizeof said).length;
-        printf("%.*s # %.*s\n", (int)(n - 1), (const char *)line, (int)m, (const char *)said);
+        size_t m = notation_reply(part, LEDGER_STEP * steps, replies, LEDGER_STEP * steps, i, words, sizeof words).length;
+        printf("%.*s # %.*s", (int)(n - 1), (const char *)line, (int)m, (const char *)words);
+        tell_name(part + LEDGER_STEP * i, replies + LEDGER_STEP * i, comments[i]);
+        putchar('\n');
     }
 }
 
 static int play(const char *name, const char *to) {
     static uint8_t image[LEDGER_IMAGE], replies[LEDGER_LONGEST];
-    struct bytes list = steps_of(name, load(name));
+    struct bytes text = load(name), list = steps_of(name, text), *comments = comments_of(text, list.length / LEDGER_STEP);
     ledger_begin(image, sizeof image, LEDGER_TRANSACTORS, LEDGER_MESSAGES, LEDGER_CHECKPOINTS);
     for (size_t start = 0; start < list.length; start += LEDGER_LONGEST) {
         size_t end = list.length < start + LEDGER_LONGEST ? list.length : start + LEDGER_LONGEST;
         ledger_run(image, sizeof image, list.at, list.length, start, end, replies, end - start);
-        tell(list, start / LEDGER_STEP, replies, (end - start) / LEDGER_STEP);
+        tell(list.at + start, replies, (end - start) / LEDGER_STEP, comments + start / LEDGER_STEP);
     }
+    finished(0); /* before the image, which is not to replace one whose replies nobody saw */
     if (to) save(to, image, sizeof image);
     return 0;
 }
@@ -178,7 +303,7 @@ static int diff(const char *first, const char *second) {
     for (size_t n = 0; n < NOTATION_LINES; n++) {
         uint8_t x[NOTATION_LINE], y[NOTATION_LINE];
         struct notation_given g = notation_image(a.at, a.length, n, x, sizeof x), h = notation_image(b.at, b.length, n, y, sizeof y);
-        if (g.refusal || h.refusal) return refused(g.refusal ? first : second, g.refusal ? g.refusal : h.refusal);
+        if (g.refusal || h.refusal) return refused(g.refusal ? first : second, g.refusal ? g.refusal : h.refusal), 2;
         if (g.length == h.length && memcmp(x, y, g.length) == 0) continue;
         printf("< %.*s> %.*s", g.length ? (int)g.length : 1, g.length ? (const char *)x : "\n", h.length ? (int)h.length : 1, h.length ? (const char *)y : "\n");
         return 1;
@@ -188,11 +313,15 @@ static int diff(const char *first, const char *second) {
 
 /* ---- questions */
 
+/* Digits alone: strtoul would take a sign, and a number that is one modulo 2^64. */
 static unsigned take_of(const char *word) {
-    char *end;
-    unsigned long n = strtoul(word, &end, 10);
-    if (*word == 0 || *end != 0 || n > 65535) fail("not a take:", word);
-    return (unsigned)n;
+    unsigned n = 0;
+    if (*word == 0) fail("not a take:", "an empty word");
+    for (const char *c = word; *c != 0; c++) {
+        n = 10 * n + (unsigned)(*c - '0');
+        if (*c < '0' || *c > '9' || n > 65535) fail("not a take:", word);
+    }
+    return n;
 }
 
 /* A volume as the text of its signing has it, braces and LF. */
@@ -247,7 +376,11 @@ static int why(const char *name, int count, char **words) {
     return 1;
 }
 
-int main(int count, char **words) {
+static const char *const USAGE =
+    "usage: ledger fmt TEXT | pack TEXT STEPS | unpack STEPS TEXT | run TEXT [IMAGE] | show IMAGE | why IMAGE TAKE.. | who IMAGE TAKE | diff IMAGE IMAGE\n"
+    "status: 0 done, yes, the same; 1 turned back, no, different; 2 wrong use, a file or the output not read or written, diff of what is no image\n";
+
+static int act(int count, char **words) {
     const char *verb = count > 1 ? words[1] : "";
     if (strcmp(verb, "fmt") == 0 && count == 3) return fmt(words[2]);
     if (strcmp(verb, "pack") == 0 && count == 4) return pack(words[2], words[3]);
@@ -257,6 +390,8 @@ int main(int count, char **words) {
     if (strcmp(verb, "why") == 0 && count > 3) return why(words[2], count - 3, words + 3);
     if (strcmp(verb, "who") == 0 && count == 4) return who(words[2], words[3]);
     if (strcmp(verb, "diff") == 0 && count == 4) return diff(words[2], words[3]);
-    fprintf(stderr, "usage: ledger fmt TEXT | pack TEXT STEPS | unpack STEPS TEXT | run TEXT [IMAGE] | show IMAGE | why IMAGE TAKE.. | who IMAGE TAKE | diff IMAGE IMAGE\n");
+    fputs(USAGE, stderr);
     return 2;
 }
+
+int main(int count, char **words) { return finished(act(count, words)); }

@@ -244,9 +244,10 @@ async function own({ browser, check, url }) {
     await browser.fill("#text", "rot\n");
     assert.equal(await browser.text(".question"), null);
   });
-  await check("a reply in a comment is no name", async () => {
-    await browser.go(`${url}#text=${encodeURIComponent("\ufeffroot text 7 # done take 0\nroot text 8 # page 12\n")}`);
-    assert.deepEqual(await browser.all("#course-rows .lane-name"), ["take 0", "1 page 12"]);
+  await check("a reply in a comment is no name, but what stands in brackets behind it is", async () => {
+    const text = "\ufeffroot text 7 # done take 0\nroot text 8 # page 12\nroot text 9 # done take 0 (speaker names)\n";
+    await browser.go(`${url}#text=${encodeURIComponent(text)}`);
+    assert.deepEqual(await browser.all("#course-rows .lane-name"), ["take 0", "1 page 12", "2 speaker names"]);
   });
 }
 

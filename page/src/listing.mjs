@@ -20,9 +20,16 @@ export function readText(text) {
 
 const opens = (step, reply) => ["root", "new"].includes(kindOf(step)) && reply.outcome < REFUSED;
 
-/** Whether a comment is the reply to its step, as the program listing writes it. */
-function repeats({ list, packedReplies }, i, comment) {
-  return comment === replyText(list.subarray(8 * i, 8 * i + 8), packedReplies.subarray(8 * i, 8 * i + 8), 0).trim();
+/** The name in a comment after an opening: none in a reply as `listing` writes it, that in brackets behind one as `ledger run` does. */
+function nameIn(step, comment) {
+  for (let i = 0; i < 32; i++) {
+    const reply = new Uint8Array(8);
+    reply[i < 16 ? 1 : 0] = i; // done, by the take opened; from there on a refusal
+    const said = replyText(step, reply, 0).trim();
+    if (comment === said) return "";
+    if (comment.startsWith(`${said} (`) && comment.endsWith(")")) return comment.slice(said.length + 2, -1);
+  }
+  return comment;
 }
 
 /** A comment after an opening is the name of the take that it opened. */
@@ -30,7 +37,7 @@ export function namesFrom(record, comments) {
   const takes = [];
   record.steps.forEach((step, i) => {
     const reply = record.replies[i];
-    if (opens(step, reply)) takes[reply.take] = repeats(record, i, comments[i]) ? "" : comments[i];
+    if (opens(step, reply)) takes[reply.take] = nameIn(record.list.subarray(8 * i, 8 * i + 8), comments[i]);
   });
   return new Names(takes);
 }

@@ -1,16 +1,20 @@
 //! Compares the text of lists, of replies and of images with what is written here from docs/NOTATION.md: every byte and answer, that a refusal
 //! leaves the buffer, that a list is read back from its text and from a looser one, that random bytes are a fault or whole steps, and that
-//! an image is read back from its text. Every line looks at the whole image, so all 1,330 are asked of WHOLE images, and of each of IMAGES more
-//! a few that are picked at random; these are read back from the text that is written here.
+//! an image is read back from its text. Every line looks at the whole image, so all 1,330 lines are asked of WHOLE of the IMAGES, which are read
+//! back from the library's text; of each other one a few that are picked at random, and it is read back from the text that is written here.
 //!
-//!     text [SEED [LISTS [WHOLE [IMAGES]]]]
+//!     text [SEED [LISTS [IMAGES [WHOLE]]]]
 
 use bench::generate::{self, Random};
 use bench::ledger::{self, IMAGE, LONGEST, STEP};
+use std::ops::Range;
+use std::sync::atomic::{AtomicUsize, Ordering};
 
 /// Lines of an image, and room for each.
 const LINES: usize = 1330;
 const LINE: usize = 256;
+/// How many lists or images have a seed in common.
+const BATCH: usize = 1000;
 
 #[repr(C)]
 struct Given {
@@ -121,123 +125,235 @@ fn reply(kind: u8, bytes: &[u8]) -> String {
 
 // ---- images
 
-fn mark_text(m: &[u8]) -> String {
-    let number = |at: usize| u16::from_be_bytes([m[at], m[at + 1]]).to_string();
-    let list: Vec<String> = (0..m[0] as usize & 15).map(|i| number(3 + 2 * i)).collect();
-    let list = if list.is_empty() { String::from("empty") } else { list.join(",") };
-    format!("({list}; {}){}", number(1), if m[0] & 64 != 0 { " frozen" } else { "" })
+fn number_at(bytes: &[u8], at: usize) -> u32 {
+    u16::from_be_bytes([bytes[at], bytes[at + 1]]) as u32
 }
 
-/// Sixteen lines for the map at `map`.
-fn map_lines(image: &[u8], map: usize, name: &str, lines: &mut [String]) {
-    for (t, line) in lines.iter_mut().enumerate() {
-        let m = &image[map + generate::MARK * t..][..generate::MARK];
-        if m[0] & 128 != 0 {
-            *line = format!("  {name}: take {t} {}\n", mark_text(m));
-        }
-    }
+fn text_at(bytes: &[u8], at: usize) -> u32 {
+    u32::from_be_bytes(bytes[at..at + 4].try_into().unwrap())
 }
 
-/// Every line of a well-formed image, by its number.
-fn image_lines(image: &[u8]) -> Vec<String> {
-    let text = |at: usize| u32::from_be_bytes(image[at..at + 4].try_into().unwrap());
-    let number = |at: usize| u16::from_be_bytes(image[at..at + 2].try_into().unwrap());
-    let mut lines = vec![String::new(); LINES];
-    lines[0] = format!("limits: takes {}, parcels {}, signings {}\n", image[4], image[5], image[6]);
-    lines[1] = format!("opened {}, next parcel {}\n", image[0], number(1));
-    for t in 0..16 {
-        let at = generate::take_at(t);
-        let first = 2 + 49 * t;
-        let held = |word: &str| format!("take {t}: {word}, text {}, saved {}\n", text(at + 1), text(at + 5));
-        lines[first] = match image[at] >> 6 {
-            0 => String::new(),
-            1 => held("idle"),
-            2 => held("at work"),
-            _ => format!("take {t}: vanished\n"),
-        };
-        for (m, name) in ["state", "creation", "behaviour"].iter().enumerate() {
-            let from = first + 1 + 16 * m;
-            map_lines(image, at + generate::STATE + generate::MAP * m, name, &mut lines[from..from + 16]);
+/// The text of a well-formed image. A million are written, so it is one buffer, and nothing is allocated for a line or a number.
+#[derive(Default)]
+struct Text {
+    bytes: Vec<u8>,
+    /// Where each line begins, and the end of the last.
+    lines: Vec<usize>,
+}
+
+impl Text {
+    fn of(&mut self, image: &[u8]) {
+        self.bytes.clear();
+        self.lines.clear();
+        self.lines.push(0);
+        let [takes, parcels, signings] = [4, 5, 6].map(|at| image[at] as u32);
+        self.line(&[("limits: takes ", takes), (", parcels ", parcels), (", signings ", signings)]);
+        self.line(&[("opened ", image[0] as u32), (", next parcel ", number_at(image, 1))]);
+        (0..16).for_each(|t| self.take(t, &image[generate::take_at(t)..]));
+        (0..32).for_each(|k| self.parcel(&image[generate::parcel_at(k)..]));
+    }
+
+    fn take(&mut self, t: usize, take: &[u8]) {
+        let (text, saved) = (text_at(take, 1), text_at(take, 5));
+        match take[0] >> 6 {
+            0 => self.end(),
+            1 => self.line(&[("take ", t as u32), (": idle, text ", text), (", saved ", saved)]),
+            2 => self.line(&[("take ", t as u32), (": at work, text ", text), (", saved ", saved)]),
+            _ => {
+                self.words(&[("take ", t as u32)]);
+                self.word(": vanished\n");
+                self.end();
+            }
+        }
+        for (m, name) in ["  state: take ", "  creation: take ", "  behaviour: take "].iter().enumerate() {
+            self.map(name, &take[generate::STATE + generate::MAP * m..]);
         }
     }
-    for k in 0..32 {
-        let at = generate::parcel_at(k);
-        let first = 786 + 17 * k;
-        if image[at] & 128 != 0 {
-            lines[first] = format!("parcel {} to {}, text {}\n", number(at + 1), image[at] & 15, text(at + 3));
-            map_lines(image, at + 7, "map", &mut lines[first + 1..first + 17]);
+
+    fn parcel(&mut self, parcel: &[u8]) {
+        let (number, to, text) = (number_at(parcel, 1), parcel[0] & 15, text_at(parcel, 3));
+        match parcel[0] >> 7 {
+            0 => self.end(),
+            _ => self.line(&[("parcel ", number), (" to ", to as u32), (", text ", text)]),
+        }
+        self.map("  map: take ", &parcel[7..]);
+    }
+
+    fn map(&mut self, name: &str, map: &[u8]) {
+        for t in 0..16 {
+            let m = &map[generate::MARK * t..][..generate::MARK];
+            if m[0] & 128 != 0 {
+                self.words(&[(name, t as u32)]);
+                self.mark(m);
+            }
+            self.end();
         }
     }
-    lines
+
+    fn mark(&mut self, m: &[u8]) {
+        let count = m[0] as usize & 15;
+        self.word(if count == 0 { " (empty" } else { " (" });
+        for i in 0..count {
+            if i > 0 {
+                self.bytes.push(b',');
+            }
+            self.number(number_at(m, 3 + 2 * i));
+        }
+        self.words(&[("; ", number_at(m, 1))]);
+        self.word(if m[0] & 64 != 0 { ") frozen\n" } else { ")\n" });
+    }
+
+    fn line(&mut self, parts: &[(&str, u32)]) {
+        self.words(parts);
+        self.word("\n");
+        self.end();
+    }
+
+    fn words(&mut self, parts: &[(&str, u32)]) {
+        for (word, n) in parts {
+            self.word(word);
+            self.number(*n);
+        }
+    }
+
+    fn number(&mut self, mut n: u32) {
+        let (mut digits, mut first) = ([0; 10], 10);
+        while first == 10 || n != 0 {
+            first -= 1;
+            digits[first] = b'0' + (n % 10) as u8;
+            n /= 10;
+        }
+        self.bytes.extend_from_slice(&digits[first..]);
+    }
+
+    fn word(&mut self, word: &str) {
+        self.bytes.extend_from_slice(word.as_bytes());
+    }
+
+    /// The end of a line, which may be empty.
+    fn end(&mut self) {
+        self.lines.push(self.bytes.len());
+    }
+
+    /// Line n; past the last they are empty.
+    fn said(&self, n: usize) -> &[u8] {
+        if LINES <= n {
+            return &[];
+        }
+        &self.bytes[self.lines[n]..self.lines[n + 1]]
+    }
+
+    /// The line that has the byte.
+    fn line_at(&self, byte: usize) -> usize {
+        self.lines.partition_point(|first| *first <= byte) - 1
+    }
 }
 
 // ---- images, read back
 
-fn number<'a>(s: &'a str, stop: &str) -> (u64, &'a str) {
-    let n = s.find(|c: char| !c.is_ascii_digit()).unwrap_or(s.len());
-    (s[..n].parse().unwrap(), s[n..].strip_prefix(stop).unwrap())
-}
+/// What is left of a text.
+struct Reader<'a>(&'a [u8]);
 
-/// Writes the mark that a line says to the map at `map`.
-fn mark(image: &mut [u8], map: usize, line: &str) {
-    let (t, rest) = number(line, " (");
-    let (list, rest) = rest.split_once("; ").unwrap();
-    let (n, rest) = number(rest, ")");
-    let list: Vec<u16> = if list == "empty" { vec![] } else { list.split(',').map(|x| x.parse().unwrap()).collect() };
-    assert!(rest.is_empty() || rest == " frozen");
-    let at = map + generate::MARK * t as usize;
-    image[at] = 128 + 64 * (rest == " frozen") as u8 + list.len() as u8;
-    image[at + 1..at + 3].copy_from_slice(&(n as u16).to_be_bytes());
-    for (i, x) in list.iter().enumerate() {
-        image[at + 3 + 2 * i..at + 5 + 2 * i].copy_from_slice(&x.to_be_bytes());
+impl Reader<'_> {
+    #[inline(always)] // so that a short word is compared in place
+    fn has(&mut self, word: &str) -> bool {
+        let rest = self.0.strip_prefix(word.as_bytes());
+        self.0 = rest.unwrap_or(self.0);
+        rest.is_some()
     }
-}
 
-fn image_of(text: &str) -> Vec<u8> {
-    let mut image = vec![0; IMAGE];
-    let (mut take, mut parcel, mut parcels) = (0, 0, 0);
-    for line in text.lines() {
-        if let Some(s) = line.strip_prefix("limits: takes ") {
-            let (a, s) = number(s, ", parcels ");
-            let (b, s) = number(s, ", signings ");
-            let (c, _) = number(s, "");
-            image[4..7].copy_from_slice(&[a as u8, b as u8, c as u8]);
-        } else if let Some(s) = line.strip_prefix("opened ") {
-            let (a, s) = number(s, ", next parcel ");
-            let (b, _) = number(s, "");
-            image[0] = a as u8;
-            image[1..3].copy_from_slice(&(b as u16).to_be_bytes());
-        } else if let Some(s) = line.strip_prefix("take ") {
-            let (t, s) = number(s, ": ");
-            take = generate::take_at(t as usize);
-            let (status, s) = s.split_once(", text ").unwrap_or((s, ""));
-            image[take] = 64 * (1 + ["idle", "at work", "vanished"].iter().position(|x| *x == status).unwrap() as u8);
-            if status != "vanished" {
-                let (text, s) = number(s, ", saved ");
-                let (saved, _) = number(s, "");
-                image[take + 1..take + 5].copy_from_slice(&(text as u32).to_be_bytes());
-                image[take + 5..take + 9].copy_from_slice(&(saved as u32).to_be_bytes());
-            }
-        } else if let Some(s) = line.strip_prefix("  state: take ") {
-            mark(&mut image, take + generate::STATE, s);
-        } else if let Some(s) = line.strip_prefix("  creation: take ") {
-            mark(&mut image, take + generate::STATE + generate::MAP, s);
-        } else if let Some(s) = line.strip_prefix("  behaviour: take ") {
-            mark(&mut image, take + generate::STATE + 2 * generate::MAP, s);
-        } else if let Some(s) = line.strip_prefix("parcel ") {
-            parcel = generate::parcel_at(parcels);
-            parcels += 1;
-            let (n, s) = number(s, " to ");
-            let (to, s) = number(s, ", text ");
-            let (text, _) = number(s, "");
-            image[parcel] = 128 + to as u8;
-            image[parcel + 1..parcel + 3].copy_from_slice(&(n as u16).to_be_bytes());
-            image[parcel + 3..parcel + 7].copy_from_slice(&(text as u32).to_be_bytes());
-        } else {
-            mark(&mut image, parcel + 7, line.strip_prefix("  map: take ").unwrap());
+    #[inline(always)]
+    fn word(&mut self, word: &str) {
+        assert!(self.has(word), "{word:?} is not in the text");
+    }
+
+    fn number(&mut self) -> u32 {
+        let (mut n, mut digits) = (0, 0);
+        while let Some(b @ b'0'..=b'9') = self.0.get(digits) {
+            n = 10 * n + (*b - b'0') as u64;
+            digits += 1;
+        }
+        assert!(0 < digits && digits <= 10, "a number is not in the text");
+        self.0 = &self.0[digits..];
+        n.try_into().unwrap()
+    }
+
+    /// Reads the word and the number behind it, and writes that to the bytes.
+    #[inline(always)]
+    fn put<const N: usize>(&mut self, word: &str, bytes: &mut [u8]) {
+        self.word(word);
+        let n = self.number();
+        assert!(N == 4 || n >> (8 * N) == 0, "a number is too great");
+        bytes[..N].copy_from_slice(&n.to_be_bytes()[4 - N..]);
+    }
+
+    fn map(&mut self, name: &str, map: &mut [u8]) {
+        while self.has(name) {
+            let t = self.number() as usize;
+            self.mark(&mut map[generate::MARK * t..][..generate::MARK]);
         }
     }
-    image
+
+    fn mark(&mut self, m: &mut [u8]) {
+        self.word(" (");
+        let mut count = 0;
+        let mut more = !self.has("empty");
+        while more {
+            self.put::<2>("", &mut m[3 + 2 * count..]);
+            count += 1;
+            more = self.has(",");
+        }
+        self.put::<2>("; ", &mut m[1..]);
+        self.word(")");
+        m[0] = 128 + 64 * self.has(" frozen") as u8 + count as u8;
+        self.word("\n");
+    }
+
+    /// A take, from its status on.
+    fn take(&mut self, take: &mut [u8]) {
+        let status = [": idle", ": at work", ": vanished"].iter().position(|s| self.has(s));
+        take[0] = 64 * (1 + status.expect("a status") as u8);
+        if status != Some(2) {
+            self.put::<4>(", text ", &mut take[1..]);
+            self.put::<4>(", saved ", &mut take[5..]);
+        }
+        self.word("\n");
+        for (m, name) in ["  state: take ", "  creation: take ", "  behaviour: take "].iter().enumerate() {
+            self.map(name, &mut take[generate::STATE + generate::MAP * m..]);
+        }
+    }
+
+    /// A parcel, from its number on.
+    fn parcel(&mut self, parcel: &mut [u8]) {
+        self.put::<2>("", &mut parcel[1..]);
+        self.put::<1>(" to ", parcel);
+        parcel[0] += 128;
+        self.put::<4>(", text ", &mut parcel[3..]);
+        self.word("\n");
+        self.map("  map: take ", &mut parcel[7..]);
+    }
+}
+
+/// Writes the image that a text says.
+fn image_of(text: &[u8], image: &mut [u8]) {
+    image.fill(0);
+    let mut s = Reader(text);
+    s.put::<1>("limits: takes ", &mut image[4..]);
+    s.put::<1>(", parcels ", &mut image[5..]);
+    s.put::<1>(", signings ", &mut image[6..]);
+    s.put::<1>("\nopened ", image);
+    s.put::<2>(", next parcel ", &mut image[1..]);
+    s.word("\n");
+    while s.has("take ") {
+        let t = s.number() as usize;
+        s.take(&mut image[generate::take_at(t)..][..generate::TAKE]);
+    }
+    let mut k = 0;
+    while s.has("parcel ") {
+        s.parcel(&mut image[generate::parcel_at(k)..][..generate::PARCEL]);
+        k += 1;
+    }
+    assert!(s.0.is_empty(), "a line too many");
 }
 
 // ---- the comparison
@@ -417,7 +533,7 @@ fn lists(r: &mut Random, count: usize) -> usize {
     steps
 }
 
-fn replies(r: &mut Random, count: usize) {
+fn replies(r: &mut Random, count: usize) -> usize {
     for _ in 0..count {
         let step = (r.next() & 0x0fff_ffff_ffff_ffff | (r.below(16) as u64) << 60).to_be_bytes();
         let mut bytes = [0; STEP];
@@ -438,6 +554,7 @@ fn replies(r: &mut Random, count: usize) {
             given(r, less, |out, n| unsafe { notation_reply(step.as_ptr(), STEP, bytes.as_ptr(), STEP, 0, out, n) });
         assert_eq!(got, Err(18));
     }
+    count
 }
 
 /// An image, most of them well-formed, and the refusal that it calls for.
@@ -457,53 +574,138 @@ fn any_image(r: &mut Random) -> (Vec<u8>, u8) {
     (image, refusal)
 }
 
-/// Which lines to ask of an image: all, or a few of those that say something, and one of all.
-fn asked(r: &mut Random, all: bool, lines: &[String]) -> Vec<usize> {
-    if all {
-        return (0..LINES + 1).collect();
-    }
-    let said: Vec<usize> = (0..lines.len()).filter(|n| !lines[*n].is_empty()).collect();
-    let mut few: Vec<usize> = (0..4).filter_map(|_| r.pick(&said)).collect();
-    few.push(r.below(LINES + 2));
-    few
+/// What is kept from one image to the next.
+struct Images {
+    r: Random,
+    text: Text,
+    whole: Vec<u8>,
+    back: Vec<u8>,
+    noise: [u8; LINE],
+    out: [u8; LINE],
 }
 
-fn images(r: &mut Random, count: usize, all: bool) -> usize {
-    let mut accepted = 0;
-    for _ in 0..count {
-        let (image, refusal) = any_image(r);
-        let lines = if refusal == 0 { image_lines(&image) } else { vec![] };
-        for n in asked(r, all, &lines) {
-            let got = given(r, LINE, |out, len| unsafe { notation_image(image.as_ptr(), image.len(), n, out, len) });
-            let want = lines.get(n).cloned().unwrap_or_default().into_bytes();
-            assert_eq!(got, if refusal == 0 { Ok(want) } else { Err(refusal) }, "line {n}");
-            if refusal != 0 {
-                break;
-            }
-        }
-        if refusal == 0 {
-            assert!(image_of(&lines.concat()) == image, "an image is not read back from its text");
-            accepted += 1;
+impl Images {
+    fn seeded(seed: u64) -> Self {
+        let (text, whole, back) = (Text::default(), Vec::new(), vec![0; IMAGE]);
+        Images { r: Random(seed), text, whole, back, noise: [0; LINE], out: [0; LINE] }
+    }
+
+    /// How long the library's line n is, which is then in `out`; a refusal leaves all of it, the rest stays.
+    fn ask(&mut self, image: &[u8], n: usize, room: usize) -> Result<usize, u8> {
+        self.out = self.noise;
+        let g = unsafe { notation_image(image.as_ptr(), image.len(), n, self.out.as_mut_ptr(), room) };
+        assert!(g.length <= room && self.out[g.length..] == self.noise[g.length..], "more was written than answered");
+        assert!(g.refusal == 0 || g.length == 0, "a refusal changed the buffer");
+        if g.refusal == 0 {
+            Ok(g.length)
+        } else {
+            Err(g.refusal)
         }
     }
-    accepted
+
+    fn compare(&mut self, image: &[u8], n: usize) -> usize {
+        let length = self.ask(image, n, LINE).unwrap();
+        assert!(self.out[..length] == *self.text.said(n), "line {n} differs");
+        length
+    }
+
+    /// All lines, and one past them.
+    fn all(&mut self, image: &[u8]) {
+        self.whole.clear();
+        for n in 0..LINES + 1 {
+            let length = self.compare(image, n);
+            self.whole.extend_from_slice(&self.out[..length]);
+        }
+        image_of(&self.whole, &mut self.back);
+    }
+
+    /// Four lines that say something, with one of them in less room than it needs, and any line.
+    fn few(&mut self, image: &[u8]) {
+        let mut n = self.r.below(LINES + 2);
+        self.compare(image, n);
+        for _ in 0..4 {
+            n = self.text.line_at(self.r.below(self.text.bytes.len()));
+            self.compare(image, n);
+        }
+        let less = self.r.below(self.text.said(n).len());
+        assert_eq!(self.ask(image, n, less), Err(18));
+        image_of(&self.text.bytes, &mut self.back);
+    }
+
+    /// Makes an image and compares; answers whether it is well-formed.
+    fn one(&mut self, all: bool) -> bool {
+        let (image, refusal) = any_image(&mut self.r);
+        self.r.fill(&mut self.noise);
+        if refusal != 0 {
+            let n = self.r.below(LINES + 2);
+            assert_eq!(self.ask(&image, n, LINE), Err(refusal));
+            return false;
+        }
+        self.text.of(&image);
+        if all {
+            self.all(&image)
+        } else {
+            self.few(&image)
+        }
+        assert!(self.back == image, "an image is not read back from its text");
+        true
+    }
+}
+
+/// How many images of a part are well-formed, and how many of those of which every line is asked.
+fn images(r: &mut Random, part: Range<usize>, all: impl Fn(usize) -> bool) -> [usize; 2] {
+    let (mut batch, mut formed) = (Images::seeded(r.next()), [0; 2]);
+    for i in part {
+        let good = batch.one(all(i)) as usize;
+        formed[0] += good;
+        formed[1] += good * all(i) as usize;
+    }
+    formed
+}
+
+/// Works through so many in batches on all cores, and adds up the answers. Each batch has a seed of its own: the number of cores changes nothing.
+fn batches(r: &mut Random, count: usize, work: impl Fn(&mut Random, Range<usize>) -> [usize; 2] + Sync) -> [usize; 2] {
+    let (seed, next) = (r.next(), AtomicUsize::new(0));
+    let sum = |a: [usize; 2], b: [usize; 2]| [a[0] + b[0], a[1] + b[1]];
+    let thread = || {
+        let mut done = [0; 2];
+        loop {
+            let first = BATCH * next.fetch_add(1, Ordering::Relaxed);
+            if count <= first {
+                return done;
+            }
+            done = sum(done, work(&mut Random(seed ^ first as u64), first..count.min(first + BATCH)));
+        }
+    };
+    let cores = std::thread::available_parallelism().map_or(1, |n| n.get());
+    std::thread::scope(|s| {
+        let threads: Vec<_> = (0..cores).map(|_| s.spawn(thread)).collect();
+        threads.into_iter().map(|t| t.join().unwrap()).fold([0; 2], sum)
+    })
 }
 
 fn main() {
     let mut args = std::env::args().skip(1).map(|a| a.parse::<usize>().expect("a number"));
-    let mut r = Random(args.next().unwrap_or(1) as u64);
+    let seed = args.next().unwrap_or(1);
+    let hook = std::panic::take_hook();
+    std::panic::set_hook(Box::new(move |failure| {
+        eprintln!("seed {seed}");
+        hook(failure)
+    }));
+    let mut r = Random(seed as u64);
     let many = args.next().unwrap_or(1_000_000);
-    let whole = args.next().unwrap_or(1_000);
-    let few = args.next().unwrap_or(50_000);
-    let steps = lists(&mut r, many);
+    let count = args.next().unwrap_or(1_000_000);
+    let whole = args.next().unwrap_or(20_000).min(count);
+    let [steps, _] = batches(&mut r, many, |r, part| [lists(r, part.len()), 0]);
     println!("{many} lists of {steps} steps: the same text and answers, read back, and no byte changed by a refusal");
-    let faults = noise(&mut r, many);
+    let [faults, _] = batches(&mut r, many, |r, part| [noise(r, part.len()), 0]);
     println!("{many} texts of random bytes: {faults} faults, no byte changed; the others whole steps");
     println!("{} things that a text can lack: the words of docs/NOTATION.md, none for other numbers", expected(&mut r));
-    replies(&mut r, many);
+    batches(&mut r, many, |r, part| [replies(r, part.len()), 0]);
     println!("{many} replies: the same words");
-    let accepted = images(&mut r, whole, true);
-    println!("{whole} images, {accepted} well-formed: all lines the same, read back from the text; the others refused");
-    let accepted = images(&mut r, few, false);
-    println!("{few} images more, {accepted} well-formed: five lines the same, read back; the others refused");
+    let apart = count / whole.max(1);
+    let all = |i: usize| whole > 0 && i % apart == 0 && i / apart < whole;
+    let [formed, entire] = batches(&mut r, count, |r, part| images(r, part, all));
+    println!("{count} images, {formed} well-formed: five lines the same, read back from the text; the others refused");
+    println!("{whole} of them, {entire} well-formed: all lines the same, read back from the library's text");
 }
