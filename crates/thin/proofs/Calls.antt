@@ -6,7 +6,7 @@ use native.Mathlib.Nat.{sub-zero}
 use native.Mathlib.Omega.{arith}
 use lib.ListN.{length, length-append}
 use borrow.Author.Tests.{eq-eqb, ne-eqb}
-use mathlib.Core.Bool.{not}
+use mathlib.Core.Bool.{not, false}
 use Rattle.octets.specs.Bytes.{part, zeros}
 use Rattle.octets.proofs.Put.{length-part, part-left, part-whole}
 use Rattle.octets.proofs.Zero.{length-zeros}
