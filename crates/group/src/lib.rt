@@ -187,16 +187,18 @@ pub fn ready(image: &[u8], group: u16) -> bool
     let mut ok = true;
     let mut t: usize = 0;
     'named: while t < TRANSACTORS {
-        if is_named(group, t) {
-            let mut u: usize = 0;
-            while u < TRANSACTORS {
-                let h = kept.own[u];
-                if !kept_ready(image, group, t, u, h) {
-                    ok = false;
-                    break 'named;
-                }
-                u += 1;
+        if !is_named(group, t) {
+            t += 1;
+            continue 'named;
+        }
+        let mut u: usize = 0;
+        while u < TRANSACTORS {
+            let h = kept.own[u];
+            if !kept_ready(image, group, t, u, h) {
+                ok = false;
+                break 'named;
             }
+            u += 1;
         }
         t += 1;
     }

@@ -2,9 +2,9 @@
 use Prim.Native.Nat.{_-_}
 use mathlib.Core.Bool.{true, not}
 use mathlib.Core.Path.{_≡_, refl, sym, ap, _∙_}
-use mathlib.Core.Logic.{⊎-elim}
 use borrow.Author.Needs.{needs}
 use Rattle.octets.specs.Bytes.{every}
+use Rattle.octets.proofs.Tests.{passed, failed}
 use Rattle.octets.proofs.Zero.{Held, held-none, held-more}
 use Rattle.rules.specs.Layout.{base}
 use Rattle.rules.specs.Pack.{unpack}
@@ -36,19 +36,20 @@ kept-ready-requires c κs =
     (search needs, search needs, search needs, kept-named base _ _ (p .before .presents .ensures) (p .if1 .left) (p .before .before .before .pre .well) _ (search needs))
 
 named-again : tie.Need-named-again Inv-loop μ-loop Inv-named μ-named
-named-again c =
-    let p = c .before .before .before .before in
-    ⊎-elim
-    (λ w. (held-more (search needs) (search needs) (ready-named base _ _ _ (search needs) (all-stable p) (sym (c .before .is-named .ensures) ∙ w .0 .taken) (w .1 .inv .0) (search needs)), w .3 ∙ w .1 .inv .1))
-    (λ w. (held-more (search needs) (search needs) (ready-unnamed base _ _ _ (sym (c .before .is-named .ensures) ∙ w .0 .left)), search needs))
-    (c .if2 .came)
+named-again c = (held-more (search needs) (search needs) (ready-unnamed base _ _ _ (failed (c .before .is-named .ensures) (c .if2 .taken))), search needs)
+
+named-again-2 : tie.Need-named-again-2 Inv-loop μ-loop Inv-named μ-named
+named-again-2 c =
+    let l = c .before in
+    let n = l .before .before in
+    (held-more (search needs) (search needs) (ready-named base _ _ _ (search needs) (all-stable (n .before .before .before)) (passed (n .is-named .ensures) (l .before .if2 .left)) (l .loop .inv .0) (search needs)), search needs)
 
 returns-3 : tie.Need-returns-3 Inv-loop μ-loop Inv-named μ-named
 returns-3 c =
     let l = c .before .before .before .before in
     let n = l .before .before in
     let p = n .before .before .before in
-    ready-unmet base _ _ _ (search needs) (all-stable p) (sym (n .is-named .ensures) ∙ l .before .if2 .taken) (l .loop .inv .0) (search needs)
+    ready-unmet base _ _ _ (search needs) (all-stable p) (passed (n .is-named .ensures) (l .before .if2 .left)) (l .loop .inv .0) (search needs)
     (ap not (sym (c .before .kept-ready .ensures)) ∙ c .if3 .taken)
 
 pub ready-spec : {M : Type 1} → statement M
@@ -63,6 +64,9 @@ ready-spec =
     (λ c. present-unstable base _ _ (c .before .presents .ensures) refl (search needs) (c .if1 .taken))
     (λ c. (held-none _ _, refl))
     (λ c κs. search needs)
+    (λ c. search needs)
+    (λ c. search needs)
+    named-again
     (λ c. (held-none _ _, search needs))
     (λ c. search needs)
     (λ c. search needs)
@@ -72,6 +76,6 @@ ready-spec =
     (λ c. (held-more (search needs) (search needs) (ap not (sym (c .before .kept-ready .ensures)) ∙ c .if3 .left), search needs))
     (λ c. search needs)
     (λ c. search needs)
-    named-again
+    named-again-2
     (λ c. ready-end base _ _ _ (search needs) (c .before .named .inv .0) (search needs))
     returns-3)
