@@ -1,5 +1,5 @@
 -- The printer's parts: rows, fields, items.
-use Prim.Native.Nat.{ℕ, zero, suc, _+_, _-_, _*_, _%_, _≤_, _<_}
+use Prim.Native.Nat.{ℕ, zero, suc, _+_, _-_, _*_, _≤_, _<_}
 use mathlib.Core.Bool.{Bool, true, false, not}
 use mathlib.Core.Path.{_≡_, refl, sym, ap, _∙_, subst}
 use mathlib.Core.List.{List, [], _∷_, _++_}
@@ -7,13 +7,13 @@ use mathlib.Core.Logic.{⊎-elim}
 use native.Mathlib.Nat.{zero-add}
 use native.Mathlib.Numerals.{add-one}
 use native.Mathlib.Omega.{arith}
-use borrow.Author.Tests.{lt-ltb, le-ltb, ltb-false}
-use lib.Dec.{eqb, ltb}
+use borrow.Author.Tests.{lt-ltb, le-ltb}
+use lib.Dec.{ltb}
 use lib.ListN.{length, take, drop, getD, length-append, length-take, drop-of-length-le, List·getD-eq-default}
 use lib.Seq.{drop-cons}
 use Rattle.octets.specs.Bytes.{pick, put, part, chunks, Octets}
 use Rattle.octets.proofs.Put.{part-def, length-part, octets-part, put-nil, put-append}
-use Rattle.octets.proofs.Tests.{or-off}
+use Rattle.lists.proofs.Parts.{right-part}
 use Rattle.octets.proofs.Chunks.{sides, chunks-suc, chunks-add}
 use Rattle.rules.specs.declared.Step.{Step}
 use Rattle.rules.specs.Step.{stepBytes, stepAt, unpackStep}
@@ -184,7 +184,7 @@ module _ (l : List ℕ) (o : Octets l) where
 -- a list that is not refused is short
 pub right-list : (l : List ℕ) → wrongList l ≡ false → length l ≤ longest
 unfolding wrongList
-right-list l e = ltb-false longest (length l) (or-off (not (eqb (length l % stepBytes) 0)) (ltb longest (length l)) e .1)
+right-list l e = omega (arith, right-part l 0 (length l) e .short)
 
 -- ---- the text written line by line
 

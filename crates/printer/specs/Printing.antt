@@ -1,19 +1,18 @@
 -- What print and text_length answer, and what print leaves, for every input.
-use Prim.Native.Nat.{ℕ, _%_}
-use mathlib.Core.Bool.{Bool, not}
+use Prim.Native.Nat.{ℕ}
+use mathlib.Core.Bool.{Bool}
 use mathlib.Core.List.{List}
-use lib.Dec.{eqb, ltb}
+use lib.Dec.{ltb}
 use lib.ListN.{length}
 use Rattle.octets.specs.Bytes.{pick, _or_, put}
-use Rattle.rules.specs.Step.{stepBytes}
-use Rattle.rules.specs.Calls.{longest}
+use Rattle.rules.specs.Calls.{wrongPart}
 use Rattle.notation.specs.Notation.{text}
 pub use Rattle.printer.specs.declared.Printed.{Printed}
 use Rattle.printer.specs.declared.Printed.the-variants.{Length, Refused}
 
 -- 17, as for a run: the list's length not a multiple of 8, or over 8,192 bytes
 unfoldable pub wrongList : List ℕ → Bool
-wrongList l = not (eqb (length l % stepBytes) 0) or ltb longest (length l)
+wrongList l = wrongPart l 0 (length l)
 
 unfoldable pub lengthAnswer : List ℕ → Printed
 lengthAnswer l = pick (wrongList l) (Refused 17) (Length (length (text l)))

@@ -124,10 +124,7 @@ pub fn step_line(list: &[u8], i: usize) -> Line
 fn wrong(list: &[u8]) -> bool
     ensures { λ r. ⌜ r ≡ wrongList (now (list .entry)) ⌝ }
 {
-    if list.len() % 8 != 0 {
-        return true;
-    }
-    8192 < list.len()
+    lists::wrong_part(list, 0, list.len())
 }
 
 // How many bytes the text has.
