@@ -1,18 +1,18 @@
 -- Document 02, W12, as calls: the short list run from the same image.
-use Prim.Native.Nat.{ℕ, _+_, _-_, _*_, _≤_, _<_}
+use Prim.Native.Nat.{ℕ, _+_, _-_, _*_, _≤_}
 use mathlib.Core.Path.{_≡_, refl, sym, ap, subst, _∙_}
 use mathlib.Core.List.{List, _++_}
 use native.Mathlib.Nat.{sub-zero}
 use native.Mathlib.Omega.{arith}
 use lib.ListN.{length, length-append}
 use borrow.Author.Tests.{eq-eqb, ne-eqb}
-use mathlib.Core.Bool.{not}
+use mathlib.Core.Bool.{false, not}
 use Rattle.octets.specs.Bytes.{part, zeros}
 use Rattle.octets.proofs.Put.{length-part, part-left, part-whole}
 use Rattle.octets.proofs.Zero.{length-zeros}
 use Rattle.rules.specs.Layout.{Layout}
 use Rattle.rules.specs.State.{State}
-use Rattle.rules.specs.Step.{stepBytes}
+use Rattle.rules.specs.Step.{stepBytes, isRefusal}
 use Rattle.rules.specs.Pack.{unpack}
 use Rattle.rules.specs.Calls.{stepsIn, ranImage, ranReplies}
 use Rattle.thin.specs.Thin.{chosen, outcomeAt, keptFrom, shortList, keptCount, thinRefusal, partOf, thinOut, thinCount, Thinned}
@@ -105,7 +105,7 @@ module _ (y : Layout) (img list : List ℕ) (start end : ℕ) (out : List ℕ) w
             answer = sym (q .0);
             image = sym (q .1) ∙ ap (ranImage y img) front ∙ short-image y img b ∙ r .1;
             replies = sym (q .2) ∙ ap (ranReplies y img) front ∙ short-ran y img b ∙ ap (chosen (keptFrom y s b) (stepsIn b)) (r .2);
-            accepted = λ j h. subst (λ (l : List ℕ). outcomeAt y s l j < 20) (sym front) (short-small y s b j (omega arith));
+            accepted = λ j h. subst (λ (l : List ℕ). isRefusal (outcomeAt y s l j) ≡ false) (sym front) (short-small y s b j (omega arith));
           })
 
   -- a refused pass leaves the buffer and answers 0

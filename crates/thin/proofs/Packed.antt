@@ -6,14 +6,14 @@ use mathlib.Core.List.{List, [], _∷_, map}
 use native.Mathlib.Nat.{zero-add, suc-add, add-suc, add-zero}
 use native.Mathlib.Omega.{arith}
 use lib.ListN.{length, getD}
-use lib.Dec.{eqb, leb}
-use borrow.Author.Tests.{leb-false, not-true}
+use lib.Dec.{eqb}
+use borrow.Author.Tests.{not-true}
 use Rattle.octets.specs.Bytes.{pick, _and_, part, chunks}
 use Rattle.rules.specs.Layout.{Layout}
 use Rattle.rules.specs.State.{State}
 use Rattle.rules.specs.declared.Step.{Step}
 use Rattle.rules.specs.declared.Reply.{Reply}
-use Rattle.rules.specs.Step.{stepBytes, unpackStep, stepAt, packReply, read}
+use Rattle.rules.specs.Step.{stepBytes, unpackStep, stepAt, packReply, isRefusal, read}
 use Rattle.rules.specs.Pack.{pack, unpack}
 use Rattle.rules.specs.Calls.{stepsIn, stateAfter, replyAt, ranImage, ranReplies}
 use Rattle.rules.proofs.Replies.{length-packReply}
@@ -157,14 +157,14 @@ short-ran y img b = short-packed y (unpack y img) b ∙ sym (chosen-chunks (kept
 
 data Small : List Reply → Type 0 where
   empty : Small []
-  next : {r : Reply} {rs : List Reply} → r .outcome < 20 → Small rs → Small (r ∷ rs)
+  next : {r : Reply} {rs : List Reply} → isRefusal (r .outcome) ≡ false → Small rs → Small (r ∷ rs)
 
-small-at : {rs : List Reply} → Small rs → (d : Reply) (j : ℕ) → j < length rs → getD rs j d .outcome < 20
+small-at : {rs : List Reply} → Small rs → (d : Reply) (j : ℕ) → j < length rs → isRefusal (getD rs j d .outcome) ≡ false
 small-at empty d j h = absurd (omega arith)
 small-at (next e w) d zero h = e
 small-at (next e w) d (suc j) h = small-at w d j (omega arith)
 
-small-filtered : (g : ℕ → Bool) (f : ℕ → Reply) → ((k : ℕ) → g k ≡ true → f k .outcome < 20) → (n i : ℕ) → Small (filtered (from g i n) (from f i n))
+small-filtered : (g : ℕ → Bool) (f : ℕ → Reply) → ((k : ℕ) → g k ≡ true → isRefusal (f k .outcome) ≡ false) → (n i : ℕ) → Small (filtered (from g i n) (from f i n))
 unfolding filtered from
 small-filtered g f h zero i = empty
 small-filtered g f h (suc n) i = go (g i) refl (small-filtered g f h n (suc i))
@@ -174,20 +174,20 @@ small-filtered g f h (suc n) i = go (g i) refl (small-filtered g f h n (suc i))
     go false e w = w
 
 module _ (y : Layout) (s : State) (b : List ℕ) where
-  pub kept-small : (n k : ℕ) → kept b (outcomeAt y s b) n k ≡ true → replyTo y s b k .outcome < 20
+  pub kept-small : (n k : ℕ) → kept b (outcomeAt y s b) n k ≡ true → isRefusal (replyTo y s b k .outcome) ≡ false
   unfolding kept notRefused outcomeAt replyTo
-  kept-small n k e = leb-false 20 _ (not-true _ (first (not (leb 20 (outcomeAt y s b k))) _ e))
+  kept-small n k e = not-true _ (first (not (isRefusal (outcomeAt y s b k))) _ e)
     where
       first : (c d : Bool) → c and d ≡ true → c ≡ true
       first true d e = refl
       first false d e = e
 
   -- No step of the short list is refused.
-  pub short-small : (j : ℕ) → j < stepsIn (shortList y s b) → outcomeAt y s (shortList y s b) j < 20
+  pub short-small : (j : ℕ) → j < stepsIn (shortList y s b) → isRefusal (outcomeAt y s (shortList y s b) j) ≡ false
   unfolding outcomeAt replyTo
   short-small j h =
       let l : List ℕ = shortList y s b in
       let d : Reply = replyTo y s l 0 in
       let w : Small (from (replyTo y s l) 0 (stepsIn l)) = rw (short-replies y s b) (small-filtered (kept b (outcomeAt y s b) (stepsIn b)) (replyTo y s b) (kept-small (stepsIn b)) (stepsIn b) 0) in
       let e : getD (from (replyTo y s l) 0 (stepsIn l)) j d ≡ replyTo y s l j = getD-from (replyTo y s l) d (stepsIn l) 0 j h ∙ ap (replyTo y s l) (zero-add j) in
-      subst (λ (r : Reply). r .outcome < 20) e (small-at w d j (rw length-from h))
+      subst (λ (r : Reply). isRefusal (r .outcome) ≡ false) e (small-at w d j (rw length-from h))

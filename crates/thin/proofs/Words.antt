@@ -5,11 +5,11 @@ use mathlib.Core.Path.{_≡_, refl, sym, ap, subst, _∙_}
 use mathlib.Core.List.{List}
 use native.Mathlib.Decide.{ℕ-discrete}
 use native.Mathlib.Omega.{arith}
-use lib.Dec.{eqb, leb}
-use borrow.Author.Tests.{eqb-true, eq-eqb, lt-leb, le-leb, leb-true, leb-false, not-true, not-false}
+use lib.Dec.{eqb}
+use borrow.Author.Tests.{eqb-true, eq-eqb, not-true, not-false}
 use Rattle.octets.specs.Bytes.{pick, _and_}
 use Rattle.octets.proofs.Tests.{never}
-use Rattle.rules.specs.Step.{stepAt, read}
+use Rattle.rules.specs.Step.{stepAt, isRefusal, read}
 use Rattle.thin.specs.Thin.{notRefused, touches, empties, emptiedFrom, unused, kept, EmptiedBy, LeftOut, refused, emptied}
 
 module _ (b : List ℕ) (o : ℕ → ℕ) (t : ℕ) where
@@ -56,20 +56,20 @@ module _ (b : List ℕ) (o : ℕ → ℕ) (t : ℕ) where
 module _ (b : List ℕ) (o : ℕ → ℕ) (n i : ℕ) (inside : i < n) where
   pub left-out : kept b o n i ≡ false → LeftOut b o n i
   unfolding kept unused notRefused
-  left-out e = go (not (leb 20 (o i))) (eqb (stepAt b i .kind) read) (emptiedFrom b o (stepAt b i .transactor) (suc i) (n - suc i)) refl refl refl e
+  left-out e = go (not (isRefusal (o i))) (eqb (stepAt b i .kind) read) (emptiedFrom b o (stepAt b i .transactor) (suc i) (n - suc i)) refl refl refl e
     where
-      go : (c d f : Bool) → not (leb 20 (o i)) ≡ c → eqb (stepAt b i .kind) read ≡ d → emptiedFrom b o (stepAt b i .transactor) (suc i) (n - suc i) ≡ f
+      go : (c d f : Bool) → not (isRefusal (o i)) ≡ c → eqb (stepAt b i .kind) read ≡ d → emptiedFrom b o (stepAt b i .transactor) (suc i) (n - suc i) ≡ f
           → c and not (d and f) ≡ false → LeftOut b o n i
-      go false d f p q r e = refused (leb-true 20 (o i) (not-false _ p))
+      go false d f p q r e = refused (not-false _ p)
       go true false f p q r e = never e
       go true true false p q r e = never e
-      go true true true p q r e = emptied (leb-false 20 (o i) (not-true _ p)) (eqb-true _ read q)
+      go true true true p q r e = emptied (not-true _ p) (eqb-true _ read q)
           (subst (EmptiedBy b o (stepAt b i .transactor) (suc i)) (omega arith) (emptied-by b o (stepAt b i .transactor) (n - suc i) (suc i) r))
 
   pub out-left : LeftOut b o n i → kept b o n i ≡ false
   unfolding kept unused notRefused
-  out-left (refused h) = rw (le-leb 20 (o i) h)
+  out-left (refused h) = rw h
   out-left (emptied h k w) =
       let f : emptiedFrom b o (stepAt b i .transactor) (suc i) (n - suc i) ≡ true =
       by-emptied b o (stepAt b i .transactor) (n - suc i) (suc i) (subst (EmptiedBy b o (stepAt b i .transactor) (suc i)) (omega arith) w) in
-      rw (lt-leb 20 (o i) h, eq-eqb (stepAt b i .kind) read k, f)
+      rw (h, eq-eqb (stepAt b i .kind) read k, f)

@@ -111,8 +111,8 @@ pub record EmptiedBy (b : List ℕ) (o : ℕ → ℕ) (t i n : ℕ) : Type 0 whe
 -- Step i of n is left out: "every step whose reply is 20 or more"; "A read that was not refused is left out exactly if" its map is so
 -- emptied after it.
 pub data LeftOut (b : List ℕ) (o : ℕ → ℕ) (n i : ℕ) : Type 0 where
-  refused : 20 ≤ o i → LeftOut b o n i
-  emptied : o i < 20 → stepAt b i .kind ≡ read → EmptiedBy b o (stepAt b i .transactor) (suc i) n → LeftOut b o n i
+  refused : isRefusal (o i) ≡ true → LeftOut b o n i
+  emptied : isRefusal (o i) ≡ false → stepAt b i .kind ≡ read → EmptiedBy b o (stepAt b i .transactor) (suc i) n → LeftOut b o n i
 
 -- ---- what is claimed of an accepted pass, which gives n steps at the start of the buffer short
 
@@ -125,4 +125,4 @@ pub record Thinned (y : Layout) (img list : List ℕ) (start end : ℕ) (all few
   pub replies : runReplies y img short 0 (stepBytes * n) few
       ≡ chosen (keptFrom y (unpack y img) (partOf list start end)) (stepsIn (partOf list start end)) (runReplies y img list start end all)
   -- "A second pass removes no further refused step": none of the short list is refused
-  pub accepted : (j : ℕ) → j < n → outcomeAt y (unpack y img) (partOf short 0 (stepBytes * n)) j < 20
+  pub accepted : (j : ℕ) → j < n → isRefusal (outcomeAt y (unpack y img) (partOf short 0 (stepBytes * n)) j) ≡ false
