@@ -11,18 +11,17 @@ use Rattle.octets.proofs.Put.{put-def, part-left, part-right, part-whole}
 use Rattle.octets.proofs.Chunks.{sides}
 use Rattle.rules.specs.Layout.{Limits, base, inRange}
 use Rattle.rules.specs.declared.Reply.{Reply}
-use Rattle.rules.specs.Step.{stepBytes, stepAt, packReply}
+use Rattle.rules.specs.Step.{stepBytes, stepAt, packReply, told, unpackTold}
 use Rattle.rules.specs.Refusals.{groupBits}
 use Rattle.rules.proofs.Keep.Kinds.{ReplyOk}
 use Rattle.rules.proofs.Keep.Run.{stepOk-at}
 use Rattle.rules.proofs.Keep.Step.{fitting-base}
 use Rattle.rules.proofs.Ranges.{in-range-exactly}
 use Rattle.session.proofs.Run.{length-packReply}
-use Rattle.engine_chains.specs.declared.words.Told.{Told}
-use Rattle.engine_chains.specs.Back.{told}
+use Rattle.rules.specs.declared.Told.{Told}
 use Rattle.engine_chains.specs.Internal.Tables.{Tables, Played}
 use Rattle.engine_chains.specs.Internal.Walk.{Walk, walkBack, receiptStart, signStart}
-use Rattle.engine_chains.specs.Internal.Engine.{unpackTold, toldIn, Walkable, receiptWalk, signWalk, readyIn, playStep, Engine, engineAfter}
+use Rattle.engine_chains.specs.Internal.Engine.{toldIn, Walkable, receiptWalk, signWalk, readyIn, playStep, Engine, engineAfter}
 use Rattle.engine_chains.proofs.Walks.{walk-replies}
 use Rattle.engine_chains.proofs.Engine.{told-packed, replies-fit-bytes}
 use Rattle.engine.specs.Internal.Advance.{most}

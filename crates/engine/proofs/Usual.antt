@@ -17,7 +17,7 @@ use Rattle.rules.specs.Step.{packReply, notReady, root, letter, receive, new, s
 use Rattle.rules.specs.Refusals.{Seen, sends, malformed, notWaiting, emptyGroup, unopened, isGone, wrongStatus, unrelatedReceipt, allOpened, allWaiting, allNumbered, allCheckpointed, atLast, lastRollsBack, refusalOf}
 use Rattle.rules.specs.Calls.{freshImage, stepsIn, ranReplies}
 use Rattle.rules.proofs.Keep.Step.{fitting-base}
-use Rattle.engine_chains.specs.declared.words.Told.{Told}
+use Rattle.rules.specs.declared.Told.{Told}
 use Rattle.engine_chains.specs.Internal.Tables.{Tables, seenIn, Played, playReceive, playLocal, playApplied, playRefusal, play}
 use Rattle.engine_chains.specs.Internal.Engine.{toldIn, playStep, engineAfter, engineReplies}
 use Rattle.engine_chains.proofs.Engine.{engine-fresh, replies-fit-bytes}

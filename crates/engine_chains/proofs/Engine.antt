@@ -19,7 +19,7 @@ use Rattle.rules.specs.Layout.{Layout, Limits, Fitting, inRange}
 use Rattle.rules.specs.State.{State, bare, noTransactor, transactorAt, fresh}
 use Rattle.rules.specs.declared.Step.{Step}
 use Rattle.rules.specs.declared.Reply.{Reply}
-use Rattle.rules.specs.Step.{stepBytes, stepAt, packReply, sign}
+use Rattle.rules.specs.Step.{stepBytes, stepAt, packReply, sign, unpackReply, told, unpackTold}
 use Rattle.rules.specs.Refusals.{groupBits, named}
 use Rattle.rules.specs.Rules.{groupReady, seen, refusal, stepOf}
 use Rattle.rules.specs.Internal.Well.{WellFormed}
@@ -45,7 +45,6 @@ use Rattle.session.proofs.Run.{length-packReply, reply-part}
 use Rattle.session.proofs.ViewStep.{readyAt, ready-same, applicable, same-refusal}
 use Rattle.octets.proofs.Tests.{and-of}
 use Rattle.rules.proofs.Keep.Accepted.{accepted}
-use Rattle.engine_chains.specs.Back.{told}
 use Rattle.engine_chains.specs.Internal.Tables.{Tables, freshTables, emptyRow}
 use Rattle.engine_chains.specs.Internal.Walk.{Walk, walkBack, receiptStart, signStart}
 use Rattle.engine_chains.proofs.Seek.{seek}
@@ -55,7 +54,7 @@ use Rattle.engine_chains.proofs.Plays.{Plays, step-plays}
 use Rattle.engine_chains.proofs.Maps.{TracedRun, traced-run, traced-more}
 use Rattle.engine_chains.proofs.WayBack.{toldAt}
 use Rattle.engine_chains.proofs.Walks.{walk-replies, dropped-walk, rolledBack-walk, ready-walk}
-use Rattle.engine_chains.specs.Internal.Engine.{unpackTold, toldIn, allStable, receiptWalk, signWalk, readyIn, playStep, Engine, engineAfter, engineReplies}
+use Rattle.engine_chains.specs.Internal.Engine.{toldIn, allStable, receiptWalk, signWalk, readyIn, playStep, Engine, engineAfter, engineReplies}
 
 -- ---- replies read back from their bytes
 
@@ -81,7 +80,7 @@ module _ (r : Reply) (ok : ReplyOk r) where
   first-two = rw front-is (refl, refl)
 
   pub told-packed : unpackTold (packReply r) ≡ told r
-  unfolding unpackTold
+  unfolding unpackTold unpackReply
   told-packed = λ i. record { outcome = first-two .0 i; transactor = first-two .1 i; message = (ap (ofBe 2) number-part ∙ ofBe-be 2 (r .message) (ok .message)) i }
 
 -- ---- a parcel without a life

@@ -15,12 +15,13 @@ use Rattle.octets.proofs.Tests.{never, and-true, and-false, and-assoc}
 use Rattle.octets.proofs.Zero.{both, any-off, every-at}
 use Rattle.marks.specs.Incarnation.{Incarnation}
 use Rattle.rules.specs.declared.Step.{Step}
+use Rattle.rules.specs.declared.Told.{Told}
 use Rattle.rules.specs.Step.{unpackStep, stepAt, done, held, dropped, fallenBack, vanished, notReady, root, letter, receive, new, send, read, write, freeze, finish, fall, lose, sign, isRefusal}
 use Rattle.rules.specs.Refusals.{groupBits, named, anyNamed}
 use Rattle.rules.proofs.Bits.{named-zero, named-one, named-and, named-or, named-from, shifted, named-without}
 use Rattle.engine_chains.specs.Chain as chain
 use Rattle.engine_chains.specs.Chain.{Places, groundOf, messageAlone, back}
-use Rattle.engine_chains.specs.Back.{Told, rollbackFrom, receiptFrom, localFrom, eventFrom}
+use Rattle.engine_chains.specs.Back.{rollbackFrom, receiptFrom, localFrom, eventFrom}
 use Rattle.engine_chains.specs.Internal.Walk.{Walk, meets, wasRolledBack, wasCheckpointed, over, noIncarnations, overStep, walkBack, startFrom, receiptStart, signStart}
 use Rattle.engine_chains.specs.Internal.Engine.{toldIn, signWalk, Walkable}
 use Rattle.engine_chains.specs.declared.words.Event.{Event}

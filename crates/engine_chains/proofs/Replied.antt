@@ -13,12 +13,12 @@ use Rattle.maps.specs.Internal.View.{SupersededView}
 use Rattle.rules.specs.Layout.{Layout}
 use Rattle.rules.specs.State.{Transactor, Message, State, transactorAt, messageAt, ownHistory, placeOf}
 use Rattle.rules.specs.declared.Step.{Step}
-use Rattle.rules.specs.Step.{done, held, dropped, fallenBack, vanished, root, letter, receive, new, send, read, write, freeze, finish, fall, lose, sign}
+use Rattle.rules.specs.declared.Told.{Told}
+use Rattle.rules.specs.Step.{done, held, dropped, fallenBack, vanished, root, letter, receive, new, send, read, write, freeze, finish, fall, lose, sign, told}
 use Rattle.rules.specs.Rules.{Effect, Result, messageSuperseded, receiverSuperseded, rollback, readBy, writeBy, freezeBy, finishBy, fallBy, failBy, localBy, receiveBy, seen, applyRoot, applyLetter, applyReceive, applyNew, applySend, applyLocal, applyLose, apply}
 use Rattle.rules.specs.Internal.Well.{WellFormed}
 use Rattle.session.specs.Provenance.{Holder, WaitingMessage, Provenance, find}
 use Rattle.session.specs.Steps.{isNil, isDropped, isRolledBack}
-use Rattle.engine_chains.specs.Back.{Told, told}
 use Rattle.session.proofs.Model.{MessageView, own, findMessage, knownMap, view}
 use Rattle.octets.proofs.Tests.{pick-view, pick-both}
 use Rattle.session.proofs.Relation.{present, Rel, own-history, MessageRel}

@@ -15,6 +15,7 @@ use Rattle.marks.proofs.Before.{before-checkpoint}
 use Rattle.octets.specs.Table.{updated}
 use Rattle.octets.proofs.Tables.{updated-view, updated-same, updated-other}
 use Rattle.rules.specs.declared.Step.{Step}
+use Rattle.rules.specs.declared.Told.{Told}
 use Rattle.rules.specs.Step.{done, held, dropped, fallenBack, vanished, notReady, root, letter, receive, new, send, read, write, freeze, finish, fall, lose, sign}
 use Rattle.rules.specs.Refusals.{named}
 use Rattle.session.specs.Provenance.{idle, annihilated, one, Holder, WaitingMessage, Provenance, blank, find, withHolder, withWaitingMessage, withoutWaitingMessage}
@@ -22,7 +23,7 @@ use Rattle.session.specs.Steps.{anew, carried, isNil, rolledBackHolder, reads, 
 use Rattle.engine_chains.specs.Chain as chain
 use Rattle.engine_chains.specs.Internal.Sets as sets
 use Rattle.engine_chains.specs.Chain.{Places, Event, back, metOf, newest}
-use Rattle.engine_chains.specs.Back.{Told, rollbackFrom, receiptFrom, localFrom, eventFrom, undo}
+use Rattle.engine_chains.specs.Back.{rollbackFrom, receiptFrom, localFrom, eventFrom, undo}
 use Rattle.engine_chains.specs.Internal.Sets.{Met, in-later, in-earlier, Traced, here, further}
 use Rattle.engine_chains.specs.Internal.Walk.{wasRolledBack, wasCheckpointed}
 use Rattle.engine_chains.specs.Internal.Book.{rollbackEvent, actedEvent, receiptEvent, appliedEvent, signEvent, incarnationsIn}

@@ -18,6 +18,7 @@ use Rattle.marks.proofs.Order.{precedes-eq, precedes-refl, precedes-split, unde
 use Rattle.rules.specs.Layout.{Layout, Limits, Fitting}
 use Rattle.rules.specs.State.{State}
 use Rattle.rules.specs.declared.Step.{Step}
+use Rattle.rules.specs.declared.Told.{Told}
 use Rattle.rules.specs.Step.{stepAt, done, held, dropped, root, letter, receive, new, send, read, write, freeze, finish, fall, lose, sign, isRefusal}
 use Rattle.rules.specs.Step as replied
 use Rattle.rules.specs.Refusals.{groupBits, named}
@@ -34,7 +35,7 @@ use Rattle.session.proofs.ViewStep.{readyAt}
 use Rattle.session.proofs.Step.{Stepped, step-right}
 use Rattle.engine_chains.specs.Chain as chain
 use Rattle.engine_chains.specs.Chain.{Places, messageAlone, groundOf, Event, back, metOf}
-use Rattle.engine_chains.specs.Back.{Told, rollbackFrom, receiptFrom, localFrom, eventFrom}
+use Rattle.engine_chains.specs.Back.{rollbackFrom, receiptFrom, localFrom, eventFrom}
 use Rattle.engine_chains.specs.Internal.Walk.{Walk, isMet, meets, wasRolledBack, wasCheckpointed, over, noIncarnations, overStep, walkBack, receiptStart, signStart}
 use Rattle.engine_chains.specs.Internal.Book.{stepEvent, eventsOf, incarnationsIn}
 use Rattle.engine_chains.proofs.Replies.{Alike, alike-back, alike-metOf}

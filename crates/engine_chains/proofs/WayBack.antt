@@ -21,7 +21,8 @@ use Rattle.rules.specs.State as state
 use Rattle.rules.specs.Status as number
 use Rattle.rules.specs.declared.Step.{Step}
 use Rattle.rules.specs.declared.Reply.{Reply}
-use Rattle.rules.specs.Step.{stepAt, done, fallenBack, notReady, sign, isRefusal}
+use Rattle.rules.specs.declared.Told.{Told}
+use Rattle.rules.specs.Step.{stepAt, done, fallenBack, notReady, sign, isRefusal, told}
 use Rattle.rules.specs.Refusals.{Seen, named, refusalOf, malformed, notWaiting, emptyGroup, unopened, isGone, wrongStatus, unrelatedReceipt, allOpened, allWaiting, allNumbered, allCheckpointed, lastRollsBack}
 use Rattle.rules.specs.Rules.{Result, answer, apply, stepOf}
 use Rattle.rules.specs.Internal.Well.{WellFormed}
@@ -33,7 +34,7 @@ use Rattle.session.specs.Steps.{provenanceSeen, provenanceRefusal, applied, sig
 use Rattle.session.proofs.Step.{SigningRight, checkpointed, uncheckpointed, StepRight, Stepped, step-right}
 use Rattle.engine_chains.specs.Chain as chain
 use Rattle.engine_chains.specs.Chain.{Places, messageAlone, groundOf, Event, newest, supersededOf, anySupersededBack, allMet}
-use Rattle.engine_chains.specs.Back.{Told, told, eventFrom, undo, eventsBack}
+use Rattle.engine_chains.specs.Back.{eventFrom, undo, eventsBack}
 use Rattle.engine_chains.specs.Internal.Sets.{Traced}
 use Rattle.engine_chains.specs.Internal.Walk.{wasRolledBack, wasCheckpointed}
 use Rattle.engine_chains.proofs.Walked.{Turned, stays}

@@ -6,15 +6,10 @@ use Rattle.octets.specs.Bytes.{pick, _and_}
 use Rattle.marks.specs.Incarnation.{Incarnation, beforeRollback, beforeCheckpoint}
 use Rattle.octets.specs.Table.{updated}
 use Rattle.rules.specs.declared.Step.{Step}
-use Rattle.rules.specs.declared.Reply.{Reply}
+use Rattle.rules.specs.declared.Told.{Told}
 use Rattle.rules.specs.Step.{stepAt, done, held, dropped, fallenBack, vanished, root, letter, receive, new, send, read, write, freeze, finish, fall, lose, sign, isRefusal}
 use Rattle.rules.specs.Refusals.{named}
 use Rattle.engine_chains.specs.Chain.{Event, nothing, cleared, sent, taken, opens, reads, writes, finishes, renewed, annihilated, successive}
--- Of a reply: outcome, take acted on or opened, parcel made, received or lost. A struct of the code, passed by value.
-pub use Rattle.engine_chains.specs.declared.words.Told.{Told}
-
-abbrev pub told : Reply → Told
-told r = record { outcome = r .outcome; transactor = r .transactor; message = r .message }
 
 -- ---- what a step that was not refused did; L: the lives after it
 

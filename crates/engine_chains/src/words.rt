@@ -1,15 +1,5 @@
 // A walk back over the steps: sets of transactors are words of 16 bits, transactor t counting 2^t, as in a group.
 
-// Of a reply, what a walk looks at.
-pub struct Told {
-    // The outcome or the refusal.
-    pub outcome: u8,
-    // The take acted on or opened.
-    pub transactor: u8,
-    // The parcel made, received or lost.
-    pub message: u16,
-}
-
 // What a step did to the places at which incarnations stand: the numbers of messages, and transactors as words.
 pub enum Event {
     Nothing,

@@ -1,8 +1,8 @@
 // What a step that was not refused did, from the step and the reply to it.
 use engine_chains::words::Event;
-use engine_chains::words::Told;
 use lists::refusals::is_refusal;
 use rules::Step;
+use rules::Told;
 use rules::numbers;
 ghost use mathlib.Core.Path.{_≡_};
 ghost use Rattle.engine_chains.specs.Internal.Words.{bitOf, rollbackWords, receiptWords, localWords, eventWords, changesNothing, rolledBackWord, checkpointedWord};

@@ -4,7 +4,6 @@ mod kept;
 mod sides;
 
 use engine_chains::words::Event;
-use engine_chains::words::Told;
 use engine_chains::words::Walker;
 use kept::WORDS;
 use lists::LONGEST;
@@ -14,9 +13,9 @@ ghost use mathlib.Core.Path.{_≡_};
 ghost use Prim.Native.Nat.{_*_, _+_, _<_, _≤_};
 ghost use mathlib.Core.Bool.{not};
 ghost use lib.ListN.{length};
-ghost use Rattle.octets.specs.Bytes.{_and_, part};
+ghost use Rattle.octets.specs.Bytes.{_and_};
 ghost use Rattle.rules.specs.Step.{stepBytes, stepAt};
-ghost use Rattle.engine_chains.specs.Internal.Engine.{unpackTold, toldIn, receiptBack, signWalk, Walkable};
+ghost use Rattle.engine_chains.specs.Internal.Engine.{toldIn, receiptBack, signWalk, Walkable};
 ghost use Rattle.engine_chains.specs.Internal.Words.{following, followerOver, followerStep, followBack, walkerFrom, walkerIn};
 
 // Message numbers that a list can give: one for each step at most.
@@ -31,22 +30,7 @@ pub struct Compared {
     pub rolls: bool,
 }
 
-// What the reply at at says.
-fn told(replies: &[u8], at: usize) -> Told
-    requires { ⌜ at + stepBytes ≤ length (now replies) ⌝ }
-    ensures { λ r. ⌜ r ≡ unpackTold (part at stepBytes (now (replies .entry))) ⌝ }
-{
-    let outcome = replies[at];
-    let transactor = replies[at + 1];
-    let message = octets::load16(replies, at + 2);
-    Told {
-        outcome,
-        transactor,
-        message,
-    }
-}
-
-// Back over what a step did; fell: the transactors rolled back there, signed: those checkpointed.
+// Back over what a step did, with the transactors rolled back there and those checkpointed.
 fn over(e: Event, rolled: u16, checkpointed: u16, x: Walker, messages: &mut [u16]) -> Walker
     ensures { λ r. ⌜ following r (now (messages .exit)) ≡ followerOver e rolled checkpointed (following x (now (messages .entry))) ⌝ }
 {
@@ -63,7 +47,7 @@ fn over_step(list: &[u8], replies: &[u8], k: usize, x: Walker, messages: &mut [u
 {
     let at = STEP * k;
     let p = packed::decode(list, at);
-    let w = told(replies, at);
+    let w = packed::told(replies, at);
     if events::unchanged(p, w) {
         return x;
     }

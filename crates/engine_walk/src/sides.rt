@@ -242,7 +242,7 @@ pub fn trail(ground: u16, found: u16) -> Trail
     }
 }
 
-// x after a step that was passed so; fell: the transactors rolled back there, signed: those checkpointed.
+// x after a step that was passed so, with the transactors rolled back there and those checkpointed.
 // Of two incarnations of a transactor the earlier is superseded (stale) exactly if it ended in a rollback. Going back, the earlier one is
 // the one met now; the later one was met before, on the other side (past), and how the earlier one ended is known (ended).
 pub fn joined(x: Walker, q: Passed, rolled: u16, checkpointed: u16) -> Walker

@@ -3,25 +3,23 @@ use Prim.Native.Nat.{ℕ, _+_, _-_, _*_, _≤_, _<_}
 use mathlib.Core.Bool.{Bool, true, false}
 use mathlib.Core.Path.{_≡_, refl, sym, ap, _∙_}
 use mathlib.Core.List.{List, [], _∷_, _++_}
-use native.Mathlib.Nat.{add-zero}
 use native.Mathlib.Omega.{arith}
 use borrow.Author.Tests.{leb-true, lt-ltb, le-ltb, le-leb, lt-leb}
 use lib.Dec.{eqb, ltb, leb}
 use lib.ListN.{length, take, drop, getD, length-append}
 use Rattle.octets.specs.Bytes.{pick, _and_, _or_, every, part}
-use Rattle.octets.specs.Numbers.{ofBe}
-use Rattle.octets.proofs.Put.{part-def, part-part, getD-part}
+use Rattle.octets.proofs.Put.{part-def}
 use Rattle.octets.proofs.Zero.{both, every-at}
 use Rattle.marks.specs.Incarnation.{sameList}
 use Rattle.marks.proofs.Tests.{sameList-test}
 use Rattle.rules.specs.declared.Step.{Step}
 use Rattle.rules.specs.declared.Reply.{Reply}
-use Rattle.rules.specs.Step.{stepBytes, stepAt, unpackStep, receive, notReady}
+use Rattle.rules.specs.Step.{stepBytes, stepAt, unpackStep, unpackReply, receive, notReady}
 use Rattle.rules.specs.Calls.{stepsIn}
 use Rattle.notation.specs.Notation.{bytes, decimal, places, hex}
 use Rattle.lines.specs.declared.Line.{Line}
 use Rattle.lines.specs.Lines.{lineRoom, written, plus, Says, letters, rowIn}
-use Rattle.replies.specs.Replies.{unpackReply, repliesTransactor, repliesMessage, repliesValue, outcomeOf, fieldText, fieldsText, isOutcome, sentences, sentenceOf, refusalText, isRefusal, replyText, replyTextAt}
+use Rattle.replies.specs.Replies.{repliesTransactor, repliesMessage, repliesValue, outcomeOf, fieldText, fieldsText, isOutcome, sentences, sentenceOf, refusalText, isRefused, replyText, replyTextAt}
 use Rattle.notation.proofs.Numerals.{length-hex}
 use Rattle.lines.proofs.Putting.{decimal-places}
 use Rattle.lines.proofs.Lining.{plus-none, plus-two, plus-three, says-short, written-empty}
@@ -53,18 +51,6 @@ sentence-row : (k : ℕ) → k < 13 → (rowIn sentencesTable 47 k ≡ getD sent
 sentence-row k h =
     let e = both _ _ (every-at (λ k. sameList (rowIn sentencesTable 47 k) (getD sentences k []) and leb (length (getD sentences k [])) 47) 13 k sentences-right h) in
     (sameList-test (rowIn sentencesTable 47 k) (getD sentences k []) .0 (e .0), leb-true (length (getD sentences k [])) 47 (e .1))
-
--- ---- a packed reply
-
-pub reply-fields : (l : List ℕ) (at k v : ℕ) → k ≡ ofBe 2 (part (at + 2) 2 l) → v ≡ ofBe 4 (part (at + 4) 4 l)
-    → _≡_ {A = Reply} (record { outcome = getD l at 0; transactor = getD l (at + 1) 0; message = k; value = v }) (unpackReply (part at stepBytes l))
-unfolding unpackReply
-reply-fields l at k v e f =
-    let a : getD (part at stepBytes l) 0 0 ≡ getD l at 0 = getD-part at stepBytes l 0 (omega arith) ∙ ap (λ (i : ℕ). getD l i 0) (add-zero at) in
-    let b : getD (part at stepBytes l) 1 0 ≡ getD l (at + 1) 0 = getD-part at stepBytes l 1 (omega arith) in
-    let c : part 2 2 (part at stepBytes l) ≡ part (at + 2) 2 l = part-part 2 2 at stepBytes l (omega arith) in
-    let d : part 4 4 (part at stepBytes l) ≡ part (at + 4) 4 l = part-part 4 4 at stepBytes l (omega arith) in
-    rw (a, b, c, d, e, f)
 
 -- ---- the tests
 
@@ -99,8 +85,8 @@ module _ (k : ℕ) (r : Reply) where
   unfolding isOutcome
   outcome-low x e h = leb-true (r .outcome) notReady (both (leb (r .outcome) notReady) (transactorFits and messageFits and (repliesValue k (r .outcome) or eqb (r .value) 0)) (sym e ∙ h) .0)
 
-pub refusal-bounds : (r : Reply) (x : Bool) → x ≡ isRefusal r → x ≡ true → (20 ≤ r .outcome) × (r .outcome ≤ 31)
-unfolding isRefusal
+pub refusal-bounds : (r : Reply) (x : Bool) → x ≡ isRefused r → x ≡ true → (20 ≤ r .outcome) × (r .outcome ≤ 31)
+unfolding isRefused
 refusal-bounds r x e h =
     let rest : Bool = eqb (r .transactor) 0 and eqb (r .message) 0 and eqb (r .value) 0 in
     let a = both (leb 20 (r .outcome)) (leb (r .outcome) 31 and rest) (sym e ∙ h) in
@@ -172,19 +158,19 @@ module _ (k : ℕ) (b : List ℕ) (r : Reply) (is : r ≡ unpackReply b) (l : Li
       says-short l z (outcomeOf (r .outcome) ++ fieldsText k r) f (plus-two z m (written l) (outcomeOf (r .outcome)) (fieldsText k r) (rw (o .0) at g) i) (omega (arith, length-append (outcomeOf (r .outcome)) (fieldsText k r), fields-short k r, o .1)) sized in
       rw (← is, t) s
 
-  module _ (no : x ≡ false) (y : Bool) (f : y ≡ isRefusal r) where
+  module _ (no : x ≡ false) (y : Bool) (f : y ≡ isRefused r) where
     pub refusal-says : (z : List ℕ) → y ≡ true → z ≡ [] → written l ≡ plus z (refusalText k (r .outcome)) → Says l (replyText k b)
     unfolding replyText
     refusal-says z h g i =
         let t : isOutcome k r ≡ false = sym e ∙ no in
-        let u : isRefusal r ≡ true = sym f ∙ h in
+        let u : isRefused r ≡ true = sym f ∙ h in
         rw (← is, t, u) (says-short l z (refusalText k (r .outcome)) g i (omega (arith, refusal-short k (r .outcome) (refusal-bounds r y f h .1))) sized)
 
     pub raw-says : (z m : List ℕ) → length b ≡ stepBytes → y ≡ false → z ≡ [] → m ≡ plus z (bytes "raw ") → written l ≡ plus m (hex b) → Says l (replyText k b)
     unfolding replyText
     raw-says z m n h g i j =
         let t : isOutcome k r ≡ false = sym e ∙ no in
-        let u : isRefusal r ≡ false = sym f ∙ h in
+        let u : isRefused r ≡ false = sym f ∙ h in
         rw (← is, t, u) (says-short l z (bytes "raw " ++ hex b) g (plus-two z m (written l) (bytes "raw ") (hex b) i j) (omega (arith, length-append (bytes "raw ") (hex b), length-hex b)) sized)
 
 -- the part that is lent is the reply

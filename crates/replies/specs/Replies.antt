@@ -5,15 +5,10 @@ use mathlib.Core.List.{List, [], _∷_, _++_}
 use lib.Dec.{eqb, ltb, leb}
 use lib.ListN.{getD}
 use Rattle.octets.specs.Bytes.{pick, _and_, _or_, part}
-use Rattle.octets.specs.Numbers.{ofBe}
 use Rattle.rules.specs.declared.Reply.{Reply}
-use Rattle.rules.specs.Step.{stepBytes, stepAt, letter, receive, send, read, fail, lose, done, notReady}
+use Rattle.rules.specs.Step.{stepBytes, stepAt, unpackReply, isRefusal, letter, receive, send, read, fail, lose, done, notReady}
 use Rattle.rules.specs.Calls.{stepsIn}
 use Rattle.notation.specs.Notation.{bytes, decimal, places, hex}
-
--- the other way round from packReply
-unfoldable pub unpackReply : List ℕ → Reply
-unpackReply b = record { outcome = getD b 0 0; transactor = getD b 1 0; message = ofBe 2 (part 2 2 b); value = ofBe 4 (part 4 4 b) }
 
 -- ---- which fields the reply to a step of kind k has
 
@@ -82,15 +77,15 @@ unfoldable pub refusalText : ℕ → ℕ → List ℕ
 refusalText k n = bytes "refused " ++ decimal places n ++ bytes ": " ++ sentenceOf k n
 
 -- a refusal of a step, and zero in all fields
-unfoldable pub isRefusal : Reply → Bool
-isRefusal r = leb 20 (r .outcome) and leb (r .outcome) 31 and eqb (r .transactor) 0 and eqb (r .message) 0 and eqb (r .value) 0
+unfoldable pub isRefused : Reply → Bool
+isRefused r = isRefusal (r .outcome) and leb (r .outcome) 31 and eqb (r .transactor) 0 and eqb (r .message) 0 and eqb (r .value) 0
 
 -- ---- a reply: other bytes than these are shown as they are
 
 unfoldable pub replyText : ℕ → List ℕ → List ℕ
 replyText k b =
     pick (isOutcome k (unpackReply b)) (outcomeOf (unpackReply b .outcome) ++ fieldsText k (unpackReply b))
-    (pick (isRefusal (unpackReply b)) (refusalText k (unpackReply b .outcome))
+    (pick (isRefused (unpackReply b)) (refusalText k (unpackReply b .outcome))
     (bytes "raw " ++ hex b))
 
 -- the reply to step i of a list; nothing past the last step or reply

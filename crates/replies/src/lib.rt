@@ -1,6 +1,7 @@
 // Replies in words.
 use lines::Line;
 use lists::packed;
+use lists::refusals::is_refusal;
 use rules::Reply;
 use rules::numbers;
 ghost use mathlib.Core.Path.{_≡_};
@@ -10,7 +11,7 @@ ghost use lib.ListN.{length};
 ghost use Rattle.octets.specs.Bytes.{pick, _and_, _or_, part};
 ghost use Rattle.rules.specs.Step.{stepBytes, receive};
 ghost use Rattle.lines.specs.Lines.{written, plus, Says};
-ghost use Rattle.replies.specs.Replies.{unpackReply, repliesTransactor, repliesMessage, repliesValue, fieldText, fieldsText, isOutcome, refusalText, isRefusal, replyText, replyTextAt};
+ghost use Rattle.replies.specs.Replies.{repliesTransactor, repliesMessage, repliesValue, fieldText, fieldsText, isOutcome, refusalText, isRefused, replyText, replyTextAt};
 
 // The outcomes, eleven bytes each.
 const OUTCOMES: [u8; 66] =
@@ -19,21 +20,6 @@ const OUTCOMES: [u8; 66] =
 // Why a step is refused: 20 to 31, and 23 for a receive; 47 bytes each.
 const SENTENCES: [u8; 611] =
     *b"kind 13 to 15, or unused or zero bits not zero\0acting take, addressee or named take not openedacting, receiving or named take vanished\0\0\0\0\0\0\0acting take not at work\0\0\0\0\0\0\0\0\0\0\0\0\0\0\0\0\0\0\0\0\0\0\0\0parcel not waiting\0\0\0\0\0\0\0\0\0\0\0\0\0\0\0\0\0\0\0\0\0\0\0\0\0\0\0\0\0no room for a take\0\0\0\0\0\0\0\0\0\0\0\0\0\0\0\0\0\0\0\0\0\0\0\0\0\0\0\0\0no room for a parcel\0\0\0\0\0\0\0\0\0\0\0\0\0\0\0\0\0\0\0\0\0\0\0\0\0\0\0next parcel number is 65535\0\0\0\0\0\0\0\0\0\0\0\0\0\0\0\0\0\0\0\0a signed take would fall from life 65535\0\0\0\0\0\0\0volume empty\0\0\0\0\0\0\0\0\0\0\0\0\0\0\0\0\0\0\0\0\0\0\0\0\0\0\0\0\0\0\0\0\0\0\0a named take has no room for a signing\0\0\0\0\0\0\0\0\0unrelated marks in parcel and receiver\0\0\0\0\0\0\0\0\0receiving take not idle\0\0\0\0\0\0\0\0\0\0\0\0\0\0\0\0\0\0\0\0\0\0\0\0";
-
-// The reply at at.
-fn decode(replies: &[u8], at: usize) -> Reply
-    requires { ⌜ at + stepBytes ≤ length (now replies) ⌝ }
-    ensures { λ r. ⌜ r ≡ unpackReply (part at stepBytes (now (replies .entry))) ⌝ }
-{
-    let message = octets::load16(replies, at + 2);
-    let value = octets::load32(replies, at + 4);
-    Reply {
-        outcome: replies[at],
-        transactor: replies[at + 1],
-        message,
-        value,
-    }
-}
 
 fn replies_transactor(kind: u8) -> bool
     ensures { λ r. ⌜ r ≡ repliesTransactor kind ⌝ }
@@ -93,10 +79,10 @@ fn is_outcome(kind: u8, r: Reply) -> bool
     fits(replies_value(kind, r.outcome), r.value)
 }
 
-fn is_refusal(r: Reply) -> bool
-    ensures { λ b. ⌜ b ≡ isRefusal r ⌝ }
+fn is_refused(r: Reply) -> bool
+    ensures { λ b. ⌜ b ≡ isRefused r ⌝ }
 {
-    if r.outcome < numbers::MALFORMED {
+    if !is_refusal(r.outcome) {
         return false;
     }
     if numbers::UNRELATED < r.outcome {
@@ -164,12 +150,12 @@ fn reply_at(kind: u8, replies: &[u8], at: usize) -> Line
     requires { ⌜ at + stepBytes ≤ length (now replies) ⌝ }
     ensures { λ r. ⌜ Says r (replyText kind (part at stepBytes (now (replies .entry)))) ⌝ }
 {
-    let r = decode(replies, at);
+    let r = packed::decode_reply(replies, at);
     if is_outcome(kind, r) {
         let l = Line::EMPTY.row(&OUTCOMES, 11, r.outcome as usize);
         return fields(l, kind, r);
     }
-    if is_refusal(r) {
+    if is_refused(r) {
         return refused(Line::EMPTY, kind, r.outcome);
     }
     let end = at + 8;

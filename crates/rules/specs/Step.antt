@@ -10,6 +10,8 @@ use Rattle.octets.specs.Numbers.{be, ofBe}
 -- opened 8, parcel made, received or lost 16, text read or received 32. Both are structs of the code, passed by value.
 pub use Rattle.rules.specs.declared.Step.{Step}
 pub use Rattle.rules.specs.declared.Reply.{Reply}
+-- Of a reply, what a walk back over the steps looks at (document 02, W11); a struct of the code too.
+pub use Rattle.rules.specs.declared.Told.{Told}
 
 unfoldable pub unpackStep : List ℕ → Step
 unpackStep b = record {
@@ -30,6 +32,18 @@ stepAt b i = unpackStep (part (stepBytes * i) stepBytes b)
 
 unfoldable pub packReply : Reply → List ℕ
 packReply r = be 1 (r .outcome) ++ be 1 (r .transactor) ++ be 2 (r .message) ++ be 4 (r .value)
+
+-- the other way round
+unfoldable pub unpackReply : List ℕ → Reply
+unpackReply b = record { outcome = getD b 0 0; transactor = getD b 1 0; message = ofBe 2 (part 2 2 b); value = ofBe 4 (part 4 4 b) }
+
+-- of a reply: outcome, take acted on or opened, parcel made, received or lost
+abbrev pub told : Reply → Told
+told r = record { outcome = r .outcome; transactor = r .transactor; message = r .message }
+
+-- the same of a packed one
+unfoldable pub unpackTold : List ℕ → Told
+unpackTold b = told (unpackReply b)
 
 -- Outcomes.
 abbrev pub done : ℕ

@@ -28,6 +28,16 @@ pub struct Reply {
     pub value: u32,
 }
 
+// Of a reply, what a walk back over the steps looks at.
+pub struct Told {
+    // The outcome or the refusal.
+    pub outcome: u8,
+    // The take acted on or opened.
+    pub transactor: u8,
+    // The parcel made, received or lost.
+    pub message: u16,
+}
+
 // What offer gives: the number of a waiting message, or nothing.
 pub enum Offered {
     Message(u16),

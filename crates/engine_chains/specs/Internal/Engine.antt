@@ -2,21 +2,16 @@
 use Prim.Native.Nat.{ℕ, zero, suc, _*_, _<_, _≤_}
 use mathlib.Core.Bool.{Bool, not}
 use mathlib.Core.List.{List, [], _++_}
-use lib.ListN.{length, getD}
+use lib.ListN.{length}
 use Rattle.octets.specs.Bytes.{_and_, _or_, every, part}
-use Rattle.octets.specs.Numbers.{ofBe}
 use Rattle.rules.specs.Layout.{Layout, Limits}
 use Rattle.rules.specs.declared.Step.{Step}
-use Rattle.rules.specs.Step.{stepBytes, stepAt, packReply}
+use Rattle.rules.specs.declared.Told.{Told}
+use Rattle.rules.specs.Step.{stepBytes, stepAt, packReply, unpackTold}
 use Rattle.rules.specs.Refusals.{groupBits, named}
 use Rattle.rules.specs.Calls.{stepsIn}
-use Rattle.engine_chains.specs.Back.{Told}
 use Rattle.engine_chains.specs.Internal.Tables.{Tables, freshTables, Played, play}
 use Rattle.engine_chains.specs.Internal.Walk.{Walk, walkBack, receiptStart, signStart}
-
--- what a packed reply says
-unfoldable pub unpackTold : List ℕ → Told
-unpackTold b = record { outcome = getD b 0 0; transactor = getD b 1 0; message = ofBe 2 (part 2 2 b) }
 
 -- reply j of a list
 unfoldable pub toldIn : List ℕ → ℕ → Told

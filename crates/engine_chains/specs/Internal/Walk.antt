@@ -8,10 +8,11 @@ use lib.Dec.{eqb}
 use Rattle.octets.specs.Bytes.{pick, _and_, _or_, any}
 use Rattle.marks.specs.Incarnation.{Incarnation, initialIncarnation}
 use Rattle.rules.specs.declared.Step.{Step}
+use Rattle.rules.specs.declared.Told.{Told}
 use Rattle.rules.specs.Step.{stepAt, done, fallenBack, sign, isRefusal}
 use Rattle.rules.specs.Refusals.{groupBits, named}
 use Rattle.engine_chains.specs.Chain.{Places, messageAlone, groundOf, Event, back, metOf}
-use Rattle.engine_chains.specs.Back.{Told, eventFrom}
+use Rattle.engine_chains.specs.Back.{eventFrom}
 
 pub record Walk : Type 0 where
   -- the places followed

@@ -10,7 +10,7 @@ use Rattle.rules.specs.declared.Step.{Step}
 use Rattle.rules.specs.Step.{stepAt, done, held, dropped, fallenBack, vanished, notReady, root, letter, receive, new, send, read, write, freeze, finish, fall, lose, sign, isRefusal}
 use Rattle.rules.specs.Refusals.{named}
 use Rattle.engine_chains.specs.Chain.{Places}
-use Rattle.engine_chains.specs.declared.words.Told.{Told}
+use Rattle.rules.specs.declared.Told.{Told}
 use Rattle.engine_chains.specs.declared.words.Event.{Event}
 use Rattle.engine_chains.specs.declared.words.Event.the-variants.{Nothing, Cleared, Sent, Taken, Opens, Reads, Writes, Finishes, Renewed, Annihilated, ClearedRenewed, ClearedAnnihilated}
 use Rattle.engine_chains.specs.declared.words.Side.{Side}
