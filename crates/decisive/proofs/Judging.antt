@@ -7,8 +7,8 @@ use mathlib.Core.Option.{Option, none, some}
 use mathlib.Core.Logic.{⊎-elim}
 use native.Mathlib.Omega.{arith}
 use lib.ListN.{length}
-use lib.Dec.{eqb, leb, ltb}
-use borrow.Author.Tests.{eq-eqb, ne-eqb, le-leb, lt-leb, lt-ltb, le-ltb}
+use lib.Dec.{eqb, leb}
+use borrow.Author.Tests.{eq-eqb, ne-eqb, le-leb, lt-leb, lt-ltb}
 use Rattle.octets.specs.Bytes.{pick, _and_}
 use Rattle.octets.proofs.Chunks.{sides}
 use Rattle.marks.specs.declared.History.{History}
@@ -16,29 +16,32 @@ use Rattle.maps.specs.declared.DependenceMap.{DependenceMap}
 use Rattle.maps.specs.declared.Comparison.{Comparison}
 use Rattle.maps.specs.declared.Comparison.the-variants.{Superseded, Current}
 use Rattle.maps.specs.Map.{firstSuperseded, anyUnrelated, answerOf}
-use Rattle.rules.specs.Layout.{Layout, base, largest, mapBytes, stateAt, creationAt, dependencesAt, transactorAddress, messageAddress, imageBytes}
-use Rattle.rules.specs.Status.{idle, annihilated}
+use Rattle.rules.specs.Layout.{Layout, base, stateAt, creationAt, dependencesAt, transactorAddress, messageAddress}
 use Rattle.rules.specs.State.{Transactor, Message, State, transactorAt, messageAt, ownHistory, placeOf}
 use Rattle.rules.specs.Refusals.{malformed}
 use Rattle.rules.specs.Rules.{isSome, join, known, messageUnrelated, messageSuperseded, receiverSuperseded, receiptRollsBack, receiptUnrelated, refusal}
 use Rattle.rules.specs.Pack.{unpackDependences, waitingIn, unpack}
-use Rattle.rules.specs.Form.{wellFormed}
-use Rattle.rules.specs.Internal.Guards.{isLastIncarnation}
+use Rattle.rules.specs.Internal.Guards.{first, receiverRefusal, isLastIncarnation, imageRefusal}
+use Rattle.rules.proofs.ByKind.Guards.{first-taken, first-left, receiver-first}
 use Rattle.rules.proofs.ByKind.Refused.{refuses}
 use Rattle.rules.proofs.Calls.Begin.{wrong-length, right-length}
 use Rattle.rules.proofs.Pack.Loads.{read-state, read-creation, read-dependences, unpack-waiting}
 use Rattle.rules.proofs.Pack.Sizes.{largest-base}
+use Rattle.image.proofs.Unsound.{image-refused, sound-long, sound-not}
 use Rattle.decisive.specs.declared.Decision.{Decision}
-use Rattle.decisive.specs.declared.Decision.the-variants.{Nothing, Accepted, MessageSuperseded, ReceiverSuperseded}
+use Rattle.decisive.specs.declared.Decision.the-variants.{Nothing, MessageSuperseded, ReceiverSuperseded}
 use Rattle.decisive.specs.declared.Judged.{Judged}
-use Rattle.decisive.specs.Decision.{decidedBy, decisionBy, numbered, addressee, decisionOf, receiving, decisionRefusal, decisionAnswer, DecisionPromise}
+use Rattle.decisive.specs.Decision.{decidedBy, decisionBy, addressee, decisionOf, receiving, decisionRefusal, decisionAnswer, DecisionPromise}
 use Rattle.decisive.specs.Internal.Judging.{refusedBy, rollsBack, judgedBy, judgedOf}
 
 -- ---- what decides
 
+pub by-receiver : (q : Comparison) {v : ℕ} → q ≡ Superseded v → ReceiverSuperseded v ≡ decidedBy none (answerOf q)
+by-receiver q f = rw f refl
+
 module _ (p q : Comparison) where
-  pub by-receiver : {v : ℕ} → p ≡ Current → q ≡ Superseded v → ReceiverSuperseded v ≡ decidedBy (answerOf p) (answerOf q)
-  by-receiver e f = rw (e, f) refl
+  pub by-settled : {d : Decision} → p ≡ Current → d ≡ decidedBy none (answerOf q) → d ≡ decidedBy (answerOf p) (answerOf q)
+  by-settled e f = rw e f
 
   pub by-message : {u : ℕ} → p ≡ Superseded u → MessageSuperseded u ≡ decidedBy (answerOf p) (answerOf q)
   by-message e = rw e refl
@@ -115,13 +118,14 @@ module _ (img : List ℕ) (n k : ℕ) (place : k ≡ placeOf (unpack base img) n
   abbrev s : State
   s = unpack base img
 
-  -- why take t does not receive it
+  -- why take t does not receive it, being idle, and why it does not at all
+  abbrev refusalIdle : ℕ → ℕ
+  refusalIdle t =
+      pick (messageUnrelated base (transactorAt s t) (messageAt s k)) 31
+      (pick (rollsBack (decisionBy base (transactorAt s t) (messageAt s k)) and isLastIncarnation base t (transactorAt s t)) 28 0)
+
   abbrev refusalTo : ℕ → ℕ
-  refusalTo t =
-      pick (eqb (transactorAt s t .status) annihilated) 22
-      (pick (not (eqb (transactorAt s t .status) idle)) 23
-      (pick (messageUnrelated base (transactorAt s t) (messageAt s k)) 31
-      (pick (rollsBack (decisionBy base (transactorAt s t) (messageAt s k)) and isLastIncarnation base t (transactorAt s t)) 28 0)))
+  refusalTo t = first (receiverRefusal (transactorAt s t .status)) (refusalIdle t)
 
   refusal-is : refusal base s (receiving n) ≡ pick (leb (length (s .messages)) k) 24 (refusalTo (messageAt s k .addressee))
   unfolding receiptRollsBack receiptUnrelated messageSuperseded receiverSuperseded decisionBy malformed
@@ -129,7 +133,7 @@ module _ (img : List ℕ) (n k : ℕ) (place : k ≡ placeOf (unpack base img) n
       let m : Message = messageAt s k in
       let x : Transactor = transactorAt s (m .addressee) in
       let f = rolls (firstSuperseded (base .transactors) (m .dependences) (known base x)) (firstSuperseded (base .transactors) (known base x) (m .dependences)) in
-      rw (← f, place) (refuses base s (receiving n) refl .receive refl)
+      rw (receiver-first (x .status) (refusalIdle (m .addressee)), ← f, place) (refuses base s (receiving n) refl .receive refl)
 
   pub number-missing : waitingIn base img ≤ k → {r : Judged} → r ≡ refusedBy 24 → r ≡ judgedOf base s n
   unfolding judgedOf
@@ -138,14 +142,6 @@ module _ (img : List ℕ) (n k : ℕ) (place : k ≡ placeOf (unpack base img) n
   module _ (waits : k < waitingIn base img) {t : ℕ} (to : t ≡ messageAt s k .addressee) where
     refusal-to : refusal base s (receiving n) ≡ refusalTo t
     refusal-to = rw to (refusal-is ∙ rw (lt-leb (length (s .messages)) k (omega (arith, waits, unpack-waiting base img))) refl)
-
-    pub number-gone : {st : ℕ} → st ≡ transactorAt s t .status → st ≡ annihilated → {r : Judged} → r ≡ refusedBy 22 → r ≡ judgedOf base s n
-    unfolding judgedOf
-    number-gone e h q = rw (refusal-to, ← e, h) q
-
-    pub number-busy : {st : ℕ} → st ≡ transactorAt s t .status → (st ≡ annihilated → ⊥) → (st ≡ idle → ⊥) → {r : Judged} → r ≡ refusedBy 23 → r ≡ judgedOf base s n
-    unfolding judgedOf
-    number-busy {st} e h g q = rw (refusal-to, ← e, ne-eqb st annihilated h, ne-eqb st idle g) q
 
     abbrev unlike : Bool
     unlike = messageUnrelated base (transactorAt s t) (messageAt s k)
@@ -156,30 +152,41 @@ module _ (img : List ℕ) (n k : ℕ) (place : k ≡ placeOf (unpack base img) n
     abbrev fatal : Bool
     fatal = rollsBack decides and isLastIncarnation base t (transactorAt s t)
 
-    idle-refusal : transactorAt s t .status ≡ idle → refusal base s (receiving n) ≡ pick unlike 31 (pick fatal 28 0)
-    idle-refusal i = refusal-to ∙ rw i
+    -- g is what its status decides
+    module _ {st : ℕ} (e : st ≡ transactorAt s t .status) (g : ℕ) (f : g ≡ receiverRefusal st) where
+      asked : g ≡ receiverRefusal (transactorAt s t .status)
+      asked = f ∙ ap receiverRefusal e
 
-    pub number-idle : {st : ℕ} → st ≡ transactorAt s t .status → st ≡ idle → {r : Judged} → r ≡ judgedBy base t (transactorAt s t) (messageAt s k) → r ≡ judgedOf base s n
-    unfolding judgedOf judgedBy decisionOf
-    number-idle {st} e h q =
-        let i : transactorAt s t .status ≡ idle = sym e ∙ h in
-        let d : decisionOf base s n ≡ decides = rw (← place, ← to) refl in
-        q ∙ in-numbers unlike fatal decides
-        ∙ sym (ap (λ (z : ℕ). record { refusal = z; decision = pick (eqb z 0) decides Nothing }) (idle-refusal i))
-        ∙ sym (ap (λ (w : Decision). record { refusal = refusal base s (receiving n); decision = pick (eqb (refusal base s (receiving n)) 0) w Nothing }) d)
+      pub number-refused : (g ≡ 0 → ⊥) → {r : Judged} → r ≡ refusedBy g → r ≡ judgedOf base s n
+      unfolding judgedOf
+      number-refused h q =
+          let z : refusal base s (receiving n) ≡ g = refusal-to ∙ first-taken (receiverRefusal (transactorAt s t .status)) (refusalIdle t) g asked h in
+          rw (z, ne-eqb g 0 h) q
+
+      pub number-idle : g ≡ 0 → {r : Judged} → r ≡ judgedBy base t (transactorAt s t) (messageAt s k) → r ≡ judgedOf base s n
+      unfolding judgedOf judgedBy decisionOf
+      number-idle h q =
+          let i : refusal base s (receiving n) ≡ pick unlike 31 (pick fatal 28 0) = refusal-to ∙ first-left (receiverRefusal (transactorAt s t .status)) (refusalIdle t) g asked h in
+          let d : decisionOf base s n ≡ decides = rw (← place, ← to) refl in
+          q ∙ in-numbers unlike fatal decides
+          ∙ sym (ap (λ (z : ℕ). record { refusal = z; decision = pick (eqb z 0) decides Nothing }) i)
+          ∙ sym (ap (λ (w : Decision). record { refusal = refusal base s (receiving n); decision = pick (eqb (refusal base s (receiving n)) 0) w Nothing }) d)
 
 -- ---- the call
 
-module _ (img : List ℕ) (n : ℕ) where
-  pub decide-16 : (length img ≡ imageBytes base → ⊥) → DecisionPromise base img n 16 Nothing
+module _ (img : List ℕ) (n r : ℕ) (is : r ≡ imageRefusal base img) where
+  abbrev Refused : ℕ → Type 0
+  Refused z = DecisionPromise base img n z Nothing
+
+  pub decide-refused : (r ≡ 0 → ⊥) → Refused r
   unfolding decisionRefusal decisionAnswer
-  decide-16 h = let e = wrong-length base img h in (rw e refl, rw e refl)
+  decide-refused = image-refused base img r is Refused
+      (λ h. let e = wrong-length base img h in (rw e refl, rw e refl))
+      (λ h e. let l = right-length base img h in (rw (l, e) refl, rw (l, e) refl))
 
-  module _ (long : length img ≡ imageBytes base) where
-    pub decide-19 : not (wellFormed base img) ≡ true → DecisionPromise base img n 19 Nothing
-    unfolding decisionRefusal decisionAnswer
-    decide-19 e = let l = right-length base img long in (rw (l, e) refl, rw (l, e) refl)
-
-    pub decide-judged : not (wellFormed base img) ≡ false → {j : Judged} → j ≡ judgedOf base (unpack base img) n → DecisionPromise base img n (j .refusal) (j .decision)
-    unfolding decisionRefusal decisionAnswer judgedOf
-    decide-judged e q = let l = right-length base img long in (rw (l, e, q) refl, rw (l, e, q) refl)
+  pub decide-judged : r ≡ 0 → {j : Judged} → j ≡ judgedOf base (unpack base img) n → DecisionPromise base img n (j .refusal) (j .decision)
+  unfolding decisionRefusal decisionAnswer judgedOf
+  decide-judged z q =
+      let l = right-length base img (sound-long base img r is z) in
+      let e = sound-not base img r is z in
+      (rw (l, e, q) refl, rw (l, e, q) refl)

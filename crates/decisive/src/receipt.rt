@@ -7,16 +7,17 @@ use image::form;
 use image::head;
 use image::layout::CREATION;
 use image::layout::FIRST_TRANSACTOR;
-use image::layout::IMAGE;
 use image::layout::STATE;
 use image::layout::TRANSACTOR;
 use image::layout::map_at;
 use image::messages;
 use lists::limits;
+use lists::refusals;
 use maps::Comparison;
 use maps::Comparisons;
 use rules::numbers;
 ghost use mathlib.Core.Path.{_≡_};
+ghost use mathlib.Core.Option.{none};
 ghost use Prim.Native.Nat.{_<_};
 ghost use Rattle.maps.specs.Map.{answerOf};
 ghost use Rattle.rules.specs.Layout.{base};
@@ -37,6 +38,16 @@ fn refused(number: u8) -> Judged
     }
 }
 
+// Of a message that is not superseded: whether the receiver is.
+fn settled(receiver: Comparison) -> Decision
+    ensures { λ r. ⌜ r ≡ decidedBy none (answerOf receiver) ⌝ }
+{
+    let Comparison::Superseded(u) = receiver else {
+        return Decision::Accepted;
+    };
+    Decision::ReceiverSuperseded(u)
+}
+
 // What the comparison of the message's map, packed, with what the receiver rests on decides.
 fn decided(answers: Comparisons) -> Decision
     ensures { λ r. ⌜ r ≡ decidedBy (answerOf (answers .packed)) (answerOf (answers .own)) ⌝ }
@@ -44,10 +55,7 @@ fn decided(answers: Comparisons) -> Decision
     let message = answers.packed;
     let receiver = answers.own;
     let Comparison::Superseded(u) = message else {
-        let Comparison::Superseded(v) = receiver else {
-            return Decision::Accepted;
-        };
-        return Decision::ReceiverSuperseded(v);
+        return settled(receiver);
     };
     Decision::MessageSuperseded(u)
 }
@@ -125,12 +133,9 @@ fn judge_numbered(image: &[u8], number: usize) -> Judged
         return refused(numbers::NOT_WAITING);
     }
     let t = messages::addressee(image, k);
-    let st = head::status(image, t);
-    if st == numbers::ANNIHILATED {
-        return refused(numbers::GONE);
-    }
-    if st != numbers::IDLE {
-        return refused(numbers::WRONG_STATUS);
+    let r = refusals::receiver(head::status(image, t));
+    if r != 0 {
+        return refused(r);
     }
     judge(image, t, k)
 }
@@ -140,12 +145,9 @@ fn judge_numbered(image: &[u8], number: usize) -> Judged
 pub fn decide(image: &[u8], number: usize, refusal: &mut u8) -> Decision
     ensures { λ r. ⌜ DecisionPromise base (now (image .entry)) number (now (refusal .exit)) r ⌝ }
 {
-    if image.len() != IMAGE {
-        *refusal = numbers::WRONG_LENGTH;
-        return Decision::Nothing;
-    }
-    if !form::formed(image) {
-        *refusal = numbers::ILL_FORMED;
+    let r = form::image_refusal(image);
+    if r != 0 {
+        *refusal = r;
         return Decision::Nothing;
     }
     let judged = judge_numbered(image, number);

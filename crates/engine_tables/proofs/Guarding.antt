@@ -1,7 +1,7 @@
 -- The refusals, case by case.
 use Prim.Native.Nat.{ℕ, _+_, _≤_, _<_}
 use mathlib.Core.Bool.{Bool, true, false, not}
-use mathlib.Core.Path.{_≡_, sym, _∙_, subst}
+use mathlib.Core.Path.{_≡_, refl, sym, _∙_, subst}
 use mathlib.Core.List.{List}
 use native.Mathlib.Omega.{arith}
 use lib.Dec.{eqb, leb}
@@ -13,9 +13,9 @@ use Rattle.octets.proofs.Zero.{any-none, any-more, any-on}
 use Rattle.rules.specs.Status.{busy, annihilated}
 use Rattle.rules.specs.Step.{fall}
 use Rattle.rules.specs.Refusals.{groupBits, named, anyNamed}
-use Rattle.rules.specs.Internal.Guards.{receiverRefusal, localRefusal}
+use Rattle.rules.specs.Internal.Guards.{first, receiverRefusal, localRefusal}
 use Rattle.rules.proofs.ByKind.Guards as guards
-use Rattle.rules.proofs.ByKind.Guards.{first, first-taken, first-left, local-first}
+use Rattle.rules.proofs.ByKind.Guards.{first-taken, first-left, local-first}
 use Rattle.engine_chains.specs.declared.rows.Row.{Row}
 use Rattle.engine_chains.specs.declared.rows.Slot.{Slot}
 use Rattle.engine_tables.specs.declared.register.Register.{Register}
@@ -31,7 +31,7 @@ module _ (k : ℕ) (x : Row) where
 
   local-is : localGuard k x ≡ first (localRefusal k (x .status)) last
   unfolding localGuard
-  local-is = sym (local-first k (x .status) last)
+  local-is = refl
 
   module _ (r : ℕ) (asked : r ≡ localRefusal k (x .status)) where
     pub local-refused : (r ≡ 0 → ⊥) → r ≡ localGuard k x
@@ -57,9 +57,8 @@ module _ (k : ℕ) (x : Row) where
 
   -- no refusal
   pub local-rolls : localGuard k x ≡ 0 → leb fall k and not (x .stable) and lastRow x ≡ false
-  unfolding localGuard
   local-rolls z =
-      let a = pick-zero (eqb (x .status) annihilated) 22 _ (omega arith) z in
+      let a = pick-zero (eqb (x .status) annihilated) 22 _ (omega arith) (sym (local-first k (x .status) last) ∙ sym local-is ∙ z) in
       let b = pick-zero (leb k fall and not (eqb (x .status) busy)) 23 _ (omega arith) (a .1) in
       pick-zero (leb fall k and not (x .stable) and lastRow x) 28 0 (omega arith) (b .1) .0
 

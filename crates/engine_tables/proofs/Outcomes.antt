@@ -16,7 +16,8 @@ use Rattle.rules.specs.declared.Reply.{Reply}
 use Rattle.rules.specs.Step.{done, notReady, root, letter, receive, new, send, read, fail, lose, sign}
 use Rattle.rules.specs.Refusals.{groupBits, sends, malformed}
 use Rattle.rules.specs.Rules.{answer}
-use Rattle.rules.proofs.ByKind.Guards.{first, first-taken, first-left}
+use Rattle.rules.specs.Internal.Guards.{first}
+use Rattle.rules.proofs.ByKind.Guards.{first-taken, first-left}
 use Rattle.engine_chains.specs.declared.rows.Row.{Row}
 use Rattle.engine_chains.specs.declared.rows.Slot.{Slot}
 use Rattle.engine_chains.specs.declared.rows.RowEffect.{RowEffect}

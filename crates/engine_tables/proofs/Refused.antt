@@ -14,8 +14,8 @@ use Rattle.rules.specs.Status.{idle, annihilated}
 use Rattle.rules.specs.declared.Step.{Step}
 use Rattle.rules.specs.Step.{root, letter, receive, new, send, read, fall, fail, lose, sign}
 use Rattle.rules.specs.Refusals.{malformed, notWaiting, emptyGroup, unopened, isGone, wrongStatus, unrelatedReceipt, allOpened, allWaiting, allNumbered, allCheckpointed, atLast, lastRollsBack, refusalOf}
-use Rattle.rules.specs.Internal.Guards.{roomRefusal, receiverRefusal, namedRefusal, groupRefusal}
-use Rattle.rules.proofs.ByKind.Guards.{first, busy-first, receiver-first}
+use Rattle.rules.specs.Internal.Guards.{first, roomRefusal, receiverRefusal, namedRefusal, groupRefusal}
+use Rattle.rules.proofs.ByKind.Guards.{busy-first, receiver-first, local-first}
 use Rattle.rules.proofs.ByKind.Refused.{otherwise}
 use Rattle.engine_chains.specs.declared.rows.Row.{Row}
 use Rattle.engine_chains.specs.declared.rows.Slot.{Slot}
@@ -74,7 +74,7 @@ module _ (x : Register) (R : ℕ → Row) (F : ℕ → Slot) (p : Step) (d f : B
     send = λ e. simp (formed, e, or-none, busy-first, pick-or);
     local = λ low high.
         let k = otherwise (p .kind) low high in
-        simp (formed, k .root, k .letter, k .receive, k .new, k .send, k .lose, k .sign, k .from, k .upto, or-none, falling (p .kind) high);
+        simp (formed, k .root, k .letter, k .receive, k .new, k .send, k .lose, k .sign, k .from, k .upto, or-none, falling (p .kind) high, local-first);
     lose = λ e. rw (formed, e);
     sign = λ e. rw (formed, e);
   }

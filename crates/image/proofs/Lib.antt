@@ -1,1 +1,2 @@
 mod FormTest
+pub mod Unsound

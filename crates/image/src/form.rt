@@ -168,14 +168,18 @@ fn front_formed(s: &[u8], n: usize) -> bool
         return false;
     }
     let most = limits::transactors(s);
-    let crowd = limits::messages(s) as usize;
-    if !lists::limits::in_range(most as usize, crowd, limits::checkpoints(s) as usize) {
+    let most_messages = limits::messages(s) as usize;
+    if !lists::limits::in_range(
+        most as usize,
+        most_messages,
+        limits::checkpoints(s) as usize,
+    ) {
         return false;
     }
     if most < head::opened(s) {
         return false;
     }
-    n <= crowd
+    n <= most_messages
 }
 
 pub fn formed(s: &[u8]) -> bool

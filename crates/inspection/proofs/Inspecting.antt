@@ -1,6 +1,6 @@
 -- Lines of an image.
 use Prim.Native.Nat.{ℕ, zero, suc, _+_, _-_, _*_, _/_, _%_, _≤_, _<_}
-use mathlib.Core.Bool.{Bool, true, false, not}
+use mathlib.Core.Bool.{Bool, true, false}
 use mathlib.Core.Path.{_≡_, refl, sym, ap, _∙_, subst}
 use mathlib.Core.List.{List, [], _∷_, _++_, append-nil}
 use native.Mathlib.Numerals.{add-one}
@@ -10,7 +10,6 @@ use lib.Dec.{eqb, ltb, leb}
 use lib.ListN.{length, drop, getD, length-append, length-drop}
 use Rattle.octets.specs.Bytes.{pick, _or_, part, chunks}
 use Rattle.octets.specs.Numbers.{ofBe}
-use Rattle.octets.proofs.Tests.{passed, failed}
 use Rattle.octets.proofs.Chunks.{chunks-suc}
 use Rattle.marks.specs.declared.History.{History}
 use Rattle.marks.specs.Packed.{unpackHistory, presentIn}
@@ -18,7 +17,7 @@ use Rattle.maps.specs.declared.DependenceMap.{DependenceMap}
 use Rattle.maps.specs.Map.{heldAt, historyAt}
 use Rattle.rules.specs.Layout.{base, transactorAddress, valueAt}
 use Rattle.rules.specs.State.{Transactor, State, transactorAt, messageAt}
-use Rattle.rules.specs.Form.{wellFormed}
+use Rattle.rules.specs.Internal.Guards.{imageRefusal}
 use Rattle.rules.specs.Pack.{unpack, unpackDependences, unpackTransactor, unpackTransactorAt, waitingIn}
 use Rattle.rules.proofs.Pack.Loads.{held-at, history-at, part-transactor, read-transactor, read-saved, read-state, read-creation, read-behaviour, read-dependences, unpack-waiting}
 use Rattle.notation.specs.Notation.{bytes, decimal, places}
@@ -293,21 +292,10 @@ module _ (s : State) (n : ℕ) (l : Line) where
 
 -- ---- the call
 
-refused-16 : (img : List ℕ) → (length img ≡ 42616 → ⊥) → 16 ≡ inspectRefusal img
-unfolding inspectRefusal
-refused-16 img n = rw (ne-eqb (length img) 42616 n)
-
-refused-19 : (img : List ℕ) (r : Bool) → length img ≡ 42616 → r ≡ wellFormed base img → not r ≡ true → 19 ≡ inspectRefusal img
-unfolding inspectRefusal
-refused-19 img r e f n =
-    let w : wellFormed base img ≡ false = failed f n in
-    rw (eq-eqb (length img) 42616 e, w)
-
-accepted : (img : List ℕ) (r : Bool) → length img ≡ 42616 → r ≡ wellFormed base img → not r ≡ false → 0 ≡ inspectRefusal img
-unfolding inspectRefusal
-accepted img r e f n =
-    let w : wellFormed base img ≡ true = passed f n in
-    rw (eq-eqb (length img) 42616 e, w)
+-- refused as every call is that looks at an image
+refusal-is : (img : List ℕ) → imageRefusal base img ≡ inspectRefusal img
+unfolding imageRefusal inspectRefusal
+refusal-is img = refl
 
 module _ (img : List ℕ) (n r : ℕ) (is : r ≡ inspectRefusal img) where
   ends-refused : (bs : List ℕ) → (r ≡ 0 → ⊥) → (true ≡ ended img n) × Says (record { bytes = bs; len = 0 }) (inspected img n)
@@ -335,27 +323,16 @@ module _ (img : List ℕ) (n : ℕ) where
   abbrev Answers : ℕ → Bool → Line → Type 0
   Answers r end l = (r ≡ inspectRefusal img) × (end ≡ ended img n) × Says l (inspected img n)
 
-  pub answers-16 : (bs : List ℕ) → (length img ≡ 42616 → ⊥) → Answers 16 true (record { bytes = bs; len = 0 })
-  answers-16 bs h =
-      let r = refused-16 img h in
-      let e = ends-refused img n 16 r bs (λ (z : _≡_ {A = ℕ} 16 0). omega arith) in
-      (r, e .0, e .1)
+  module _ (r : ℕ) (is : r ≡ imageRefusal base img) where
+    abbrev refusal : r ≡ inspectRefusal img
+    refusal = is ∙ refusal-is img
 
-  module _ (f : Bool) (long : length img ≡ 42616) (formed : f ≡ wellFormed base img) where
-    pub answers-19 : (bs : List ℕ) → not f ≡ true → Answers 19 true (record { bytes = bs; len = 0 })
-    answers-19 bs h =
-        let r = refused-19 img f long formed h in
-        let e = ends-refused img n 19 r bs (λ (z : _≡_ {A = ℕ} 19 0). omega arith) in
-        (r, e .0, e .1)
+    pub answers-refused : (bs : List ℕ) → (r ≡ 0 → ⊥) → Answers r true (record { bytes = bs; len = 0 })
+    answers-refused bs h = let e = ends-refused img n r refusal bs h in (refusal, e .0, e .1)
 
-    pub answers-end : (bs : List ℕ) → not f ≡ false → 1330 ≤ n → Answers 0 true (record { bytes = bs; len = 0 })
-    answers-end bs h k =
-        let r = accepted img f long formed h in
-        let e = ends-past img n 0 r bs refl k in
-        (r, e .0, e .1)
+    module _ (none : r ≡ 0) where
+      pub answers-end : (bs : List ℕ) → 1330 ≤ n → Answers 0 true (record { bytes = bs; len = 0 })
+      answers-end bs k = let e = ends-past img n r refusal bs none k in (sym none ∙ refusal, e .0, e .1)
 
-    pub answers-line : (l : Line) → not f ≡ false → n < 1330 → Says l (lineText (unpack base img) n) → Answers 0 false l
-    answers-line l h k s =
-        let r = accepted img f long formed h in
-        let e = goes-on img n 0 r l refl k s in
-        (r, e .0, e .1)
+      pub answers-line : (l : Line) → n < 1330 → Says l (lineText (unpack base img) n) → Answers 0 false l
+      answers-line l k s = let e = goes-on img n r refusal l none k s in (sym none ∙ refusal, e .0, e .1)

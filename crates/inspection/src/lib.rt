@@ -4,7 +4,6 @@ use image::head;
 use image::layout::BEHAVIOUR;
 use image::layout::CREATION;
 use image::layout::FIRST_TRANSACTOR;
-use image::layout::IMAGE;
 use image::layout::SAVED;
 use image::layout::STATE;
 use image::layout::TRANSACTOR;
@@ -268,16 +267,10 @@ fn line_of(image: &[u8], n: usize) -> Line
 pub fn image_line(image: &[u8], n: usize) -> Inspected
     ensures { λ r. ⌜ (r .refusal ≡ inspectRefusal (now (image .entry))) × (r .end ≡ ended (now (image .entry)) n) × Says (r .line) (inspected (now (image .entry)) n) ⌝ }
 {
-    if image.len() != IMAGE {
+    let refusal = form::image_refusal(image);
+    if refusal != 0 {
         return Inspected {
-            refusal: numbers::WRONG_LENGTH,
-            end: true,
-            line: Line::EMPTY,
-        };
-    }
-    if !form::formed(image) {
-        return Inspected {
-            refusal: numbers::ILL_FORMED,
+            refusal,
             end: true,
             line: Line::EMPTY,
         };

@@ -3,4 +3,3 @@ mod Impeding
 mod Refreshing
 mod Running
 mod Showing
-mod Unsound

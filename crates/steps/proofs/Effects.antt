@@ -13,8 +13,8 @@ use Rattle.rules.specs.Status.{busy, annihilated}
 use Rattle.rules.specs.State.{Transactor, Message, bare, ownHistory}
 use Rattle.rules.specs.Step.{done, dropped, fallenBack, vanished, fall, fail}
 use Rattle.rules.specs.Rules.{Effect, isSome, known, unchanged, renewed, rollback, localBy, taken, messageUnrelated, messageSuperseded, receiverSuperseded, receiveBy}
-use Rattle.rules.specs.Internal.Guards.{isLastIncarnation}
-use Rattle.transactor.specs.Internal.Effects.{rollbackOr28, actBy, takenIn, acceptBy}
+use Rattle.rules.specs.Internal.Guards.{localRefusal, isLastIncarnation}
+use Rattle.transactor.specs.Internal.Effects.{rollbackOr28, actBy, takenIn, settleBy, acceptBy}
 use Rattle.rules.proofs.ByKind.Outcomes.{local-small}
 use Rattle.rules.proofs.ByKind.Refused.{localIn}
 
@@ -47,12 +47,12 @@ module _ {r : ℕ} {x : Transactor} {l e : Effect} where
   judged-applied (applied n a b) h = (a, b)
 
 pub act-judged : (y : Layout) (k t v : ℕ) (x : Transactor) → Judged (localIn y k t x) x (localBy y k t v x) (actBy y k t v x)
-unfolding actBy
+unfolding actBy localRefusal
 act-judged y k t v x =
     go (eqb (x .status) annihilated) (leb k fall and not (eqb (x .status) busy)) ((eqb k fall or eqb k fail) and not (ownHistory t x .stable) and isLastIncarnation y t x) (localBy y k t v x) (omega (arith, local-small y t x k v))
   where
     go : (a b c : Bool) (l : Effect) → l .outcome < 20
-        → Judged (pick a 22 (pick b 23 (pick c 28 0))) x l (pick a (unchanged 22 x) (pick b (unchanged 23 x) (pick c (unchanged 28 x) l)))
+        → Judged (pick a 22 (pick b 23 (pick c 28 0))) x l (pick (not (eqb (pick a 22 (pick b 23 0)) 0)) (unchanged (pick a 22 (pick b 23 0)) x) (pick c (unchanged 28 x) l))
     go true b c l h = refused (omega arith) refl refl
     go false true c l h = refused (omega arith) refl refl
     go false false true l h = refused (omega arith) refl refl
@@ -64,7 +64,7 @@ answering v e = record { outcome = e .outcome; value = pick (eqb (e .outcome) do
 
 pub receipt-judged : (y : Layout) (t : ℕ) (x : Transactor) (p : Message)
     → Judged (pick (messageUnrelated y x p) 31 (pick ((not (messageSuperseded y x p) and receiverSuperseded y x p) and isLastIncarnation y t x) 28 0)) x (receiveBy y t x p) (answering (p .value) (acceptBy y t x (p .dependences)))
-unfolding acceptBy takenIn rollbackOr28 messageUnrelated messageSuperseded receiverSuperseded receiveBy
+unfolding acceptBy settleBy takenIn rollbackOr28 messageUnrelated messageSuperseded receiverSuperseded receiveBy
 receipt-judged y t x p =
     go (anyUnrelated (y .transactors) (p .dependences) (known y x)) (isSome (firstSuperseded (y .transactors) (p .dependences) (known y x))) (isSome (firstSuperseded (y .transactors) (known y x) (p .dependences))) (isLastIncarnation y t x) (rollback y t x) (rolled y t x)
   where

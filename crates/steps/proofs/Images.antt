@@ -20,12 +20,12 @@ use Rattle.rules.specs.Rules.{noDependences, carried, groupReady, checkpointGro
 use Rattle.rules.specs.Pack.{packTransactor, unpackTransactor, waitingIn, pack, unpack}
 use Rattle.rules.specs.Internal.Good.{Good}
 use Rattle.steps.specs.Internal.Stepped.{Stepped, Asked}
-use Rattle.rules.specs.Internal.Guards.{busyRefusal, roomRefusal, busyIn, roomIn, groupIn}
+use Rattle.rules.specs.Internal.Guards.{first, busyRefusal, roomRefusal, busyIn, roomIn, groupIn}
 use Rattle.transactor.specs.Internal.Effects.{openBytes, adopts}
 use Rattle.rules.proofs.Pack.Stores.{withTransactor-many}
 use Rattle.rules.proofs.Pack.Loads.{unpack-many, unpack-waiting}
 use Rattle.transactor.proofs.Lent.{lent, back, unpack-lent, good-back, open-pack}
-use Rattle.rules.proofs.ByKind.Guards.{first, first-taken, first-left, free}
+use Rattle.rules.proofs.ByKind.Guards.{first-taken, first-left, free}
 use Rattle.rules.proofs.ByKind.Refused.{refusal-malformed, Refuses, refuses}
 use Rattle.rules.proofs.ByKind.Applied.{applies}
 use Rattle.steps.proofs.Stepped.{stepped-refused, stepped-applied}

@@ -23,7 +23,7 @@ use Rattle.rules.specs.Step.{done, dropped}
 use Rattle.rules.specs.Rules.{Effect, join, known, informedBy, unchanged}
 use Rattle.rules.specs.Pack.{packDependences, packTransactor, packMessage, unpackDependences, unpackTransactor, messagePart, waitingIn, pack, unpack}
 use Rattle.rules.specs.Internal.Good.{Good}
-use Rattle.transactor.specs.Internal.Effects.{Acts, ActsAt, rollbackOr28, takenIn, acceptBy}
+use Rattle.transactor.specs.Internal.Effects.{Acts, ActsAt, rollbackOr28, takenIn, settleBy, acceptBy}
 use Rattle.rules.proofs.Pack.Sizes.{length-packMessage, length-pack}
 use Rattle.rules.proofs.Pack.Stores.{put-status, put-behaviour, withTransactor-many, withTransactor-here, withTransactor-same, withTransactor-again, pack-inTransactor, at-waiting}
 use Rattle.rules.proofs.Pack.Loads.{part-message, unpack-many, unpack-waiting, waiting-few, read-state, read-creation, read-dependences}
@@ -129,15 +129,24 @@ module _ (y : Layout) (img : List ℕ) (t : ℕ) (below : t < y .transactors) (k
         receiver-superseded : firstSuperseded (y .transactors) (known y x) deps ≡ answerOf g
         receiver-superseded = rw (read-dependences y img k waits, read-state y img t below, read-creation y img t below) (sym q)
 
-        pub accepts-rollback : {i : ℕ} → g ≡ Superseded i → acceptBy y t x deps ≡ rollbackOr28 y t x
+        pub accepts-settled : acceptBy y t x deps ≡ settleBy y t x deps (answerOf g)
         unfolding acceptBy
-        accepts-rollback r = rw (some-unrelated, o, message-superseded, p, receiver-superseded, r)
+        accepts-settled = rw (some-unrelated, o, message-superseded, p, receiver-superseded)
 
-        pub accepts-done : g ≡ Current → acceptBy y t x deps ≡ unchanged done (takenIn (informedBy y t x deps) deps)
-        unfolding acceptBy
-        accepts-done r = rw (some-unrelated, o, message-superseded, p, receiver-superseded, r)
+module _ (y : Layout) (t : ℕ) (x : Transactor) (deps : DependenceMap) (g : Comparison) where
+  pub settles-rollback : {i : ℕ} → g ≡ Superseded i → settleBy y t x deps (answerOf g) ≡ rollbackOr28 y t x
+  unfolding settleBy
+  settles-rollback r = rw r
+
+  pub settles-done : g ≡ Current → settleBy y t x deps (answerOf g) ≡ unchanged done (takenIn (informedBy y t x deps) deps)
+  unfolding settleBy
+  settles-done r = rw r
 
 -- ---- what a function on an image answers that changes take t alone
+
+-- by the effect that it has
+pub acts-as : (img : List ℕ) (t : ℕ) {e e' : Effect} {o v : ℕ} {after : List ℕ} → e ≡ e' → ActsAt img t e' o v after → ActsAt img t e o v after
+acts-as img t q a = rw q a
 
 pub acted-at : (img : List ℕ) (t : ℕ) {e e' : Effect} {o v : ℕ} {after : List ℕ} → e ≡ e' → (o ≡ e' .outcome) × (v ≡ e' .value)
     → after ≡ pack base (withTransactor (unpack base img) t (e' .transactor)) → ActsAt img t e o v after

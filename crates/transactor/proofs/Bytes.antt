@@ -23,7 +23,7 @@ use Rattle.maps.specs.Internal.Fitting.{Exact}
 use Rattle.maps.proofs.Packed.{length-packMap, pack-emptyMap, bounded-at, bounded-unpack}
 use Rattle.rules.specs.Layout.{Layout, largest, base, historyBytes, mapBytes, valueAt, savedAt, stateAt, creationAt, behaviourAt, transactorBytes}
 use Rattle.rules.specs.Step.{done, held, fallenBack, vanished, read, write, freeze, finish, fall, fail}
-use Rattle.rules.specs.Status.{unused, busy, annihilated}
+use Rattle.rules.specs.Status.{unused, annihilated}
 use Rattle.rules.specs.State.{Transactor, bare, ownHistory, withStatus, withValue, withState, withBehaviour}
 use Rattle.rules.specs.Rules.{Effect, noDependences, join, unchanged, renewed, rollback, writeBy, madeIdle, finishBy, fallBy, failBy, localBy}
 use Rattle.rules.specs.Pack.{packDependences, packTransactor, unpackDependences, unpackTransactor}
@@ -33,7 +33,7 @@ use Rattle.rules.proofs.Pack.Sizes.{length-packTransactor}
 use Rattle.rules.proofs.Pack.Stores.{put-status, put-own, put-behaviour}
 use Rattle.rules.proofs.Pack.Fresh.{pack-unused}
 use Rattle.rules.proofs.Pack.RoundTrip.{map-part}
-use Rattle.octets.proofs.Tests.{pick-view, pick-zero}
+use Rattle.octets.proofs.Tests.{pick-view}
 
 -- ---- stores
 
@@ -204,30 +204,18 @@ swap false l a b c = refl
 -- r is the refusal that the status decides
 module _ (y : Layout) (k t v : ℕ) (x : Transactor) (r : ℕ) (asked : r ≡ localRefusal k (x .status)) where
   pub act-refused : (r ≡ 0 → ⊥) → actBy y k t v x ≡ unchanged r x
-  unfolding actBy localRefusal
-  act-refused n = go (eqb (x .status) annihilated) (leb k fall and not (eqb (x .status) busy)) asked
-      (pick ((eqb k fall or eqb k fail) and not (ownHistory t x .stable) and isLastIncarnation y t x) (unchanged 28 x) (localBy y k t v x))
-    where
-      go : (a b : Bool) → r ≡ pick a 22 (pick b 23 0) → (e : Effect) → pick a (unchanged 22 x) (pick b (unchanged 23 x) e) ≡ unchanged r x
-      go true b q e = ap (λ (n : ℕ). unchanged n x) (sym q)
-      go false true q e = ap (λ (n : ℕ). unchanged n x) (sym q)
-      go false false q e = absurd (n q)
+  unfolding actBy
+  act-refused n = rw (← asked, ne-eqb r 0 n)
 
   module _ (passes : r ≡ 0) where
-    left : eqb (x .status) annihilated ≡ false
-    unfolding localRefusal
-    left = pick-zero (eqb (x .status) annihilated) 22 _ (omega arith) (sym asked ∙ passes) .0
-
-    -- at work where the kind asks so
-    work : leb k fall and not (eqb (x .status) busy) ≡ false
-    unfolding localRefusal
-    work = pick-zero (leb k fall and not (eqb (x .status) busy)) 23 0 (omega arith) (pick-zero (eqb (x .status) annihilated) 22 _ (omega arith) (sym asked ∙ passes) .1) .0
+    none : localRefusal k (x .status) ≡ 0
+    none = sym asked ∙ passes
 
     -- kind 5 to 8
     pub act-early : {n : ℕ} {e : Effect} → k ≡ n → n < fall → localBy y n t v x ≡ e → actBy y k t v x ≡ e
     unfolding actBy
     act-early p h q =
-        let a : actBy y k t v x ≡ localBy y k t v x = rw (left, work, ne-eqb k fall (omega arith), ne-eqb k fail (omega arith)) in
+        let a : actBy y k t v x ≡ localBy y k t v x = rw (none, ne-eqb k fall (omega arith), ne-eqb k fail (omega arith)) in
         a ∙ ap (λ (i : ℕ). localBy y i t v x) p ∙ q
 
     -- any other
@@ -236,7 +224,7 @@ module _ (y : Layout) (k t v : ℕ) (x : Transactor) (r : ℕ) (asked : r ≡ lo
     act-late low high n5 n6 n7 n8 =
         let late : eqb k fall or eqb k fail ≡ true =
         pick-view (λ (z : Bool). z ≡ true) (eqb k fall) true (eqb k fail) (λ e. refl) (λ e. let n : k ≡ fall → ⊥ = eqb-false k fall e in eq-eqb k fail (omega arith)) in
-        rw (left, work, late, ne-eqb k read n5, ne-eqb k write n6, ne-eqb k freeze n7, ne-eqb k finish n8) (go (eqb k fall))
+        rw (none, late, ne-eqb k read n5, ne-eqb k write n6, ne-eqb k freeze n7, ne-eqb k finish n8) (go (eqb k fall))
       where
         go : (z : Bool) → pick (not (ownHistory t x .stable) and isLastIncarnation y t x) (unchanged 28 x) (pick z (fallBy y t x) (failBy y t x))
             ≡ pick (ownHistory t x .stable) (unchanged held (pick z (madeIdle y x) x)) (pick (isLastIncarnation y t x) (unchanged 28 x) (rollback y t x))

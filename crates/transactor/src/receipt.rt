@@ -20,7 +20,7 @@ ghost use Rattle.rules.specs.Layout.{base};
 ghost use Rattle.rules.specs.State.{transactorAt, messageAt, withTransactor};
 ghost use Rattle.rules.specs.Pack.{waitingIn, pack, unpack};
 ghost use Rattle.rules.specs.Internal.Good.{Good};
-ghost use Rattle.transactor.specs.Internal.Effects.{ActsAt, takenIn, acceptBy};
+ghost use Rattle.transactor.specs.Internal.Effects.{ActsAt, takenIn, settleBy, acceptBy};
 
 // Busy, with the map of the message in place k for the behaviour map.
 fn take_in(image: &mut [u8], t: usize, k: usize)
@@ -58,7 +58,26 @@ fn compared(image: &[u8], state: usize, creation: usize, m: usize) -> Comparison
     packed_maps::compare(known, image, m)
 }
 
-// The message in place k, addressed to transactor t: refused as of another book, or dropped, or a fall, or taken in with its news.
+// The message in place k, which is not superseded: a fall of transactor t, its addressee, where the comparison says so, or it is taken in
+// with its news. What let else takes out is the first superseded transactor's number. Which one it is decides nothing, here and in accept: the
+// rules ask whether there is one, and a reply names the addressee.
+fn settle(image: &mut [u8], t: usize, k: usize, receiver: Comparison) -> Acted
+    requires { ⌜ Good (now image) × (t < base .transactors) × (k < waitingIn base (now image)) ⌝ }
+    ensures { λ r. ⌜ ActsAt (now (image .entry)) t
+        (settleBy base t (transactorAt (unpack base (now (image .entry))) t) (messageAt (unpack base (now (image .entry))) k .dependences) (answerOf receiver))
+        (r .outcome) (r .value) (now (image .exit)) ⌝ }
+{
+    let Comparison::Superseded(first) = receiver else {
+        news::hear(image, t, k);
+        take_in(image, t, k);
+        return crate::outcome_of(numbers::DONE);
+    };
+    let at = FIRST_TRANSACTOR + TRANSACTOR * t;
+    let end = at + TRANSACTOR;
+    crate::rollback(&mut image[at..end], t)
+}
+
+// The message in place k, addressed to transactor t: refused as of another book, or dropped, or as settled.
 pub fn accept(image: &mut [u8], t: usize, k: usize) -> Acted
     requires { ⌜ Good (now image) × (t < base .transactors) × (k < waitingIn base (now image)) ⌝ }
     ensures { λ r. ⌜ ActsAt (now (image .entry)) t
@@ -66,25 +85,16 @@ pub fn accept(image: &mut [u8], t: usize, k: usize) -> Acted
         (r .outcome) (r .value) (now (image .exit)) ⌝ }
 {
     let at = FIRST_TRANSACTOR + TRANSACTOR * t;
-    let end = at + TRANSACTOR;
     let state = at + STATE;
     let creation = at + CREATION;
-    let m = map_at(k);
-    let answers = compared(image, state, creation, m);
+    let answers = compared(image, state, creation, map_at(k));
     if answers.unrelated {
         return crate::outcome_of(numbers::UNRELATED);
     }
     let message = answers.packed;
     let receiver = answers.own;
-    // What let else takes out is the first superseded transactor's number. Which one it is decides nothing: the rules ask whether there
-    // is one, and a reply names the addressee.
     let Comparison::Superseded(first) = message else {
-        let Comparison::Superseded(first) = receiver else {
-            news::hear(image, t, k);
-            take_in(image, t, k);
-            return crate::outcome_of(numbers::DONE);
-        };
-        return crate::rollback(&mut image[at..end], t);
+        return settle(image, t, k, receiver);
     };
     crate::outcome_of(numbers::DROPPED)
 }

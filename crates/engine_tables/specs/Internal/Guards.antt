@@ -1,13 +1,12 @@
 -- The refusals of a step that look at a take or at all, one after the other as the code finds them.
 use Prim.Native.Nat.{ℕ}
 use mathlib.Core.Bool.{Bool, not}
-use lib.Dec.{eqb, ltb, leb}
+use lib.Dec.{ltb, leb}
 use Rattle.octets.specs.Bytes.{pick, _and_}
 use Rattle.rules.specs.Layout.{base, largest}
-use Rattle.rules.specs.Status.{busy, annihilated}
 use Rattle.rules.specs.Step.{fall}
 use Rattle.rules.specs.Refusals.{anyNamed}
-use Rattle.rules.specs.Internal.Guards.{busyRefusal, roomRefusal, receiverRefusal, namedRefusal, groupRefusal}
+use Rattle.rules.specs.Internal.Guards.{first, busyRefusal, roomRefusal, receiverRefusal, localRefusal, namedRefusal, groupRefusal}
 use Rattle.engine_chains.specs.declared.rows.Row.{Row}
 use Rattle.engine_chains.specs.declared.rows.Slot.{Slot}
 use Rattle.engine_tables.specs.declared.register.Register.{Register}
@@ -18,10 +17,7 @@ lastRow x = ltb 0 (x .checkpoints) and leb (largest base) (x .incarnation)
 
 -- 22; 23; 28, of kind k of 5 to 10
 unfoldable pub localGuard : ℕ → Row → ℕ
-localGuard k x =
-    pick (eqb (x .status) annihilated) 22
-    (pick (leb k fall and not (eqb (x .status) busy)) 23
-    (pick (leb fall k and not (x .stable) and lastRow x) 28 0))
+localGuard k x = first (localRefusal k (x .status)) (pick (leb fall k and not (x .stable) and lastRow x) 28 0)
 
 -- of a receipt of parcel m by take x: 24; 22; 23
 unfoldable pub receiptGuard : Slot → Row → ℕ

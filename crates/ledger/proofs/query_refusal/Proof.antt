@@ -5,7 +5,7 @@ use borrow.Author.Needs.{needs}
 use Rattle.rules.specs.Layout.{base}
 use Rattle.rules.specs.Calls.{queryRefusal}
 use Rattle.rules.proofs.Calls.Query.{few-opened, query-16, query-19, query-acting}
-use Rattle.ledger.proofs.Unsound.{image-refused, sound-long, sound-not}
+use Rattle.image.proofs.Unsound.{image-refused, sound-long, sound-not}
 use Rattle.ledger.proofs.query_refusal.Statement.{statement}
 use Rattle.ledger.proofs.query_refusal.Tie as tie
 

@@ -21,12 +21,8 @@ use Rattle.rules.specs.Step.{fall}
 use Rattle.rules.specs.Refusals.{groupBits, named, anyNamed}
 use Rattle.rules.specs.Form.{wellFormed}
 use Rattle.rules.specs.Calls.{wrongLength}
-use Rattle.rules.specs.Internal.Guards.{busyRefusal, roomRefusal, receiverRefusal, localRefusal, namesRefusal, memberRefusal, namedRefusal, groupRefusal, actingRefusal, groupIn, Room, imageRefusal}
+use Rattle.rules.specs.Internal.Guards.{first, busyRefusal, roomRefusal, receiverRefusal, localRefusal, namesRefusal, memberRefusal, namedRefusal, groupRefusal, actingRefusal, groupIn, Room, imageRefusal}
 use Rattle.rules.proofs.Bits.{named-past, named-at}
-
--- the first of two refusals that is one
-abbrev pub first : ℕ → ℕ → ℕ
-first a b = pick (eqb a 0) b a
 
 pub first-taken : (a b n : ℕ) → n ≡ a → (n ≡ 0 → ⊥) → first a b ≡ n
 first-taken a b n e h = ap (λ (x : ℕ). first x b) (sym e) ∙ rw (ne-eqb n 0 h)

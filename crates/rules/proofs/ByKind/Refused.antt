@@ -13,9 +13,9 @@ use Rattle.rules.specs.State.{Transactor, State, ownHistory, transactorA
 use Rattle.rules.specs.Step.{Step, root, letter, receive, new, send, read, fall, fail, lose, sign}
 use Rattle.rules.specs.Refusals.{malformed, notWaiting, emptyGroup, unopened, isGone, wrongStatus, unrelatedReceipt, allOpened, allWaiting, allNumbered, allCheckpointed, atLast, lastRollsBack, refusalOf}
 use Rattle.rules.specs.Rules.{receiptRollsBack, receiptUnrelated, seen, refusal}
-use Rattle.rules.specs.Internal.Guards.{isLastIncarnation, roomRefusal, namedRefusal, groupRefusal, busyIn, roomIn, groupIn}
+use Rattle.rules.specs.Internal.Guards.{first, isLastIncarnation, roomRefusal, namedRefusal, groupRefusal, busyIn, roomIn, groupIn}
 use Rattle.octets.proofs.Tests.{or-none, or-off, pick-or}
-use Rattle.rules.proofs.ByKind.Guards.{first, busy-first}
+use Rattle.rules.proofs.ByKind.Guards.{busy-first}
 
 pub refusal-malformed : (y : Layout) (s : State) (p : Step) → malformed p ≡ true → refusal y s p ≡ 20
 unfolding refusal refusalOf

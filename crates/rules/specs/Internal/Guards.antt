@@ -17,6 +17,10 @@ use Rattle.rules.specs.Calls.{wrongLength}
 
 -- ---- over numbers
 
+-- the first of two refusals that is one
+abbrev pub first : ℕ → ℕ → ℕ
+first a b = pick (eqb a 0) b a
+
 -- of take t, which must be opened, 21, not vanished, 22, and at work, 23; n: takes opened
 unfoldable pub busyRefusal : ℕ → ℕ → ℕ → ℕ
 busyRefusal n t status =

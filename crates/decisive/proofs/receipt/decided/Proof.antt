@@ -1,7 +1,6 @@
 -- By the two answers.
-use native.Mathlib.Omega.{arith}
 use borrow.Author.Needs.{needs}
-use Rattle.decisive.proofs.Judging.{by-receiver, by-message}
+use Rattle.decisive.proofs.Judging.{by-settled, by-message}
 use Rattle.decisive.proofs.receipt.decided.Statement.{statement}
 use Rattle.decisive.proofs.receipt.decided.Tie as tie
 
@@ -11,8 +10,6 @@ decided-spec =
     (tie.spec
     (λ c. search needs)
     (λ c. search needs)
-    (λ c. search needs)
-    (λ c. search needs)
-    (λ c. search needs)
-    (λ c. by-receiver _ _ (c .before .before .before .enum-told .given .1) (c .before .receiver .given .1))
+    (λ c κs. search needs)
+    (λ c. by-settled _ (c .before .before .before .args .answers .own) (c .before .enum-told .given .1) (c .settled .ensures))
     (λ c. by-message _ (c .before .before .before .args .answers .own) (c .before .message .given .1)))

@@ -1,7 +1,7 @@
 -- Each return by its law.
 use native.Mathlib.Omega.{arith}
 use borrow.Author.Needs.{needs}
-use Rattle.decisive.proofs.Judging.{number-missing, number-gone, number-busy, number-idle}
+use Rattle.decisive.proofs.Judging.{number-missing, number-refused, number-idle}
 use Rattle.decisive.proofs.receipt.judge_numbered.Statement.{statement}
 use Rattle.decisive.proofs.receipt.judge_numbered.Tie as tie
 
@@ -12,18 +12,15 @@ returns c =
 
 returns-2 : tie.Need-returns-2
 returns-2 c =
-    let a = c .before .before .before in
-    number-gone _ _ _ (a .before .before .place-numbered .ensures .0) (search needs) (a .addressee .ensures .0) (c .before .before .status .ensures) (c .before .if2 .taken) (c .refused2 .ensures)
+    let r = c .before .before in
+    let a = r .before .before in
+    number-refused _ _ _ (a .before .before .place-numbered .ensures .0) (search needs) (a .addressee .ensures .0) (r .before .status .ensures) _ (r .receiver .ensures) (c .before .if2 .taken) (c .refused2 .ensures)
 
 returns-3 : tie.Need-returns-3
 returns-3 c =
-    let a = c .before .before .before .before in
-    number-busy _ _ _ (a .before .before .place-numbered .ensures .0) (search needs) (a .addressee .ensures .0) (c .before .before .before .status .ensures) (c .before .before .if2 .left) (c .before .if3 .taken) (c .refused3 .ensures)
-
-returns-4 : tie.Need-returns-4
-returns-4 c =
-    let a = c .before .before .before .before in
-    number-idle _ _ _ (a .before .before .place-numbered .ensures .0) (search needs) (a .addressee .ensures .0) (c .before .before .before .status .ensures) (c .before .if3 .left) (c .judge .ensures)
+    let r = c .before .before in
+    let a = r .before .before in
+    number-idle _ _ _ (a .before .before .place-numbered .ensures .0) (search needs) (a .addressee .ensures .0) (r .before .status .ensures) _ (r .receiver .ensures) (c .before .if2 .left) (c .judge .ensures)
 
 pub judge-numbered-spec : {M : Type 1} → statement M
 judge-numbered-spec =
@@ -36,8 +33,7 @@ judge-numbered-spec =
     (λ c κs. search needs)
     (λ c κs. search needs)
     (λ c κs. search needs)
+    (λ c κs. search needs)
     returns-2
     (λ c κs. search needs)
-    returns-3
-    (λ c κs. search needs)
-    returns-4)
+    returns-3)
