@@ -95,8 +95,8 @@ static inline void ledger_step(uint8_t *at, unsigned kind, unsigned transactor, 
     at[7] = (uint8_t)(value & 255u);
 }
 
-/* Transactor t as a member of a group, 2^t; a group is its members put together by |. Past 15: 2^16, which is in no group and fits no step;
- * ledger_obstacle refuses it with 21. */
+/* Transactor t as a member of a group, 2^t; a group is its members put together by |. Past 15: 2^16, which is in no group:
+ * ledger_obstacle refuses it with 21, a step has no room for it, and names the other members alone. */
 static inline unsigned ledger_member(size_t t) { return t < LEDGER_TRANSACTORS ? 1u << t : 1u << LEDGER_TRANSACTORS; }
 
 /* The fields of a reply. */
