@@ -71,7 +71,7 @@ fn offer(image: &[u8], t: usize) -> u8 {
 // g
 fn smallest(image: &[u8], t: usize) -> u8 {
     let mut refusal: u8 = 99;
-    let g = ledger::smallest_group(image, t, &mut refusal);
+    let g = queries::smallest_group(image, t, &mut refusal);
     match g {
         Grouped::Group(m) => found(refusal, m),
         Grouped::NoGroup => none(refusal),
@@ -81,7 +81,7 @@ fn smallest(image: &[u8], t: usize) -> u8 {
 // q
 fn ready(image: &[u8], size: usize) -> u8 {
     let mut refusal: u8 = 99;
-    let n = ledger::ready_count(image, size, &mut refusal);
+    let n = queries::ready_count(image, size, &mut refusal);
     print::number(refusal as usize);
     print::number(n);
     PRINTED
@@ -90,7 +90,7 @@ fn ready(image: &[u8], size: usize) -> u8 {
 // a
 fn heard(image: &[u8], t: usize) -> u8 {
     let mut refusal: u8 = 99;
-    let yes = ledger::all_heard_stable(image, t, &mut refusal);
+    let yes = queries::all_heard_stable(image, t, &mut refusal);
     print::number(refusal as usize);
     print::truth(yes);
     PRINTED
@@ -99,7 +99,7 @@ fn heard(image: &[u8], t: usize) -> u8 {
 // h: the refusal, and the four numbers.
 fn dependents(image: &[u8], t: usize) -> u8 {
     let mut refusal: u8 = 99;
-    let d = ledger::dependents(image, t, &mut refusal);
+    let d = queries::dependents(image, t, &mut refusal);
     print::number(refusal as usize);
     print::number(d.resting as usize);
     print::number(d.through as usize);
@@ -111,7 +111,7 @@ fn dependents(image: &[u8], t: usize) -> u8 {
 // y: the refusal, and what keeps the group from being signed, in the documents' words.
 fn obstacle(image: &[u8], group: usize) -> u8 {
     let mut refusal: u8 = 99;
-    let o = ledger::obstacle(image, group, &mut refusal);
+    let o = queries::obstacle(image, group, &mut refusal);
     print::number(refusal as usize);
     match o {
         Obstacle::Nothing => print::text(b" none"),
@@ -135,7 +135,7 @@ fn pair(what: &[u8], t: u8, u: u8) {
 // e: the refusal, and what is in the way of every group with the transactor, in the documents' words.
 fn impediment(image: &[u8], t: usize) -> u8 {
     let mut refusal: u8 = 99;
-    let i = ledger::impediment(image, t, &mut refusal);
+    let i = queries::impediment(image, t, &mut refusal);
     print::number(refusal as usize);
     match i {
         Impediment::Nothing => print::text(b" none"),

@@ -11,7 +11,7 @@ use Rattle.octets.proofs.Put.{put-whole}
 use Rattle.rules.specs.Layout.{narrow, base, imageBytes}
 use Rattle.rules.specs.Form.{wellFormed}
 use Rattle.convert.specs.Convert.{forward, tooWide, forwardAnswer, forwardImage, backAnswer, backImage}
-use Rattle.convert.specs.Internal.Recast.{recast, widened}
+use Rattle.recast.specs.Internal.Recast.{recast, widened}
 use Rattle.convert.proofs.Widened.{length-widened, widened-forward, widened-formed, back-recast}
 
 module _ (old new : List ℕ) where

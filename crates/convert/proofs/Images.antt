@@ -22,7 +22,7 @@ use Rattle.rules.proofs.Pack.RoundTrip.{pack-unpack-formed}
 use Rattle.rules.proofs.Form.State.{formed-state}
 use Rattle.rules.proofs.Form.Packed.{formed-pack}
 use Rattle.convert.specs.Convert.{largestNarrow, limitsAre, stateWithin, tooWide, forward, back, forwardAnswer, forwardImage, backAnswer, backImage, LowState}
-use Rattle.convert.specs.Internal.Widths.{rewritten}
+use Rattle.recast.specs.Internal.Widths.{rewritten}
 use Rattle.rules.proofs.Keep.Step.{fitting-base, fitting-narrow}
 use Rattle.convert.proofs.Resized.{counted-limits, low-state, state-resized, state-low, low-stateWithin}
 

@@ -13,7 +13,7 @@ use Rattle.rules.specs.Internal.Well.{TransactorOk, MessageOk, LimitsOk, stored
 use Rattle.maps.specs.Within.{mapWithin, LowMap}
 use Rattle.maps.proofs.Within.{low-map, map-fits, map-low, low-mapWithin}
 use Rattle.convert.specs.Convert.{LowTransactor, LowState, transactorWithin, messageWithin, stateWithin}
-use Rattle.convert.specs.Internal.Widths.{resized}
+use Rattle.recast.specs.Internal.Widths.{resized}
 use Rattle.rules.proofs.Ranges.{allowed-ok}
 
 -- limits that are not stored are the widest

@@ -28,7 +28,7 @@ use Rattle.rules.proofs.Form.State.{formed-state}
 use Rattle.rules.proofs.Keep.Step.{keeps-after, replies-fit, fitting-narrow}
 use Rattle.rules.proofs.Replies.{length-packReply, first-packReply}
 use Rattle.convert.specs.Convert.{forward, No28, NoneIs28, Asked, imageAfter, answerOf, repliesOf, Without28}
-use Rattle.convert.specs.Internal.Widths.{resized}
+use Rattle.recast.specs.Internal.Widths.{resized}
 use Rattle.convert.proofs.Steps.{same-step}
 use Rattle.convert.proofs.Images.{forward-state, forward-formed, length-forward}
 

@@ -14,7 +14,7 @@ use Rattle.rules.specs.Step.{receive, fall, fail}
 use Rattle.rules.specs.Refusals.{Seen, malformed, notWaiting, emptyGroup, unopened, isGone, wrongStatus, unrelatedReceipt, allOpened, allWaiting, allNumbered, allCheckpointed, atLast, lastRollsBack, refusalOf}
 use Rattle.rules.specs.Rules.{messageSuperseded, receiverSuperseded, receiptRollsBack, messageUnrelated, receiptUnrelated, seen, refusal, rollback, carried, readBy, writeBy, finishBy, fallBy, failBy, localBy, receiveBy, mapReady, transactorReady, groupReady, checkpointBy, checkpointAt, checkpointGroup, applyRoot, applyLetter, applyReceive, applyNew, applySend, applyLocal, applySign, apply, stepOf}
 use Rattle.rules.proofs.Keep.Step.{refused-same}
-use Rattle.convert.specs.Internal.Widths.{resized}
+use Rattle.recast.specs.Internal.Widths.{resized}
 
 -- ---- by computation: no rule reads the width, nor whether limits are stored
 

@@ -37,14 +37,14 @@ use Rattle.rules.proofs.Form.Packed.{formed-pack}
 use Rattle.marks.specs.Within.{Low}
 use Rattle.maps.specs.Within.{LowMap}
 use Rattle.convert.specs.Convert.{limitsAre, stateWithin, tooWide, forward, back, LowTransactor, LowState}
-use Rattle.convert.specs.Internal.Widths.{resized, rewritten}
+use Rattle.recast.specs.Internal.Widths.{resized, rewritten}
 use Rattle.marks.specs.Internal.Recast.{recastHistory}
 use Rattle.maps.specs.Internal.Recast.{recastEntryAt, recastMap}
-use Rattle.convert.specs.Internal.Recast.{recastPart, recastTransactor, recastMessage, recastTransactorAt, recastMessageAt, recastFront, recast, widened}
+use Rattle.recast.specs.Internal.Recast.{recastPart, recastTransactor, recastMessage, recastTransactorAt, recastMessageAt, recastFront, recast, widened}
 use Rattle.convert.proofs.Resized.{counted-limits, state-resized, state-low, low-stateWithin}
 use Rattle.convert.proofs.Images.{bounds, are-on, are-same, allowed-narrow, forward-formed, length-back, octets-back, back-formed, forward-back}
 use Rattle.octets.proofs.Runs.{joined, run-back, behind, further, lengths, part-of}
-use Rattle.convert.proofs.RecastParts.{first-same, length-recastTransactor, unpack-recastTransactor, recastTransactor-back, recastTransactor-pack, length-recastMessage, first-recastMessage, unpack-recastMessage, recastMessage-back, recastMessage-pack, recastMessage-zeros}
+use Rattle.recast.proofs.RecastParts.{first-same, length-recastTransactor, unpack-recastTransactor, recastTransactor-back, recastTransactor-pack, length-recastMessage, first-recastMessage, unpack-recastMessage, recastMessage-back, recastMessage-pack, recastMessage-zeros}
 
 -- searches that meet the same tests
 placeFrom-same : (f g : ℕ → Bool) (k n : ℕ) → ((i : ℕ) → i < k + n → f i ≡ g i) → placeFrom f k n ≡ placeFrom g k n

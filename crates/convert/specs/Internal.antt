@@ -1,4 +1,2 @@
 -- What the code and its proofs cite, and no call.
 pub mod HighBytes
-pub mod Recast
-pub mod Widths

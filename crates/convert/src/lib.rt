@@ -1,10 +1,8 @@
 // Images of the old form, 22,132 bytes, to the new one and back (document 02, W6).
 mod low;
-mod old;
-mod recast;
 
-use image::form;
 use image::layout::IMAGE;
+use recast::old;
 use rules::numbers;
 ghost use mathlib.Core.Path.{_≡_};
 ghost use Rattle.convert.specs.Convert.{forwardAnswer, forwardImage, backAnswer, backImage};

@@ -27,7 +27,7 @@ use Rattle.rules.proofs.ByKind.Refused.{refuses}
 use Rattle.rules.proofs.Calls.Begin.{wrong-length, right-length}
 use Rattle.rules.proofs.Pack.Loads.{read-state, read-creation, read-dependences, unpack-waiting}
 use Rattle.rules.proofs.Pack.Sizes.{largest-base}
-use Rattle.image.proofs.Unsound.{image-refused, sound-long, sound-not}
+use Rattle.form.proofs.Unsound.{image-refused, sound-long, sound-not}
 use Rattle.decisive.specs.declared.Decision.{Decision}
 use Rattle.decisive.specs.declared.Decision.the-variants.{Nothing, MessageSuperseded, ReceiverSuperseded}
 use Rattle.decisive.specs.declared.Judged.{Judged}

@@ -3,7 +3,6 @@ use crate::Decision;
 use crate::Found;
 use crate::Judged;
 use group::own;
-use image::form;
 use image::head;
 use image::layout::CREATION;
 use image::layout::FIRST_TRANSACTOR;

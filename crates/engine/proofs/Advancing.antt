@@ -9,11 +9,12 @@ use Rattle.rules.specs.Layout.{base}
 use Rattle.rules.specs.declared.Step.{Step}
 use Rattle.rules.specs.Step.{receive}
 use Rattle.rules.specs.Refusals.{groupBits, named, anyNamed, sends, malformed}
-use Rattle.engine_chains.specs.declared.rows.Row.{Row}
-use Rattle.engine_chains.specs.declared.rows.Slot.{Slot}
-use Rattle.engine_chains.specs.Internal.Tables.{play}
+use Rattle.engine_tables.specs.declared.table.Row.{Row}
+use Rattle.engine_tables.specs.declared.table.Slot.{Slot}
+use Rattle.engine_tables.specs.Internal.Tables.{play}
 use Rattle.engine_chains.specs.Internal.Walk.{Walk}
-use Rattle.engine_chains.specs.Internal.Engine.{allStable, receiptBack, receiptWalk, signWalk, readyIn}
+use Rattle.engine_chains.specs.Internal.Walk.{receiptBack, signWalk}
+use Rattle.engine_tables.specs.Internal.Engine.{allStable, receiptWalk, readyIn}
 use Rattle.engine_tables.specs.declared.register.Register.{Register}
 use Rattle.engine_tables.specs.declared.turns.Operands.{Operands}
 use Rattle.engine_tables.specs.declared.turns.Turn.{Turn}

@@ -25,12 +25,13 @@ use Rattle.rules.proofs.Keep.Run.{stepOk-at}
 use Rattle.rules.proofs.Keep.Step.{fitting-base}
 use Rattle.rules.proofs.Ranges.{in-range-exactly}
 use Rattle.session.proofs.Run.{length-packReply}
-use Rattle.engine_chains.specs.declared.rows.Row.{Row}
-use Rattle.engine_chains.specs.declared.rows.Slot.{Slot}
-use Rattle.engine_chains.specs.Internal.Tables.{Tables, Played, emptyRow, emptySlot}
+use Rattle.engine_tables.specs.declared.table.Row.{Row}
+use Rattle.engine_tables.specs.declared.table.Slot.{Slot}
+use Rattle.engine_tables.specs.Internal.Tables.{Tables, Played, emptyRow, emptySlot}
 use Rattle.engine_chains.specs.Internal.Walk.{Walk}
-use Rattle.engine_chains.specs.Internal.Engine.{Walkable, receiptBack, receiptWalk, playStep, engineAfter, engineReplies}
-use Rattle.engine_chains.proofs.Engine.{letter-walks, engine-fresh}
+use Rattle.engine_chains.specs.Internal.Walk.{Walkable, receiptBack}
+use Rattle.engine_tables.specs.Internal.Engine.{receiptWalk, playStep, engineAfter, engineReplies}
+use Rattle.engine_tables.proofs.Engine.{letter-walks, engine-fresh}
 use Rattle.engine_tables.specs.declared.register.Register.{Register}
 use Rattle.engine_tables.specs.declared.turns.Operands.{Operands}
 use Rattle.engine_tables.specs.declared.turns.Turn.{Turn}

@@ -17,10 +17,10 @@ use Rattle.rules.specs.Status.{idle}
 use Rattle.rules.specs.Refusals.{groupBits, named}
 use Rattle.rules.specs.Internal.Well.{StepOk}
 use Rattle.rules.proofs.Keep.Accepted.{Accepted, accepted, message-waits, one-unopened}
-use Rattle.engine_chains.specs.declared.rows.Row.{Row}
-use Rattle.engine_chains.specs.declared.rows.RowEffect.{RowEffect}
-use Rattle.engine_chains.specs.declared.rows.Slot.{Slot}
-use Rattle.engine_chains.specs.Internal.Tables.{Tables, rowStays, rowStatus, rollbackRow, writeRow, freezeRow, localRow, receiveRow, filledSlot, emptySlot, freshTables, withRow, openRow, withSlot, withoutSlot, checkpointRows, seenIn, Played, playReceive, playLocal, playApplied, playRefusal, play}
+use Rattle.engine_tables.specs.declared.table.Row.{Row}
+use Rattle.engine_tables.specs.declared.table.RowEffect.{RowEffect}
+use Rattle.engine_tables.specs.declared.table.Slot.{Slot}
+use Rattle.engine_tables.specs.Internal.Tables.{Tables, rowStays, rowStatus, rollbackRow, writeRow, freezeRow, localRow, receiveRow, filledSlot, emptySlot, freshTables, withRow, openRow, withSlot, withoutSlot, checkpointRows, seenIn, Played, playReceive, playLocal, playApplied, playRefusal, play}
 
 -- after n steps from a fresh session with the limits m
 pub record Ranged (m : Limits) (n : ℕ) (T : Tables) : Type 0 where

@@ -19,11 +19,12 @@ use Rattle.rules.proofs.Keep.Step.{fitting-base}
 use Rattle.rules.proofs.Ranges.{in-range-exactly}
 use Rattle.session.proofs.Run.{length-packReply}
 use Rattle.rules.specs.declared.Told.{Told}
-use Rattle.engine_chains.specs.Internal.Tables.{Tables, Played}
+use Rattle.engine_tables.specs.Internal.Tables.{Tables, Played}
 use Rattle.engine_chains.specs.Internal.Walk.{Walk, walkBack, receiptStart, signStart}
-use Rattle.engine_chains.specs.Internal.Engine.{toldIn, Walkable, receiptWalk, signWalk, readyIn, playStep, Engine, engineAfter}
+use Rattle.engine_chains.specs.Internal.Walk.{toldIn, Walkable, signWalk}
+use Rattle.engine_tables.specs.Internal.Engine.{receiptWalk, readyIn, playStep, Engine, engineAfter}
 use Rattle.engine_chains.proofs.Walks.{walk-replies}
-use Rattle.engine_chains.proofs.Engine.{told-packed, replies-fit-bytes}
+use Rattle.engine_tables.proofs.Engine.{told-packed, replies-fit-bytes}
 use Rattle.engine_tables.specs.Internal.Places.{most}
 use Rattle.engine.proofs.Ranges.{Ranged, Fine, ranged-fresh, ranged-step}
 

@@ -1,10 +1,10 @@
 // The engine without maps (document 02, W11): the replies to a list of steps from a fresh session, by tables and by walks back over the
 // list.
-use engine_chains::rows::Row;
 use engine_tables::effects;
 use engine_tables::guards;
 use engine_tables::places;
 use engine_tables::register::Register;
+use engine_tables::table::Row;
 use engine_tables::turns::GroupTurn;
 use engine_tables::turns::Operands;
 use engine_tables::turns::Turn;
@@ -20,7 +20,7 @@ ghost use Rattle.rules.specs.Layout.{base, limitsOf};
 ghost use Rattle.rules.specs.Step as kinds;
 ghost use Rattle.rules.specs.Refusals.{malformed};
 ghost use Rattle.rules.specs.Calls.{freshImage, ranReplies};
-ghost use Rattle.engine_chains.specs.Internal.Engine.{Walkable};
+ghost use Rattle.engine_chains.specs.Internal.Walk.{Walkable};
 ghost use Rattle.engine.specs.Play.{playAnswer, playReplies};
 ghost use Rattle.engine.specs.Internal.Advance.{Advances, AdvancesGroup, Ahead, Playable};
 

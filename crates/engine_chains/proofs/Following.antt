@@ -23,7 +23,7 @@ use Rattle.engine_chains.specs.Chain as chain
 use Rattle.engine_chains.specs.Chain.{Places, groundOf, messageAlone, back}
 use Rattle.engine_chains.specs.Back.{rollbackFrom, receiptFrom, localFrom, eventFrom}
 use Rattle.engine_chains.specs.Internal.Walk.{Walk, meets, wasRolledBack, wasCheckpointed, over, noIncarnations, overStep, walkBack, startFrom, receiptStart, signStart}
-use Rattle.engine_chains.specs.Internal.Engine.{toldIn, signWalk, Walkable}
+use Rattle.engine_chains.specs.Internal.Walk.{toldIn, signWalk, Walkable}
 use Rattle.engine_chains.specs.declared.words.Event.{Event}
 use Rattle.engine_chains.specs.declared.words.Event.the-variants.{Nothing, Cleared, Sent, Taken, Opens, Reads, Writes, Finishes, Renewed, Annihilated, ClearedRenewed, ClearedAnnihilated}
 use Rattle.engine_chains.specs.declared.words.Side.{Side}

@@ -6,12 +6,8 @@ pub mod Meets
 pub mod Maps
 pub mod Replies
 pub mod Replied
-pub mod Tells
-pub mod Plays
 pub mod Walks
 pub mod Worded
 pub mod Following
-pub mod Engine
 pub mod Walked
 pub mod WayBack
-pub mod Unheard

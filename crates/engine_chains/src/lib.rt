@@ -1,3 +1,2 @@
-// What the definitions and laws of the engine without maps (document 02, W11) and its code both speak of.
-pub mod rows;
+// What the definitions and laws of a chain (document 02, W11) and the code of the walk both speak of.
 pub mod words;

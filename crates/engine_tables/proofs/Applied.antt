@@ -7,7 +7,7 @@ use Rattle.rules.specs.declared.Step.{Step}
 use Rattle.rules.specs.Step.{done, notReady, root, letter, receive, new, send, read, fail, lose, sign}
 use Rattle.rules.specs.Rules.{answer}
 use Rattle.rules.proofs.ByKind.Refused.{otherwise}
-use Rattle.engine_chains.specs.Internal.Tables.{Tables, openRow, withSlot, withoutSlot, checkpointRows, playReceive, playLocal, playApplied}
+use Rattle.engine_tables.specs.Internal.Tables.{Tables, openRow, withSlot, withoutSlot, checkpointRows, playReceive, playLocal, playApplied}
 
 pub record Applies (T : Tables) (p : Step) (d f g : Bool) : Type 0 where
   pub root : p .kind ≡ root → playApplied T p d f g ≡ record { reply = answer done (T .opened) 0 0; tables = openRow T (p .value) }

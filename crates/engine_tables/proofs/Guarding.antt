@@ -16,8 +16,8 @@ use Rattle.rules.specs.Refusals.{groupBits, named, anyNamed}
 use Rattle.rules.specs.Internal.Guards.{first, receiverRefusal, localRefusal}
 use Rattle.rules.proofs.ByKind.Guards as guards
 use Rattle.rules.proofs.ByKind.Guards.{first-taken, first-left, local-first}
-use Rattle.engine_chains.specs.declared.rows.Row.{Row}
-use Rattle.engine_chains.specs.declared.rows.Slot.{Slot}
+use Rattle.engine_tables.specs.declared.table.Row.{Row}
+use Rattle.engine_tables.specs.declared.table.Slot.{Slot}
 use Rattle.engine_tables.specs.declared.register.Register.{Register}
 use Rattle.engine_tables.specs.Internal.Register.{rowAt, Fits, Room}
 use Rattle.engine_tables.specs.Internal.Guards.{lastRow, localGuard, receiptGuard, anyUnstable, groupGuard}

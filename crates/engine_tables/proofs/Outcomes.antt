@@ -18,10 +18,10 @@ use Rattle.rules.specs.Refusals.{groupBits, sends, malformed}
 use Rattle.rules.specs.Rules.{answer}
 use Rattle.rules.specs.Internal.Guards.{first}
 use Rattle.rules.proofs.ByKind.Guards.{first-taken, first-left}
-use Rattle.engine_chains.specs.declared.rows.Row.{Row}
-use Rattle.engine_chains.specs.declared.rows.Slot.{Slot}
-use Rattle.engine_chains.specs.declared.rows.RowEffect.{RowEffect}
-use Rattle.engine_chains.specs.Internal.Tables.{Tables, emptySlot, openRow, withSlot, withoutSlot, localRow, receiveRow, playRefusal, Played, play, playApplied, playReceive, playLocal}
+use Rattle.engine_tables.specs.declared.table.Row.{Row}
+use Rattle.engine_tables.specs.declared.table.Slot.{Slot}
+use Rattle.engine_tables.specs.declared.table.RowEffect.{RowEffect}
+use Rattle.engine_tables.specs.Internal.Tables.{Tables, emptySlot, openRow, withSlot, withoutSlot, localRow, receiveRow, playRefusal, Played, play, playApplied, playReceive, playLocal}
 use Rattle.engine_tables.specs.declared.register.Register.{Register}
 use Rattle.engine_tables.specs.declared.turns.Operands.{Operands}
 use Rattle.engine_tables.specs.declared.turns.Turn.{Turn}

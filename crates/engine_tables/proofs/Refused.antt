@@ -17,9 +17,9 @@ use Rattle.rules.specs.Refusals.{malformed, notWaiting, emptyGroup, unopened, i
 use Rattle.rules.specs.Internal.Guards.{first, roomRefusal, receiverRefusal, namedRefusal, groupRefusal}
 use Rattle.rules.proofs.ByKind.Guards.{busy-first, receiver-first, local-first}
 use Rattle.rules.proofs.ByKind.Refused.{otherwise}
-use Rattle.engine_chains.specs.declared.rows.Row.{Row}
-use Rattle.engine_chains.specs.declared.rows.Slot.{Slot}
-use Rattle.engine_chains.specs.Internal.Tables.{seenIn, playRefusal}
+use Rattle.engine_tables.specs.declared.table.Row.{Row}
+use Rattle.engine_tables.specs.declared.table.Slot.{Slot}
+use Rattle.engine_tables.specs.Internal.Tables.{seenIn, playRefusal}
 use Rattle.engine_tables.specs.declared.register.Register.{Register}
 use Rattle.engine_tables.specs.Internal.Register.{viewOf}
 use Rattle.engine_tables.specs.Internal.Guards.{lastRow, localGuard, busyGuard, roomGuard, receiptGuard, groupGuard}

@@ -10,9 +10,9 @@ use Rattle.octets.specs.Numbers.{bound}
 use Rattle.octets.proofs.Tests.{and-off}
 use Rattle.rules.specs.Status.{idle, busy, annihilated}
 use Rattle.rules.specs.Step.{done, held, dropped, fallenBack, vanished, read, write, freeze, fall}
-use Rattle.engine_chains.specs.declared.rows.Row.{Row}
-use Rattle.engine_chains.specs.declared.rows.RowEffect.{RowEffect}
-use Rattle.engine_chains.specs.Internal.Tables.{emptyRow, rowStays, rowStatus, rollbackRow, writeRow, freezeRow, localRow, receiveRow, checkpointRow}
+use Rattle.engine_tables.specs.declared.table.Row.{Row}
+use Rattle.engine_tables.specs.declared.table.RowEffect.{RowEffect}
+use Rattle.engine_tables.specs.Internal.Tables.{emptyRow, rowStays, rowStatus, rollbackRow, writeRow, freezeRow, localRow, receiveRow, checkpointRow}
 use Rattle.engine_tables.specs.Internal.Register.{checkpointedRow, Fits}
 use Rattle.engine_tables.specs.Internal.Guards.{lastRow}
 

@@ -1,6 +1,6 @@
 // What steps do to one transactor, and a signing to those of a group.
-use engine_chains::rows::Row;
-use engine_chains::rows::RowEffect;
+use crate::table::Row;
+use crate::table::RowEffect;
 use lists::groups::is_named;
 use lists::limits;
 use lists::limits::TRANSACTORS;
@@ -11,7 +11,7 @@ ghost use Prim.Native.Nat.{_<_, _≤_};
 ghost use lib.Dec.{leb};
 ghost use Rattle.octets.specs.Bytes.{_and_};
 ghost use Rattle.rules.specs.Step.{read, fall};
-ghost use Rattle.engine_chains.specs.Internal.Tables.{rowStays, openedRow, rollbackRow, localRow, receiveRow};
+ghost use Rattle.engine_tables.specs.Internal.Tables.{rowStays, openedRow, rollbackRow, localRow, receiveRow};
 ghost use Rattle.engine_tables.specs.Internal.Register.{checkpointedRow, CheckpointedRows, Fits, Room};
 ghost use Rattle.engine_tables.specs.Internal.Guards.{lastRow};
 

@@ -1,8 +1,8 @@
 // The refusals of a step that look at a whole row or slot, in the table's order; those over plain numbers stand in crate lists.
 use crate::effects;
 use crate::register::Register;
-use engine_chains::rows::Row;
-use engine_chains::rows::Slot;
+use crate::table::Row;
+use crate::table::Slot;
 use lists::groups::is_named;
 use lists::limits::TRANSACTORS;
 use lists::refusals;

@@ -4,4 +4,5 @@ pub mod effects;
 pub mod guards;
 pub mod places;
 pub mod register;
+pub mod table;
 pub mod turns;

@@ -1,5 +1,5 @@
 // Where the row and the slot that a step looks at stand in the engine's arrays.
-use engine_chains::rows::Slot;
+use crate::table::Slot;
 use lists::NUMBERS;
 use rules::Step;
 use rules::numbers;

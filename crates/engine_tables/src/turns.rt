@@ -3,8 +3,8 @@
 use crate::effects;
 use crate::guards;
 use crate::register::Register;
-use engine_chains::rows::Row;
-use engine_chains::rows::Slot;
+use crate::table::Row;
+use crate::table::Slot;
 use lists::refusals;
 use rules::Reply;
 use rules::Step;

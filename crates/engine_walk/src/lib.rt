@@ -15,7 +15,7 @@ ghost use mathlib.Core.Bool.{not};
 ghost use lib.ListN.{length};
 ghost use Rattle.octets.specs.Bytes.{_and_};
 ghost use Rattle.rules.specs.Step.{stepBytes, stepAt};
-ghost use Rattle.engine_chains.specs.Internal.Engine.{toldIn, receiptBack, signWalk, Walkable};
+ghost use Rattle.engine_chains.specs.Internal.Walk.{toldIn, receiptBack, signWalk, Walkable};
 ghost use Rattle.engine_chains.specs.Internal.Words.{following, followerOver, followerStep, followBack, walkerFrom, walkerIn};
 
 // Every transactor.

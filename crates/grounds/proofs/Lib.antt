@@ -1,5 +1,1 @@
-pub mod Words
-pub mod Rooms
-pub mod Blocking
-pub mod Reaching
-pub mod Impeding
+mod Words

@@ -1,10 +1,5 @@
 // What rests on what, for a caller that asks: who rests on a transactor's present incarnation (document 01: a take's present life).
-pub mod impediment;
-pub mod obstacle;
-mod ways;
-
 use group::is_live;
-use group::needs::Needs;
 use image::head;
 use image::layout::BEHAVIOUR;
 use image::layout::CREATION;
@@ -17,7 +12,7 @@ use image::layout::TRANSACTOR;
 use image::layout::TRANSACTORS;
 use image::layout::own_at;
 use image::messages;
-use marks::History;
+use lists::groups::Needs;
 use packed_histories::in_place;
 use rules::Dependents;
 use rules::numbers;
@@ -132,7 +127,7 @@ fn carried(image: &[u8], t: usize, n: usize) -> u16
     count
 }
 
-// Who rests on each, in its place: a list for ledger's closure, which takes whom each needs, too.
+// Who rests on each, in its place: a list for the closure of `needs`, which takes whom each needs, too.
 pub fn all_resting(image: &[u8]) -> Needs
     requires { ⌜ Good (now image) ⌝ }
     ensures { λ r. ⌜ Listed base (unpack base (now (image .entry))) (base .transactors) (r .need) ⌝ }

@@ -1,4 +1,3 @@
 mod Blocking
 mod Checkpointing
-mod Meeting
-mod Presenting
+pub mod Presenting

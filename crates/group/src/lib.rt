@@ -1,6 +1,4 @@
-// A checkpoint group (document 01: a volume): which transactors it names, whether it can be signed, and its signing.
-pub mod needs;
-
+// A checkpoint group (document 01: a volume): what refuses it, whether it can be signed, and its signing.
 use image::head;
 use image::layout::CREATION;
 use image::layout::FIRST_TRANSACTOR;
@@ -98,13 +96,13 @@ pub fn is_live(image: &[u8], u: usize) -> bool
 // ---- the test of a group, with what is kept of its members
 
 // What is kept of a group's transactors: their own histories, and which of them are stable.
-struct Present {
-    own: [History; 16],
-    stable: u16,
+pub struct Present {
+    pub own: [History; 16],
+    pub stable: u16,
 }
 
 // The own history of each named transactor is worked out once; the other places hold the initial history and are not looked at.
-fn presents(image: &[u8], group: u16) -> Present
+pub fn presents(image: &[u8], group: u16) -> Present
     requires { ⌜ Good (now image) ⌝ }
     ensures { λ r. ⌜ Presents base (unpack base (now (image .entry))) group (r .own) (r .stable) ⌝ }
 {
@@ -128,7 +126,7 @@ fn presents(image: &[u8], group: u16) -> Present
 }
 
 // Whether there is no history at at, or one of the present incarnation of transactor u, a named one, of which h is kept.
-fn in_group(image: &[u8], group: u16, at: usize, u: usize, h: History) -> bool
+pub fn in_group(image: &[u8], group: u16, at: usize, u: usize, h: History) -> bool
     requires { ⌜ Good (now image) × (at + historyBytes base ≤ imageBytes base) × (u < base .transactors) × Kept (unpack base (now image)) group u h ⌝ }
     ensures { λ r. ⌜ r ≡ inGroupAt base (now (image .entry)) group at u ⌝ }
 {
@@ -142,7 +140,7 @@ fn in_group(image: &[u8], group: u16, at: usize, u: usize, h: History) -> bool
 }
 
 // Whether the history at at, of transactor u, is checkpointed.
-fn checkpointed(image: &[u8], group: u16, at: usize, u: usize, h: History) -> bool
+pub fn checkpointed(image: &[u8], group: u16, at: usize, u: usize, h: History) -> bool
     requires { ⌜ Good (now image) × (at + historyBytes base ≤ imageBytes base) × (u < base .transactors) × Kept (unpack base (now image)) group u h ⌝ }
     ensures { λ r. ⌜ r ≡ checkpointedAt base (now (image .entry)) at u ⌝ }
 {

@@ -1,3 +1,2 @@
 -- What the contracts of internal functions cite.
 pub mod Addresses
-pub mod Tests

@@ -1,4 +1,4 @@
-// What the steps first ask of an image: how many transactors are opened, the next message number, and a transactor's status.
+// What is first asked of an image: how many transactors are opened, the next message number, a transactor's status, and 21, 22 of a query.
 use crate::layout::FIRST_TRANSACTOR;
 use crate::layout::NEXT;
 use crate::layout::OPENED;

@@ -1,5 +1,4 @@
-// An image: where everything stands in it, its form, its messages.
-pub mod form;
+// An image: where everything stands in it, its head, its limits, its messages.
 pub mod head;
 pub mod layout;
 pub mod limits;

@@ -1,5 +1,4 @@
 // An image as text, a line at a time.
-use image::form;
 use image::head;
 use image::layout::BEHAVIOUR;
 use image::layout::CREATION;

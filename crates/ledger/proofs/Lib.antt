@@ -1,5 +1,3 @@
-mod Counting
-mod Impeding
 mod Refreshing
 mod Running
 mod Showing

@@ -1,32 +1,16 @@
-// The take ledger: a session lives in a lent image of IMAGE bytes, which each call takes as the last one left it.
-mod closure;
-
-use grounds::all_resting;
-use grounds::dependents_of;
-use grounds::impediment::impediment_of;
-use grounds::obstacle::obstacle_of;
-use group::needs;
-use image::form;
-use image::head;
-use image::layout::CREATION;
+// The take ledger: begin, run, offer and show. A session lives in a lent image of IMAGE bytes, which each call takes as the last one left it.
 use image::layout::FIRST_MESSAGE;
 use image::layout::FIRST_TRANSACTOR;
 use image::layout::IMAGE;
 use image::layout::MESSAGE;
 use image::layout::MESSAGES;
-use image::layout::STATE;
 use image::layout::TRANSACTOR;
 use image::layout::TRANSACTORS;
 use image::layout::map_at;
 use image::limits;
 use image::messages;
 use lists::STEP;
-use lists::groups;
 use lists::packed;
-use rules::Dependents;
-use rules::Grouped;
-use rules::Impediment;
-use rules::Obstacle;
 use rules::Offered;
 use rules::numbers;
 ghost use mathlib.Core.Path.{_≡_};
@@ -36,10 +20,9 @@ ghost use Rattle.octets.specs.Bytes.{zeros};
 ghost use Rattle.rules.specs.Layout.{base, limitsOf, imageBytes};
 ghost use Rattle.rules.specs.Step.{stepBytes};
 ghost use Rattle.rules.specs.Internal.Good.{Good};
-ghost use Rattle.rules.specs.Calls.{ranImage, ranReplies, queryRefusal, offeredNumber, showRefusal};
-ghost use Rattle.rules.specs.Groups.{groupNumber};
+ghost use Rattle.rules.specs.Calls.{ranImage, ranReplies, offeredNumber, showRefusal};
 ghost use Rattle.image.specs.Internal.Addresses.{shownAt};
-ghost use Rattle.rules.specs.Promises.{BeginPromise, RunPromise, OfferPromise, SmallestPromise, HeardPromise, CountPromise, DependentsPromise, ObstaclePromise, ImpedimentPromise, ShowPromise};
+ghost use Rattle.rules.specs.Promises.{BeginPromise, RunPromise, OfferPromise, ShowPromise};
 
 // ---- begin
 
@@ -112,25 +95,14 @@ pub fn run(image: &mut [u8], list: &[u8], start: usize, end: usize, replies: &mu
     0
 }
 
-// ---- offer, smallest group, how many are ready, all heard stable
-
-// The refusals of a query about one transactor, 16, 19, 21 and 22, or 0.
-fn query_refusal(image: &[u8], transactor: usize) -> u8
-    ensures { λ r. ⌜ r ≡ queryRefusal base (now (image .entry)) transactor ⌝ }
-{
-    let r = form::image_refusal(image);
-    if r != 0 {
-        return r;
-    }
-    head::refusal(image, transactor)
-}
+// ---- offer
 
 // The waiting message addressed to the transactor with the lowest number: the first, since numbers rise from place to place. Or
 // nothing, exactly if there is none. The lent number takes the refusal, 16, 19, 21 or 22, or 0; refused, nothing.
 pub fn offer(image: &[u8], transactor: usize, refusal: &mut u8) -> Offered
     ensures { λ r. ⌜ OfferPromise base (now (image .entry)) transactor (now (refusal .exit)) (offeredNumber r) ⌝ }
 {
-    let number = query_refusal(image, transactor);
+    let number = form::query_refusal(image, transactor);
     *refusal = number;
     if number != 0 {
         return Offered::Nothing;
@@ -141,120 +113,6 @@ pub fn offer(image: &[u8], transactor: usize, refusal: &mut u8) -> Offered
         return Offered::Nothing;
     }
     Offered::Message(messages::number_of(image, k))
-}
-
-// The smallest group with the transactor that could be checkpointed now, or none exactly if there is none. The lent number takes
-// the refusal, 16, 19, 21 or 22, or 0; refused, none.
-pub fn smallest_group(image: &[u8], transactor: usize, refusal: &mut u8) -> Grouped
-    ensures { λ r. ⌜ SmallestPromise base (now (image .entry)) transactor (now (refusal .exit)) (groupNumber r) ⌝ }
-{
-    let number = query_refusal(image, transactor);
-    *refusal = number;
-    if number != 0 {
-        return Grouped::NoGroup;
-    }
-    let needs = needs::needs_of(image);
-    let group = closure::closure(needs, transactor);
-    if groups::is_inside(group, needs.able) {
-        return Grouped::Group(group);
-    }
-    Grouped::NoGroup
-}
-
-// How many groups of that many transactors could be checkpointed now. The lent number takes the refusal, 16, 19 or 34, or 0; refused, 0.
-pub fn ready_count(image: &[u8], size: usize, refusal: &mut u8) -> usize
-    ensures { λ r. ⌜ CountPromise base (now (image .entry)) size (now (refusal .exit)) r ⌝ }
-{
-    let r = form::image_refusal(image);
-    if r != 0 {
-        *refusal = r;
-        return 0;
-    }
-    if size < 1 {
-        *refusal = numbers::WRONG_SIZE;
-        return 0;
-    }
-    if TRANSACTORS < size {
-        *refusal = numbers::WRONG_SIZE;
-        return 0;
-    }
-    *refusal = 0;
-    closure::count(needs::needs_of(image), size)
-}
-
-// Document 02, W4, "all heard frozen": whether every entry of the transactor's state and creation maps but its own is stable. The
-// lent number takes the refusal, 16, 19, 21 or 22, or 0; refused, no.
-pub fn all_heard_stable(image: &[u8], transactor: usize, refusal: &mut u8) -> bool
-    ensures { λ r. ⌜ HeardPromise base (now (image .entry)) transactor (now (refusal .exit)) r ⌝ }
-{
-    let number = query_refusal(image, transactor);
-    *refusal = number;
-    if number != 0 {
-        return false;
-    }
-    let at = FIRST_TRANSACTOR + TRANSACTOR * transactor;
-    if !stability::others_stable(image, at + STATE, transactor) {
-        return false;
-    }
-    stability::others_stable(image, at + CREATION, transactor)
-}
-
-// Who rests on the transactor's present incarnation, directly and through others, who is busy with it, and how many waiting messages carry
-// it. The lent number takes the refusal, 16, 19, 21 or 22, or 0; refused, nothing.
-pub fn dependents(image: &[u8], transactor: usize, refusal: &mut u8) -> Dependents
-    ensures { λ r. ⌜ DependentsPromise base (now (image .entry)) transactor (now (refusal .exit)) r ⌝ }
-{
-    let number = query_refusal(image, transactor);
-    *refusal = number;
-    if number != 0 {
-        return Dependents {
-            resting: 0,
-            through: 0,
-            unfinished: 0,
-            carried: 0,
-        };
-    }
-    let through = closure::closure(all_resting(image), transactor);
-    dependents_of(image, transactor, through)
-}
-
-// So many groups are there: a number from here on names a transactor that no session opens.
-const GROUPS: usize = 65536;
-
-// Why the group can't be checkpointed now; nothing exactly if it can. The lent number takes the refusal, 16, 19, or what the signing would get,
-// 29, 21, 22 or 30, or 0; refused, nothing.
-pub fn obstacle(image: &[u8], members: usize, refusal: &mut u8) -> Obstacle
-    ensures { λ r. ⌜ ObstaclePromise base (now (image .entry)) members (now (refusal .exit)) r ⌝ }
-{
-    let r = form::image_refusal(image);
-    if r != 0 {
-        *refusal = r;
-        return Obstacle::Nothing;
-    }
-    if GROUPS <= members {
-        *refusal = numbers::UNOPENED;
-        return Obstacle::Nothing;
-    }
-    let group = members as u16;
-    let number = group::refusal(image, group);
-    *refusal = number;
-    if number != 0 {
-        return Obstacle::Nothing;
-    }
-    obstacle_of(image, group)
-}
-
-// Why no group with the transactor could be checkpointed now, and the next transactor on a chain to the one that is in the way; nothing exactly
-// if smallest_group has one. The lent number takes the refusal, 16, 19, 21 or 22, or 0; refused, nothing.
-pub fn impediment(image: &[u8], transactor: usize, refusal: &mut u8) -> Impediment
-    ensures { λ r. ⌜ ImpedimentPromise base (now (image .entry)) transactor (now (refusal .exit)) r ⌝ }
-{
-    let number = query_refusal(image, transactor);
-    *refusal = number;
-    if number != 0 {
-        return Impediment::Nothing;
-    }
-    impediment_of(image, transactor)
 }
 
 // ---- show

@@ -1,5 +1,5 @@
 // The ledger's calls for programs in other languages, as include/ledger.h declares them: a slice is a pointer and a length, a
-// lent number a pointer. None has a precondition, and each promises what the call of crate ledger, or thin, promises.
+// lent number a pointer. None has a precondition, and each promises what the call of ledger, queries, thin, convert or window promises.
 use rules::Dependents;
 use rules::Grouped;
 use rules::Impediment;
@@ -111,7 +111,7 @@ pub extern "C" fn ledger_offer(image: &[u8], transactor: usize, refusal: &mut u8
 pub extern "C" fn ledger_smallest_group(image: &[u8], transactor: usize, refusal: &mut u8) -> u16
     ensures { λ r. ⌜ SmallestPromise base (now (image .entry)) transactor (now (refusal .exit)) (groupOf r) ⌝ }
 {
-    let Grouped::Group(group) = ledger::smallest_group(image, transactor, refusal) else {
+    let Grouped::Group(group) = queries::smallest_group(image, transactor, refusal) else {
         return 0;
     };
     group
@@ -122,7 +122,7 @@ pub extern "C" fn ledger_smallest_group(image: &[u8], transactor: usize, refusal
 pub extern "C" fn ledger_ready_count(image: &[u8], size: usize, refusal: &mut u8) -> usize
     ensures { λ r. ⌜ CountPromise base (now (image .entry)) size (now (refusal .exit)) r ⌝ }
 {
-    ledger::ready_count(image, size, refusal)
+    queries::ready_count(image, size, refusal)
 }
 
 // 1 exactly if every entry of the transactor's state and creation maps but its own is stable, else 0. The lent number takes the
@@ -131,7 +131,7 @@ pub extern "C" fn ledger_ready_count(image: &[u8], size: usize, refusal: &mut u8
 pub extern "C" fn ledger_all_heard_stable(image: &[u8], transactor: usize, refusal: &mut u8) -> u8
     ensures { λ r. ⌜ (now (refusal .exit) ≡ queryRefusal base (now (image .entry)) transactor) × (r ≡ numberFor (heardAnswer base (now (image .entry)) transactor)) ⌝ }
 {
-    if ledger::all_heard_stable(image, transactor, refusal) {
+    if queries::all_heard_stable(image, transactor, refusal) {
         return 1;
     }
     0
@@ -143,7 +143,7 @@ pub extern "C" fn ledger_all_heard_stable(image: &[u8], transactor: usize, refus
 pub extern "C" fn ledger_dependents(image: &[u8], transactor: usize, refusal: &mut u8) -> Dependents
     ensures { λ r. ⌜ DependentsPromise base (now (image .entry)) transactor (now (refusal .exit)) r ⌝ }
 {
-    ledger::dependents(image, transactor, refusal)
+    queries::dependents(image, transactor, refusal)
 }
 
 // Why the group can't be checkpointed now; all are 0 exactly if it can. The lent number takes the refusal, 16, 19, or what the signing would
@@ -152,7 +152,7 @@ pub extern "C" fn ledger_dependents(image: &[u8], transactor: usize, refusal: &m
 pub extern "C" fn ledger_obstacle(image: &[u8], members: usize, refusal: &mut u8) -> Reason
     ensures { λ r. ⌜ (now (refusal .exit) ≡ obstacleRefusal base (now (image .entry)) members) × (r ≡ reasonFor (obstacleAnswer base (now (image .entry)) members)) ⌝ }
 {
-    match ledger::obstacle(image, members, refusal) {
+    match queries::obstacle(image, members, refusal) {
         Obstacle::Nothing => Reason {
             kind: 0,
             transactor: 0,
@@ -182,7 +182,7 @@ pub extern "C" fn ledger_obstacle(image: &[u8], members: usize, refusal: &mut u8
 pub extern "C" fn ledger_impediment(image: &[u8], transactor: usize, refusal: &mut u8) -> Cause
     ensures { λ r. ⌜ (now (refusal .exit) ≡ queryRefusal base (now (image .entry)) transactor) × (r ≡ causeFor (impedimentAnswer base (now (image .entry)) transactor)) ⌝ }
 {
-    match ledger::impediment(image, transactor, refusal) {
+    match queries::impediment(image, transactor, refusal) {
         Impediment::Nothing => Cause {
             kind: 0,
             transactor: 0,

@@ -1,4 +1,4 @@
-// A group (document 01: a volume) as a word: bit t names transactor t.
+// A group (document 01: a volume) as a word: bit t names transactor t. And a group for each transactor.
 use crate::limits::TRANSACTORS;
 ghost use mathlib.Core.Path.{_≡_};
 ghost use Prim.Native.Nat.{_<_};
@@ -6,6 +6,12 @@ ghost use lib.Dec.{leb};
 ghost use Rattle.rules.specs.Layout.{base};
 ghost use Rattle.rules.specs.Refusals.{named, anyNamed};
 ghost use Rattle.rules.specs.Internal.Closure.{inside};
+
+// A group for each transactor, and one more: in `needs` whom each needs, and who can be in a group that is ready; in `grounds` who rests on each.
+pub struct Needs {
+    pub need: [u16; 16],
+    pub able: u16,
+}
 
 // Whether the group names transactor t.
 pub fn is_named(group: u16, t: usize) -> bool

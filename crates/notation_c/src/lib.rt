@@ -1,5 +1,5 @@
 // Lists, replies and images as text for programs in other languages, as include/notation.h declares them: a slice is a pointer and a
-// length. None has a precondition, and each promises what the function of crate parser, printer, replies or inspection promises.
+// length. None has a precondition, and each promises what the function of crate parser, faults, printer, replies or inspection promises.
 use lines::Line;
 use notation::Parsed;
 use printer::Printed;

@@ -32,7 +32,7 @@ use Rattle.rules.proofs.Keep.Step.{applied-same}
 use Rattle.session.specs.Provenance.{idle, annihilated, Live, is-idle, Holder, Provenance, find}
 use Rattle.session.specs.Steps.{anew, opensRoot, opensChild, receives, checkpointedAt, provenanceRefusal, ProvenanceStep, refuses, signing, not-ready}
 use Rattle.session.specs.Steps as book
-use Rattle.session.specs.Withdrawal.{Withdraws, rolls-back, vanishes}
+use Rattle.session.specs.Withdrawal.{Withdraws, rolls-back, annihilates}
 use Rattle.session.proofs.Model.{Ledger, Node, MessageView, own, anewNode, statusOf, viewNode, view}
 use Rattle.session.proofs.Tables.{pick-view, and-of}
 use Rattle.session.proofs.Sets.{only-same}
@@ -126,7 +126,7 @@ module _ {y : Layout} {s : State} (well : WellFormed y s) {b : Provenance} (r : 
     where
       low : Withdraws y s p t → (3 ≤ stepOf y s p .reply .outcome) × (stepOf y s p .reply .outcome ≤ 4) × (stepOf y s p .reply .transactor ≡ t)
       low (rolls-back e q) = (omega arith, omega arith, q)
-      low (vanishes e q) = (omega arith, omega arith, q)
+      low (annihilates e q) = (omega arith, omega arith, q)
 
       go : Judged y s p → Live (b .holders t .status) × Rolled y s t (stepOf y s p .state)
       go (refused h e) = let k = low w .1 in absurd (omega arith)

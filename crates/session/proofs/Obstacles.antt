@@ -24,7 +24,7 @@ use Rattle.session.specs.Grounds.{from-start, in-state, in-creation, Res
 use Rattle.session.specs.Waiting.{ReadyGroup}
 use Rattle.session.specs.Trace.{Trace}
 use Rattle.session.specs.Point.{Point}
-use Rattle.session.specs.Withdrawal.{Further, SameLife, Doomed}
+use Rattle.session.specs.Withdrawal.{Further, SameIncarnation, Doomed}
 use Rattle.session.specs.Meanings.{UnstableMeans, OutsideMeans, WithdrawnMeans}
 use Rattle.session.proofs.Model.{view}
 use Rattle.session.proofs.Sets.{cell-has}
@@ -95,7 +95,7 @@ module _ {y : Layout} (z : Fitting y) {img : List ℕ} {τ : Trace y img} {s : S
       }
 
   -- And then no volume with take t can be signed, after whatever steps, signings included, as long as take t keeps its present life.
-  pub withdrawn-for-good : (v t u : ℕ) → obstacleOf y s v ≡ answer.SupersededOrAnnihilated t u → {after : State} → Further y s after → SameLife s after t → (g : ℕ) → named g t ≡ true → ReadyGroup y after g → ⊥
+  pub withdrawn-for-good : (v t u : ℕ) → obstacleOf y s v ≡ answer.SupersededOrAnnihilated t u → {after : State} → Further y s after → SameIncarnation s after t → (g : ℕ) → named g t ≡ true → ReadyGroup y after g → ⊥
   withdrawn-for-good v t u e o same =
       let m = withdrawn-means v t u e in
       never-ready z (well z k) (related z k) (m .rests) (m .withdrawn) o same

@@ -38,7 +38,7 @@ use Rattle.session.specs.Grounds.{Equal}
 use Rattle.session.specs.Steps.{provenanceRefusal, signing}
 use Rattle.session.specs.Fed.{Call, run}
 use Rattle.session.specs.Trace.{Answer, Performed, beginning, running, offering, naming, hearing, counting, depending, hindering, blocking, showing, Trace, none, one-more, GoesOn}
-use Rattle.session.specs.Waiting.{ReadyGroup, Grounded, Rolls, rolls-back, vanishes, rolls-last, Stands, NoSigning, Waits, Waiting, SignsTake, Unsigned, Leaves, Leaving}
+use Rattle.session.specs.Waiting.{ReadyGroup, Grounded, Rolls, rolls-back, annihilates, rolls-last, Stands, NoSigning, Waits, Waiting, CheckpointsTransactor, Uncheckpointed, Leaves, Leaving}
 use Rattle.session.proofs.Model.{MessageView, own, findMessage, knownMap, view}
 use Rattle.session.proofs.Tables.{pick-view}
 use Rattle.session.proofs.Relation.{live-or-not, Rel, own-history}
@@ -62,12 +62,12 @@ refusal-else x free others y w p e =
 
 rolls-no-refusal : {x : ℕ} → Rolls x → (y : Layout) (w : Seen) (p : Step) → lastRollsBack y w p ≡ false → refusalOf y w p ≡ x → ⊥
 rolls-no-refusal rolls-back = refusal-else 3 (λ e. omega arith) (λ n h k e. omega arith)
-rolls-no-refusal vanishes = refusal-else 4 (λ e. omega arith) (λ n h k e. omega arith)
+rolls-no-refusal annihilates = refusal-else 4 (λ e. omega arith) (λ n h k e. omega arith)
 rolls-no-refusal rolls-last = refusal-else 28 (λ e. omega arith) (λ n h k e. k e)
 
 rolls-high : {x : ℕ} → Rolls x → 3 ≤ x
 rolls-high rolls-back = omega arith
-rolls-high vanishes = omega arith
+rolls-high annihilates = omega arith
 rolls-high rolls-last = omega arith
 
 module _ (y : Layout) (s : State) (p : Step) (k : p .kind ≡ receive) (e : rolledBackAt y s (p .message) ≡ false) where
@@ -196,8 +196,8 @@ module _ {y : Layout} (z : Fitting y) {s : State} (well : WellFormed y s) {b : P
   beside-stands : (t : ℕ) → Beside (view s) t → Stands y s t
   beside-stands t k = rule-stands z well r (k .group) (k .rule) t (k .own)
 
-  beside-stays : (t : ℕ) {p : Step} → StepOk p → (SignsTake y s p t → ⊥) → Beside (view s) t → Beside (view (stepOf y s p .state)) t
-  beside-stays t {p} fits unsigned now =
+  beside-stays : (t : ℕ) {p : Step} → StepOk p → (CheckpointsTransactor y s p t → ⊥) → Beside (view s) t → Beside (view (stepOf y s p .state)) t
+  beside-stays t {p} fits apart now =
       let k = state-kept well r p (fits .message) in
       beside-on (view s) b r y t now (view (stepOf y s p .state)) (k .rel) p (fits .message) (λ q i e n. signs-not e n i (right .signing q i)) (k .step)
     where
@@ -205,7 +205,7 @@ module _ {y : Layout} (z : Fitting y) {s : State} (well : WellFormed y s) {b : P
       right = step-right z well r fits .right
 
       signs-not : Equal b (p .message) → named (p .message) t ≡ true → p .kind ≡ sign → SigningRight y s b p → ⊥
-      signs-not e n i (checkpointed x f g) = unsigned (record { kind = i; names = n; signs = ap (λ (x : Reply). x .outcome) f })
+      signs-not e n i (checkpointed x f g) = apart (record { kind = i; names = n; signs = ap (λ (x : Reply). x .outcome) f })
       signs-not e n i (uncheckpointed x f g) = x e
 
 -- ---- every session
@@ -233,9 +233,9 @@ module _ (y : Layout) (z : Fitting y) {img : List ℕ} (τ : Trace y img) where
             at (yes q) g = subst (λ (n : ℕ). P (after n)) q now
             at (no n) g = next k (f k (omega arith) (omega arith)) (g (omega arith))
 
-    beside-after : (i j t : ℕ) → i ≤ j → Unsigned y (unpack y img) steps t i j → Beside (view (stateAfter y (unpack y img) steps i)) t → Beside (view (stateAfter y (unpack y img) steps j)) t
+    beside-after : (i j t : ℕ) → i ≤ j → Uncheckpointed y (unpack y img) steps t i j → Beside (view (stateAfter y (unpack y img) steps i)) t → Beside (view (stateAfter y (unpack y img) steps j)) t
     unfolding stateAfter
-    beside-after i j t h others = keep-on (λ k. SignsTake y (after k) (stepAt steps k) t → ⊥) (λ s. Beside (view s) t) (λ k unsigned. beside-stays z (well-after k) (ran k .rel) t (stepOk-at steps octets k) unsigned) i j h others
+    beside-after i j t h others = keep-on (λ k. CheckpointsTransactor y (after k) (stepAt steps k) t → ⊥) (λ s. Beside (view s) t) (λ k apart. beside-stays z (well-after k) (ran k .rel) t (stepOk-at steps octets k) apart) i j h others
 
     -- "A frozen take whose marks in state and creation, its own apart, are all of signed lives or of present lives of takes in the ready
     -- volume can't be made to fall by any parcel of that session, and that is the fact to show first." For every layout whose counts fit
@@ -248,7 +248,7 @@ module _ (y : Layout) (z : Fitting y) {img : List ℕ} (τ : Trace y img) where
 
     -- And it stays so until the take is signed itself, whatever else is signed meanwhile: with the volume ready, no parcel makes it fall that
     -- is sent later either.
-    pub never-rolls : (i j v t : ℕ) → i ≤ j → Unsigned y (unpack y img) steps t i j → ReadyGroup y (stateAfter y (unpack y img) steps i) v → Grounded (stateAfter y (unpack y img) steps i) v t
+    pub never-rolls : (i j v t : ℕ) → i ≤ j → Uncheckpointed y (unpack y img) steps t i j → ReadyGroup y (stateAfter y (unpack y img) steps i) v → Grounded (stateAfter y (unpack y img) steps i) v t
         → Stands y (stateAfter y (unpack y img) steps j) t
     never-rolls i j v t h others before g =
         beside-stands z (well-after j) (ran j .rel) t (beside-after i j t h others (grounded-beside z (well-after i) (ran i .rel) before g))
@@ -308,7 +308,7 @@ module _ (y : Layout) (z : Fitting y) where
 
     call-ready : {img after : List ℕ} {c : Call} {a : Answer} → Trace y img → Waits y img c → Performed y img c a after → ReadyGroup y (unpack y img) v → ReadyGroup y (unpack y after) v
     call-ready τ w p = call-keeps (λ s. ReadyGroup y s v) (w .goes-on) p
-        (λ list o start end lent e. run-keeps (λ i b. NoSigning b 0 (stepsIn b)) (λ s. ReadyGroup y s v) part-ready τ list o start end lent (w .unsigned list o start end lent e))
+        (λ list o start end lent e. run-keeps (λ i b. NoSigning b 0 (stepsIn b)) (λ s. ReadyGroup y s v) part-ready τ list o start end lent (w .uncheckpointed list o start end lent e))
 
     -- The same over any list of calls that sign nothing: runs without a signing, offers, shows and queries, and whatever is refused.
     pub still-ready-calls : {img after : List ℕ} → Trace y img → Waiting y img after → ReadyGroup y (unpack y img) v → ReadyGroup y (unpack y after) v
@@ -318,12 +318,12 @@ module _ (y : Layout) (z : Fitting y) where
   -- ---- calls that leave take t unsigned
 
   module _ (t : ℕ) where
-    part-beside : (img : List ℕ) → Trace y img → (b : List ℕ) → Octets b → Unsigned y (unpack y img) b t 0 (stepsIn b) → Beside (view (stateAfter y (unpack y img) b 0)) t → Beside (view (stateAfter y (unpack y img) b (stepsIn b))) t
+    part-beside : (img : List ℕ) → Trace y img → (b : List ℕ) → Octets b → Uncheckpointed y (unpack y img) b t 0 (stepsIn b) → Beside (view (stateAfter y (unpack y img) b 0)) t → Beside (view (stateAfter y (unpack y img) b (stepsIn b))) t
     part-beside i σ b o f = beside-after y z σ b o 0 (stepsIn b) t (omega arith) f
 
     call-beside : {img after : List ℕ} {c : Call} {a : Answer} → Trace y img → Leaves y t img c → Performed y img c a after → Beside (view (unpack y img)) t → Beside (view (unpack y after)) t
     call-beside τ w p = call-keeps (λ s. Beside (view s) t) (w .goes-on) p
-        (λ list o start end lent e. run-keeps (λ i b. Unsigned y (unpack y i) b t 0 (stepsIn b)) (λ s. Beside (view s) t) part-beside τ list o start end lent (w .unsigned list o start end lent e))
+        (λ list o start end lent e. run-keeps (λ i b. Uncheckpointed y (unpack y i) b t 0 (stepsIn b)) (λ s. Beside (view s) t) part-beside τ list o start end lent (w .uncheckpointed list o start end lent e))
 
     calls-beside : {img after : List ℕ} → Trace y img → Leaving y img t after → Beside (view (unpack y img)) t → Beside (view (unpack y after)) t
     calls-beside τ none before = before
@@ -341,7 +341,7 @@ module _ {img : List ℕ} (τ : Trace base img) where
   pub cannot-fall-base : (steps : List ℕ) → Octets steps → (i v t : ℕ) → Grounded (stateAfter base (unpack base img) steps i) v t → Stands base (stateAfter base (unpack base img) steps i) t
   cannot-fall-base = cannot-fall base fitting-base τ
 
-  pub never-rolls-base : (steps : List ℕ) → Octets steps → (i j v t : ℕ) → i ≤ j → Unsigned base (unpack base img) steps t i j → ReadyGroup base (stateAfter base (unpack base img) steps i) v
+  pub never-rolls-base : (steps : List ℕ) → Octets steps → (i j v t : ℕ) → i ≤ j → Uncheckpointed base (unpack base img) steps t i j → ReadyGroup base (stateAfter base (unpack base img) steps i) v
       → Grounded (stateAfter base (unpack base img) steps i) v t → Stands base (stateAfter base (unpack base img) steps j) t
   never-rolls-base = never-rolls base fitting-base τ
 

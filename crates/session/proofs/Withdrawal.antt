@@ -47,7 +47,7 @@ use Rattle.session.specs.Fed.{provenanceQueryRefusal, ProvenanceOf}
 use Rattle.session.specs.Trace.{Trace, callsOf, none, one-more}
 use Rattle.session.specs.Point.{Point, at-end}
 use Rattle.session.specs.Waiting.{ReadyGroup}
-use Rattle.session.specs.Withdrawal.{Withdraws, Further, here, step, SameLife, RestsThrough, itself, via, Spoilt, on-withdrawn, on-spoilt, Doomed, SmallestIn, Continued}
+use Rattle.session.specs.Withdrawal.{Withdraws, Further, here, step, SameIncarnation, RestsThrough, itself, via, Spoilt, on-withdrawn, on-spoilt, Doomed, SmallestIn, Continued}
 use Rattle.session.proofs.Model.{Ledger, view}
 use Rattle.session.proofs.Tables.{pick-view}
 use Rattle.session.proofs.Sets.{cell-some}
@@ -223,7 +223,7 @@ module _ {y : Layout} (z : Fitting y) {s : State} (w : WellFormed y s) {b : Prov
   unfolding view
   life-is v wv c q u = ap (λ (m : HistoryView). m .incarnation) (sym (own-view wv u) ∙ own-history (q .holders u))
 
-  module _ {u t : ℕ} {a : Incarnation} (rests : RestsOn b u t a) (withdrawn : SupersededOrAnnihilated b t a) {after : State} (o : Further y s after) (same : SameLife s after u) where
+  module _ {u t : ℕ} {a : Incarnation} (rests : RestsOn b u t a) (withdrawn : SupersededOrAnnihilated b t a) {after : State} (o : Further y s after) (same : SameIncarnation s after u) where
     ground : Ground (b .holders u) t a
     ground = ⊎-elim (λ g. g) (λ c. absurd (checkpointed-stands b c withdrawn)) (rests-ground (view s) b r rests)
 
@@ -246,7 +246,7 @@ module _ {y : Layout} (z : Fitting y) {s : State} (w : WellFormed y s) {b : Prov
 module _ {y : Layout} (z : Fitting y) {s : State} (w : WellFormed y s) {b : Provenance} (r : Rel (view s) b) where
   -- the same with the signing rule, whatever the refusals
   abbrev pub Unready : ℕ → Type 0
-  Unready u = (after : State) → Further y s after → SameLife s after u → (v : ℕ) → named v u ≡ true → Ready (view after) (named v) → ⊥
+  Unready u = (after : State) → Further y s after → SameIncarnation s after u → (v : ℕ) → named v u ≡ true → Ready (view after) (named v) → ⊥
 
   pub unready-doomed : {u : ℕ} → Unready u → Doomed y s u
   unready-doomed d after o same v n k =
@@ -262,9 +262,9 @@ module _ {y : Layout} (z : Fitting y) {s : State} (w : WellFormed y s) {b : Prov
       reaches : Reaches y b after
       fate : Fate (b .holders u) (reaches .after .holders u)
 
-    same-life : {after : State} (q : Reaches y b after) → Keeps (b .holders u) (q .after .holders u) → SameLife s after u
+    same-incarnation : {after : State} (q : Reaches y b after) → Keeps (b .holders u) (q .after .holders u) → SameIncarnation s after u
     unfolding view
-    same-life {after} q k = record {
+    same-incarnation {after} q k = record {
       live = live-test (transactorAt after u .status) .1 (rw (q .rel .holders u .status) (k .live));
       is = life-is z w r after (q .well) (q .after) (q .rel) u ∙ k .incarnation ∙ sym (life-is z w r s w b r u);
     }
@@ -287,7 +287,7 @@ module _ {y : Layout} (z : Fitting y) {s : State} (w : WellFormed y s) {b : Prov
                 rel = k .rel;
                 turns = λ x. turns.more (q .turns x) (turn (view now) (q .after) (q .rel) y (stepAt steps i) (ok .message) (k .step) x);
               };
-              fate = fate-on (f .fate) t (λ g c. unready now o (same-life q c) (g .0) (g .1) (g .2));
+              fate = fate-on (f .fate) t (λ g c. unready now o (same-incarnation q c) (g .0) (g .1) (g .2));
             }
 
     -- Whoever rests on its present life can't be signed any more either, as long as that take keeps its own.
@@ -312,7 +312,7 @@ module _ {y : Layout} (z : Fitting y) {s : State} (w : WellFormed y s) {b : Prov
           where
             at : CheckpointedNow (f .reaches .after) u (b .holders u .history .incarnation) ⊎ StablePresent (f .reaches .after) v u (b .holders u .history .incarnation) → ⊥
             at (inl c) = checkpointed-longer (c .is) (ap (λ (a : Incarnation). a .checkpoints) (sym (k .incarnation)))
-            at (inr p) = unready after o (same-life (f .reaches) k) v (p .named) ok
+            at (inr p) = unready after o (same-incarnation (f .reaches) k) v (p .named) ok
 
   -- whoever is spoilt
   spoilt-unready : {x : ℕ} → Spoilt b x → Unready x
@@ -419,7 +419,7 @@ module _ {y : Layout} (z : Fitting y) {img : List ℕ} {τ : Trace y img} {s : S
         to rests (no n) = (resting-means t there u .1 (rests-to only-t u n rests), n)
 
     -- And no volume that names one of them is ready, after whatever steps, signings included, as long as that take keeps its present life.
-    pub spoilt-for-good : (u : ℕ) → named (dependentsOf y s t .resting) u ≡ true → t ≢ u → {after : State} → Further y (stepOf y s p .state) after → SameLife s after u
+    pub spoilt-for-good : (u : ℕ) → named (dependentsOf y s t .resting) u ≡ true → t ≢ u → {after : State} → Further y (stepOf y s p .state) after → SameIncarnation s after u
         → (v : ℕ) → named v u ≡ true → ReadyGroup y after v → ⊥
     spoilt-for-good u named-u n {after} o same =
         let later = keeps z (well z k) ok in
@@ -523,7 +523,7 @@ module _ {y : Layout} (z : Fitting y) {img : List ℕ} {τ : Trace y img} {s : S
     )
 
     -- And no volume that names one of those of `through` is ready, after whatever steps, as long as that take keeps its present life.
-    pub spoilt-through : (x : ℕ) → named (dependentsOf y s t .through) x ≡ true → t ≢ x → {after : State} → Further y (stepOf y s p .state) after → SameLife s after x
+    pub spoilt-through : (x : ℕ) → named (dependentsOf y s t .through) x ≡ true → t ≢ x → {after : State} → Further y (stepOf y s p .state) after → SameIncarnation s after x
         → (v : ℕ) → named v x ≡ true → ReadyGroup y after v → ⊥
     spoilt-through x q n {after} o same =
         spoilt-doomed z (keeps z (well z k) ok) rel-after (spoils-exactly x n .1 (inr q)) after o (record { live = same .live; is = same .is ∙ sym (life-same x n) })

@@ -20,7 +20,7 @@ use Rattle.session.specs.Steps.{ProvenanceStep}
 use Rattle.session.specs.Fed.{ProvenanceOf}
 use Rattle.session.specs.Trace.{Trace, callsOf}
 use Rattle.session.specs.Point.{StepIn, Point, at-end}
-use Rattle.session.specs.Withdrawal.{Withdraws, rolls-back, vanishes, Spoilt, Doomed, RolledBackIn, rolled-back, vanished-in, Withdrawal}
+use Rattle.session.specs.Withdrawal.{Withdraws, rolls-back, annihilates, Spoilt, Doomed, RolledBackIn, rolled-back, annihilated-in, Withdrawal}
 use Rattle.session.specs.Meanings.{DependentsMean}
 use Rattle.session.proofs.Run.{first-packReply}
 use Rattle.session.proofs.Points.{Taken, step-taken}
@@ -53,7 +53,7 @@ module _ {y : Layout} (z : Fitting y) {img : List ℕ} {τ : Trace y img} {s s' 
 
       go : RolledBackIn reply t → Withdraws y s p t
       go (rolled-back e q) = rolls-back (sym outcome ∙ e) (sym transactor ∙ q)
-      go (vanished-in e q) = vanishes (sym outcome ∙ e) (sym transactor ∙ q)
+      go (annihilated-in e q) = annihilates (sym outcome ∙ e) (sym transactor ∙ q)
 
   -- The book after the step, and what is said of the fall.
   pub withdrawal : {t : ℕ} → RolledBackIn reply t → (c : Provenance) × ProvenanceStep y b p c × Withdrawal y s b s' c t

@@ -36,7 +36,7 @@ pub record Grounded (s : State) (v t : ℕ) : Type 0 where
 -- the replies to a receipt by which the addressee falls: outcomes 3 and 4; and 28, where it would fall from the largest life number
 pub data Rolls : ℕ → Type 0 where
   rolls-back : Rolls fallenBack
-  vanishes : Rolls vanished
+  annihilates : Rolls vanished
   rolls-last : Rolls 28
 
 -- "can't be made to fall by any parcel of that session": no receipt of a parcel addressed to take t has such a reply
@@ -52,7 +52,7 @@ NoSigning steps i j = (k : ℕ) → i ≤ k → k < j → stepAt steps k .kind �
 -- a call on the image img that signs nothing: no accepted begin, which is a new session, and no accepted run with a signing among its steps
 pub record Waits (y : Layout) (img : List ℕ) (c : Call) : Type 0 where
   pub goes-on : GoesOn y img c
-  pub unsigned : (list : List ℕ) (o : Octets list) (start end : ℕ) (lent : List ℕ) → c ≡ run list o start end lent → runAnswer y img list start end lent ≡ 0
+  pub uncheckpointed : (list : List ℕ) (o : Octets list) (start end : ℕ) (lent : List ℕ) → c ≡ run list o start end lent → runAnswer y img list start end lent ≡ 0
       → NoSigning (part start (end - start) list) 0 (stepsIn (part start (end - start) list))
 
 -- such calls, one after the other
@@ -62,20 +62,20 @@ Waiting y img after = CallsFrom y (Waits y) img after
 -- ---- lists of steps and of calls that leave one take unsigned
 
 -- step p signs take t: a signing that names it and replies 0
-pub record SignsTake (y : Layout) (s : State) (p : Step) (t : ℕ) : Type 0 where
+pub record CheckpointsTransactor (y : Layout) (s : State) (p : Step) (t : ℕ) : Type 0 where
   pub kind : p .kind ≡ sign
   pub names : named (p .message) t ≡ true
   pub signs : stepOf y s p .reply .outcome ≡ done
 
 -- none of the steps i up to j of a part, run from the state s, signs take t
-abbrev pub Unsigned : Layout → State → List ℕ → (t i j : ℕ) → Type 0
-Unsigned y s steps t i j = (k : ℕ) → i ≤ k → k < j → SignsTake y (stateAfter y s steps k) (stepAt steps k) t → ⊥
+abbrev pub Uncheckpointed : Layout → State → List ℕ → (t i j : ℕ) → Type 0
+Uncheckpointed y s steps t i j = (k : ℕ) → i ≤ k → k < j → CheckpointsTransactor y (stateAfter y s steps k) (stepAt steps k) t → ⊥
 
 -- a call on the image img that does not sign take t: no accepted begin, and no accepted run one of whose steps signs it
 pub record Leaves (y : Layout) (t : ℕ) (img : List ℕ) (c : Call) : Type 0 where
   pub goes-on : GoesOn y img c
-  pub unsigned : (list : List ℕ) (o : Octets list) (start end : ℕ) (lent : List ℕ) → c ≡ run list o start end lent → runAnswer y img list start end lent ≡ 0
-      → Unsigned y (unpack y img) (part start (end - start) list) t 0 (stepsIn (part start (end - start) list))
+  pub uncheckpointed : (list : List ℕ) (o : Octets list) (start end : ℕ) (lent : List ℕ) → c ≡ run list o start end lent → runAnswer y img list start end lent ≡ 0
+      → Uncheckpointed y (unpack y img) (part start (end - start) list) t 0 (stepsIn (part start (end - start) list))
 
 -- such calls, one after the other: "that session", until take t is signed in it
 abbrev pub Leaving : Layout → (img : List ℕ) (t : ℕ) (after : List ℕ) → Type 0

@@ -28,7 +28,7 @@ use Rattle.session.specs.Waiting.{ReadyGroup}
 -- step p makes take t fall: outcome 3 or 4, with t the take acted on
 pub data Withdraws (y : Layout) (s : State) (p : Step) (t : ℕ) : Type 0 where
   rolls-back : stepOf y s p .reply .outcome ≡ fallenBack → stepOf y s p .reply .transactor ≡ t → Withdraws y s p t
-  vanishes : stepOf y s p .reply .outcome ≡ vanished → stepOf y s p .reply .transactor ≡ t → Withdraws y s p t
+  annihilates : stepOf y s p .reply .outcome ≡ vanished → stepOf y s p .reply .transactor ≡ t → Withdraws y s p t
 
 -- any further steps from state s on, signings among them, refused ones included; a step is what some eight bytes hold
 pub data Further (y : Layout) (s : State) : State → Type 0 where
@@ -41,7 +41,7 @@ pub data ProvenanceFurther (y : Layout) (b : Provenance) : Provenance → Type 1
   further : {now after : Provenance} → ProvenanceFurther y b now → (steps : List ℕ) → Octets steps → (i : ℕ) → ProvenanceStep y now (stepAt steps i) after → ProvenanceFurther y b after
 
 -- take u is live in the state after with the life that it had in s
-pub record SameLife (s after : State) (u : ℕ) : Type 0 where
+pub record SameIncarnation (s after : State) (u : ℕ) : Type 0 where
   pub live : live (transactorAt after u) ≡ true
   pub is : incarnationOf (ownHistory u (transactorAt after u)) ≡ incarnationOf (ownHistory u (transactorAt s u))
 
@@ -67,7 +67,7 @@ pub record Unheld (b : Provenance) (t : ℕ) (a : Incarnation) : Type 0 where
 
 -- no volume with take u is ready, after whatever steps, as long as u keeps the life that it has in s
 abbrev pub Doomed : Layout → State → ℕ → Type 0
-Doomed y s u = (after : State) → Further y s after → SameLife s after u → (v : ℕ) → named v u ≡ true → ReadyGroup y after v → ⊥
+Doomed y s u = (after : State) → Further y s after → SameIncarnation s after u → (v : ℕ) → named v u ≡ true → ReadyGroup y after v → ⊥
 
 -- what smallest_group answers about take u on the image that holds state s, its refusal included
 abbrev pub SmallestIn : Layout → State → ℕ → Option ℕ → Type 0
@@ -78,7 +78,7 @@ SmallestIn y s u a = Smallest y (pack y s) u a
 -- its eight bytes of reply say that take t fell: outcome 3 or 4, with t the take acted on
 pub data RolledBackIn (reply : List ℕ) (t : ℕ) : Type 0 where
   rolled-back : outcomeIn reply ≡ fallenBack → getD reply 1 0 ≡ t → RolledBackIn reply t
-  vanished-in : outcomeIn reply ≡ vanished → getD reply 1 0 ≡ t → RolledBackIn reply t
+  annihilated-in : outcomeIn reply ≡ vanished → getD reply 1 0 ≡ t → RolledBackIn reply t
 
 -- What the two queries say of it: s and b, the ledger's state and the book just before the step; s' and c, just after it.
 pub record Withdrawal (y : Layout) (s : State) (b : Provenance) (s' : State) (c : Provenance) (t : ℕ) : Type 1 where
@@ -89,7 +89,7 @@ pub record Withdrawal (y : Layout) (s : State) (b : Provenance) (s' : State) (c 
   -- The takes that are spoilt afterwards are those that were before, and those of `through`; take t apart.
   pub spoils : (x : ℕ) → t ≢ x → Spoilt c x ↔ (Spoilt b x ⊎ (named (dependentsOf y s t .through) x ≡ true))
   -- No volume that names one of `through` is ready, after whatever steps, as long as that take keeps its present life; nor was one before.
-  pub doomed : (x : ℕ) → named (dependentsOf y s t .through) x ≡ true → t ≢ x → {after : State} → Further y s' after → SameLife s after x → (v : ℕ) → named v x ≡ true → ReadyGroup y after v → ⊥
+  pub doomed : (x : ℕ) → named (dependentsOf y s t .through) x ≡ true → t ≢ x → {after : State} → Further y s' after → SameIncarnation s after x → (v : ℕ) → named v x ≡ true → ReadyGroup y after v → ⊥
   pub unready : (x : ℕ) → named (dependentsOf y s t .through) x ≡ true → (v : ℕ) → named v x ≡ true → ReadyGroup y s v → ⊥
   -- Where `resting` and `unfinished` name nobody but take t itself and no waiting parcel has that life, nobody ever holds it after the fall,
   -- whatever further steps come.

@@ -9,11 +9,12 @@ use Rattle.rules.specs.declared.Step.{Step}
 use Rattle.rules.specs.Step.{stepBytes, receive}
 use Rattle.rules.specs.Refusals.{groupBits}
 use Rattle.rules.specs.Calls.{longest}
-use Rattle.engine_chains.specs.declared.rows.Row.{Row}
-use Rattle.engine_chains.specs.declared.rows.Slot.{Slot}
-use Rattle.engine_chains.specs.Internal.Tables.{Tables, Played, play}
+use Rattle.engine_tables.specs.declared.table.Row.{Row}
+use Rattle.engine_tables.specs.declared.table.Slot.{Slot}
+use Rattle.engine_tables.specs.Internal.Tables.{Tables, Played, play}
 use Rattle.engine_chains.specs.Internal.Walk.{Walk}
-use Rattle.engine_chains.specs.Internal.Engine.{Walkable, receiptBack, receiptWalk, readyIn}
+use Rattle.engine_chains.specs.Internal.Walk.{Walkable, receiptBack}
+use Rattle.engine_tables.specs.Internal.Engine.{receiptWalk, readyIn}
 use Rattle.engine_tables.specs.declared.register.Register.{Register}
 use Rattle.engine_tables.specs.declared.turns.Operands.{Operands}
 use Rattle.engine_tables.specs.declared.turns.Turn.{Turn}

@@ -1,15 +1,16 @@
 -- One walk back over the steps, which carries no life: of each take it is enough to know whether its life was another one since, and
 -- whether the life that it had ended in a fall. Two sets of places are followed at once, the left and the right.
-use Prim.Native.Nat.{ℕ, zero, suc}
+use Prim.Native.Nat.{ℕ, zero, suc, _*_, _≤_, _<_}
 use mathlib.Core.Bool.{Bool, true, false, not}
 use mathlib.Core.List.{List}
 use mathlib.Core.Option.{Option, none, some}
 use lib.Dec.{eqb}
-use Rattle.octets.specs.Bytes.{pick, _and_, _or_, any}
+use lib.ListN.{length}
+use Rattle.octets.specs.Bytes.{pick, _and_, _or_, any, part}
 use Rattle.marks.specs.Incarnation.{Incarnation, initialIncarnation}
 use Rattle.rules.specs.declared.Step.{Step}
 use Rattle.rules.specs.declared.Told.{Told}
-use Rattle.rules.specs.Step.{stepAt, done, fallenBack, sign, isRefusal}
+use Rattle.rules.specs.Step.{stepBytes, stepAt, unpackTold, done, fallenBack, sign, isRefusal}
 use Rattle.rules.specs.Refusals.{groupBits, named}
 use Rattle.engine_chains.specs.Chain.{Places, messageAlone, groundOf, Event, back, metOf}
 use Rattle.engine_chains.specs.Back.{eventFrom}
@@ -105,3 +106,22 @@ receiptStart n t = startFrom (messageAlone n) (groundOf (λ k. eqb k t)) (λ u. 
 -- a signing of volume g: the present lives on the left, state and creation of the named takes on the right
 abbrev pub signStart : ℕ → Walk
 signStart g = startFrom (groundOf (λ k. false)) (groundOf (named g)) (λ u. true) (named g)
+
+-- ---- over the step list and the packed replies given so far
+
+-- reply j of a list
+unfoldable pub toldIn : List ℕ → ℕ → Told
+toldIn b j = unpackTold (part (stepBytes * j) stepBytes b)
+
+-- What the walk reads of the first i steps and of the replies to them is there, and its numbers are in range.
+pub record Walkable (steps replies : List ℕ) (i : ℕ) : Type 0 where
+  pub listed : stepBytes * i ≤ length steps
+  pub replied : stepBytes * i ≤ length replies
+  pub within : (j : ℕ) → j < i → (toldIn replies j .transactor < 16) × (toldIn replies j .message < 1024)
+
+-- the walk for the receipt of parcel n by take t, and that for a signing of volume g, over the first i steps
+abbrev pub receiptBack : List ℕ → List ℕ → ℕ → ℕ → ℕ → Walk
+receiptBack steps replies i n t = walkBack steps (toldIn replies) i (receiptStart n t)
+
+unfoldable pub signWalk : List ℕ → List ℕ → ℕ → ℕ → Walk
+signWalk steps replies i g = walkBack steps (toldIn replies) i (signStart g)

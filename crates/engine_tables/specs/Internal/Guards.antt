@@ -7,8 +7,8 @@ use Rattle.rules.specs.Layout.{base, largest}
 use Rattle.rules.specs.Step.{fall}
 use Rattle.rules.specs.Refusals.{anyNamed}
 use Rattle.rules.specs.Internal.Guards.{first, busyRefusal, roomRefusal, receiverRefusal, localRefusal, namedRefusal, groupRefusal}
-use Rattle.engine_chains.specs.declared.rows.Row.{Row}
-use Rattle.engine_chains.specs.declared.rows.Slot.{Slot}
+use Rattle.engine_tables.specs.declared.table.Row.{Row}
+use Rattle.engine_tables.specs.declared.table.Slot.{Slot}
 use Rattle.engine_tables.specs.declared.register.Register.{Register}
 
 -- a signed take at the largest life number

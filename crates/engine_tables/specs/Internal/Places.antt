@@ -4,8 +4,8 @@ use mathlib.Core.List.{List}
 use lib.Dec.{leb}
 use lib.ListN.{getD}
 use Rattle.octets.specs.Bytes.{pick}
-use Rattle.engine_chains.specs.declared.rows.Slot.{Slot}
-use Rattle.engine_chains.specs.Internal.Tables.{emptySlot}
+use Rattle.engine_tables.specs.declared.table.Slot.{Slot}
+use Rattle.engine_tables.specs.Internal.Tables.{emptySlot}
 
 -- steps of a list at most
 abbrev pub most : ℕ

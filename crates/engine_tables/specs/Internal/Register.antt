@@ -8,9 +8,9 @@ use Rattle.octets.specs.Bytes.{pick}
 use Rattle.rules.specs.Layout.{limitsOf}
 use Rattle.rules.specs.Status.{unused}
 use Rattle.rules.specs.Refusals.{groupBits, named}
-use Rattle.engine_chains.specs.declared.rows.Row.{Row}
-use Rattle.engine_chains.specs.declared.rows.Slot.{Slot}
-use Rattle.engine_chains.specs.Internal.Tables.{Tables, emptyRow, checkpointRow}
+use Rattle.engine_tables.specs.declared.table.Row.{Row}
+use Rattle.engine_tables.specs.declared.table.Slot.{Slot}
+use Rattle.engine_tables.specs.Internal.Tables.{Tables, emptyRow, checkpointRow}
 use Rattle.engine_tables.specs.declared.register.Register.{Register}
 
 -- take t of a list

@@ -12,9 +12,9 @@ use Rattle.rules.specs.declared.Step.{Step}
 use Rattle.rules.specs.Step.{done, receive}
 use Rattle.rules.specs.Refusals.{groupBits, sends, malformed}
 use Rattle.rules.specs.Rules.{answer}
-use Rattle.engine_chains.specs.declared.rows.Row.{Row}
-use Rattle.engine_chains.specs.declared.rows.Slot.{Slot}
-use Rattle.engine_chains.specs.Internal.Tables.{openedRow, filledSlot, Played, play}
+use Rattle.engine_tables.specs.declared.table.Row.{Row}
+use Rattle.engine_tables.specs.declared.table.Slot.{Slot}
+use Rattle.engine_tables.specs.Internal.Tables.{openedRow, filledSlot, Played, play}
 use Rattle.engine_tables.specs.declared.register.Register.{Register}
 use Rattle.engine_tables.specs.declared.turns.Operands.{Operands}
 use Rattle.engine_tables.specs.declared.turns.Turn.{Turn}

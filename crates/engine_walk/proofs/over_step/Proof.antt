@@ -2,7 +2,7 @@
 use mathlib.Core.Path.{sym, _∙_}
 use borrow.Author.Needs.{needs}
 use Rattle.rules.specs.Step.{stepAt}
-use Rattle.engine_chains.specs.Internal.Engine.{toldIn}
+use Rattle.engine_chains.specs.Internal.Walk.{toldIn}
 use Rattle.engine_chains.specs.Internal.Words.{followerStep}
 use Rattle.engine_chains.proofs.Following.{step-unchanged, step-changed}
 use Rattle.engine_walk.proofs.over_step.Statement.{statement}

@@ -3,7 +3,7 @@ use mathlib.Core.Path.{_∙_}
 use borrow.Author.Needs.{needs}
 use Rattle.rules.specs.Layout.{base}
 use Rattle.rules.proofs.Groups.Dependents.{carries-at}
-use Rattle.grounds.proofs.Rooms.{room-message}
+use Rattle.rules.proofs.Pack.Rooms.{room-message}
 use Rattle.grounds.proofs.carries.Statement.{statement}
 use Rattle.grounds.proofs.carries.Tie as tie
 

@@ -5,7 +5,7 @@ use borrow.Author.Needs.{needs}
 use Rattle.rules.specs.Layout.{base}
 use Rattle.rules.proofs.Pack.Loads.{read-history}
 use Rattle.rules.proofs.Groups.Dependents.{present-absent, present-same}
-use Rattle.grounds.proofs.Rooms.{room-state}
+use Rattle.rules.proofs.Pack.Rooms.{room-state}
 use Rattle.grounds.proofs.holds.Statement.{statement}
 use Rattle.grounds.proofs.holds.Tie as tie
 

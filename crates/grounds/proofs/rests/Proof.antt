@@ -4,7 +4,7 @@ use borrow.Author.Needs.{needs}
 use Rattle.octets.proofs.Tests.{passed, failed}
 use Rattle.rules.specs.Layout.{base}
 use Rattle.rules.proofs.Groups.Dependents.{rests-dead, rests-state, rests-creation}
-use Rattle.grounds.proofs.Rooms.{room-state, room-creation}
+use Rattle.rules.proofs.Pack.Rooms.{room-state, room-creation}
 use Rattle.grounds.proofs.rests.Statement.{statement}
 use Rattle.grounds.proofs.rests.Tie as tie
 

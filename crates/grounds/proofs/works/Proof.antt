@@ -6,7 +6,7 @@ use borrow.Author.Needs.{needs}
 use Rattle.rules.specs.Layout.{base}
 use Rattle.rules.specs.Status.{busy}
 use Rattle.rules.proofs.Groups.Dependents.{works-idle, works-busy}
-use Rattle.grounds.proofs.Rooms.{room-behaviour}
+use Rattle.rules.proofs.Pack.Rooms.{room-behaviour}
 use Rattle.grounds.proofs.works.Statement.{statement}
 use Rattle.grounds.proofs.works.Tie as tie
 

@@ -1,7 +1,7 @@
 -- Refused, the end, or a line.
 use borrow.Author.Needs.{needs}
 use Rattle.rules.specs.Layout.{base}
-use Rattle.image.proofs.Unsound.{sound-long}
+use Rattle.form.proofs.Unsound.{sound-long}
 use Rattle.inspection.proofs.Inspecting.{answers-refused, answers-end, answers-line}
 use Rattle.inspection.proofs.image_line.Statement.{statement}
 use Rattle.inspection.proofs.image_line.Tie as tie

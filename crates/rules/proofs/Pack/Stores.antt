@@ -12,7 +12,7 @@ use lib.Seq.{set-getD, set-set, getD-set-same, getD-set-other, getD-take, getD-d
 use Rattle.octets.specs.Bytes.{put, part, chunks, tabulate, zeros}
 use Rattle.octets.specs.Numbers.{be}
 use Rattle.octets.proofs.Put.{put-left, put-right, put-whole, put-first, put-last, put-mid, put-behind, part-right}
-use Rattle.octets.proofs.Numbers.{length-be}
+use Rattle.octets.proofs.Numbers.{length-be, be-one}
 use Rattle.octets.proofs.Chunks.{step, sides, length-chunks, put-chunk, remove-chunk, fill-none, fill-more, fill-all}
 use Rattle.marks.specs.declared.History.{History}
 use Rattle.marks.specs.Packed.{packHistory}
@@ -21,10 +21,15 @@ use Rattle.maps.specs.declared.DependenceMap.{DependenceMap}
 use Rattle.maps.specs.Map.{withEntry, Sized}
 use Rattle.maps.proofs.Packed.{length-packMap}
 use Rattle.maps.proofs.Placed.{put-entry}
-use Rattle.rules.specs.Layout.{Layout, Limits, historyBytes, mapBytes, valueAt, savedAt, stateAt, creationAt, behaviourAt, transactorBytes, dependencesAt, messageBytes, headBytes, limitsBytes, transactorAddress, messageAddress}
+use Rattle.rules.specs.Layout.{Layout, Limits, base, limitsOf, historyBytes, mapBytes, valueAt, savedAt, stateAt, creationAt, behaviourAt, transactorBytes, dependencesAt, messageBytes, headBytes, limitsBytes, transactorAddress, messageAddress}
 use Rattle.rules.specs.State.{Transactor, Message, State, noTransactor, noMessage, transactorAt, messageAt, withStatus, withValue, withState, withBehaviour, withTransactor, withOpened, withMessage, withoutMessage}
 use Rattle.rules.specs.Pack.{packDependences, packTransactor, packMessage, packTransactorAt, packMessageAt, packHead, packLimits, packFront, pack}
 use Rattle.rules.proofs.Pack.Sizes.{length-packHead, length-packLimits, length-packFront, length-packTransactor, length-packMessage, length-packTransactorAt, length-packMessageAt}
+
+-- the packed limits, a byte each
+pub limits-bytes : (a b c : ℕ) → a < 256 → b < 256 → c < 256 → packLimits base (limitsOf a b c) ≡ a ∷ b ∷ c ∷ 0 ∷ []
+unfolding packLimits
+limits-bytes a b c p q r = rw (be-one a p, be-one b q, be-one c r, be-one 0 (omega arith))
 
 -- ---- setters that the rules do not name
 

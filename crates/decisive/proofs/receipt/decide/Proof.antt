@@ -3,7 +3,7 @@ use borrow.Author.Needs.{needs}
 use Rattle.octets.proofs.Put.{octets-of}
 use Rattle.rules.specs.Layout.{base}
 use Rattle.rules.proofs.Good.{good-formed}
-use Rattle.image.proofs.Unsound.{sound-long, sound-formed}
+use Rattle.form.proofs.Unsound.{sound-long, sound-formed}
 use Rattle.decisive.proofs.Judging.{decide-refused, decide-judged}
 use Rattle.decisive.proofs.receipt.decide.Statement.{statement}
 use Rattle.decisive.proofs.receipt.decide.Tie as tie

@@ -3,7 +3,7 @@ use mathlib.Core.Path.{ap}
 use borrow.Author.Needs.{needs}
 use Rattle.rules.specs.Step.{done}
 use Rattle.rules.specs.Rules.{answer}
-use Rattle.engine_chains.specs.Internal.Tables.{filledSlot}
+use Rattle.engine_tables.specs.Internal.Tables.{filledSlot}
 use Rattle.engine_tables.proofs.turns.sending.Statement.{statement}
 use Rattle.engine_tables.proofs.turns.sending.Tie as tie
 

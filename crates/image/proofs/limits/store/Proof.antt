@@ -1,7 +1,7 @@
 -- The array is the packed limits.
 use native.Mathlib.Omega.{arith}
 use borrow.Author.Needs.{needs}
-use Rattle.image.proofs.FormTest.{limits-bytes}
+use Rattle.rules.proofs.Pack.Stores.{limits-bytes}
 use Rattle.image.proofs.limits.store.Statement.{statement}
 use Rattle.image.proofs.limits.store.Tie as tie
 

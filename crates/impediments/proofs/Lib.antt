@@ -1,0 +1,2 @@
+mod Impeding
+mod Reaching

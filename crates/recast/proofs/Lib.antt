@@ -1,0 +1,3 @@
+pub mod RecastParts
+mod Stores
+mod Turns

@@ -1,0 +1,3 @@
+-- What the code and its proofs cite, and no call.
+pub mod Recast
+pub mod Widths
