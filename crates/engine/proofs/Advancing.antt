@@ -14,7 +14,7 @@ use Rattle.engine_tables.specs.declared.table.Slot.{Slot}
 use Rattle.engine_tables.specs.Internal.Tables.{play}
 use Rattle.engine_chains.specs.Internal.Walk.{Walk}
 use Rattle.engine_chains.specs.Internal.Walk.{receiptBack, signWalk}
-use Rattle.engine_tables.specs.Internal.Engine.{allStable, receiptWalk, readyIn}
+use Rattle.engine_replies.specs.Internal.Engine.{allStable, receiptWalk, readyIn}
 use Rattle.engine_tables.specs.declared.register.Register.{Register}
 use Rattle.engine_tables.specs.declared.turns.Operands.{Operands}
 use Rattle.engine_tables.specs.declared.turns.Turn.{Turn}

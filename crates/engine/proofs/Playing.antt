@@ -30,8 +30,8 @@ use Rattle.engine_tables.specs.declared.table.Slot.{Slot}
 use Rattle.engine_tables.specs.Internal.Tables.{Tables, Played, emptyRow, emptySlot}
 use Rattle.engine_chains.specs.Internal.Walk.{Walk}
 use Rattle.engine_chains.specs.Internal.Walk.{Walkable, receiptBack}
-use Rattle.engine_tables.specs.Internal.Engine.{receiptWalk, playStep, engineAfter, engineReplies}
-use Rattle.engine_tables.proofs.Engine.{letter-walks, engine-fresh}
+use Rattle.engine_replies.specs.Internal.Engine.{receiptWalk, playStep, engineAfter, engineReplies}
+use Rattle.engine_replies.proofs.Engine.{letter-walks, engine-fresh}
 use Rattle.engine_tables.specs.declared.register.Register.{Register}
 use Rattle.engine_tables.specs.declared.turns.Operands.{Operands}
 use Rattle.engine_tables.specs.declared.turns.Turn.{Turn}

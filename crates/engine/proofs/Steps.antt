@@ -22,9 +22,9 @@ use Rattle.rules.specs.declared.Told.{Told}
 use Rattle.engine_tables.specs.Internal.Tables.{Tables, Played}
 use Rattle.engine_chains.specs.Internal.Walk.{Walk, walkBack, receiptStart, signStart}
 use Rattle.engine_chains.specs.Internal.Walk.{toldIn, Walkable, signWalk}
-use Rattle.engine_tables.specs.Internal.Engine.{receiptWalk, readyIn, playStep, Engine, engineAfter}
+use Rattle.engine_replies.specs.Internal.Engine.{receiptWalk, readyIn, playStep, Engine, engineAfter}
 use Rattle.engine_chains.proofs.Walks.{walk-replies}
-use Rattle.engine_tables.proofs.Engine.{told-packed, replies-fit-bytes}
+use Rattle.engine_replies.proofs.Engine.{told-packed, replies-fit-bytes}
 use Rattle.engine_tables.specs.Internal.Places.{most}
 use Rattle.engine.proofs.Ranges.{Ranged, Fine, ranged-fresh, ranged-step}
 

@@ -20,8 +20,8 @@ use Rattle.rules.proofs.Keep.Step.{fitting-base}
 use Rattle.rules.specs.declared.Told.{Told}
 use Rattle.engine_tables.specs.Internal.Tables.{Tables, seenIn, Played, playReceive, playLocal, playApplied, playRefusal, play}
 use Rattle.engine_chains.specs.Internal.Walk.{toldIn}
-use Rattle.engine_tables.specs.Internal.Engine.{playStep, engineAfter, engineReplies}
-use Rattle.engine_tables.proofs.Engine.{engine-fresh, replies-fit-bytes}
+use Rattle.engine_replies.specs.Internal.Engine.{playStep, engineAfter, engineReplies}
+use Rattle.engine_replies.proofs.Engine.{engine-fresh, replies-fit-bytes}
 use Rattle.engine_tables.specs.Internal.Places.{most}
 use Rattle.engine.proofs.Ranges.{Ranged, local-small, receive-small}
 use Rattle.engine.proofs.Steps.{told-left, told-last, ranged, replies-long}

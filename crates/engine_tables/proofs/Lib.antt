@@ -1,7 +1,3 @@
-pub mod Tells
-pub mod Plays
-pub mod Engine
-pub mod Unheard
 mod Checkpointing
 pub mod Guarding
 pub mod Placing

@@ -1,6 +1,5 @@
 -- What contracts of internal functions and laws cite, and no call's promise does.
 pub mod Tables
-pub mod Engine
 pub mod Register
 pub mod Guards
 pub mod Places

@@ -25,7 +25,10 @@ use Rattle.session.specs.Steps.{anew, isNil, rolledBackHolder, reads, writes, f
 use Rattle.session.proofs.Model.{view}
 use Rattle.session.proofs.Relation.{Rel}
 use Rattle.session.proofs.ViewState.{placeIn, place-in}
-use Rattle.engine_tables.specs.Internal.Tables.{Row, Slot, Tables, RowEffect, rollbackRow, writeRow, freezeRow, localRow, receiveRow, checkpointRow}
+use Rattle.engine_tables.specs.declared.table.Row.{Row}
+use Rattle.engine_tables.specs.declared.table.RowEffect.{RowEffect}
+use Rattle.engine_tables.specs.declared.table.Slot.{Slot}
+use Rattle.engine_tables.specs.Internal.Tables.{Tables, rollbackRow, writeRow, freezeRow, localRow, receiveRow, checkpointRow}
 use Rattle.engine_chains.proofs.Seek.{Rising, no-more, one-more, without, seek}
 use Rattle.engine_chains.proofs.Replied.{nil-length, own-stable, own-first}
 

@@ -34,11 +34,13 @@ use Rattle.session.proofs.Related.{receipt-related}
 use Rattle.session.proofs.Seen.{same-seen}
 use Rattle.session.proofs.ViewStep.{Applicable, applicable, same-refusal}
 use Rattle.session.proofs.ViewRules.{droppedAt, rolledBackAt}
-use Rattle.engine_tables.specs.Internal.Tables.{Row, Slot, Tables, openedRow, filledSlot, emptySlot, withRow, openRow, withSlot, withoutSlot, checkpointRow, checkpointRows, receiveRow, Played, playReceive, playLocal, playApplied, seenIn, playRefusal, play}
+use Rattle.engine_tables.specs.declared.table.Row.{Row}
+use Rattle.engine_tables.specs.declared.table.Slot.{Slot}
+use Rattle.engine_tables.specs.Internal.Tables.{Tables, openedRow, filledSlot, emptySlot, withRow, openRow, withSlot, withoutSlot, checkpointRow, checkpointRows, receiveRow, Played, playReceive, playLocal, playApplied, seenIn, playRefusal, play}
 use Rattle.engine_chains.proofs.Seek.{seek, seek-append, seek-without, length-without}
 use Rattle.engine_chains.proofs.BookSets.{NumberedBook, updated-self, missing-is, remove-is, find-remove, find-append, missing-remove, missing-append}
 use Rattle.engine_chains.proofs.Replied as replied
-use Rattle.engine_tables.proofs.Tells.{updated-each, pick-each, RowRel, EffectRel, local-rel, receive-rel, checkpoint-rel, transactor-with, transactor-opened, transactor-message, transactor-without, transactor-checkpoint, contentIn, content-is, messages-without, state-rising, Tells}
+use Rattle.engine_replies.proofs.Tells.{updated-each, pick-each, RowRel, EffectRel, local-rel, receive-rel, checkpoint-rel, transactor-with, transactor-opened, transactor-message, transactor-without, transactor-checkpoint, contentIn, content-is, messages-without, state-rising, Tells}
 
 -- a table seen through f, one place changed
 through : {A B : Type 0} (f : A → B) (F : ℕ → A) (G : ℕ → B) → ((k : ℕ) → f (F k) ≡ G k) → (t t' : ℕ) → t ≡ t' → (x : A) (z : B) → f x ≡ z

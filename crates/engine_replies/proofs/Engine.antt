@@ -45,17 +45,17 @@ use Rattle.session.proofs.Run.{length-packReply, reply-part}
 use Rattle.session.proofs.ViewStep.{readyAt, ready-same, applicable, same-refusal}
 use Rattle.octets.proofs.Tests.{and-of}
 use Rattle.rules.proofs.Keep.Accepted.{accepted}
 use Rattle.engine_tables.specs.Internal.Tables.{Tables, freshTables, emptyRow}
 use Rattle.engine_chains.specs.Internal.Walk.{Walk, walkBack, receiptStart, signStart}
 use Rattle.engine_chains.proofs.Seek.{seek}
 use Rattle.engine_chains.proofs.BookSets.{steps-numbered}
-use Rattle.engine_tables.proofs.Tells.{RowRel, contentIn, Tells}
-use Rattle.engine_tables.proofs.Plays.{Plays, step-plays}
+use Rattle.engine_replies.proofs.Tells.{RowRel, contentIn, Tells}
+use Rattle.engine_replies.proofs.Plays.{Plays, step-plays}
 use Rattle.engine_chains.proofs.Maps.{TracedRun, traced-run, traced-more}
 use Rattle.engine_chains.proofs.WayBack.{toldAt}
 use Rattle.engine_chains.proofs.Walks.{walk-replies, dropped-walk, rolledBack-walk, ready-walk}
 use Rattle.engine_chains.specs.Internal.Walk.{toldIn, signWalk}
-use Rattle.engine_tables.specs.Internal.Engine.{allStable, receiptWalk, readyIn, playStep, Engine, engineAfter, engineReplies}
+use Rattle.engine_replies.specs.Internal.Engine.{allStable, receiptWalk, readyIn, playStep, Engine, engineAfter, engineReplies}
 
 -- ---- replies read back from their bytes
 

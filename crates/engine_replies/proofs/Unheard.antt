@@ -39,11 +39,11 @@ use Rattle.session.proofs.Step.{Stepped, step-right, ready-exact}
 use Rattle.session.proofs.Run.{reply-part}
 use Rattle.session.proofs.ViewState.{view-fresh}
 use Rattle.session.proofs.Silent.{place, case, is-receive, is-accepted, keeps-silently, kept-silently, own-receipt, reply-silently}
 use Rattle.engine_tables.specs.Internal.Tables.{Tables, play, freshTables}
 use Rattle.engine_chains.proofs.BookSets.{NumberedBook, step-numbered, steps-numbered}
-use Rattle.engine_tables.proofs.Tells.{Tells, SlotRel, transactor-with}
-use Rattle.engine_tables.proofs.Plays.{step-plays}
-use Rattle.engine_tables.proofs.Engine.{fresh-tells}
+use Rattle.engine_replies.proofs.Tells.{Tells, SlotRel, transactor-with}
+use Rattle.engine_replies.proofs.Plays.{step-plays}
+use Rattle.engine_replies.proofs.Engine.{fresh-tells}
 
 -- ---- a step without the news leaves the texts that the step leaves
 

@@ -1,0 +1,4 @@
+pub mod Tells
+pub mod Plays
+pub mod Engine
+pub mod Unheard
