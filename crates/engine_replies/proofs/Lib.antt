@@ -1,4 +1,4 @@
-pub mod Tells
-pub mod Plays
+mod Tells
+mod Plays
 pub mod Engine
 pub mod Unheard

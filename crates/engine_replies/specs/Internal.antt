@@ -1,2 +1,2 @@
--- What the laws cite, and no call's promise does.
+-- What contracts of internal functions and laws cite, and no call's promise does.
 pub mod Engine

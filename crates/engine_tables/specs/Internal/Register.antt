@@ -1,4 +1,4 @@
--- What the code keeps by value, as the tables of crate engine_chains: the takes and the parcels stand apart.
+-- What the code keeps by value, as the tables of Tables.antt: the takes and the parcels stand apart.
 use Prim.Native.Nat.{ℕ, _+_, _-_, _<_}
 use mathlib.Core.Bool.{Bool, true}
 use mathlib.Core.Path.{_≡_}
