@@ -6,6 +6,7 @@ pub mod Form
 pub mod Good
 pub mod Groups
 pub mod InOrder
+pub mod Independent
 pub mod News
 pub mod Keep
 pub mod Pack

@@ -5,6 +5,7 @@ pub mod Form
 pub mod Groups
 pub mod Heard
 pub mod Impediment
+pub mod Independent
 pub mod InOrder
 pub mod Internal
 pub mod Layout
