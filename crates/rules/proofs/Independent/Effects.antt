@@ -24,7 +24,7 @@ use Rattle.rules.specs.Independent.{Cell, whole, there, parcel, room, op
 use Rattle.rules.proofs.Places.{place}
 use Rattle.rules.proofs.Keep.Step.{applied-same}
 use Rattle.rules.proofs.ByKind.Applied.{applies}
-use Rattle.rules.proofs.ByKind.Refused.{refuses, kind-formed, receiver}
+use Rattle.rules.proofs.ByKind.Refused.{refuses, kind-formed, receiver, otherwise}
 use Rattle.rules.proofs.Independent.Lists.{over, overlay, overlay-nothing, overlay-picked, single, set-overlay, tabulate-overlay, without, absent, absent-is, without-is, length-overlay}
 
 -- ---- changes of a state
@@ -221,3 +221,91 @@ module _ (y : Layout) (s : State) (p : Step) where
   applied-doing (is-local a b) full z = applied-same y s p z ∙ applies y s p .local a b ∙ local-does a b
   applied-doing (is-lose e) full z = applied-same y s p z ∙ applies y s p .lose e ∙ lose-does e
   applied-doing (is-sign e) full z = applied-same y s p z ∙ applies y s p .sign e ∙ sign-does e full
+
+-- ---- only what the step may change is new
+
+pub data New (y : Layout) (s : State) (p : Step) (t : ℕ) : Option Transactor → Type 0 where
+  kept : New y s p t none
+  changed : {x : Transactor} → Changes y s p (whole t) → New y s p t (some x)
+
+pub data Opens (p : Step) : Bool → Type 0 where
+  no-take : Opens p false
+  one-take : opens (p .kind) ≡ true → Opens p true
+
+pub data Made (s : State) (p : Step) : Option Message → Type 0 where
+  none-made : Made s p none
+  one-made : {m : Message} → sends (p .kind) ≡ true → m .number ≡ s .next → Made s p (some m)
+
+pub data Lost (s : State) (p : Step) : Option ℕ → Type 0 where
+  none-lost : Lost s p none
+  one-lost : takesAway (p .kind) ≡ true → absent (p .message) (s .messages) ≡ false → Lost s p (some (p .message))
+
+pub record Within (y : Layout) (s : State) (p : Step) (d : Delta) : Type 0 where
+  pub opens : Opens p (d .opens)
+  pub takes : (t : ℕ) → New y s p t (d .takes t)
+  pub made : Made s p (d .made)
+  pub lost : Lost s p (d .lost)
+
+pub within-nothing : (y : Layout) (s : State) (p : Step) → Within y s p nothing
+within-nothing y s p = record { opens = no-take; takes = λ t. kept; made = none-made; lost = none-lost }
+
+-- the parcel of an accepted receipt or loss waits
+module _ (y : Layout) (s : State) (p : Step) (formed : malformed p ≡ false) (z : refusal y s p ≡ 0) where
+  abbrev missing : Bool
+  missing = leb (length (s .messages)) (placeOf s (p .message))
+
+  present-receive : p .kind ≡ receive → missing ≡ false
+  present-receive e = pick-zero missing 24 _ (omega arith) (sym (refuses y s p formed .receive e) ∙ z) .0
+
+  present-lose : p .kind ≡ lose → missing ≡ false
+  present-lose e = pick-zero missing 24 _ (omega arith) (sym (refuses y s p formed .lose e) ∙ z) .0
+
+  not-absent : missing ≡ false → absent (p .message) (s .messages) ≡ false
+  unfolding placeOf numbered messageAt
+  not-absent e = sym (absent-is (p .message) (s .messages)) ∙ e
+
+  pub waits-for : missing ≡ false → WaitsFor s (receiver s (p .message)) (p .message)
+  unfolding placeOf numbered
+  waits-for e =
+      let below : placeOf s (p .message) < length (s .messages) = leb-false (length (s .messages)) (placeOf s (p .message)) e in
+      record {
+        place = placeOf s (p .message);
+        waits = below;
+        addressee = refl;
+        number = eqb-true _ (p .message) (place (numbered s (p .message)) 0 (length (s .messages)) .here (omega arith));
+      }
+
+  new-single : (t : ℕ) (x : Transactor) → Changes y s p (whole t) → (u : ℕ) → New y s p u (single t x u)
+  new-single t x c u = pick-view (New y s p u) (eqb u t) (some x) none (λ e. changed (subst (λ (v : ℕ). Changes y s p (whole v)) (sym (eqb-true u t e)) c)) (λ e. kept)
+
+  pub within : (k : Kind p) → Within y s p (doing y s p k .delta)
+  unfolding doing
+  within (is-root e) = record { opens = one-take (rw e); takes = new-single (s .opened) _ (Changes.opening (rw e)); made = none-made; lost = none-lost }
+  within (is-letter e) = record { opens = no-take; takes = λ t. kept; made = one-made (rw e) refl; lost = none-lost }
+  within (is-receive e) = record {
+    opens = no-take;
+    takes = new-single (receiver s (p .message)) _ (Changes.receiving (receiver s (p .message)) e (waits-for (present-receive e)));
+    made = none-made;
+    lost = one-lost (rw e) (not-absent (present-receive e));
+  }
+  within (is-new e) = record {
+    opens = one-take (rw e);
+    takes = λ u. pick-view (New y s p u) (eqb u (s .opened)) _ _
+        (λ f. changed (subst (λ (v : ℕ). Changes y s p (whole v)) (sym (eqb-true u (s .opened) f)) (Changes.opening (rw e))))
+        (λ f. new-single (p .transactor) _ (Changes.acting (rw e) (λ g. omega arith)) u);
+    made = none-made;
+    lost = none-lost;
+  }
+  within (is-send e) = record { opens = no-take; takes = λ t. kept; made = one-made (rw e) refl; lost = none-lost }
+  within (is-local a b) =
+      let k = otherwise (p .kind) a b in
+      record { opens = no-take; takes = new-single (p .transactor) _ (Changes.acting (rw (k .from, k .upto)) (λ g. omega arith)); made = none-made; lost = none-lost }
+  within (is-lose e) = record { opens = no-take; takes = λ t. kept; made = none-made; lost = one-lost (rw e) (not-absent (present-lose e)) }
+  within (is-sign e) = pick-view (λ (d : Doing). Within y s p (d .delta)) (groupReady y s (p .message)) _ _
+      (λ f. record {
+        opens = no-take;
+        takes = λ t. pick-view (New y s p t) (named (p .message) t) _ _ (λ g. changed (Changes.naming t e f g)) (λ g. kept);
+        made = none-made;
+        lost = none-lost;
+      })
+      (λ f. within-nothing y s p)
