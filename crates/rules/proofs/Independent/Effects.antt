@@ -60,10 +60,10 @@ act d s = record {
 abbrev pub nothing : Delta
 nothing = record { opens = false; takes = λ t. none; made = none; lost = none }
 
-abbrev takesNew : (ℕ → Option Transactor) → Delta
+abbrev pub takesNew : (ℕ → Option Transactor) → Delta
 takesNew f = record { opens = false; takes = f; made = none; lost = none }
 
-abbrev parcelMade : Message → Delta
+abbrev pub parcelMade : Message → Delta
 parcelMade m = record { opens = false; takes = λ t. none; made = some m; lost = none }
 
 pub record Doing : Type 0 where
@@ -100,6 +100,25 @@ kind-of p formed =
     from-high k fail h11 is-lose λ h10.
     is-local h5 h10
 
+-- of parcel m by its addressee x
+abbrev pub receiveDoing : Layout → Step → Message → Transactor → Doing
+receiveDoing y p m x =
+    let r : Effect = receiveBy y (m .addressee) x m in
+    record {
+      reply = answer (r .outcome) (m .addressee) (p .message) (r .value);
+      delta = record { opens = false; takes = single (m .addressee) (r .transactor); made = none; lost = some (p .message) };
+    }
+
+-- take o is opened by x
+abbrev pub newDoing : Layout → Step → ℕ → Transactor → Doing
+newDoing y p o x =
+    let t : ℕ = p .transactor in
+    let grown : Transactor = withBehaviour x (join y (only y o (initialHistory (y .places))) (x .behaviour)) in
+    record {
+      reply = answer done o 0 0;
+      delta = record { opens = true; takes = λ u. pick (eqb u o) (some (opening y o (p .value) (carried y t x))) (single t grown u); made = none; lost = none };
+    }
+
 unfoldable pub doing : Layout → State → (p : Step) → Kind p → Doing
 doing y s p (is-root e) = record {
   reply = answer done (s .opened) 0 0;
@@ -109,26 +128,8 @@ doing y s p (is-letter e) = record {
   reply = answer done (p .transactor) (s .next) 0;
   delta = parcelMade (record { addressee = p .transactor; number = s .next; value = p .value; dependences = noDependences y });
 }
-doing y s p (is-receive e) =
-    let m : Message = messageAt s (placeOf s (p .message)) in
-    let r : Effect = receiveBy y (m .addressee) (transactorAt s (m .addressee)) m in
-    record {
-      reply = answer (r .outcome) (m .addressee) (p .message) (r .value);
-      delta = record { opens = false; takes = single (m .addressee) (r .transactor); made = none; lost = some (p .message) };
-    }
-doing y s p (is-new e) =
-    let t : ℕ = p .transactor in
-    let x : Transactor = transactorAt s t in
-    let grown : Transactor = withBehaviour x (join y (only y (s .opened) (initialHistory (y .places))) (x .behaviour)) in
-    record {
-      reply = answer done (s .opened) 0 0;
-      delta = record {
-        opens = true;
-        takes = λ u. pick (eqb u (s .opened)) (some (opening y (s .opened) (p .value) (carried y t x))) (single t grown u);
-        made = none;
-        lost = none;
-      };
-    }
+doing y s p (is-receive e) = receiveDoing y p (messageAt s (placeOf s (p .message))) (transactorAt s (receiver s (p .message)))
+doing y s p (is-new e) = newDoing y p (s .opened) (transactorAt s (p .transactor))
 doing y s p (is-send e) = record {
   reply = answer done (p .transactor) (s .next) 0;
   delta = parcelMade (record { addressee = p .other; number = s .next; value = p .value; dependences = carried y (p .transactor) (transactorAt s (p .transactor)) });
@@ -249,12 +250,23 @@ pub record Within (y : Layout) (s : State) (p : Step) (d : Delta) : Type 0 where
 pub within-nothing : (y : Layout) (s : State) (p : Step) → Within y s p nothing
 within-nothing y s p = record { opens = no-take; takes = λ t. kept; made = none-made; lost = none-lost }
 
+pub waits-for : (s : State) (n : ℕ) → leb (length (s .messages)) (placeOf s n) ≡ false → WaitsFor s (receiver s n) n
+unfolding placeOf numbered
+waits-for s n e =
+    let below : placeOf s n < length (s .messages) = leb-false (length (s .messages)) (placeOf s n) e in
+    record {
+      place = placeOf s n;
+      waits = below;
+      addressee = refl;
+      number = eqb-true _ n (place (numbered s n) 0 (length (s .messages)) .here (omega arith));
+    }
+
 -- the parcel of an accepted receipt or loss waits
 module _ (y : Layout) (s : State) (p : Step) (formed : malformed p ≡ false) (z : refusal y s p ≡ 0) where
   abbrev missing : Bool
   missing = leb (length (s .messages)) (placeOf s (p .message))
 
-  present-receive : p .kind ≡ receive → missing ≡ false
+  pub present-receive : p .kind ≡ receive → missing ≡ false
   present-receive e = pick-zero missing 24 _ (omega arith) (sym (refuses y s p formed .receive e) ∙ z) .0
 
   present-lose : p .kind ≡ lose → missing ≡ false
@@ -263,17 +275,6 @@ module _ (y : Layout) (s : State) (p : Step) (formed : malformed p ≡ false) (z
   not-absent : missing ≡ false → absent (p .message) (s .messages) ≡ false
   unfolding placeOf numbered messageAt
   not-absent e = sym (absent-is (p .message) (s .messages)) ∙ e
-
-  pub waits-for : missing ≡ false → WaitsFor s (receiver s (p .message)) (p .message)
-  unfolding placeOf numbered
-  waits-for e =
-      let below : placeOf s (p .message) < length (s .messages) = leb-false (length (s .messages)) (placeOf s (p .message)) e in
-      record {
-        place = placeOf s (p .message);
-        waits = below;
-        addressee = refl;
-        number = eqb-true _ (p .message) (place (numbered s (p .message)) 0 (length (s .messages)) .here (omega arith));
-      }
 
   new-single : (t : ℕ) (x : Transactor) → Changes y s p (whole t) → (u : ℕ) → New y s p u (single t x u)
   new-single t x c u = pick-view (New y s p u) (eqb u t) (some x) none (λ e. changed (subst (λ (v : ℕ). Changes y s p (whole v)) (sym (eqb-true u t e)) c)) (λ e. kept)
@@ -284,7 +285,7 @@ module _ (y : Layout) (s : State) (p : Step) (formed : malformed p ≡ false) (z
   within (is-letter e) = record { opens = no-take; takes = λ t. kept; made = one-made (rw e) refl; lost = none-lost }
   within (is-receive e) = record {
     opens = no-take;
-    takes = new-single (receiver s (p .message)) _ (Changes.receiving (receiver s (p .message)) e (waits-for (present-receive e)));
+    takes = new-single (receiver s (p .message)) _ (Changes.receiving (receiver s (p .message)) e (waits-for s (p .message) (present-receive e)));
     made = none-made;
     lost = one-lost (rw e) (not-absent (present-receive e));
   }
