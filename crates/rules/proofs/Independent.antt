@@ -1,3 +1,4 @@
 pub mod Effects
 pub mod Lists
 pub mod Seen
+pub mod Steps
