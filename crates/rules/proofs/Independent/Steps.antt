@@ -161,3 +161,134 @@ module _ (y : Layout) (s : State) (p q : Step) (forth : (c : Cell) → Changes y
       let t : overlay (e .takes) (overlay (d .takes) (s .transactors)) ≡ overlay (d .takes) (overlay (e .takes) (s .transactors)) = overlay-comm (e .takes) (d .takes) (s .transactors) (λ t. not-both (d .takes) (e .takes) t refl refl (v .takes t) (w .takes t)) in
       let m : adding (e .made) (dropping (e .lost) (adding (d .made) (dropping (d .lost) (s .messages)))) ≡ adding (d .made) (dropping (d .lost) (adding (e .made) (dropping (e .lost) (s .messages)))) = parcels-both (s .messages) (v .lost) (w .lost) (v .made) (w .made) in
       λ i. record { limits = s .limits; opened = o i; next = n i; transactors = t i; messages = m i }
+
+-- ---- the steps
+
+-- all takes of the layout are there
+abbrev pub Full : Layout → State → Type 0
+Full y s = length (s .transactors) ≡ y .transactors
+
+formed-accepted : (y : Layout) (s : State) (p : Step) → refusal y s p ≡ 0 → malformed p ≡ false
+formed-accepted y s p z = ⊎-elim (λ (e : malformed p ≡ true). absurd (twenty (sym z ∙ refusal-malformed y s p e))) (λ (e : malformed p ≡ false). e) (true-or-false (malformed p))
+  where
+    twenty : _≡_ {A = ℕ} 0 20 → ⊥
+    twenty e = omega arith
+
+-- refused or not
+decided : (y : Layout) (s : State) (p : Step) → (refusal y s p ≡ 0) ⊎ (refusal y s p ≡ 0 → ⊥)
+decided y s p = ⊎-elim (λ e. inl (eqb-true (refusal y s p) 0 e)) (λ e. inr (eqb-false (refusal y s p) 0 e)) (true-or-false (eqb (refusal y s p) 0))
+
+module _ (y : Layout) (s : State) (p : Step) (full : Full y s) where
+  accepted-state : (k : Kind p) → refusal y s p ≡ 0 → stepOf y s p .state ≡ act (doing y s p k .delta) s
+  accepted-state k z = ap (λ (r : Result). r .state) (applied-doing y s p k full z)
+
+  accepted-reply : (k : Kind p) → refusal y s p ≡ 0 → stepOf y s p .reply ≡ doing y s p k .reply
+  accepted-reply k z = ap (λ (r : Result). r .reply) (applied-doing y s p k full z)
+
+  refused-state : (refusal y s p ≡ 0 → ⊥) → stepOf y s p .state ≡ s
+  refused-state n = ap (λ (r : Result). r .state) (refused-same y s p n)
+
+  refused-reply : (refusal y s p ≡ 0 → ⊥) → stepOf y s p .reply ≡ answer (refusal y s p) 0 0 0
+  refused-reply n = ap (λ (r : Result). r .reply) (refused-same y s p n)
+
+  pub full-after : Full y (stepOf y s p .state)
+  unfolding act
+  full-after = ⊎-elim
+      (λ (z : refusal y s p ≡ 0).
+      let k : Kind p = kind-of p (formed-accepted y s p z) in
+      ap (λ (x : State). length (x .transactors)) (accepted-state k z) ∙ length-overlay (doing y s p k .delta .takes) (s .transactors) ∙ full)
+      (λ (n : refusal y s p ≡ 0 → ⊥). ap (λ (x : State). length (x .transactors)) (refused-state n) ∙ full)
+      (decided y s p)
+
+-- p is answered in s' as in s, and does the same
+record Undisturbed (y : Layout) (s s' : State) (p : Step) (k : Kind p) : Type 0 where
+  refuses : refusal y s' p ≡ refusal y s p
+  does : refusal y s p ≡ 0 → doing y s' p k ≡ doing y s p k
+
+module _ (y : Layout) (s : State) (p q : Step) (full : Full y s) (formed : malformed p ≡ false) (k : Kind p) (u : Unseen y s q p) where
+  undisturbed : Undisturbed y s (stepOf y s q .state) p k
+  undisturbed = ⊎-elim
+      (λ (z : refusal y s q ≡ 0).
+      let j : malformed q ≡ false = formed-accepted y s q z in
+      let d : Delta = doing y s q (kind-of q j) .delta in
+      let a : Alike s (act d s) p = alike y s p q (u .by z formed) d (within y s q j z (kind-of q j)) in
+      subst (λ (x : State). Undisturbed y s x p k) (sym (accepted-state y s q full (kind-of q j) z))
+      (record { refuses = same-refusal y s (act d s) p formed a k; does = same-doing y s (act d s) p formed a k }))
+      (λ (n : refusal y s q ≡ 0 → ⊥). subst (λ (x : State). Undisturbed y s x p k) (sym (refused-state y s q full n)) (record { refuses = refl; does = λ z. refl }))
+      (decided y s q)
+
+  undisturbed-reply : stepOf y (stepOf y s q .state) p .reply ≡ stepOf y s p .reply
+  undisturbed-reply = ⊎-elim
+      (λ (z : refusal y s p ≡ 0).
+      accepted-reply y (stepOf y s q .state) p (full-after y s q full) k (undisturbed .refuses ∙ z)
+      ∙ ap (λ (d : Doing). d .reply) (undisturbed .does z)
+      ∙ sym (accepted-reply y s p full k z))
+      (λ (n : refusal y s p ≡ 0 → ⊥).
+      refused-reply y (stepOf y s q .state) p (full-after y s q full) (λ (z : refusal y (stepOf y s q .state) p ≡ 0). n (sym (undisturbed .refuses) ∙ z))
+      ∙ ap (λ (r : ℕ). answer r 0 0 0) (undisturbed .refuses)
+      ∙ sym (refused-reply y s p full n))
+      (decided y s p)
+
+  -- refused before, refused after
+  undisturbed-refused : (refusal y s p ≡ 0 → ⊥) → stepOf y (stepOf y s q .state) p .state ≡ stepOf y s q .state
+  undisturbed-refused n = refused-state y (stepOf y s q .state) p (full-after y s q full) (λ (z : refusal y (stepOf y s q .state) p ≡ 0). n (sym (undisturbed .refuses) ∙ z))
+
+  undisturbed-state : refusal y s p ≡ 0 → stepOf y (stepOf y s q .state) p .state ≡ act (doing y s p k .delta) (stepOf y s q .state)
+  undisturbed-state z =
+      accepted-state y (stepOf y s q .state) p (full-after y s q full) k (undisturbed .refuses ∙ z)
+      ∙ ap (λ (d : Doing). act (d .delta) (stepOf y s q .state)) (undisturbed .does z)
+
+module _ (y : Layout) (s : State) (p q : Step) (full : Full y s) where
+  -- a malformed step is refused wherever it stands
+  malformed-exchanged : malformed p ≡ true → Exchanged y s p q
+  malformed-exchanged e =
+      let n : (x : State) → refusal y x p ≡ 0 → ⊥ = λ x z. twenty (sym z ∙ refusal-malformed y x p e) in
+      let same : (x : State) → stepOf y x p .state ≡ x = λ x. ap (λ (r : Result). r .state) (refused-same y x p (n x)) in
+      let reply : (x : State) → stepOf y x p .reply ≡ answer 20 0 0 0 = λ x. ap (λ (r : Result). r .reply) (refused-same y x p (n x)) ∙ ap (λ (r : ℕ). answer r 0 0 0) (refusal-malformed y x p e) in
+      record {
+        state = ap (λ (x : State). stepOf y x q .state) (same s) ∙ sym (same (stepOf y s q .state));
+        first = reply s ∙ sym (reply (stepOf y s q .state));
+        second = ap (λ (x : State). stepOf y x q .reply) (same s);
+      }
+    where
+      twenty : _≡_ {A = ℕ} 0 20 → ⊥
+      twenty e = omega arith
+
+  module _ (i : Independent y s p q) (fp : malformed p ≡ false) (fq : malformed q ≡ false) where
+    abbrev kp : Kind p
+    kp = kind-of p fp
+
+    abbrev kq : Kind q
+    kq = kind-of q fq
+
+    both-state : stepOf y (stepOf y s p .state) q .state ≡ stepOf y (stepOf y s q .state) p .state
+    both-state = go (decided y s p) (decided y s q)
+      where
+        go : (refusal y s p ≡ 0) ⊎ (refusal y s p ≡ 0 → ⊥) → (refusal y s q ≡ 0) ⊎ (refusal y s q ≡ 0 → ⊥) → stepOf y (stepOf y s p .state) q .state ≡ stepOf y (stepOf y s q .state) p .state
+        go (inr n) w = ap (λ (x : State). stepOf y x q .state) (refused-state y s p full n) ∙ sym (undisturbed-refused y s p q full fp kp (i .back) n)
+        go (inl z) (inr n) = undisturbed-refused y s q p full fq kq (i .forth) n ∙ sym (ap (λ (x : State). stepOf y x p .state) (refused-state y s q full n))
+        go (inl z) (inl w) =
+            undisturbed-state y s q p full fq kq (i .forth) w
+            ∙ ap (act (doing y s q kq .delta)) (accepted-state y s p full kp z)
+            ∙ act-comm y s p q (i .forth .by z fq) (i .back .by w fp) (doing y s p kp .delta) (doing y s q kq .delta) (within y s p fp z kp) (within y s q fq w kq)
+            ∙ sym (ap (act (doing y s p kp .delta)) (accepted-state y s q full kq w))
+            ∙ sym (undisturbed-state y s p q full fp kp (i .back) z)
+
+    formed-exchanged : Exchanged y s p q
+    formed-exchanged = record {
+      state = both-state;
+      first = sym (undisturbed-reply y s p q full fp kp (i .back));
+      second = undisturbed-reply y s q p full fq kq (i .forth);
+    }
+
+turned-exchanged : {y : Layout} {s : State} {p q : Step} → Exchanged y s q p → Exchanged y s p q
+turned-exchanged x = record { state = sym (x .state); first = sym (x .second); second = sym (x .first) }
+
+-- both orders leave the same state, and each step has the same reply
+pub independent-exchanged : (y : Layout) (s : State) (p q : Step) → length (s .transactors) ≡ y .transactors → Independent y s p q → Exchanged y s p q
+independent-exchanged y s p q full i = go (true-or-false (malformed p)) (true-or-false (malformed q))
+  where
+    go : (malformed p ≡ true) ⊎ (malformed p ≡ false) → (malformed q ≡ true) ⊎ (malformed q ≡ false) → Exchanged y s p q
+    go (inl e) w = malformed-exchanged y s p q full e
+    go (inr f) (inl e) = turned-exchanged (malformed-exchanged y s q p full e)
+    go (inr f) (inr g) = formed-exchanged y s p q full i f g
