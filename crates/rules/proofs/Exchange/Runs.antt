@@ -20,7 +20,7 @@ use Rattle.rules.specs.Rules.{stepOf}
 use Rattle.rules.specs.Pack.{pack, unpack}
 use Rattle.rules.specs.Calls.{stepsIn, stateAfter, replyAt, wrongPart, runAnswer, ranImage, ranReplies, runImage, runReplies}
 use Rattle.rules.specs.Exchange.{EditsApart, Exchanged, exchangedAt, PairExchanged, RunExchanged}
-use Rattle.rules.proofs.Keep.Run.{after-append, replies-append}
+use Rattle.rules.proofs.Keep.Run.{after-left, after-append, replies-append}
 use Rattle.rules.proofs.Calls.Stored.{Accepted, accepted}
 use Rattle.rules.proofs.Exchange.Steps.{exchanged}
 use Rattle.rules.proofs.Replies.{length-packReply}
@@ -161,21 +161,28 @@ module _ (y : Layout) (s : State) (l c r : List ℕ) (i j : ℕ) (hl : length l 
       ∙ replies-append l (c ++ r) i hl y s (2 + j)
       ∙ ap {B = List ℕ} (λ (x : List ℕ). chunks i (replyAt y s l) ++ x) (replies-append c r 2 hc y upto j)
 
--- the image and the replies of a list b, and of b with two places exchanged
+-- the state and the replies of a list b, and of b with two places exchanged
+pub record RanFrom (y : Layout) (s : State) (b : List ℕ) (k : ℕ) : Type 0 where
+  pub state : stateAfter y s (exchangedAt k b) (stepsIn (exchangedAt k b)) ≡ stateAfter y s b (stepsIn b)
+  pub replies : chunks (stepsIn (exchangedAt k b)) (replyAt y s (exchangedAt k b)) ≡ exchangedAt k (chunks (stepsIn b) (replyAt y s b))
+
+-- the same of the image
 record Ran (y : Layout) (img b : List ℕ) (k : ℕ) : Type 0 where
   image : ranImage y img (exchangedAt k b) ≡ ranImage y img b
   replies : ranReplies y img (exchangedAt k b) ≡ exchangedAt k (ranReplies y img b)
 
+ran-image : (y : Layout) (img b : List ℕ) (k : ℕ) → RanFrom y (unpack y img) b k → Ran y img b k
+unfolding ranImage ranReplies
+ran-image y img b k r = record { image = ap (pack y) (r .state); replies = r .replies }
+
 -- both orders of p and q between l and r
-module _ (y : Layout) (img l p q r : List ℕ) (i j : ℕ) (hl : length l ≡ stepBytes * i) (hr : length r ≡ stepBytes * j) (hp : length p ≡ stepBytes) (hq : length q ≡ stepBytes) (w : EditsApart (unpackStep p) (unpackStep q)) where
-  ran-mid : Ran y img (l ++ (p ++ q) ++ r) (stepBytes * i)
-  unfolding ranImage ranReplies
+module _ (y : Layout) (start : State) (l p q r : List ℕ) (i j : ℕ) (hl : length l ≡ stepBytes * i) (hr : length r ≡ stepBytes * j) (hp : length p ≡ stepBytes) (hq : length q ≡ stepBytes)
+    (x : Exchanged y (stateAfter y start l i) (unpackStep p) (unpackStep q)) where
+  ran-mid : RanFrom y start (l ++ (p ++ q) ++ r) (stepBytes * i)
   ran-mid =
-      let fresh : State = unpack y img in
-      let s : State = stateAfter y fresh l i in
+      let s : State = stateAfter y start l i in
       let P : Step = unpackStep p in
       let Q : Step = unpackStep q in
-      let x : Exchanged y s P Q = exchanged y s P Q w in
       let one : length (p ++ q) ≡ stepBytes * 2 = length-pair p q hp hq in
       let two : length (q ++ p) ≡ stepBytes * 2 = length-pair q p hq hp in
       let mid : exchangedAt (stepBytes * i) (l ++ (p ++ q) ++ r) ≡ l ++ (q ++ p) ++ r = exchanged-mid (stepBytes * i) l p q r hl hp hq in
@@ -184,31 +191,34 @@ module _ (y : Layout) (img l p q r : List ℕ) (i j : ℕ) (hl : length l ≡ st
       let same : stateAfter y s (q ++ p) 2 ≡ stateAfter y s (p ++ q) 2 = back ∙ sym (x .state) ∙ sym there in
       let a : List ℕ = packReply (stepOf y s P .reply) in
       let c : List ℕ = packReply (stepOf y s Q .reply) in
-      let first : List ℕ = chunks i (replyAt y fresh l) in
+      let first : List ℕ = chunks i (replyAt y start l) in
       let last : State → List ℕ = λ z. chunks j (replyAt y z r) in
       let z : State = stateAfter y s (p ++ q) 2 in
+      let run : List ℕ → State = λ b. stateAfter y start b (stepsIn b) in
+      let told : List ℕ → List ℕ = λ b. chunks (stepsIn b) (replyAt y start b) in
       let to : chunks 2 (replyAt y s (p ++ q)) ≡ a ++ c =
       replies-two y s (p ++ q) ∙ rw (pair-first p q hp hq, pair-second p q hp hq) (ap {B = List ℕ} (λ (v : Reply). a ++ packReply v) (x .second)) in
       let fro : chunks 2 (replyAt y s (q ++ p)) ≡ c ++ a =
       replies-two y s (q ++ p) ∙ rw (pair-first q p hq hp, pair-second q p hq hp) (ap {B = List ℕ} (λ (v : Reply). c ++ packReply v) (sym (x .first))) in
-      let given : ranReplies y img (l ++ (p ++ q) ++ r) ≡ first ++ (a ++ c) ++ last z =
-      replies-three y fresh l (p ++ q) r i j hl one hr ∙ (λ t. first ++ (to t ++ last z)) ∙ sym (append-assoc first (a ++ c) (last z)) in
-      let turned : ranReplies y img (l ++ (q ++ p) ++ r) ≡ first ++ (c ++ a) ++ last z =
-      replies-three y fresh l (q ++ p) r i j hl two hr ∙ (λ t. first ++ (fro t ++ last (same t))) ∙ sym (append-assoc first (c ++ a) (last z)) in
+      let given : told (l ++ (p ++ q) ++ r) ≡ first ++ (a ++ c) ++ last z =
+      replies-three y start l (p ++ q) r i j hl one hr ∙ (λ t. first ++ (to t ++ last z)) ∙ sym (append-assoc first (a ++ c) (last z)) in
+      let turned : told (l ++ (q ++ p) ++ r) ≡ first ++ (c ++ a) ++ last z =
+      replies-three y start l (q ++ p) r i j hl two hr ∙ (λ t. first ++ (fro t ++ last (same t))) ∙ sym (append-assoc first (c ++ a) (last z)) in
       record {
-        image =
-            ap (ranImage y img) mid
-            ∙ ap (pack y) (state-three y fresh l (q ++ p) r i j hl two hr ∙ ap (λ (v : State). stateAfter y v r j) same ∙ sym (state-three y fresh l (p ++ q) r i j hl one hr));
+        state =
+            ap run mid
+            ∙ (state-three y start l (q ++ p) r i j hl two hr ∙ ap (λ (v : State). stateAfter y v r j) same ∙ sym (state-three y start l (p ++ q) r i j hl one hr));
         replies =
-            ap (ranReplies y img) mid
+            ap told mid
             ∙ turned
-            ∙ sym (ap (exchangedAt (stepBytes * i)) given ∙ exchanged-mid (stepBytes * i) first a c (last z) (length-replies y fresh l i) (length-packReply _) (length-packReply _));
+            ∙ sym (ap (exchangedAt (stepBytes * i)) given ∙ exchanged-mid (stepBytes * i) first a c (last z) (length-replies y start l i) (length-packReply _) (length-packReply _));
       }
 
 -- b has n steps, of which i and i + 1 are the two
-ran-exchanged : (y : Layout) (img b : List ℕ) (n i : ℕ) → length b ≡ stepBytes * n → i + 2 ≤ n
-    → EditsApart (unpackStep (part (stepBytes * i) stepBytes b)) (unpackStep (part (stepBytes * i + stepBytes) stepBytes b)) → Ran y img b (stepBytes * i)
-ran-exchanged y img b n i e h w =
+pub ran-exchanged : (y : Layout) (start : State) (b : List ℕ) (n i : ℕ) → length b ≡ stepBytes * n → i + 2 ≤ n
+    → Exchanged y (stateAfter y start b i) (stepAt b i) (stepAt b (i + 1)) → RanFrom y start b (stepBytes * i)
+unfolding stepAt
+ran-exchanged y start b n i e h x =
     let k : ℕ = stepBytes * i in
     let j : ℕ = n - (i + 2) in
     let l : List ℕ = part 0 k b in
@@ -220,8 +230,18 @@ ran-exchanged y img b n i e h w =
     sym (part-whole (k + (stepBytes + stepBytes) + stepBytes * j) b whole)
     ∙ part-add 0 (k + (stepBytes + stepBytes)) (stepBytes * j) b
     ∙ rw (part-add 0 k (stepBytes + stepBytes) b, part-add (0 + k) stepBytes stepBytes b) (simp zero-add) in
-    subst (λ (x : List ℕ). Ran y img x k) (sym split)
-    (ran-mid y img l p q r i j (length-part 0 k b (omega arith)) (length-part _ _ b (omega arith)) (length-part _ _ b (omega arith)) (length-part _ _ b (omega arith)) w)
+    let hl : length l ≡ stepBytes * i = length-part 0 k b (omega arith) in
+    let hp : length p ≡ stepBytes = length-part k stepBytes b (omega arith) in
+    let hq : length q ≡ stepBytes = length-part (k + stepBytes) stepBytes b (omega arith) in
+    let hr : length r ≡ stepBytes * j = length-part (k + (stepBytes + stepBytes)) (stepBytes * j) b (omega arith) in
+    let two : length (l ++ (p ++ q)) ≡ stepBytes * (i + 2) = length-append l (p ++ q) ∙ rw (length-append p q) (omega arith) in
+    let upto : stateAfter y start b i ≡ stateAfter y start l i =
+    ap (λ (c : List ℕ). stateAfter y start c i) split
+    ∙ after-left (l ++ (p ++ q)) r (i + 2) two y start i (omega arith)
+    ∙ after-left l (p ++ q) i hl y start i (omega arith) in
+    let second : stepAt b (i + 1) ≡ unpackStep q = ap (λ (m : ℕ). unpackStep (part m stepBytes b)) (omega arith) in
+    let x' : Exchanged y (stateAfter y start l i) (unpackStep p) (unpackStep q) = subst (λ (v : Step). Exchanged y (stateAfter y start l i) (unpackStep p) v) second (subst (λ (v : State). Exchanged y v (unpackStep p) (stepAt b (i + 1))) upto x) in
+    subst (λ (c : List ℕ). RanFrom y start c k) (sym split) (ran-mid y start l p q r i j hl hr hp hq x')
 
 -- ---- the calls
 
@@ -229,9 +249,9 @@ answer-exchanged : (y : Layout) (img list : List ℕ) (start end : ℕ) (buffer 
 unfolding runAnswer wrongPart
 answer-exchanged y img list start end buffer k = rw (length-exchanged k list)
 
--- steps i and i + 1 of the part from start to end
+-- steps i and i + 1 of the part from start to end, which both orders leave the same
 module _ (y : Layout) (img list : List ℕ) (start end : ℕ) (buffer : List ℕ) (i : ℕ) (h : start + stepBytes * (i + 2) ≤ end)
-    (w : EditsApart (unpackStep (part (start + stepBytes * i) stepBytes list)) (unpackStep (part (start + stepBytes * (i + 1)) stepBytes list))) where
+    (x : Exchanged y (stateAfter y (unpack y img) (part start (end - start) list) i) (stepAt (part start (end - start) list) i) (stepAt (part start (end - start) list) (i + 1))) where
   abbrev k : ℕ
   k = stepBytes * i
 
@@ -245,10 +265,7 @@ module _ (y : Layout) (img list : List ℕ) (start end : ℕ) (buffer : List ℕ
       let within : end ≤ length list = a .within in
       let steps : (end - start) % stepBytes ≡ 0 = a .steps in
       let long : length b ≡ stepBytes * ((end - start) / stepBytes) = length-part start (end - start) list (omega arith) ∙ omega arith in
-      let p : part (start + stepBytes * i) stepBytes list ≡ part k stepBytes b = sym (part-part k stepBytes start (end - start) list (omega arith)) in
-      let q : part (start + stepBytes * (i + 1)) stepBytes list ≡ part (k + stepBytes) stepBytes b =
-      ap (λ (x : ℕ). part x stepBytes list) (omega arith) ∙ sym (part-part (k + stepBytes) stepBytes start (end - start) list (omega arith)) in
-      ran-exchanged y img b ((end - start) / stepBytes) i long (omega arith) (rw (← p, ← q) w)
+      ran-image y img b k (ran-exchanged y (unpack y img) b ((end - start) / stepBytes) i long (omega arith) x)
 
   turned : runAnswer y img list start end buffer ≡ 0 → part start (end - start) (exchangedAt (start + k) list) ≡ exchangedAt k b
   turned z =
@@ -258,9 +275,9 @@ module _ (y : Layout) (img list : List ℕ) (start end : ℕ) (buffer : List ℕ
       part-exchanged start (end - start) k list (omega arith) (omega arith)
 
   -- any part of any list, on any image, with any buffer for the replies
-  pub run-exchanged : RunExchanged y img list start end buffer i
+  pub run-turned : RunExchanged y img list start end buffer i
   unfolding runImage runReplies
-  run-exchanged = go (eqb (runAnswer y img list start end buffer) 0) refl
+  run-turned = go (eqb (runAnswer y img list start end buffer) 0) refl
     where
       same : runAnswer y img (exchangedAt (start + k) list) start end buffer ≡ runAnswer y img list start end buffer
       same = answer-exchanged y img list start end buffer (start + k)
@@ -274,6 +291,17 @@ module _ (y : Layout) (img list : List ℕ) (start end : ℕ) (buffer : List ℕ
             replies = rw (same, f, turned z) (ran-part z .replies);
           }
       go false f = record { answer = same; image = rw (same, f); replies = rw (same, f) }
+
+-- two edits on different takes
+pub run-exchanged : (y : Layout) (img list : List ℕ) (start end : ℕ) (buffer : List ℕ) (i : ℕ) → start + stepBytes * (i + 2) ≤ end
+    → EditsApart (unpackStep (part (start + stepBytes * i) stepBytes list)) (unpackStep (part (start + stepBytes * (i + 1)) stepBytes list)) → RunExchanged y img list start end buffer i
+unfolding stepAt
+run-exchanged y img list start end buffer i h w =
+    let b : List ℕ = part start (end - start) list in
+    let p : part (start + stepBytes * i) stepBytes list ≡ part (stepBytes * i) stepBytes b = sym (part-part (stepBytes * i) stepBytes start (end - start) list (omega arith)) in
+    let q : part (start + stepBytes * (i + 1)) stepBytes list ≡ part (stepBytes * (i + 1)) stepBytes b = sym (part-part (stepBytes * (i + 1)) stepBytes start (end - start) list (omega arith)) in
+    let v : EditsApart (stepAt b i) (stepAt b (i + 1)) = rw (← p, ← q) w in
+    run-turned y img list start end buffer i h (exchanged y (stateAfter y (unpack y img) b i) (stepAt b i) (stepAt b (i + 1)) v)
 
 -- the two steps alone
 pub pair-exchanged : (y : Layout) (img p q buffer : List ℕ) → length p ≡ stepBytes → length q ≡ stepBytes → EditsApart (unpackStep p) (unpackStep q) → PairExchanged y img p q buffer

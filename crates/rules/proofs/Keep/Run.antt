@@ -58,7 +58,8 @@ module _ (b c : List ℕ) (i : ℕ) (whole : length b ≡ stepBytes * i) where
       ap unpackStep (ap (λ (n : ℕ). part n stepBytes (b ++ c)) e ∙ part-right (stepBytes * j) stepBytes b c)
 
   module _ (y : Layout) (s : State) where
-    after-left : (k : ℕ) → k ≤ i → stateAfter y s (b ++ c) k ≡ stateAfter y s b k
+    -- the first list alone
+    pub after-left : (k : ℕ) → k ≤ i → stateAfter y s (b ++ c) k ≡ stateAfter y s b k
     after-left zero h = rw (after-zero y s (b ++ c), after-zero y s b)
     after-left (suc k) h = rw (after-suc y s (b ++ c) k, after-suc y s b k, after-left k (omega arith), at-left k h)
 
