@@ -6,14 +6,14 @@ use mathlib.Core.Path.{_≡_}
 use mathlib.Core.List.{List, [], _∷_}
 use lib.Dec.{eqb}
 use lib.ListN.{length}
-use Rattle.octets.specs.Bytes.{pick, _or_}
+use Rattle.octets.specs.Bytes.{pick, _or_, chunks}
 use Rattle.maps.specs.Map.{heldAt}
 use Rattle.rules.specs.Layout.{Layout}
 use Rattle.rules.specs.State.{Transactor, State, transactorAt}
 use Rattle.rules.specs.Step.{Step, root, letter, receive, new, send, lose, sign, stepBytes, stepAt}
 use Rattle.rules.specs.Refusals.{named, acts, sends, malformed}
 use Rattle.rules.specs.Rules.{groupReady, refusal}
-use Rattle.rules.specs.Calls.{stateAfter, stepsIn, runAnswer, runImage, runReplies, WaitsFor}
+use Rattle.rules.specs.Calls.{stateAfter, replyAt, stepsIn, runAnswer, runImage, runReplies, WaitsFor}
 use Rattle.rules.specs.Exchange.{exchangedAt}
 
 -- ---- what a step sees of a session, and what it changes
@@ -97,6 +97,11 @@ pub data Reorders (y : Layout) (s : State) : List ℕ → List ℕ → Type 0 wh
   exchange : (i : ℕ) (places b : List ℕ) → i + 2 ≤ stepsIn b
       → Independent y (stateAfter y s b i) (stepAt b i) (stepAt b (i + 1))
       → Reorders y s places (exchangedAt (stepBytes * i) b) → Reorders y s (i ∷ places) b
+
+-- A list of whole steps, and the list in which steps have so changed places: the same state; every step has its reply, in its new place.
+pub record StepsReordered (y : Layout) (s : State) (b places : List ℕ) : Type 0 where
+  pub state : stateAfter y s (rearranged 0 places b) (stepsIn b) ≡ stateAfter y s b (stepsIn b)
+  pub replies : chunks (stepsIn b) (replyAt y s (rearranged 0 places b)) ≡ rearranged 0 places (chunks (stepsIn b) (replyAt y s b))
 
 -- A run of any part of any list, and of the list in which the part's steps have so changed places: the same answer and image; every step has
 -- its reply, in its new place.

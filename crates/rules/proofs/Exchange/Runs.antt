@@ -62,7 +62,7 @@ put-again k n l = ⊎-elim short (λ (h : k + n ≤ length l). sym (put-part k n
         let none : drop (k + length (drop k l)) l ≡ [] = drop-of-length-le l {i = k + length (drop k l)} (rw length-drop (omega arith)) in
         rw (all, put-def, none, append-nil, take-append-drop)
 
-length-exchanged : (k : ℕ) (b : List ℕ) → length (exchangedAt k b) ≡ length b
+pub length-exchanged : (k : ℕ) (b : List ℕ) → length (exchangedAt k b) ≡ length b
 length-exchanged k b =
     let p : List ℕ = part k stepBytes b in
     let q : List ℕ = part (k + stepBytes) stepBytes b in
@@ -95,7 +95,7 @@ part-put-in at n k bs l h w =
     ∙ part-left 0 n (put k bs b) c (omega arith)
     ∙ part-whole n (put k bs b) hp
 
-part-exchanged : (start n k : ℕ) (list : List ℕ) → k + stepBytes + stepBytes ≤ n → start + n ≤ length list
+pub part-exchanged : (start n k : ℕ) (list : List ℕ) → k + stepBytes + stepBytes ≤ n → start + n ≤ length list
     → part start n (exchangedAt (start + k) list) ≡ exchangedAt k (part start n list)
 part-exchanged start n k list h w =
     let b : List ℕ = part start n list in
