@@ -6,13 +6,15 @@ use mathlib.Core.Path.{_≡_}
 use mathlib.Core.List.{List, [], _∷_}
 use lib.Dec.{eqb}
 use lib.ListN.{length}
-use Rattle.octets.specs.Bytes.{pick, _or_, chunks}
+use Rattle.octets.specs.Bytes.{pick, _and_, _or_, chunks}
+use Rattle.marks.specs.Incarnation.{Incarnation, checkpointedIn}
+use Rattle.marks.specs.History.{incarnationOf}
 use Rattle.maps.specs.Map.{heldAt}
 use Rattle.rules.specs.Layout.{Layout}
-use Rattle.rules.specs.State.{Transactor, State, transactorAt}
+use Rattle.rules.specs.State.{Transactor, State, transactorAt, ownHistory, live}
 use Rattle.rules.specs.Step.{Step, root, letter, receive, new, send, lose, sign, stepBytes, stepAt}
 use Rattle.rules.specs.Refusals.{named, acts, sends, malformed}
-use Rattle.rules.specs.Rules.{groupReady, refusal}
+use Rattle.rules.specs.Rules.{groupReady, refusal, stepOf}
 use Rattle.rules.specs.Calls.{stateAfter, replyAt, stepsIn, runAnswer, runImage, runReplies, WaitsFor}
 use Rattle.rules.specs.Exchange.{exchangedAt}
 
@@ -24,6 +26,8 @@ pub data Cell : Type 0 where
   whole : ℕ → Cell
   -- whether take t is opened, and no more of it
   there : ℕ → Cell
+  -- which lives of take t are signed, and no more of it
+  signed : ℕ → Cell
   -- the parcel with number n, or that none waits
   parcel : ℕ → Cell
   -- whether all places of parcels are taken
@@ -41,6 +45,10 @@ takesAway k = eqb k receive or eqb k lose
 abbrev pub hasMark : Transactor → ℕ → Bool
 hasMark x u = heldAt (x .state) u or heldAt (x .creation) u
 
+-- life a of take u is signed: "its take's present L begins with its list followed by its n"; of a vanished take none is
+abbrev pub signedIn : State → ℕ → Incarnation → Bool
+signedIn s u a = live (transactorAt s u) and checkpointedIn a (incarnationOf (ownHistory u (transactorAt s u)))
+
 -- what p, if it is not malformed, looks at in the state s before it replies
 pub data Sees (s : State) (p : Step) : Cell → Type 0 where
   -- 3 to 10: the acting take
@@ -55,9 +63,9 @@ pub data Sees (s : State) (p : Step) : Cell → Type 0 where
   -- 2, 11: the parcel; 2: the addressee of it, if it waits
   taking : takesAway (p .kind) ≡ true → Sees s p (parcel (p .message))
   receiving : (t : ℕ) → p .kind ≡ receive → WaitsFor s t (p .message) → Sees s p (whole t)
-  -- 12: the named takes, and every take of which a named one has a mark in its state or creation map
+  -- 12: the named takes, and which lives are signed of every take of which a named one has a mark in its state or creation map
   naming : (t : ℕ) → p .kind ≡ sign → named (p .message) t ≡ true → Sees s p (whole t)
-  resting : (t u : ℕ) → p .kind ≡ sign → named (p .message) t ≡ true → hasMark (transactorAt s t) u ≡ true → Sees s p (whole u)
+  resting : (t u : ℕ) → p .kind ≡ sign → named (p .message) t ≡ true → hasMark (transactorAt s t) u ≡ true → Sees s p (signed u)
 
 -- what p, if it is not refused, may leave otherwise than it was
 pub data Changes (y : Layout) (s : State) (p : Step) : Cell → Type 0 where
@@ -74,6 +82,9 @@ pub data Changes (y : Layout) (s : State) (p : Step) : Cell → Type 0 where
   receiving : (t : ℕ) → p .kind ≡ receive → WaitsFor s t (p .message) → Changes y s p (whole t)
   -- 12: the named takes, if the volume is signed
   naming : (t : ℕ) → p .kind ≡ sign → groupReady y s (p .message) ≡ true → named (p .message) t ≡ true → Changes y s p (whole t)
+  -- any: which lives of a take are signed, if that is otherwise afterwards; only a signing does it, and a write where a behaviour map has
+  -- marks that no session has (proofs/Independent/Signed)
+  signing : (t : ℕ) (a : Incarnation) → (signedIn (stepOf y s p .state) t a ≡ signedIn s t a → ⊥) → Changes y s p (signed t)
 
 -- q sees nothing that p changes: p is refused, and changes nothing; or q is malformed, and sees nothing; or they do not meet
 pub record Unseen (y : Layout) (s : State) (p q : Step) : Type 0 where

@@ -8,8 +8,11 @@ use native.Mathlib.Omega.{arith}
 use lib.Dec.{eqb, leb}
 use lib.ListN.{length}
 use Rattle.octets.specs.Bytes.{pick, _and_, _or_, every, any}
-use Rattle.octets.proofs.Tests.{or-of}
+use Rattle.octets.proofs.Tests.{or-of, or-none}
 use Rattle.octets.proofs.Zero.{every-same, any-same}
+use Rattle.marks.specs.declared.History.{History}
+use Rattle.marks.specs.Incarnation.{Incarnation}
+use Rattle.marks.specs.History.{incarnationOf}
 use Rattle.maps.specs.declared.DependenceMap.{DependenceMap}
 use Rattle.maps.specs.Map.{heldAt, historyAt}
 use Rattle.rules.specs.Layout.{Layout, Limits}
@@ -19,13 +22,14 @@ use Rattle.rules.specs.Step.{Step, done, notReady, root, letter, receive
 use Rattle.rules.specs.Refusals.{groupBits, named, anyNamed, acts, sends, malformed}
 use Rattle.rules.specs.Rules.{carried, entryReady, mapReady, transactorReady, groupReady, checkpointBy, messageSuperseded, receiverSuperseded, messageUnrelated, receiptRollsBack, receiptUnrelated, refusal, answer}
 use Rattle.rules.specs.Internal.Guards.{first, isLastIncarnation, busyRefusal, roomRefusal, namedRefusal, groupRefusal, busyIn, roomIn, groupIn}
-use Rattle.rules.specs.Independent.{Cell, whole, there, parcel, room, opens, takesAway, hasMark, Sees}
+use Rattle.rules.specs.Independent.{Cell, whole, there, signed, parcel, room, signedIn, opens, takesAway, hasMark, Sees}
 use Rattle.rules.proofs.ByKind.Refused.{refuses, localIn, receiver, otherwise}
 use Rattle.rules.proofs.Independent.Effects.{Kind, is-root, is-letter, is-receive, is-new, is-send, is-local, is-lose, is-sign, Doing, receiveDoing, newDoing, doing, nothing, takesNew, parcelMade, waits-for, present-receive}
 
 pub record Alike (s s' : State) (p : Step) : Type 0 where
   pub limits : s' .limits ≡ s .limits
   pub takes : (t : ℕ) → Sees s p (whole t) → transactorAt s' t ≡ transactorAt s t
+  pub lives : (u : ℕ) → Sees s p (signed u) → (a : Incarnation) → signedIn s' u a ≡ signedIn s u a
   pub opened : (t : ℕ) → Sees s p (whole t) → leb (s' .opened) t ≡ leb (s .opened) t
   pub addressed : (t : ℕ) → Sees s p (there t) → leb (s' .opened) t ≡ leb (s .opened) t
   pub count : opens (p .kind) ≡ true → s' .opened ≡ s .opened
@@ -58,6 +62,11 @@ receipt-refusal : (y : Layout) (s : State) (p : Step) → malformed p ≡ false 
 unfolding receiptUnrelated receiptRollsBack
 receipt-refusal y s p formed e = refuses y s p formed .receive e
 
+-- a mark of a take that is not named
+entry-unnamed : (s : State) (v u : ℕ) (h : History) → named v u ≡ false → entryReady s v u h ≡ signedIn s u (incarnationOf h)
+unfolding entryReady
+entry-unnamed s v u h n = rw (n, or-none)
+
 module _ (y : Layout) (s s' : State) (p : Step) (formed : malformed p ≡ false) (a : Alike s s' p) where
   -- ---- 12
 
@@ -79,11 +88,15 @@ module _ (y : Layout) (s s' : State) (p : Step) (formed : malformed p ≡ false)
 
     map-same : (t : ℕ) → named (p .message) t ≡ true → (m : DependenceMap) → ((u : ℕ) → heldAt m u ≡ true → hasMark (transactorAt s t) u ≡ true) → mapReady y s' (p .message) m ≡ mapReady y s (p .message) m
     unfolding mapReady entryReady
-    map-same t n m held = every-same _ _ (y .transactors) (λ u b. go u (heldAt m u) refl)
+    map-same t n m held = every-same _ _ (y .transactors) (λ u b. go u (heldAt m u) refl (named (p .message) u) refl)
       where
-        go : (u : ℕ) (c : Bool) → heldAt m u ≡ c → not c or entryReady s' (p .message) u (historyAt m u) ≡ not c or entryReady s (p .message) u (historyAt m u)
-        go u true h = let w : transactorAt s' u ≡ transactorAt s u = a .takes u (Sees.resting t u e n (held u h)) in rw w
-        go u false h = refl
+        go : (u : ℕ) (c : Bool) → heldAt m u ≡ c → (d : Bool) → named (p .message) u ≡ d → not c or entryReady s' (p .message) u (historyAt m u) ≡ not c or entryReady s (p .message) u (historyAt m u)
+        go u true h true k = let w : transactorAt s' u ≡ transactorAt s u = named-whole u k in rw w
+        go u true h false k =
+            entry-unnamed s' (p .message) u (historyAt m u) k
+            ∙ a .lives u (Sees.resting t u e n (held u h)) (incarnationOf (historyAt m u))
+            ∙ sym (entry-unnamed s (p .message) u (historyAt m u) k)
+        go u false h d k = refl
 
     ready-same : groupReady y s' (p .message) ≡ groupReady y s (p .message)
     unfolding groupReady transactorReady

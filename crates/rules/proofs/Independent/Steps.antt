@@ -11,14 +11,15 @@ use lib.ListN.{length}
 use borrow.Author.Tests.{eqb-true, eqb-false, le-leb, lt-leb, leb-false, leb-true, eq-eqb, ne-eqb}
 use Rattle.octets.specs.Bytes.{pick}
 use Rattle.octets.proofs.Chunks.{sides}
-use Rattle.octets.proofs.Tests.{true-or-false}
+use Rattle.octets.proofs.Tests.{never, true-or-false}
+use Rattle.marks.specs.Incarnation.{Incarnation}
 use Rattle.rules.specs.Layout.{Layout}
 use Rattle.rules.specs.State.{Transactor, Message, State, noTransactor, transactorAt, messageAt, placeOf, numbered}
 use Rattle.rules.specs.Step.{Step, Reply}
 use Rattle.rules.specs.Refusals.{sends, malformed}
 use Rattle.rules.specs.Rules.{Result, refusal, answer, stepOf}
 use Rattle.rules.specs.Exchange.{Exchanged}
-use Rattle.rules.specs.Independent.{Cell, whole, there, parcel, room, opens, takesAway, Sees, Changes, Unseen, Independent}
+use Rattle.rules.specs.Independent.{Cell, whole, there, signed, parcel, room, signedIn, opens, takesAway, Sees, Changes, Unseen, Independent}
 use Rattle.rules.proofs.Keep.Step.{refused-same}
 use Rattle.rules.proofs.ByKind.Refused.{refusal-malformed}
 use Rattle.rules.proofs.Independent.Lists.{overlay, overlay-none, overlay-comm, length-overlay, without, found, absent, found-is, absent-is, found-without, absent-without, without-comm, found-append, absent-append, without-append, length-without}
@@ -104,9 +105,19 @@ module _ (y : Layout) (s : State) (p q : Step) (unseen : (c : Cell) → Changes 
   found-same h (one-made {m} j e) none-lost = found-append (p .message) m (other-made h j m e) ms
   found-same h (one-made {m} j e) (one-lost k a) = found-append (p .message) m (other-made h j m e) (without (q .message) ms) ∙ found-without (p .message) (q .message) (other-lost h k) ms
 
-  alike : (d : Delta) → Within y s q d → Alike s (act d s) p
+  lives-same : (u : ℕ) → Sees s p (signed u) → (a : Incarnation) → signedIn (stepOf y s q .state) u a ≡ signedIn s u a
+  lives-same u v a = go (signedIn (stepOf y s q .state) u a) (signedIn s u a) refl refl
+    where
+      go : (c d : Bool) → signedIn (stepOf y s q .state) u a ≡ c → signedIn s u a ≡ d → signedIn (stepOf y s q .state) u a ≡ signedIn s u a
+      go true true e f = e ∙ sym f
+      go true false e f = absurd (unseen (signed u) (Changes.signing u a (λ g. never (sym e ∙ g ∙ f))) v)
+      go false true e f = absurd (unseen (signed u) (Changes.signing u a (λ g. never (sym f ∙ sym g ∙ e))) v)
+      go false false e f = e ∙ sym f
+
+  alike : (d : Delta) → Within y s q d → stepOf y s q .state ≡ act d s → Alike s (act d s) p
   unfolding act transactorAt
-  alike d w = record {
+  alike d w after = record {
+    lives = λ u v a. subst (λ (x : State). signedIn x u a ≡ signedIn s u a) after (lives-same u v a);
     limits = refl;
     takes = λ t v. takes-same (d .takes) t v refl (w .takes t);
     opened = λ t v. opened-same t v (w .opens);
@@ -211,7 +222,7 @@ module _ (y : Layout) (s : State) (p q : Step) (full : Full y s) (formed : malfo
       (λ (z : refusal y s q ≡ 0).
       let j : malformed q ≡ false = formed-accepted y s q z in
       let d : Delta = doing y s q (kind-of q j) .delta in
-      let a : Alike s (act d s) p = alike y s p q (u .by z formed) d (within y s q j z (kind-of q j)) in
+      let a : Alike s (act d s) p = alike y s p q (u .by z formed) d (within y s q j z (kind-of q j)) (accepted-state y s q full (kind-of q j) z) in
       subst (λ (x : State). Undisturbed y s x p k) (sym (accepted-state y s q full (kind-of q j) z))
       (record { refuses = same-refusal y s (act d s) p formed a k; does = same-doing y s (act d s) p formed a k }))
       (λ (n : refusal y s q ≡ 0 → ⊥). subst (λ (x : State). Undisturbed y s x p k) (sym (refused-state y s q full n)) (record { refuses = refl; does = λ z. refl }))
