@@ -2,4 +2,5 @@ pub mod Effects
 pub mod Lists
 pub mod Runs
 pub mod Seen
+pub mod Signed
 pub mod Steps

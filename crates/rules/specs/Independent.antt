@@ -9,12 +9,12 @@ use lib.ListN.{length}
 use Rattle.octets.specs.Bytes.{pick, _and_, _or_, chunks}
 use Rattle.marks.specs.Incarnation.{Incarnation, checkpointedIn}
 use Rattle.marks.specs.History.{incarnationOf}
-use Rattle.maps.specs.Map.{heldAt}
+use Rattle.maps.specs.Map.{heldAt, historyAt}
 use Rattle.rules.specs.Layout.{Layout}
 use Rattle.rules.specs.State.{Transactor, State, transactorAt, ownHistory, live}
 use Rattle.rules.specs.Step.{Step, root, letter, receive, new, send, lose, sign, stepBytes, stepAt}
 use Rattle.rules.specs.Refusals.{named, acts, sends, malformed}
-use Rattle.rules.specs.Rules.{groupReady, refusal, stepOf}
+use Rattle.rules.specs.Rules.{join, groupReady, refusal, stepOf}
 use Rattle.rules.specs.Calls.{stateAfter, replyAt, stepsIn, runAnswer, runImage, runReplies, WaitsFor}
 use Rattle.rules.specs.Exchange.{exchangedAt}
 
@@ -94,6 +94,10 @@ pub record Unseen (y : Layout) (s : State) (p q : Step) : Type 0 where
 pub record Independent (y : Layout) (s : State) (p q : Step) : Type 0 where
   pub forth : Unseen y s p q
   pub back : Unseen y s q p
+
+-- for theorems: the list of the own mark of take t, which is x, is the same once behaviour has joined state
+pub record KeepsList (y : Layout) (t : ℕ) (x : Transactor) : Type 0 where
+  pub is : incarnationOf (historyAt (join y (x .behaviour) (x .state)) t) .checkpoints ≡ incarnationOf (ownHistory t x) .checkpoints
 
 -- ---- lists: one exchange of two independent neighbours after the other
 

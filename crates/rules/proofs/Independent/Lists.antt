@@ -45,6 +45,13 @@ overlay-none f [] t d e = refl
 overlay-none f (x ∷ xs) zero d e = rw e
 overlay-none f (x ∷ xs) (suc t) d e = overlay-none (λ t. f (suc t)) xs t d e
 
+-- a take that is new, if it is in the list
+pub overlay-some : (f : ℕ → Option Transactor) (l : List Transactor) (t : ℕ) (d x : Transactor) → f t ≡ some x → (getD (overlay f l) t d ≡ x) ⊎ (getD (overlay f l) t d ≡ getD l t d)
+unfolding overlay over
+overlay-some f [] t d x e = inr refl
+overlay-some f (z ∷ zs) zero d x e = inl (rw e)
+overlay-some f (z ∷ zs) (suc t) d x e = overlay-some (λ t. f (suc t)) zs t d x e
+
 -- nothing new at all
 pub overlay-nothing : (l : List Transactor) → overlay (λ t. none) l ≡ l
 unfolding overlay over

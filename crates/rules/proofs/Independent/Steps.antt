@@ -179,24 +179,24 @@ module _ (y : Layout) (s : State) (p q : Step) (forth : (c : Cell) → Changes y
 abbrev pub Full : Layout → State → Type 0
 Full y s = length (s .transactors) ≡ y .transactors
 
-formed-accepted : (y : Layout) (s : State) (p : Step) → refusal y s p ≡ 0 → malformed p ≡ false
+pub formed-accepted : (y : Layout) (s : State) (p : Step) → refusal y s p ≡ 0 → malformed p ≡ false
 formed-accepted y s p z = ⊎-elim (λ (e : malformed p ≡ true). absurd (twenty (sym z ∙ refusal-malformed y s p e))) (λ (e : malformed p ≡ false). e) (true-or-false (malformed p))
   where
     twenty : _≡_ {A = ℕ} 0 20 → ⊥
     twenty e = omega arith
 
 -- refused or not
-decided : (y : Layout) (s : State) (p : Step) → (refusal y s p ≡ 0) ⊎ (refusal y s p ≡ 0 → ⊥)
+pub decided : (y : Layout) (s : State) (p : Step) → (refusal y s p ≡ 0) ⊎ (refusal y s p ≡ 0 → ⊥)
 decided y s p = ⊎-elim (λ e. inl (eqb-true (refusal y s p) 0 e)) (λ e. inr (eqb-false (refusal y s p) 0 e)) (true-or-false (eqb (refusal y s p) 0))
 
 module _ (y : Layout) (s : State) (p : Step) (full : Full y s) where
-  accepted-state : (k : Kind p) → refusal y s p ≡ 0 → stepOf y s p .state ≡ act (doing y s p k .delta) s
+  pub accepted-state : (k : Kind p) → refusal y s p ≡ 0 → stepOf y s p .state ≡ act (doing y s p k .delta) s
   accepted-state k z = ap (λ (r : Result). r .state) (applied-doing y s p k full z)
 
   accepted-reply : (k : Kind p) → refusal y s p ≡ 0 → stepOf y s p .reply ≡ doing y s p k .reply
   accepted-reply k z = ap (λ (r : Result). r .reply) (applied-doing y s p k full z)
 
-  refused-state : (refusal y s p ≡ 0 → ⊥) → stepOf y s p .state ≡ s
+  pub refused-state : (refusal y s p ≡ 0 → ⊥) → stepOf y s p .state ≡ s
   refused-state n = ap (λ (r : Result). r .state) (refused-same y s p n)
 
   refused-reply : (refusal y s p ≡ 0 → ⊥) → stepOf y s p .reply ≡ answer (refusal y s p) 0 0 0
