@@ -3,4 +3,5 @@ pub mod Lists
 pub mod Runs
 pub mod Seen
 pub mod Signed
+pub mod Special
 pub mod Steps

@@ -27,7 +27,7 @@ use Rattle.rules.proofs.Independent.Effects.{Delta, dropping, adding, c
 use Rattle.rules.proofs.Independent.Seen.{Alike, same-refusal, same-doing}
 
 -- a take that a step changes it also sees
-whole-seen : {y : Layout} {s : State} {p : Step} {t : ℕ} → Changes y s p (whole t) → Sees s p (whole t)
+pub whole-seen : {y : Layout} {s : State} {p : Step} {t : ℕ} → Changes y s p (whole t) → Sees s p (whole t)
 whole-seen (Changes.acting k n) = Sees.acting k
 whole-seen (Changes.opening k) = Sees.opening k
 whole-seen (Changes.receiving t e w) = Sees.receiving t e w
