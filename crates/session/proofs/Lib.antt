@@ -6,6 +6,7 @@ pub mod Demand3
 pub mod Falling
 pub mod Grown
 pub mod Impediments
+pub mod Independent
 pub mod Kept
 pub mod Locals
 pub mod Log

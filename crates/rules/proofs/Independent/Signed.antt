@@ -175,13 +175,13 @@ module _ (y : Layout) (s : State) (p : Step) (w : WellFormed y s) (z : refusal y
 
 -- no step but a signing changes which lives are signed, if a write takes over no other list
 pub signed-kept : (y : Layout) (s : State) (p : Step) → WellFormed y s → (p .kind ≡ sign → ⊥)
-    → (p .kind ≡ write → KeepsList y (p .transactor) (transactorAt s (p .transactor))) → (t : ℕ) (a : Incarnation) → signedIn (stepOf y s p .state) t a ≡ signedIn s t a
+    → (refusal y s p ≡ 0 → p .kind ≡ write → KeepsList y (p .transactor) (transactorAt s (p .transactor))) → (t : ℕ) (a : Incarnation) → signedIn (stepOf y s p .state) t a ≡ signedIn s t a
 unfolding act transactorAt
 signed-kept y s p w n lists t a = ⊎-elim
     (λ (z : refusal y s p ≡ 0).
     let f : malformed p ≡ false = formed-accepted y s p z in
     let k : Kind p = kind-of p f in
-    ap (λ (x : State). signedIn x t a) (accepted-state y s p (w .packable .many) k z) ∙ go (doing y s p k .delta) refl (signs y s p w z k f n lists t))
+    ap (λ (x : State). signedIn x t a) (accepted-state y s p (w .packable .many) k z) ∙ go (doing y s p k .delta) refl (signs y s p w z k f n (lists z) t))
     (λ (m : refusal y s p ≡ 0 → ⊥). ap (λ (x : State). signedIn x t a) (refused-state y s p (w .packable .many) m))
     (decided y s p)
   where

@@ -11,6 +11,7 @@ use Rattle.rules.specs.Layout.{Layout}
 use Rattle.rules.specs.State.{State, transactorAt}
 use Rattle.rules.specs.Step.{Step, write, sign}
 use Rattle.rules.specs.Refusals.{named, acts, sends}
+use Rattle.rules.specs.Rules.{refusal}
 use Rattle.rules.specs.Internal.Well.{WellFormed}
 use Rattle.rules.specs.Exchange.{Edit, EditsApart}
 use Rattle.rules.specs.Independent.{Cell, whole, there, signed, parcel, room, opens, takesAway, Sees, Changes, Unseen, Independent, KeepsList}
@@ -83,10 +84,10 @@ module _ (y : Layout) (s : State) (p q : Step) (w : WellFormed y s) (e : p .kind
   sign-forth f (Changes.naming t k r i) v = f t i v
   sign-forth f (Changes.signing t a d) v = n (lives-seen v)
 
-  lives-changed : (q .kind ≡ write → KeepsList y (q .transactor) (transactorAt s (q .transactor))) → {u : ℕ} → Changes y s q (signed u) → ⊥
+  lives-changed : (refusal y s q ≡ 0 → q .kind ≡ write → KeepsList y (q .transactor) (transactorAt s (q .transactor))) → {u : ℕ} → Changes y s q (signed u) → ⊥
   lives-changed l (Changes.signing u a d) = d (signed-kept y s q w n l u a)
 
-  sign-back : (q .kind ≡ write → KeepsList y (q .transactor) (transactorAt s (q .transactor)))
+  sign-back : (refusal y s q ≡ 0 → q .kind ≡ write → KeepsList y (q .transactor) (transactorAt s (q .transactor)))
       → ((t : ℕ) → named (p .message) t ≡ true → Sees s q (whole t) → ⊥) → {c : Cell} → Sees s p c → Changes y s q c → ⊥
   sign-back l f (Sees.acting k) v = never (sym k ∙ sign-not p e)
   sign-back l f (Sees.opening k) v = never (sym k ∙ sign-apart (p .kind) e .opening)
@@ -99,9 +100,9 @@ module _ (y : Layout) (s : State) (p q : Step) (w : WellFormed y s) (e : p .kind
   sign-back l f (Sees.naming t k i) v = f t i (whole-seen v)
   sign-back l f (Sees.resting t u k i h) v = lives-changed l v
 
-  -- A signing and a step that is no signing and sees no take that it names. If that step is a write, its take must not
+  -- A signing and a step that is no signing and sees no take that it names. If that step is a write that is not refused, its take must not
   -- take over another list of its own from its behaviour map, which in a session grown from fresh none does.
-  pub sign-independent : (q .kind ≡ write → KeepsList y (q .transactor) (transactorAt s (q .transactor)))
+  pub sign-independent : (refusal y s q ≡ 0 → q .kind ≡ write → KeepsList y (q .transactor) (transactorAt s (q .transactor)))
       → ((t : ℕ) → named (p .message) t ≡ true → Sees s q (whole t) → ⊥) → Independent y s p q
   sign-independent l f = record {
     forth = record { by = λ z m c k v. sign-forth f k v };
