@@ -1,4 +1,5 @@
 pub mod Effects
+pub mod Late
 pub mod Lists
 pub mod Runs
 pub mod Seen

@@ -1,6 +1,6 @@
 -- Steps in other orders of arrival. W8 (specs/Exchange) is about two edits; here of any two steps: the image and the replies depend only on which
 -- steps come before which where one sees what the other changes. Whether a state is well-formed is not asked.
-use Prim.Native.Nat.{ℕ, _+_, _*_, _≤_}
+use Prim.Native.Nat.{ℕ, zero, suc, _+_, _*_, _≤_}
 use mathlib.Core.Bool.{Bool, true, false}
 use mathlib.Core.Path.{_≡_}
 use mathlib.Core.List.{List, [], _∷_}
@@ -112,6 +112,11 @@ pub data Reorders (y : Layout) (s : State) : List ℕ → List ℕ → Type 0 wh
   exchange : (i : ℕ) (places b : List ℕ) → i + 2 ≤ stepsIn b
       → Independent y (stateAfter y s b i) (stepAt b i) (stepAt b (i + 1))
       → Reorders y s places (exchangedAt (stepBytes * i) b) → Reorders y s (i ∷ places) b
+
+-- the exchanges that bring step i + m to place i, past the m steps before it
+unfoldable pub broughtTo : ℕ → ℕ → List ℕ
+broughtTo i zero = []
+broughtTo i (suc m) = (i + m) ∷ broughtTo i m
 
 -- A list of whole steps, and the list in which steps have so changed places: the same state; every step has its reply, in its new place.
 pub record StepsReordered (y : Layout) (s : State) (b places : List ℕ) : Type 0 where

@@ -6,10 +6,8 @@ use mathlib.Core.Path.{_≡_, sym, ap, _∙_, subst}
 use mathlib.Core.List.{List}
 use mathlib.Core.Option.{Option, some, Option·getD}
 use native.Mathlib.Omega.{arith}
-use lib.Dec.{eqb}
 use Rattle.octets.specs.Bytes.{Octets}
 use Rattle.marks.specs.History.{HistoryView, initialView, viewOf}
-use Rattle.maps.specs.declared.DependenceMap.{DependenceMap}
 use Rattle.maps.specs.Map.{historyAt}
 use Rattle.maps.specs.Internal.View.{mapView}
 use Rattle.maps.specs.Internal.Fitting.{MapOk}

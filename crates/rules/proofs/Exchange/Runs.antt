@@ -27,7 +27,7 @@ use Rattle.rules.proofs.Replies.{length-packReply}
 
 -- ---- two places of a list exchanged
 
-exchanged-def : (k : ℕ) (b : List ℕ) → exchangedAt k b ≡ put k (part (k + stepBytes) stepBytes b ++ part k stepBytes b) b
+pub exchanged-def : (k : ℕ) (b : List ℕ) → exchangedAt k b ≡ put k (part (k + stepBytes) stepBytes b ++ part k stepBytes b) b
 unfolding exchangedAt
 exchanged-def k b = refl
 

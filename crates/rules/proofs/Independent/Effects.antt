@@ -7,25 +7,24 @@ use mathlib.Core.Logic.{⊎-elim}
 use mathlib.Core.Option.{Option, none, some}
 use native.Mathlib.Omega.{arith}
 use lib.Dec.{eqb, leb}
-use lib.ListN.{length, getD, set}
-use borrow.Author.Tests.{eqb-true, leb-false, eq-eqb, ne-eqb}
-use Rattle.octets.specs.Bytes.{pick, _or_, tabulate}
+use lib.ListN.{length, set}
+use borrow.Author.Tests.{eqb-true, leb-false}
+use Rattle.octets.specs.Bytes.{pick, tabulate}
 use Rattle.octets.proofs.Chunks.{sides}
-use Rattle.octets.proofs.Tests.{pick-view, pick-zero, never}
+use Rattle.octets.proofs.Tests.{pick-view, pick-zero}
 use Rattle.rules.specs.Layout.{Layout}
-use Rattle.rules.specs.Status.{idle}
-use Rattle.rules.specs.State.{Transactor, Message, State, noTransactor, transactorAt, messageAt, withBehaviour, withTransactor, withOpened, withMessage, withoutMessage, placeOf, numbered}
+use Rattle.rules.specs.State.{Transactor, Message, State, transactorAt, messageAt, withBehaviour, withTransactor, withOpened, withMessage, withoutMessage, placeOf, numbered}
 use Rattle.rules.specs.Step.{Step, Reply, done, notReady, root, letter, receive, new, send, read, fail, lose, sign}
-use Rattle.rules.specs.Refusals.{named, acts, sends, malformed}
+use Rattle.rules.specs.Refusals.{named, sends, malformed}
 use Rattle.rules.specs.Rules.{Effect, Result, noDependences, only, join, carried, localBy, receiveBy, groupReady, checkpointBy, checkpointAt, checkpointGroup, refusal, answer, opening, opened, applyRoot, applyLetter, applyReceive, applyNew, applySend, applyLocal, applyLose, applySign, stepOf}
 use Rattle.marks.specs.History.{initialHistory}
 use Rattle.rules.specs.Calls.{WaitsFor}
-use Rattle.rules.specs.Independent.{Cell, whole, there, parcel, room, opens, takesAway, Changes}
+use Rattle.rules.specs.Independent.{whole, opens, takesAway, Changes}
 use Rattle.rules.proofs.Places.{place}
 use Rattle.rules.proofs.Keep.Step.{applied-same}
 use Rattle.rules.proofs.ByKind.Applied.{applies}
 use Rattle.rules.proofs.ByKind.Refused.{refuses, kind-formed, receiver, otherwise}
-use Rattle.rules.proofs.Independent.Lists.{over, overlay, overlay-nothing, overlay-picked, single, set-overlay, tabulate-overlay, without, absent, absent-is, without-is, length-overlay}
+use Rattle.rules.proofs.Independent.Lists.{over, overlay, overlay-nothing, overlay-picked, single, set-overlay, tabulate-overlay, without, absent, absent-is, without-is}
 
 -- ---- changes of a state
 

@@ -1,7 +1,7 @@
 -- Lists and runs in which independent steps have changed places.
-use Prim.Native.Nat.{ℕ, zero, suc, _+_, _-_, _*_, _/_, _%_, _≤_, _<_}
+use Prim.Native.Nat.{ℕ, zero, suc, _+_, _-_, _*_, _/_, _%_, _≤_}
 use mathlib.Core.Bool.{Bool, true, false}
-use mathlib.Core.Path.{_≡_, refl, sym, ap, _∙_, subst}
+use mathlib.Core.Path.{_≡_, refl, sym, ap, _∙_}
 use mathlib.Core.List.{List, [], _∷_}
 use native.Mathlib.Nat.{zero-add}
 use native.Mathlib.Omega.{arith}
@@ -16,7 +16,7 @@ use Rattle.rules.specs.State.{State}
 use Rattle.rules.specs.Step.{stepBytes, stepAt}
 use Rattle.rules.specs.Pack.{pack, unpack}
 use Rattle.rules.specs.Calls.{stateAfter, replyAt, stepsIn, wrongPart, runAnswer, ranImage, ranReplies, runImage, runReplies}
-use Rattle.rules.specs.Exchange.{Exchanged, exchangedAt, RunExchanged}
+use Rattle.rules.specs.Exchange.{exchangedAt, RunExchanged}
 use Rattle.rules.specs.Independent.{Independent, rearranged, Reorders, as-is, exchange, StepsReordered, RunReordered}
 use Rattle.rules.proofs.Calls.Stored.{Accepted, accepted}
 use Rattle.rules.proofs.Exchange.Runs.{length-exchanged, part-exchanged, RanFrom, ran-exchanged, run-turned}

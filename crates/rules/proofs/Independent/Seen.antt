@@ -1,13 +1,12 @@
 -- A step that sees the same in two states is answered the same and does the same.
-use Prim.Native.Nat.{ℕ, _<_}
+use Prim.Native.Nat.{ℕ}
 use mathlib.Core.Bool.{Bool, true, false, not}
-use mathlib.Core.Path.{_≡_, refl, sym, ap, _∙_, subst}
+use mathlib.Core.Path.{_≡_, refl, sym, ap, _∙_}
 use mathlib.Core.Logic.{inr}
 use mathlib.Core.Option.{Option, none, some}
-use native.Mathlib.Omega.{arith}
 use lib.Dec.{eqb, leb}
 use lib.ListN.{length}
-use Rattle.octets.specs.Bytes.{pick, _and_, _or_, every, any}
+use Rattle.octets.specs.Bytes.{pick, _and_, _or_}
 use Rattle.octets.proofs.Tests.{or-of, or-none}
 use Rattle.octets.proofs.Zero.{every-same, any-same}
 use Rattle.marks.specs.declared.History.{History}
@@ -15,16 +14,16 @@ use Rattle.marks.specs.Incarnation.{Incarnation}
 use Rattle.marks.specs.History.{incarnationOf}
 use Rattle.maps.specs.declared.DependenceMap.{DependenceMap}
 use Rattle.maps.specs.Map.{heldAt, historyAt}
-use Rattle.rules.specs.Layout.{Layout, Limits}
-use Rattle.rules.specs.Status.{idle, busy, annihilated}
+use Rattle.rules.specs.Layout.{Layout}
+use Rattle.rules.specs.Status.{idle, annihilated}
 use Rattle.rules.specs.State.{Transactor, Message, State, ownHistory, transactorAt, messageAt, placeOf}
-use Rattle.rules.specs.Step.{Step, done, notReady, root, letter, receive, new, send, read, fail, lose, sign}
+use Rattle.rules.specs.Step.{Step, done, notReady, root, letter, receive, new, send, lose, sign}
 use Rattle.rules.specs.Refusals.{groupBits, named, anyNamed, acts, sends, malformed}
 use Rattle.rules.specs.Rules.{carried, entryReady, mapReady, transactorReady, groupReady, checkpointBy, messageSuperseded, receiverSuperseded, messageUnrelated, receiptRollsBack, receiptUnrelated, refusal, answer}
-use Rattle.rules.specs.Internal.Guards.{first, isLastIncarnation, busyRefusal, roomRefusal, namedRefusal, groupRefusal, busyIn, roomIn, groupIn}
-use Rattle.rules.specs.Independent.{Cell, whole, there, signed, parcel, room, signedIn, opens, takesAway, hasMark, Sees}
-use Rattle.rules.proofs.ByKind.Refused.{refuses, localIn, receiver, otherwise}
-use Rattle.rules.proofs.Independent.Effects.{Kind, is-root, is-letter, is-receive, is-new, is-send, is-local, is-lose, is-sign, Doing, receiveDoing, newDoing, doing, nothing, takesNew, parcelMade, waits-for, present-receive}
+use Rattle.rules.specs.Internal.Guards.{first, isLastIncarnation, busyRefusal, roomRefusal, namedRefusal, groupRefusal, groupIn}
+use Rattle.rules.specs.Independent.{whole, there, signed, signedIn, opens, takesAway, hasMark, Sees}
+use Rattle.rules.proofs.ByKind.Refused.{refuses, receiver, otherwise}
+use Rattle.rules.proofs.Independent.Effects.{Kind, is-root, is-letter, is-receive, is-new, is-send, is-local, is-lose, is-sign, receiveDoing, newDoing, doing, nothing, takesNew, parcelMade, waits-for, present-receive}
 
 pub record Alike (s s' : State) (p : Step) : Type 0 where
   pub limits : s' .limits ≡ s .limits

@@ -1,29 +1,28 @@
 -- Only a signing changes which lives of a take are signed; so does a write, where the take's behaviour map has a mark of itself that no session has.
-use Prim.Native.Nat.{ℕ, zero, suc, _+_, _≤_, _<_}
+use Prim.Native.Nat.{ℕ, zero, suc, _<_}
 use mathlib.Core.Bool.{Bool, true, false}
 use mathlib.Core.Path.{_≡_, refl, sym, ap, _∙_, subst}
 use mathlib.Core.List.{List, [], _∷_, _++_}
-use mathlib.Core.Logic.{_⊎_, inl, inr, ⊎-elim}
+use mathlib.Core.Logic.{inr, ⊎-elim}
 use mathlib.Core.Option.{Option, none, some}
 use native.Mathlib.Omega.{arith}
-use lib.Dec.{eqb, leb}
+use lib.Dec.{eqb}
 use lib.ListN.{length, take}
 use borrow.Author.Tests.{eqb-true, eqb-false, leb-false}
-use Rattle.octets.specs.Bytes.{pick, _and_, _or_}
-use Rattle.octets.proofs.Chunks.{sides}
+use Rattle.octets.specs.Bytes.{_and_, _or_}
 use Rattle.octets.proofs.Tests.{pick-view, and-false, or-of}
 use Rattle.marks.specs.declared.History.{History}
 use Rattle.marks.specs.Incarnation.{Incarnation, sameList, beginsWith, checkpointedIn}
 use Rattle.marks.specs.History.{incarnationOf, initialHistory, stabilized, rolledBack}
 use Rattle.maps.specs.declared.DependenceMap.{DependenceMap}
-use Rattle.maps.specs.Map.{historyAt, withEntry, Sized}
+use Rattle.maps.specs.Map.{historyAt, Sized}
 use Rattle.maps.proofs.Map.{history-singleton, history-withEntry}
 use Rattle.maps.proofs.News.{own-informed}
 use Rattle.maps.proofs.Packed.{mapOk-sized}
 use Rattle.rules.specs.Layout.{Layout}
-use Rattle.rules.specs.Status.{unused, idle, busy, annihilated}
+use Rattle.rules.specs.Status.{idle, busy, annihilated}
 use Rattle.rules.specs.State.{Transactor, Message, State, noTransactor, transactorAt, messageAt, ownHistory, live, placeOf}
-use Rattle.rules.specs.Step.{Step, root, letter, receive, new, send, read, write, freeze, finish, fall, fail, lose, sign}
+use Rattle.rules.specs.Step.{Step, letter, read, write, freeze, finish, fall, sign}
 use Rattle.rules.specs.Rules.{Effect, join, carried, rollback, readBy, writeBy, freezeBy, finishBy, fallBy, failBy, localBy, messageSuperseded, receiverSuperseded, receiveBy, noDependences, opening, seen, refusal, stepOf}
 use Rattle.rules.specs.Internal.Well.{Live, is-idle, is-busy, TransactorFormed, WellFormed}
 use Rattle.rules.specs.Refusals.{acts, malformed}

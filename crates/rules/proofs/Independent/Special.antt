@@ -1,11 +1,9 @@
 -- Steps that are independent: two edits on different takes (document 02, W8), in any state; and a signing of a well-formed state and whatever
 -- does not touch the takes that it names.
 use Prim.Native.Nat.{ℕ}
-use mathlib.Core.Bool.{Bool, true, false}
+use mathlib.Core.Bool.{true, false}
 use mathlib.Core.Path.{_≡_, refl, sym, _∙_, subst}
 use native.Mathlib.Omega.{arith}
-use lib.Dec.{eqb}
-use Rattle.octets.specs.Bytes.{_or_}
 use Rattle.octets.proofs.Tests.{never}
 use Rattle.rules.specs.Layout.{Layout}
 use Rattle.rules.specs.State.{State, transactorAt}
@@ -14,8 +12,8 @@ use Rattle.rules.specs.Refusals.{named, acts, sends}
 use Rattle.rules.specs.Rules.{refusal}
 use Rattle.rules.specs.Internal.Well.{WellFormed}
 use Rattle.rules.specs.Exchange.{Edit, EditsApart}
-use Rattle.rules.specs.Independent.{Cell, whole, there, signed, parcel, room, opens, takesAway, Sees, Changes, Unseen, Independent, KeepsList}
-use Rattle.rules.proofs.ByKind.Refused.{Otherwise, otherwise}
+use Rattle.rules.specs.Independent.{Cell, whole, signed, opens, takesAway, Sees, Changes, Unseen, Independent, KeepsList}
+use Rattle.rules.proofs.ByKind.Refused.{otherwise}
 use Rattle.rules.proofs.Independent.Signed.{signed-kept}
 use Rattle.rules.proofs.Independent.Steps.{whole-seen}
 

@@ -2,20 +2,20 @@
 use Prim.Native.Nat.{ℕ, _+_, _≤_, _<_}
 use mathlib.Core.Bool.{Bool, true, false}
 use mathlib.Core.Path.{_≡_, refl, sym, ap, _∙_, subst}
-use mathlib.Core.List.{List, [], _∷_, _++_}
+use mathlib.Core.List.{List}
 use mathlib.Core.Logic.{_⊎_, inl, inr, ⊎-elim}
 use mathlib.Core.Option.{Option, none, some}
 use native.Mathlib.Omega.{arith}
 use lib.Dec.{eqb, leb}
 use lib.ListN.{length}
-use borrow.Author.Tests.{eqb-true, eqb-false, le-leb, lt-leb, leb-false, leb-true, eq-eqb, ne-eqb}
+use borrow.Author.Tests.{eqb-true, eqb-false, le-leb, lt-leb, ne-eqb}
 use Rattle.octets.specs.Bytes.{pick}
 use Rattle.octets.proofs.Chunks.{sides}
 use Rattle.octets.proofs.Tests.{never, true-or-false}
 use Rattle.marks.specs.Incarnation.{Incarnation}
 use Rattle.rules.specs.Layout.{Layout}
 use Rattle.rules.specs.State.{Transactor, Message, State, noTransactor, transactorAt, messageAt, placeOf, numbered}
-use Rattle.rules.specs.Step.{Step, Reply}
+use Rattle.rules.specs.Step.{Step}
 use Rattle.rules.specs.Refusals.{sends, malformed}
 use Rattle.rules.specs.Rules.{Result, refusal, answer, stepOf}
 use Rattle.rules.specs.Exchange.{Exchanged}
@@ -23,7 +23,7 @@ use Rattle.rules.specs.Independent.{Cell, whole, there, signed, parcel, 
 use Rattle.rules.proofs.Keep.Step.{refused-same}
 use Rattle.rules.proofs.ByKind.Refused.{refusal-malformed}
 use Rattle.rules.proofs.Independent.Lists.{overlay, overlay-none, overlay-comm, length-overlay, without, found, absent, found-is, absent-is, found-without, absent-without, without-comm, found-append, absent-append, without-append, length-without}
-use Rattle.rules.proofs.Independent.Effects.{Delta, dropping, adding, counted, act, nothing, act-nothing, Doing, doing, result, Kind, kind-of, applied-doing, New, kept, changed, Opens, no-take, one-take, Made, none-made, one-made, Lost, none-lost, one-lost, Within, within, within-nothing}
+use Rattle.rules.proofs.Independent.Effects.{Delta, dropping, adding, counted, act, Doing, doing, Kind, kind-of, applied-doing, New, kept, changed, Opens, no-take, one-take, Made, none-made, one-made, Lost, none-lost, one-lost, Within, within}
 use Rattle.rules.proofs.Independent.Seen.{Alike, same-refusal, same-doing}
 
 -- a take that a step changes it also sees
