@@ -1,6 +1,7 @@
 pub mod Effects
 pub mod Late
 pub mod Lists
+pub mod Orders
 pub mod Runs
 pub mod Seen
 pub mod Signed

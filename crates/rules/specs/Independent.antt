@@ -113,6 +113,12 @@ pub data Reorders (y : Layout) (s : State) : List ℕ → List ℕ → Type 0 wh
       → Independent y (stateAfter y s b i) (stepAt b i) (stepAt b (i + 1))
       → Reorders y s places (exchangedAt (stepBytes * i) b) → Reorders y s (i ∷ places) b
 
+-- c is an order of the steps of b that gives every step what it saw: some such exchanges make it of b
+pub record Orders (y : Layout) (s : State) (b c : List ℕ) : Type 0 where
+  pub places : List ℕ
+  pub reorders : Reorders y s places b
+  pub is : rearranged 0 places b ≡ c
+
 -- the exchanges that bring step i + m to place i, past the m steps before it
 unfoldable pub broughtTo : ℕ → ℕ → List ℕ
 broughtTo i zero = []

@@ -5,7 +5,7 @@ use mathlib.Core.List.{List, _++_}
 use native.Mathlib.Omega.{arith}
 use lib.ListN.{length, length-append}
 use Rattle.octets.specs.Bytes.{put, part}
-use Rattle.octets.proofs.Put.{length-part, part-put, part-put-before, part-left, part-part, part-whole}
+use Rattle.octets.proofs.Put.{length-part, part-put, part-put-before, put-put, put-part, part-left, part-right, part-part, part-add, part-whole}
 use Rattle.rules.specs.Layout.{Layout}
 use Rattle.rules.specs.State.{State}
 use Rattle.rules.specs.Step.{Step, stepBytes, unpackStep, stepAt}
@@ -31,22 +31,53 @@ module _ (b : List ℕ) (i : ℕ) (h : stepBytes * (i + 2) ≤ length b) where
   pair-long : length pair ≡ stepBytes + stepBytes
   pair-long = length-append (part (k + stepBytes) stepBytes b) (part k stepBytes b) ∙ rw (first-long, length-part k stepBytes b (omega arith))
 
-  step-before : (j : ℕ) → j < i → stepAt (exchangedAt k b) j ≡ stepAt b j
+  pub step-before : (j : ℕ) → j < i → stepAt (exchangedAt k b) j ≡ stepAt b j
   unfolding stepAt
   step-before j l = ap unpackStep (ap (part (stepBytes * j) stepBytes) (exchanged-def k b) ∙ part-put-before k pair b (omega (arith, pair-long)) (stepBytes * j) stepBytes (omega arith))
 
-  step-here : stepAt (exchangedAt k b) i ≡ stepAt b (i + 1)
-  unfolding stepAt
-  step-here =
-      let whole : part k (length pair) (put k pair b) ≡ pair = part-put k pair b (omega (arith, pair-long)) in
-      let inside : part k stepBytes (put k pair b) ≡ part 0 stepBytes pair =
-      ap (λ (n : ℕ). part n stepBytes (put k pair b)) (omega arith) ∙ sym (part-part 0 stepBytes k (length pair) (put k pair b) (omega (arith, pair-long))) ∙ ap (part 0 stepBytes) whole in
-      ap unpackStep (ap (part k stepBytes) (exchanged-def k b) ∙ inside
+  -- the pair by itself
+  inside : (j : ℕ) → j + stepBytes ≤ stepBytes + stepBytes → part (k + j) stepBytes (exchangedAt k b) ≡ part j stepBytes pair
+  inside j l =
+      ap (part (k + j) stepBytes) (exchanged-def k b)
+      ∙ sym (part-part j stepBytes k (length pair) (put k pair b) (omega (arith, pair-long)))
+      ∙ ap (part j stepBytes) (part-put k pair b (omega (arith, pair-long)))
+
+  first-is : part k stepBytes (exchangedAt k b) ≡ part (k + stepBytes) stepBytes b
+  first-is =
+      ap (λ (n : ℕ). part n stepBytes (exchangedAt k b)) (omega arith)
+      ∙ inside 0 (omega arith)
       ∙ part-left 0 stepBytes (part (k + stepBytes) stepBytes b) (part k stepBytes b) (omega (arith, first-long))
       ∙ part-whole stepBytes (part (k + stepBytes) stepBytes b) first-long
-      ∙ ap (λ (n : ℕ). part n stepBytes b) (omega arith))
 
-  state-before : (y : Layout) (s : State) (j : ℕ) → j ≤ i → stateAfter y s (exchangedAt k b) j ≡ stateAfter y s b j
+  second-is : part (k + stepBytes) stepBytes (exchangedAt k b) ≡ part k stepBytes b
+  second-is =
+      let e : stepBytes ≡ length (part (k + stepBytes) stepBytes b) + 0 = omega (arith, first-long) in
+      inside stepBytes (omega arith)
+      ∙ ap (λ (n : ℕ). part n stepBytes pair) e
+      ∙ part-right 0 stepBytes (part (k + stepBytes) stepBytes b) (part k stepBytes b)
+      ∙ part-whole stepBytes (part k stepBytes b) (length-part k stepBytes b (omega arith))
+
+  pub step-here : stepAt (exchangedAt k b) i ≡ stepAt b (i + 1)
+  unfolding stepAt
+  step-here = ap unpackStep (first-is ∙ ap (λ (n : ℕ). part n stepBytes b) (omega arith))
+
+  pub step-next : stepAt (exchangedAt k b) (i + 1) ≡ stepAt b i
+  unfolding stepAt
+  step-next = ap unpackStep (ap (λ (n : ℕ). part n stepBytes (exchangedAt k b)) (omega arith) ∙ second-is)
+
+  -- exchanged twice
+  pub exchanged-twice : exchangedAt k (exchangedAt k b) ≡ b
+  exchanged-twice =
+      let back : List ℕ = part k stepBytes b ++ part (k + stepBytes) stepBytes b in
+      let long : length back ≡ length pair = length-append (part k stepBytes b) (part (k + stepBytes) stepBytes b) ∙ sym (length-append (part (k + stepBytes) stepBytes b) (part k stepBytes b) ∙ omega arith) in
+      exchanged-def k (exchangedAt k b)
+      ∙ (λ t. put k (second-is t ++ first-is t) (exchangedAt k b))
+      ∙ ap (put k back) (exchanged-def k b)
+      ∙ put-put k pair back b (omega (arith, pair-long)) long
+      ∙ ap (λ (l : List ℕ). put k l b) (sym (part-add k stepBytes stepBytes b))
+      ∙ sym (put-part k (stepBytes + stepBytes) b (omega arith))
+
+  pub state-before : (y : Layout) (s : State) (j : ℕ) → j ≤ i → stateAfter y s (exchangedAt k b) j ≡ stateAfter y s b j
   unfolding stateAfter
   state-before y s zero l = refl
   state-before y s (suc j) l =

@@ -23,7 +23,7 @@ use Rattle.rules.proofs.Exchange.Runs.{length-exchanged, part-exchanged
 use Rattle.rules.proofs.Independent.Steps.{Full, full-after, independent-exchanged}
 
 -- every image has all takes of its layout
-full-unpack : (y : Layout) (img : List ℕ) → Full y (unpack y img)
+pub full-unpack : (y : Layout) (img : List ℕ) → Full y (unpack y img)
 unfolding unpack
 full-unpack y img = length-tabulate _ (y .transactors)
 
@@ -43,7 +43,7 @@ run-independent y img list start end buffer i h x =
 
 -- ---- lists
 
-rearranged-none : (k : ℕ) (b : List ℕ) → rearranged k [] b ≡ b
+pub rearranged-none : (k : ℕ) (b : List ℕ) → rearranged k [] b ≡ b
 unfolding rearranged
 rearranged-none k b = refl
 
@@ -52,10 +52,10 @@ unfolding rearranged
 rearranged-more k i places b = refl
 
 -- from the list's first byte
-rearranged-first : (i : ℕ) (places b : List ℕ) → rearranged 0 (i ∷ places) b ≡ rearranged 0 places (exchangedAt (stepBytes * i) b)
+pub rearranged-first : (i : ℕ) (places b : List ℕ) → rearranged 0 (i ∷ places) b ≡ rearranged 0 places (exchangedAt (stepBytes * i) b)
 rearranged-first i places b = rearranged-more 0 i places b ∙ ap (λ (n : ℕ). rearranged 0 places (exchangedAt n b)) (zero-add (stepBytes * i))
 
-length-rearranged : (k : ℕ) (places b : List ℕ) → length (rearranged k places b) ≡ length b
+pub length-rearranged : (k : ℕ) (places b : List ℕ) → length (rearranged k places b) ≡ length b
 length-rearranged k [] b = ap length (rearranged-none k b)
 length-rearranged k (i ∷ places) b = ap length (rearranged-more k i places b) ∙ length-rearranged k places (exchangedAt (k + stepBytes * i) b) ∙ length-exchanged (k + stepBytes * i) b
 

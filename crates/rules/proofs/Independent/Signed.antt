@@ -24,10 +24,11 @@ use Rattle.rules.specs.Status.{idle, busy, annihilated}
 use Rattle.rules.specs.State.{Transactor, Message, State, noTransactor, transactorAt, messageAt, ownHistory, live, placeOf}
 use Rattle.rules.specs.Step.{Step, letter, read, write, freeze, finish, fall, sign}
 use Rattle.rules.specs.Rules.{Effect, join, carried, rollback, readBy, writeBy, freezeBy, finishBy, fallBy, failBy, localBy, messageSuperseded, receiverSuperseded, receiveBy, noDependences, opening, seen, refusal, stepOf}
-use Rattle.rules.specs.Internal.Well.{Live, is-idle, is-busy, TransactorFormed, WellFormed}
+use Rattle.rules.specs.Internal.Well.{TransactorFormed, WellFormed}
 use Rattle.rules.specs.Refusals.{acts, malformed}
 use Rattle.rules.specs.Independent.{opens, signedIn, KeepsList}
 use Rattle.rules.proofs.Keep.Accepted.{Accepted, accepted, one-unopened, transactor-opened, transactor-there, receiver-idle}
+use Rattle.rules.proofs.Form.Transactor.{live-true}
 use Rattle.rules.proofs.ByKind.Refused.{otherwise}
 use Rattle.rules.proofs.Independent.Lists.{overlay-none, overlay-some, single}
 use Rattle.rules.proofs.Independent.Effects.{Delta, act, doing, Kind, is-root, is-letter, is-receive, is-new, is-send, is-local, is-lose, is-sign, kind-of, present-receive}
@@ -105,14 +106,10 @@ data Signs (s : State) (t : ℕ) : Option Transactor → Type 0 where
 single-signs : (s : State) (t : ℕ) (x : Transactor) → ((a : Incarnation) → signedBy t x a ≡ signedBy t (transactorAt s t) a) → (u : ℕ) → Signs s u (single t x u)
 single-signs s t x f u = pick-view (Signs s u) (eqb u t) (some x) none (λ e. subst (λ (v : ℕ). Signs s v (some x)) (sym (eqb-true u t e)) (alike f)) (λ e. kept)
 
-live-of : {n : ℕ} → Live n → eqb n idle or eqb n busy ≡ true
-live-of is-idle = refl
-live-of is-busy = refl
-
 alive-live : {y : Layout} {c o t : ℕ} {x : Transactor} → TransactorFormed y c o t x → t < o → (x .status ≡ annihilated → ⊥) → live x ≡ true
 alive-live (TransactorFormed.not-opened h) i n = absurd (omega arith)
 alive-live (TransactorFormed.gone h) i n = absurd (n refl)
-alive-live (TransactorFormed.alive h a) i n = live-of (a .status)
+alive-live (TransactorFormed.alive h a) i n = live-true (a .status)
 
 -- the take that is opened next
 unopened-dead : {y : Layout} {c o : ℕ} {x : Transactor} → TransactorFormed y c o o x → live x ≡ false
