@@ -1,5 +1,5 @@
--- Steps in other orders of arrival. W8 (specs/Exchange) is about two edits; here of any two steps: the image and the replies depend only on which
--- steps come before which where one sees what the other changes. Whether a state is well-formed is not asked.
+-- Steps in other orders of arrival. W8 (specs/Exchange) is about two edits, this about any steps: the image and the replies depend only on which
+-- steps come before which where one sees what the other changes. Whether the state is well-formed is not asked.
 use Prim.Native.Nat.{ℕ, zero, suc, _+_, _*_, _≤_}
 use mathlib.Core.Bool.{Bool, true, false}
 use mathlib.Core.Path.{_≡_}
