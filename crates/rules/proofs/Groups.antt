@@ -6,6 +6,8 @@ pub mod Examples
 pub mod Impediments
 pub mod Needs
 pub mod Obstacles
+pub mod Planned
+pub mod Plans
 pub mod Ready
 pub mod Signable
 pub mod Smallest

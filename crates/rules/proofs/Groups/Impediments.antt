@@ -41,6 +41,7 @@ use Rattle.rules.specs.ReadyGroups.{readyGroup, Ready}
 use Rattle.rules.specs.Dependents.{holdsPresent, restsAt, groupOf, throughAt}
 use Rattle.rules.specs.Obstacle.{StandsIn, in-state, in-creation, WithdrawnMark}
 use Rattle.rules.specs.Impediment.{isWithdrawn, withdrawnIn, withdrawnBy, lostGround, impedesAt, lowestFor, nextAt, impedimentOf, impedimentAnswer, Follows, arrived, link, Leads, Impedes, is-nothing, is-hopeless, is-exhausted, is-unstable, Again, again-hopeless, again-exhausted, again-unstable}
+use Rattle.rules.specs.Plan.{mendable}
 use Rattle.rules.specs.Internal.Well.{Live, is-idle, is-busy, TransactorFormed, not-opened, gone, alive, WellFormed}
 use Rattle.rules.proofs.Bits.{named-past, named-zero}
 use Rattle.rules.proofs.Form.State.{formed-state}
@@ -225,15 +226,15 @@ module _ (y : Layout) (s : State) where
   abbrev n : ℕ
   n = y .transactors
 
-  hopeless-is : (c : ℕ) → impedesAt y s 1 c ≡ ltb (lostGround y s c) n
+  pub hopeless-is : (c : ℕ) → impedesAt y s 1 c ≡ ltb (lostGround y s c) n
   unfolding impedesAt
   hopeless-is c = refl
 
-  exhausted-is : (c : ℕ) → impedesAt y s 2 c ≡ leb (s .limits .checkpoints) (ownHistory c (transactorAt s c) .count)
+  pub exhausted-is : (c : ℕ) → impedesAt y s 2 c ≡ leb (s .limits .checkpoints) (ownHistory c (transactorAt s c) .count)
   unfolding impedesAt
   exhausted-is c = refl
 
-  unstable-is : (c : ℕ) → impedesAt y s 3 c ≡ not (ownHistory c (transactorAt s c) .stable)
+  pub unstable-is : (c : ℕ) → impedesAt y s 3 c ≡ not (ownHistory c (transactorAt s c) .stable)
   unfolding impedesAt
   unstable-is c = refl
 
@@ -270,7 +271,7 @@ module _ (y : Layout) (s : State) where
     leads : live (transactorAt s (lowestFor y s kind t)) ≡ true → Leads y s t (lowestFor y s kind t) (nextAt s n (lowestFor y s kind t) t)
     leads l = record { live = l; next = refl; follows = follows s y (lowestFor y s kind t) t (in-way .0) }
 
-  none-in-way : (kind t : ℕ) → n ≤ lowestFor y s kind t → (c : ℕ) → c < n → throughAt s n c t ≡ true → impedesAt y s kind c ≡ false
+  pub none-in-way : (kind t : ℕ) → n ≤ lowestFor y s kind t → (c : ℕ) → c < n → throughAt s n c t ≡ true → impedesAt y s kind c ≡ false
   none-in-way kind t h c l e = and-off (throughAt s n c t) (impedesAt y s kind c) (lowest-place kind t .before c (omega arith) (omega arith)) e
 
   pub some-in-way : (kind t c : ℕ) → c < n → throughAt s n c t ≡ true → impedesAt y s kind c ≡ true → lowestFor y s kind t < n
@@ -387,10 +388,10 @@ module _ (y : Layout) (s : State) where
       )
 
     -- where nothing is in the way, the volume of all that take t rests on could be signed
-    record Clear : Type 0 where
-      marks : (c : ℕ) → c < y .transactors → throughAt s (y .transactors) c t ≡ true → impedesAt y s 1 c ≡ false
-      room : (c : ℕ) → c < y .transactors → throughAt s (y .transactors) c t ≡ true → impedesAt y s 2 c ≡ false
-      frozen : (c : ℕ) → c < y .transactors → throughAt s (y .transactors) c t ≡ true → impedesAt y s 3 c ≡ false
+    pub record Clear : Type 0 where
+      pub marks : (c : ℕ) → c < y .transactors → throughAt s (y .transactors) c t ≡ true → impedesAt y s 1 c ≡ false
+      pub room : (c : ℕ) → c < y .transactors → throughAt s (y .transactors) c t ≡ true → impedesAt y s 2 c ≡ false
+      pub frozen : (c : ℕ) → c < y .transactors → throughAt s (y .transactors) c t ≡ true → impedesAt y s 3 c ≡ false
 
     module _ (well : WellFormed y s) (clear : Clear) where
       abbrev g : ℕ
@@ -472,7 +473,7 @@ module _ (y : Layout) (s : State) where
       g-contains : named g t ≡ true
       g-contains = g-in t low ∙ through-self s (y .transactors) t
 
-      clear-could : Checkpointable y s t g
+      pub clear-could : Checkpointable y s t g
       unfolding readyGroup bound
       clear-could = record {
         bits = let p : 2 ^ y .transactors ≤ 2 ^ groupBits = pow-le-pow-right (omega arith) few in omega (arith, g-bits, p);
@@ -572,6 +573,16 @@ found-is y s t (found-hopeless a) = rw (lt-ltb (lowestFor y s 1 t) (y .transacto
 found-is y s t (found-exhausted a b) = rw (le-ltb (lowestFor y s 1 t) (y .transactors) a, lt-ltb (lowestFor y s 2 t) (y .transactors) b)
 found-is y s t (found-unstable a b c) = rw (le-ltb (lowestFor y s 1 t) (y .transactors) a, le-ltb (lowestFor y s 2 t) (y .transactors) b, lt-ltb (lowestFor y s 3 t) (y .transactors) c)
 found-is y s t (found-nothing a b c) = rw (le-ltb (lowestFor y s 1 t) (y .transactors) a, le-ltb (lowestFor y s 2 t) (y .transactors) b, le-ltb (lowestFor y s 3 t) (y .transactors) c)
+
+-- neither hopeless nor exhausted: none of those that take t rests on is in the way for good
+pub mendable-low : (y : Layout) (s : State) (t : ℕ) → mendable (impedimentOf y s t) ≡ true → (y .transactors ≤ lowestFor y s 1 t) × (y .transactors ≤ lowestFor y s 2 t)
+mendable-low y s t e = go (found y s t) e
+  where
+    go : {o : Impediment} → Found y s t o → mendable o ≡ true → (y .transactors ≤ lowestFor y s 1 t) × (y .transactors ≤ lowestFor y s 2 t)
+    go (found-hopeless h) e = absurd (false≢true e)
+    go (found-exhausted a h) e = absurd (false≢true e)
+    go (found-unstable a b h) e = (a, b)
+    go (found-nothing a b c) e = (a, b)
 
 -- Hopeless is answered exactly if one of those that take t rests on has a mark of a withdrawn life.
 pub hopeless-some : (y : Layout) (s : State) (t c u : ℕ) → c < y .transactors → u < y .transactors → throughAt s (y .transactors) c t ≡ true → withdrawnBy s c u ≡ true

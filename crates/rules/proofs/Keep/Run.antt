@@ -42,16 +42,16 @@ pub after-zero : (y : Layout) (s : State) (b : List ℕ) → stateAfter y s b 0 
 unfolding stateAfter
 after-zero y s b = refl
 
-after-suc : (y : Layout) (s : State) (b : List ℕ) (i : ℕ) → stateAfter y s b (suc i) ≡ stepOf y (stateAfter y s b i) (stepAt b i) .state
+pub after-suc : (y : Layout) (s : State) (b : List ℕ) (i : ℕ) → stateAfter y s b (suc i) ≡ stepOf y (stateAfter y s b i) (stepAt b i) .state
 unfolding stateAfter
 after-suc y s b i = refl
 
 module _ (b c : List ℕ) (i : ℕ) (whole : length b ≡ stepBytes * i) where
-  at-left : (k : ℕ) → k < i → stepAt (b ++ c) k ≡ stepAt b k
+  pub at-left : (k : ℕ) → k < i → stepAt (b ++ c) k ≡ stepAt b k
   unfolding stepAt
   at-left k h = ap unpackStep (part-left (stepBytes * k) stepBytes b c (omega (arith, step stepBytes k i h)))
 
-  at-right : (j : ℕ) → stepAt (b ++ c) (i + j) ≡ stepAt c j
+  pub at-right : (j : ℕ) → stepAt (b ++ c) (i + j) ≡ stepAt c j
   unfolding stepAt
   at-right j =
       let e : stepBytes * (i + j) ≡ length b + stepBytes * j = omega arith in

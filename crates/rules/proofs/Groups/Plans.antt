@@ -1,0 +1,1 @@
+-- A plan attains what it is for.

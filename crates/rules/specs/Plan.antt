@@ -1,0 +1,123 @@
+-- What is left to do so that a take can be signed. `smallest_group` says what can be signed now, `impediment` what is in the way; this says how: the
+-- steps after which the take is signed with all that it rests on, each answered with outcome 0.
+use Prim.Native.Nat.{ℕ, _+_, _*_, _-_, _/_, _<_}
+use mathlib.Core.Bool.{Bool, true, false, not}
+use mathlib.Core.Path.{_≡_}
+use mathlib.Core.List.{List, [], _++_}
+use lib.ListN.{length}
+use lib.Dec.{eqb, ltb, leb}
+use Rattle.octets.specs.Bytes.{pick, _and_, _or_, chunks, zeros}
+use Rattle.octets.specs.Numbers.{be}
+use Rattle.rules.specs.declared.Impediment.{Impediment}
+use Rattle.rules.specs.declared.Impediment.the-variants.{Nothing, Hopeless, Exhausted, Unstable}
+use Rattle.rules.specs.Layout.{Layout, lastNumber}
+use Rattle.rules.specs.Status.{idle}
+use Rattle.rules.specs.State.{State, Transactor, transactorAt, ownHistory}
+use Rattle.rules.specs.Step.{Step, stepBytes, stepAt, letter, receive, freeze, done}
+use Rattle.rules.specs.Refusals.{named}
+use Rattle.rules.specs.Rules.{stepOf}
+use Rattle.rules.specs.Pack.{unpack}
+use Rattle.rules.specs.Calls.{stateAfter, stepsIn, queryRefusal}
+use Rattle.rules.specs.Groups.{signing}
+use Rattle.rules.specs.ReadyGroups.{howMany}
+use Rattle.rules.specs.Dependents.{throughAt, groupOf}
+use Rattle.rules.specs.Impediment.{impedimentOf}
+
+-- ---- the steps of a plan, packed
+
+-- the other way round from unpackStep
+unfoldable pub packStep : Step → List ℕ
+packStep p = be 1 (16 * p .kind + p .transactor) ++ be 1 (16 * p .other + p .zero) ++ be 2 (p .message) ++ be 4 (p .value)
+
+-- an empty letter to take c: its map is empty, so whoever receives it is at work and else as before
+abbrev pub waking : ℕ → Step
+waking c = record { kind = letter; transactor = c; other = 0; zero = 0; message = 0; value = 0 }
+
+-- the receipt of the parcel with number n
+abbrev pub receipt : ℕ → Step
+receipt n = record { kind = receive; transactor = 0; other = 0; zero = 0; message = n; value = 0 }
+
+abbrev pub freezing : ℕ → Step
+freezing c = record { kind = freeze; transactor = c; other = 0; zero = 0; message = 0; value = 0 }
+
+-- ---- what is to be done
+
+-- take t is take c or rests on it, directly or through the present lives of others, and c is not frozen
+unfoldable pub toFreeze : Layout → State → ℕ → ℕ → Bool
+toFreeze y s t c = throughAt s (y .transactors) c t and not (ownHistory c (transactorAt s c) .stable)
+
+-- and c is idle: a letter has to wake it first
+unfoldable pub toWake : Layout → State → ℕ → ℕ → Bool
+toWake y s t c = toFreeze y s t c and eqb (transactorAt s c .status) idle
+
+-- for take c; a letter has the number that is next once the takes below c have had theirs
+unfoldable pub stepsFor : Layout → State → ℕ → ℕ → List ℕ
+stepsFor y s t c =
+    pick (toFreeze y s t c)
+    (pick (toWake y s t c)
+    (packStep (waking c) ++ packStep (receipt (s .next + howMany c (toWake y s t))) ++ packStep (freezing c))
+    (packStep (freezing c)))
+    []
+
+-- all that take t rests on, itself among them
+unfoldable pub restingVolume : Layout → State → ℕ → ℕ
+restingVolume y s t = groupOf (y .transactors) (λ c. throughAt s (y .transactors) c t)
+
+unfoldable pub letters : Layout → State → ℕ → ℕ
+letters y s t = howMany (y .transactors) (toWake y s t)
+
+-- there is room for the letters: one place at a time, and a number each
+unfoldable pub lettersFit : Layout → State → ℕ → Bool
+lettersFit y s t = eqb (letters y s t) 0 or (ltb (length (s .messages)) (s .limits .messages) and leb (s .next + letters y s t) lastNumber)
+
+-- nothing is in the way that lasts: neither hopeless nor exhausted
+abbrev pub mendable : Impediment → Bool
+mendable Nothing = true
+mendable (Hopeless c u x) = false
+mendable (Exhausted c x) = false
+mendable (Unstable c x) = true
+
+-- The steps, packed; none if something is in the way that lasts, or if there is no room for a letter that is needed.
+unfoldable pub planOf : Layout → State → ℕ → List ℕ
+planOf y s t =
+    pick (mendable (impedimentOf y s t) and lettersFit y s t)
+    (chunks (y .transactors) (stepsFor y s t) ++ packStep (signing (restingVolume y s t)))
+    []
+
+-- ---- the call
+
+-- three steps for each take, and the signing
+abbrev pub planBytes : Layout → ℕ
+planBytes y = stepBytes * (3 * y .transactors + 1)
+
+-- 16, 19, 21 and 22 as offer; 18: out has another length
+unfoldable pub planRefusal : Layout → List ℕ → ℕ → List ℕ → ℕ
+planRefusal y img t out =
+    pick (eqb (queryRefusal y img t) 0) (pick (eqb (length out) (planBytes y)) 0 18) (queryRefusal y img t)
+
+-- how many steps
+unfoldable pub planAnswer : Layout → List ℕ → ℕ → List ℕ → ℕ
+planAnswer y img t out = pick (eqb (planRefusal y img t out) 0) (stepsIn (planOf y (unpack y img) t)) 0
+
+-- bytes past the steps are zero; refused: not touched
+unfoldable pub planOut : Layout → List ℕ → ℕ → List ℕ → List ℕ
+planOut y img t out =
+    pick (eqb (planRefusal y img t out) 0)
+    (planOf y (unpack y img) t ++ zeros (planBytes y - length (planOf y (unpack y img) t)))
+    out
+
+-- ---- for theorems: what a list of steps does that signs a volume with take t
+
+-- The steps b, run from state s. Nobody falls (outcome 3 or 4): every outcome is 0.
+pub record Attains (y : Layout) (s : State) (t : ℕ) (b : List ℕ) : Type 0 where
+  -- at least one
+  pub some : 0 < stepsIn b
+  -- every step is answered with 0
+  pub replies : (i : ℕ) → i < stepsIn b → stepOf y (stateAfter y s b i) (stepAt b i) .reply .outcome ≡ done
+  -- the last signs the volume of take t and all that it rests on
+  pub last : stepAt b (stepsIn b - 1) ≡ signing (restingVolume y s t)
+  pub contains : named (restingVolume y s t) t ≡ true
+  -- no text changes, nor anything of a take that is not in the volume, and the same parcels wait
+  pub values : (u : ℕ) → transactorAt (stateAfter y s b (stepsIn b)) u .value ≡ transactorAt s u .value
+  pub others : (u : ℕ) → named (restingVolume y s t) u ≡ false → transactorAt (stateAfter y s b (stepsIn b)) u ≡ transactorAt s u
+  pub messages : stateAfter y s b (stepsIn b) .messages ≡ s .messages
