@@ -1,1 +1,588 @@
--- A plan attains what it is for.
+-- A plan attains what it is for: run from any well-formed state, every step is answered with 0, and the last signs the take with all that it rests on.
+use Prim.Native.Nat.{ℕ, zero, suc, _+_, _*_, _-_, _/_, _^_, _≤_, _<_}
+use mathlib.Core.Bool.{Bool, true, false, not, false≢true}
+use mathlib.Core.Path.{_≡_, refl, sym, ap, _∙_, subst}
+use mathlib.Core.List.{List, [], _++_}
+use mathlib.Core.Logic.{_⊎_, inl, inr, ⊎-elim}
+use native.Mathlib.Decide.{ℕ-discrete}
+use native.Mathlib.Omega.{arith}
+use lib.Dec.{eqb, ltb, leb}
+use lib.ListN.{length, length-set, List·getD-eq-default}
+use borrow.Author.Tests.{eq-eqb, ne-eqb, eqb-true, eqb-false, ltb-true, leb-true}
+use Rattle.octets.specs.Bytes.{pick, _and_, _or_, tabulate, chunks, Octets}
+use Rattle.octets.specs.Numbers.{bound}
+use Rattle.octets.proofs.Chunks.{sides, cases, chunks-suc, getD-tabulate, length-tabulate}
+use Rattle.octets.proofs.Tests.{pick-view, or-to, otherwise}
+use Rattle.octets.proofs.Zero.{both}
+use Rattle.marks.specs.declared.History.{History}
+use Rattle.marks.specs.Incarnation.{Incarnation, checkpointedIn, sameIncarnation}
+use Rattle.marks.specs.History.{incarnationOf, stabilized}
+use Rattle.maps.specs.declared.DependenceMap.{DependenceMap}
+use Rattle.maps.specs.Map.{Sized, heldAt, historyAt, emptyMap, withEntry}
+use Rattle.maps.proofs.Map.{held-withEntry, history-withEntry, held-withEntry-other, history-withEntry-other}
+use Rattle.rules.specs.Layout.{Layout, Limits, Fitting, lastNumber}
+use Rattle.rules.specs.Status.{idle, busy}
+use Rattle.rules.specs.State.{Transactor, Message, State, noTransactor, transactorAt, messageAt, ownHistory, live, withTransactor, withMessage, placeFrom}
+use Rattle.rules.specs.Step.{Step, stepBytes, stepAt, done}
+use Rattle.rules.specs.Refusals.{named, groupBits, malformed}
+use Rattle.rules.specs.Rules.{Result, noDependences, groupReady, checkpointBy, checkpointAt, checkpointGroup, answer, applySign, refusal, stepOf}
+use Rattle.rules.specs.Calls.{stateAfter, stepsIn}
+use Rattle.rules.specs.Groups.{signing, Checkpointable}
+use Rattle.rules.specs.ReadyGroups.{howMany}
+use Rattle.rules.specs.Dependents.{holdsPresent, restsAt, throughAt, groupOf}
+use Rattle.rules.specs.Impediment.{isWithdrawn, withdrawnIn, withdrawnBy, lostGround, impedesAt, lowestFor, impedimentOf}
+use Rattle.rules.specs.Plan.{packStep, waking, receipt, freezing, toFreeze, toWake, stepsFor, restingVolume, letters, lettersFit, mendable, planOf, Attains}
+use Rattle.rules.specs.Internal.Guards.{groupIn}
+use Rattle.rules.specs.Internal.Well.{StepOk, Live, is-idle, is-busy, TransactorFormed, not-opened, gone, alive, Alive, TransactorOk, WellFormed}
+use Rattle.rules.proofs.Keep.Run.{at-right}
+use Rattle.rules.proofs.Keep.Step.{keeps-after, applied-same}
+use Rattle.rules.proofs.Pack.Stores.{withTransactor-here, withTransactor-other}
+use Rattle.rules.proofs.ByKind.Refused.{refuses}
+use Rattle.rules.proofs.ByKind.Applied.{applies}
+use Rattle.rules.proofs.Groups.Dependents.{group-names, in-group}
+use Rattle.rules.proofs.Groups.Signable.{signing-done}
+use Rattle.rules.proofs.Groups.Through.{through-self}
+use Rattle.rules.proofs.Groups.Impediments.{Clear, clear-could, hopeless-is, exhausted-is, unstable-is, none-in-way, mendable-low, through-live}
+use Rattle.rules.proofs.Groups.Planned.{octets-packStep, length-packStep, step-one, Runs, runs-none, runs-one, runs-append, letter-done, receipt-done, freeze-done, woken, frozenBy, numberedOn}
+
+-- ---- counting
+
+pub howMany-up : (f : ℕ → Bool) (k n : ℕ) → k ≤ n → howMany k f ≤ howMany n f
+unfolding howMany
+howMany-up f k zero h = subst (λ (i : ℕ). howMany i f ≤ 0) {x = 0} {y = k} (omega arith) (omega arith)
+howMany-up f k (suc n) h = ⊎-elim
+    (λ (l : k ≤ n). omega (arith, howMany-up f k n l))
+    (λ (l : suc n ≤ k). subst (λ (i : ℕ). howMany k f ≤ howMany i f) {x = k} {y = suc n} (omega arith) (omega arith))
+    (swap (sides n k))
+  where
+    swap : (n < k) ⊎ (k ≤ n) → (k ≤ n) ⊎ (suc n ≤ k)
+    swap (inl h) = inr h
+    swap (inr h) = inl h
+
+many-next : (f : ℕ → Bool) (k : ℕ) → howMany (suc k) f ≡ howMany k f + pick (f k) 1 0
+unfolding howMany
+many-next f k = refl
+
+-- ---- what a plan has for a take
+
+module _ (y : Layout) (s : State) (t c : ℕ) where
+  steps-none : toFreeze y s t c ≡ false → stepsFor y s t c ≡ []
+  unfolding stepsFor
+  steps-none e = rw e
+
+  steps-busy : toFreeze y s t c ≡ true → toWake y s t c ≡ false → stepsFor y s t c ≡ packStep (freezing c)
+  unfolding stepsFor
+  steps-busy e f = rw (e, f)
+
+  steps-idle : toFreeze y s t c ≡ true → toWake y s t c ≡ true → stepsFor y s t c ≡ packStep (waking c) ++ packStep (receipt (s .next + howMany c (toWake y s t))) ++ packStep (freezing c)
+  unfolding stepsFor
+  steps-idle e f = rw (e, f)
+
+  wake-none : toFreeze y s t c ≡ false → toWake y s t c ≡ false
+  unfolding toWake
+  wake-none e = rw e
+
+  wake-is : toFreeze y s t c ≡ true → toWake y s t c ≡ eqb (transactorAt s c .status) idle
+  unfolding toWake
+  wake-is e = rw e
+
+  freeze-through : toFreeze y s t c ≡ true → throughAt s (y .transactors) c t ≡ true
+  unfolding toFreeze
+  freeze-through e = both (throughAt s (y .transactors) c t) (not (ownHistory c (transactorAt s c) .stable)) e .0
+
+  frozen-already : toFreeze y s t c ≡ false → throughAt s (y .transactors) c t ≡ true → ownHistory c (transactorAt s c) .stable ≡ true
+  unfolding toFreeze
+  frozen-already e f = go (throughAt s (y .transactors) c t) (ownHistory c (transactorAt s c) .stable) e f
+    where
+      go : (a b : Bool) → a and not b ≡ false → a ≡ true → b ≡ true
+      go true true e f = refl
+      go true false e f = absurd (false≢true (sym e))
+      go false b e f = absurd (false≢true f)
+
+-- a take that can be woken and frozen
+record Member (y : Layout) (o c : ℕ) (x : Transactor) : Type 0 where
+  opened : c < o
+  status : Live (x .status)
+  own : heldAt (x .state) c ≡ true
+  behaves : x .status ≡ idle → x .behaviour ≡ emptyMap (y .places) (y .transactors)
+  state : Sized (y .transactors) (x .state)
+  creation : Sized (y .transactors) (x .creation)
+
+-- one take changed
+record Changed (s q : State) (c : ℕ) (x : Transactor) (n : ℕ) : Type 0 where
+  limits : q .limits ≡ s .limits
+  opened : q .opened ≡ s .opened
+  messages : q .messages ≡ s .messages
+  next : q .next ≡ s .next + n
+  here : transactorAt q c ≡ x
+  elsewhere : (u : ℕ) → (u ≡ c → ⊥) → transactorAt q u ≡ transactorAt s u
+
+-- ---- before the signing
+
+module _ {y : Layout} (z : Fitting y) {s : State} (w : WellFormed y s) (t : ℕ) (low : t < y .transactors) (there : live (transactorAt s t) ≡ true)
+    (mends : mendable (impedimentOf y s t) ≡ true) where
+  abbrev n : ℕ
+  n = y .transactors
+
+  member : (c : ℕ) → c < y .transactors → throughAt s (y .transactors) c t ≡ true → Member y (s .opened) c (transactorAt s c)
+  member c h e = go (w .transactors c h) (w .packable .transactors c h) (through-live w t c there h e (mendable-low y s t mends .0))
+    where
+      go : {x : Transactor} → TransactorFormed y (s .limits .checkpoints) (s .opened) c x → TransactorOk y x → live x ≡ true → Member y (s .opened) c x
+      go (not-opened h) o l = absurd (false≢true l)
+      go (gone h) o l = absurd (false≢true l)
+      go (alive h a) o l = record {
+        opened = h;
+        status = a .status;
+        own = a .own;
+        behaves = a .behaves;
+        state = record { helds = o .state .helds; histories = o .state .histories };
+        creation = record { helds = o .creation .helds; histories = o .creation .histories };
+      }
+
+  -- after the first k takes
+  record Prepared (k : ℕ) (q : State) : Type 0 where
+    well : WellFormed y q
+    limits : q .limits ≡ s .limits
+    opened : q .opened ≡ s .opened
+    messages : q .messages ≡ s .messages
+    next : q .next ≡ s .next + howMany k (toWake y s t)
+    frozen : (u : ℕ) → u < k → toFreeze y s t u ≡ true → transactorAt q u ≡ frozenBy u (transactorAt s u)
+    rest : (u : ℕ) → (u < k → toFreeze y s t u ≡ false) → transactorAt q u ≡ transactorAt s u
+
+  prepared-none : Prepared 0 s
+  unfolding howMany
+  prepared-none = record { well = w; limits = refl; opened = refl; messages = refl; next = omega arith; frozen = λ u h e. absurd (omega arith); rest = λ u h. refl }
+
+  module _ (k : ℕ) (below : k < y .transactors) {q : State} (p : Prepared k q) where
+    -- nothing to do
+    prepared-same : toFreeze y s t k ≡ false → Prepared (suc k) q
+    prepared-same e = record {
+      well = p .well;
+      limits = p .limits;
+      opened = p .opened;
+      messages = p .messages;
+      next = p .next ∙ ap (λ (i : ℕ). s .next + i) (sym (many-next (toWake y s t) k ∙ rw (wake-none y s t k e) (omega arith)));
+      frozen = λ u h f. ⊎-elim (λ (l : u < k). p .frozen u l f) (λ (l : k ≤ u). absurd (false≢true (sym e ∙ subst (λ (i : ℕ). toFreeze y s t i ≡ true) {x = u} {y = k} (omega arith) f))) (sides u k);
+      rest = λ u f. p .rest u (λ h. f (omega arith));
+    }
+
+    -- one more is frozen
+    prepared-more : toFreeze y s t k ≡ true → (q' : State) → WellFormed y q' → Changed q q' k (frozenBy k (transactorAt s k)) (pick (toWake y s t k) 1 0) → Prepared (suc k) q'
+    prepared-more e q' v c = record {
+      well = v;
+      limits = c .limits ∙ p .limits;
+      opened = c .opened ∙ p .opened;
+      messages = c .messages ∙ p .messages;
+      next = c .next ∙ omega (arith, p .next, many-next (toWake y s t) k);
+      frozen = λ u h f. ⊎-elim
+          (λ (l : u < k). c .elsewhere u (omega arith) ∙ p .frozen u l f)
+          (λ (l : k ≤ u). subst (λ (i : ℕ). transactorAt q' i ≡ frozenBy i (transactorAt s i)) {x = k} {y = u} (omega arith) (c .here))
+          (sides u k);
+      rest = λ u f. other u f (ℕ-discrete u k);
+    }
+      where
+        other : (u : ℕ) → (u < suc k → toFreeze y s t u ≡ false) → Dec (u ≡ k) → transactorAt q' u ≡ transactorAt s u
+        other u f (yes i) = absurd (false≢true (sym (f (omega arith)) ∙ subst (λ (j : ℕ). toFreeze y s t j ≡ true) (sym i) e))
+        other u f (no d) = c .elsewhere u d ∙ p .rest u (λ h. f (omega arith))
+
+    -- where take k has to be frozen
+    module _ (e : toFreeze y s t k ≡ true) where
+      abbrev x : Transactor
+      x = transactorAt s k
+
+      is-member : Member y (s .opened) k (transactorAt s k)
+      is-member = member k below (freeze-through y s t k e)
+
+      found : transactorAt q k ≡ transactorAt s k
+      found = p .rest k (λ h. absurd (omega arith))
+
+      opened-now : k < q .opened
+      opened-now = omega (arith, p .opened, is-member .opened)
+
+      low-number : k < 16
+      low-number = omega (arith, z .transactors)
+
+      in-list : (q' : State) → WellFormed y q' → k < length (q' .transactors)
+      in-list q' v = omega (arith, v .packable .many)
+
+      freezing-ok : StepOk (freezing k)
+      unfolding bound
+      freezing-ok = record { kind = omega arith; transactor = low-number; other = omega arith; zero = omega arith; message = omega arith; value = omega arith }
+
+      waking-ok : StepOk (waking k)
+      unfolding bound
+      waking-ok = record { kind = omega arith; transactor = low-number; other = omega arith; zero = omega arith; message = omega arith; value = omega arith }
+
+      -- at work: frozen at once
+      busy-status : toWake y s t k ≡ false → transactorAt s k .status ≡ busy
+      busy-status f = go (is-member .status) (eqb-false (transactorAt s k .status) idle (sym (wake-is y s t k e) ∙ f))
+        where
+          go : {i : ℕ} → Live i → (i ≡ idle → ⊥) → i ≡ busy
+          go is-idle d = absurd (d refl)
+          go is-busy d = refl
+
+      frozen-state : State
+      frozen-state = withTransactor q k (frozenBy k (transactorAt s k))
+
+      changed-busy : toWake y s t k ≡ false → Changed q (withTransactor q k (frozenBy k (transactorAt s k))) k (frozenBy k (transactorAt s k)) (pick (toWake y s t k) 1 0)
+      unfolding withTransactor
+      changed-busy f = record {
+        limits = refl;
+        opened = refl;
+        messages = refl;
+        next = rw f (omega arith);
+        here = withTransactor-here q k (frozenBy k (transactorAt s k)) (in-list q (p .well));
+        elsewhere = λ u d. withTransactor-other q k (frozenBy k (transactorAt s k)) u d;
+      }
+
+      runs-busy : toWake y s t k ≡ false → Runs y q (stepsFor y s t k) 1 (withTransactor q k (frozenBy k (transactorAt s k)))
+      runs-busy f =
+          let d = freeze-done y q k opened-now (transactorAt s k) found (busy-status f) in
+          subst (λ (b : List ℕ). Runs y q b 1 (withTransactor q k (frozenBy k (transactorAt s k)))) (sym (steps-busy y s t k e f))
+          (runs-one y q (withTransactor q k (frozenBy k (transactorAt s k))) (freezing k) freezing-ok (ap (λ (r : Result). r .reply .outcome) d) (ap (λ (r : Result). r .state) d))
+
+      -- idle: a letter first
+      module _ (f : toWake y s t k ≡ true) (fits : lettersFit y s t ≡ true) where
+        idle-status : transactorAt s k .status ≡ idle
+        idle-status = eqb-true (transactorAt s k .status) idle (sym (wake-is y s t k e) ∙ f)
+
+        one-more : howMany k (toWake y s t) + 1 ≤ letters y s t
+        unfolding letters
+        one-more =
+            let one : _≡_ {A = ℕ} (pick (toWake y s t k) 1 0) 1 = rw f in
+            omega (arith, many-next (toWake y s t) k, one, howMany-up (toWake y s t) (suc k) (y .transactors) below)
+
+        room : (length (s .messages) < s .limits .messages) × (s .next + letters y s t ≤ lastNumber)
+        unfolding lettersFit
+        room =
+            let a = otherwise (eqb (letters y s t) 0) (ltb (length (s .messages)) (s .limits .messages) and leb (s .next + letters y s t) lastNumber) fits (ne-eqb (letters y s t) 0 (λ (i : letters y s t ≡ 0). omega (arith, one-more))) in
+            let b = both (ltb (length (s .messages)) (s .limits .messages)) (leb (s .next + letters y s t) lastNumber) a in
+            (ltb-true (length (s .messages)) (s .limits .messages) (b .0), leb-true (s .next + letters y s t) lastNumber (b .1))
+
+        number-is : q .next < lastNumber
+        number-is = omega (arith, p .next, room .1, one-more)
+
+        abbrev posted : State
+        posted = withMessage q k 0 (noDependences y)
+
+        abbrev roused : State
+        roused = numberedOn (withTransactor q k (woken (transactorAt s k))) (q .next + 1)
+
+        abbrev ended : State
+        ended = withTransactor roused k (frozenBy k (transactorAt s k))
+
+        receipt-ok : StepOk (receipt (q .next))
+        unfolding bound
+        receipt-ok = record { kind = omega arith; transactor = omega arith; other = omega arith; zero = omega arith; message = omega (arith, number-is); value = omega arith }
+
+        posting : Runs y q (packStep (waking k)) 1 posted
+        posting =
+            let d = letter-done y q k opened-now (subst (λ (l : List Message). length l < q .limits .messages) (sym (p .messages)) (subst (λ (i : ℕ). length (s .messages) < i) (ap (λ m. m .messages) (sym (p .limits))) (room .0))) (λ (i : q .next ≡ lastNumber). omega (arith, number-is)) in
+            runs-one y q posted (waking k) waking-ok (ap (λ (r : Result). r .reply .outcome) d) (ap (λ (r : Result). r .state) d)
+
+        rousing : Runs y posted (packStep (receipt (q .next))) 1 roused
+        rousing =
+            let d = receipt-done y q (p .well .numbers) k (transactorAt s k) found idle-status (is-member .behaves idle-status) (is-member .state) (is-member .creation) in
+            runs-one y posted roused (receipt (q .next)) receipt-ok (ap (λ (r : Result). r .reply .outcome) d) (ap (λ (r : Result). r .state) d)
+
+        roused-is : transactorAt roused k ≡ woken (transactorAt s k)
+        unfolding transactorAt withTransactor
+        roused-is = withTransactor-here q k (woken (transactorAt s k)) (in-list q (p .well))
+
+        roused-opened : k < roused .opened
+        unfolding withTransactor
+        roused-opened = opened-now
+
+        ending : Runs y roused (packStep (freezing k)) 1 ended
+        ending =
+            let d = freeze-done y roused k roused-opened (woken (transactorAt s k)) roused-is refl in
+            runs-one y roused ended (freezing k) freezing-ok (ap (λ (r : Result). r .reply .outcome) d) (ap (λ (r : Result). r .state) d)
+
+        runs-idle : Runs y q (stepsFor y s t k) 3 ended
+        runs-idle =
+            subst (λ (b : List ℕ). Runs y q b 3 ended) (sym (steps-idle y s t k e f))
+            (subst (λ (i : ℕ). Runs y q (packStep (waking k) ++ packStep (receipt i) ++ packStep (freezing k)) 3 ended) (p .next)
+            (runs-append y (runs-append y posting rousing) ending))
+
+        changed-idle : Changed q ended k (frozenBy k (transactorAt s k)) (pick (toWake y s t k) 1 0)
+        unfolding withTransactor transactorAt
+        changed-idle = record {
+          limits = refl;
+          opened = refl;
+          messages = refl;
+          next = rw f refl;
+          here = withTransactor-here roused k (frozenBy k (transactorAt s k)) (omega (arith, length-set (q .transactors) k (woken (transactorAt s k)), in-list q (p .well)));
+          elsewhere = λ u d. withTransactor-other roused k (frozenBy k (transactorAt s k)) u d ∙ withTransactor-other q k (woken (transactorAt s k)) u d;
+        }
+
+    record Next : Type 0 where
+      steps : ℕ
+      after : State
+      runs : Runs y q (stepsFor y s t k) steps after
+      prepared : Prepared (suc k) after
+
+    next : lettersFit y s t ≡ true → Next
+    next fits = go (toFreeze y s t k) refl (toWake y s t k) refl
+      where
+        still-well : {b : List ℕ} {i : ℕ} {q' : State} → Runs y q b i q' → WellFormed y q'
+        still-well {b} {i} r = subst (WellFormed y) (r .ends) (keeps-after z (p .well) b (r .octets) i)
+
+        go : (a : Bool) → toFreeze y s t k ≡ a → (b : Bool) → toWake y s t k ≡ b → Next
+        go false e b f = record { steps = 0; after = q; runs = subst (λ (b : List ℕ). Runs y q b 0 q) (sym (steps-none y s t k e)) (runs-none y q); prepared = prepared-same e }
+        go true e false f = record { steps = 1; after = _; runs = runs-busy e f; prepared = prepared-more e _ (still-well (runs-busy e f)) (changed-busy e f) }
+        go true e true f = record { steps = 3; after = _; runs = runs-idle e f fits; prepared = prepared-more e _ (still-well (runs-idle e f fits)) (changed-idle e f fits) }
+
+  record Before (k : ℕ) : Type 0 where
+    steps : ℕ
+    after : State
+    runs : Runs y s (chunks k (stepsFor y s t)) steps after
+    prepared : Prepared k after
+
+  before : lettersFit y s t ≡ true → (k : ℕ) → k ≤ y .transactors → Before k
+  unfolding chunks
+  before fits zero h = record { steps = 0; after = s; runs = runs-none y s; prepared = prepared-none }
+  before fits (suc k) h =
+      let b = before fits k (omega arith) in
+      let m = next k h (b .prepared) fits in
+      record { steps = b .steps + m .steps; after = m .after; runs = runs-append y (b .runs) (m .runs); prepared = m .prepared }
+
+-- ---- lives are as they were, so who rests on whom is too, and nothing more is in the way
+
+-- the same lives in two states
+record Alike (s q : State) : Type 0 where
+  live : (u : ℕ) → live (transactorAt q u) ≡ live (transactorAt s u)
+  held : (u v : ℕ) → heldAt (transactorAt q u .state) v ≡ heldAt (transactorAt s u .state) v
+  lives : (u v : ℕ) → incarnationOf (historyAt (transactorAt q u .state) v) ≡ incarnationOf (historyAt (transactorAt s u .state) v)
+  creation : (u : ℕ) → transactorAt q u .creation ≡ transactorAt s u .creation
+
+module _ {s q : State} (a : Alike s q) where
+  holds-as : (t : ℕ) (m m' : DependenceMap) → heldAt m' t ≡ heldAt m t → incarnationOf (historyAt m' t) ≡ incarnationOf (historyAt m t) → holdsPresent q t m' ≡ holdsPresent s t m
+  unfolding holdsPresent
+  holds-as t m m' e f = rw (e, f, a .lives t t)
+
+  rests-as : (t u : ℕ) → restsAt q t u ≡ restsAt s t u
+  unfolding restsAt
+  rests-as t u = rw (
+    a .live u,
+    holds-as t (transactorAt s u .state) (transactorAt q u .state) (a .held u t) (a .lives u t),
+    holds-as t (transactorAt s u .creation) (transactorAt q u .creation) (ap (λ (m : DependenceMap). heldAt m t) (a .creation u)) (ap (λ (m : DependenceMap). incarnationOf (historyAt m t)) (a .creation u)),
+  )
+
+  through-as : (k t w : ℕ) → throughAt q k t w ≡ throughAt s k t w
+  unfolding throughAt
+  through-as zero t w = rw (rests-as t w)
+  through-as (suc k) t w = rw (through-as k t w, through-as k t k, through-as k k w)
+
+  withdrawn-in : (u : ℕ) (m m' : DependenceMap) → heldAt m' u ≡ heldAt m u → incarnationOf (historyAt m' u) ≡ incarnationOf (historyAt m u) → withdrawnIn q m' u ≡ withdrawnIn s m u
+  unfolding withdrawnIn isWithdrawn
+  withdrawn-in u m m' e f = rw (e, f, a .live u, a .lives u u)
+
+  withdrawn-as : (c u : ℕ) → withdrawnBy q c u ≡ withdrawnBy s c u
+  unfolding withdrawnBy
+  withdrawn-as c u = rw (
+    withdrawn-in u (transactorAt s c .state) (transactorAt q c .state) (a .held c u) (a .lives c u),
+    withdrawn-in u (transactorAt s c .creation) (transactorAt q c .creation) (ap (λ (m : DependenceMap). heldAt m u) (a .creation c)) (ap (λ (m : DependenceMap). incarnationOf (historyAt m u)) (a .creation c)),
+  )
+
+  lost-as : (y : Layout) (c : ℕ) → lostGround y q c ≡ lostGround y s c
+  unfolding lostGround
+  lost-as y c = ap (λ (f : ℕ → Bool). placeFrom f 0 (y .transactors)) (λ i u. withdrawn-as c u i)
+
+  hopeless-as : (y : Layout) (c : ℕ) → impedesAt y q 1 c ≡ impedesAt y s 1 c
+  hopeless-as y c = hopeless-is y q c ∙ ap (λ (i : ℕ). ltb i (y .transactors)) (lost-as y c) ∙ sym (hopeless-is y s c)
+
+  volume-as : (y : Layout) (t : ℕ) → groupOf (y .transactors) (λ c. throughAt q (y .transactors) c t) ≡ restingVolume y s t
+  unfolding restingVolume
+  volume-as y t = ap (groupOf (y .transactors)) (λ i c. through-as (y .transactors) c t i)
+
+-- a take that was frozen: its marks but for the flag of its own
+module _ {y : Layout} {o c : ℕ} {x : Transactor} (m : Member y o c x) (below : c < y .transactors) where
+  live-frozen : live (frozenBy c x) ≡ live x
+  live-frozen = sym (go (m .status) refl)
+    where
+      go : {i : ℕ} → Live i → x .status ≡ i → live x ≡ true
+      go is-idle e = rw e
+      go is-busy e = rw e
+
+  held-frozen : (v : ℕ) → heldAt (frozenBy c x .state) v ≡ heldAt (x .state) v
+  held-frozen v = go (ℕ-discrete v c)
+    where
+      go : Dec (v ≡ c) → heldAt (frozenBy c x .state) v ≡ heldAt (x .state) v
+      go (yes e) = subst (λ (i : ℕ). heldAt (frozenBy c x .state) i ≡ heldAt (x .state) i) (sym e) (held-withEntry (m .state) c (stabilized (ownHistory c x)) below ∙ sym (m .own))
+      go (no d) = held-withEntry-other (x .state) c (stabilized (ownHistory c x)) v d
+
+  own-frozen : historyAt (frozenBy c x .state) c ≡ stabilized (ownHistory c x)
+  own-frozen = history-withEntry (m .state) c (stabilized (ownHistory c x)) below
+
+  lives-frozen : (v : ℕ) → incarnationOf (historyAt (frozenBy c x .state) v) ≡ incarnationOf (historyAt (x .state) v)
+  lives-frozen v = go (ℕ-discrete v c)
+    where
+      go : Dec (v ≡ c) → incarnationOf (historyAt (frozenBy c x .state) v) ≡ incarnationOf (historyAt (x .state) v)
+      go (yes e) = subst (λ (i : ℕ). incarnationOf (historyAt (frozenBy c x .state) i) ≡ incarnationOf (historyAt (x .state) i)) (sym e) (ap incarnationOf own-frozen)
+      go (no d) = ap incarnationOf (history-withEntry-other (x .state) c (stabilized (ownHistory c x)) v d)
+
+-- ---- the signing
+
+-- what a signing that is answered with 0 leaves
+pub signing-leaves : (y : Layout) (s : State) (v : ℕ) → stepOf y s (signing v) .reply .outcome ≡ done → stepOf y s (signing v) .state ≡ checkpointGroup y s v
+unfolding malformed applySign
+signing-leaves y s v e =
+    let a = both (eqb (groupIn s v) 0) (groupReady y s v) (sym (signing-done y s v) ∙ eq-eqb (stepOf y s (signing v) .reply .outcome) done e) in
+    ap (λ (r : Result). r .state) (applied-same y s (signing v) (refuses y s (signing v) refl .sign refl ∙ eqb-true (groupIn s v) 0 (a .0)) ∙ applies y s (signing v) .sign refl)
+    ∙ rw (a .1)
+
+module _ {y : Layout} (z : Fitting y) {s : State} (w : WellFormed y s) (t : ℕ) (low : t < y .transactors) (there : live (transactorAt s t) ≡ true)
+    (mends : mendable (impedimentOf y s t) ≡ true) {q : State} (p : Prepared z w t low there mends (y .transactors) q) where
+  -- every take is as it was, or frozen
+  by-take : (P : ℕ → Transactor → Type 0) → ((u : ℕ) → P u (transactorAt s u)) → ((u : ℕ) → u < y .transactors → Member y (s .opened) u (transactorAt s u) → toFreeze y s t u ≡ true → P u (frozenBy u (transactorAt s u)))
+      → (u : ℕ) → P u (transactorAt q u)
+  by-take P f g u = go (sides u (y .transactors)) (toFreeze y s t u) refl
+    where
+      go : (u < y .transactors) ⊎ (y .transactors ≤ u) → (b : Bool) → toFreeze y s t u ≡ b → P u (transactorAt q u)
+      go (inl h) true e = subst (P u) (sym (p .frozen u h e)) (g u h (member z w t low there mends u h (freeze-through y s t u e)) e)
+      go (inl h) false e = subst (P u) (sym (p .rest u (λ i. e))) (f u)
+      go (inr h) b e = subst (P u) (sym (p .rest u (λ i. absurd (omega arith)))) (f u)
+
+  alike : Alike s q
+  alike = record {
+    live = by-take (λ u x. live x ≡ live (transactorAt s u)) (λ u. refl) (λ u h m e. live-frozen m h);
+    held = λ u v. by-take (λ u x. heldAt (x .state) v ≡ heldAt (transactorAt s u .state) v) (λ u. refl) (λ u h m e. held-frozen m h v) u;
+    lives = λ u v. by-take (λ u x. incarnationOf (historyAt (x .state) v) ≡ incarnationOf (historyAt (transactorAt s u .state) v)) (λ u. refl) (λ u h m e. lives-frozen m h v) u;
+    creation = by-take (λ u x. x .creation ≡ transactorAt s u .creation) (λ u. refl) (λ u h m e. refl);
+  }
+
+  counts : (u : ℕ) → ownHistory u (transactorAt q u) .count ≡ ownHistory u (transactorAt s u) .count
+  counts = by-take (λ u x. ownHistory u x .count ≡ ownHistory u (transactorAt s u) .count) (λ u. refl) (λ u h m e. ap (λ (h : History). h .count) (own-frozen m h))
+
+  values : (u : ℕ) → transactorAt q u .value ≡ transactorAt s u .value
+  values = by-take (λ u x. x .value ≡ transactorAt s u .value) (λ u. refl) (λ u h m e. refl)
+
+  -- who is in the volume is frozen
+  all-frozen : (c : ℕ) → c < y .transactors → throughAt s (y .transactors) c t ≡ true → ownHistory c (transactorAt q c) .stable ≡ true
+  all-frozen c h e = go (toFreeze y s t c) refl
+    where
+      go : (b : Bool) → toFreeze y s t c ≡ b → ownHistory c (transactorAt q c) .stable ≡ true
+      go true f = ap (λ (x : Transactor). ownHistory c x .stable) (p .frozen c h f) ∙ ap (λ (h : History). h .stable) (own-frozen (member z w t low there mends c h e) h)
+      go false f = ap (λ (x : Transactor). ownHistory c x .stable) (p .rest c (λ i. f)) ∙ frozen-already y s t c f e
+
+  as-before : (c : ℕ) → throughAt q (y .transactors) c t ≡ true → throughAt s (y .transactors) c t ≡ true
+  as-before c e = sym (through-as alike (y .transactors) c t) ∙ e
+
+  few : y .transactors ≤ groupBits
+  few = z .transactors
+
+  clear : Clear y q few t low
+  clear = record {
+    marks = λ c h e. hopeless-as alike y c ∙ none-in-way y s 1 t (mendable-low y s t mends .0) c h (as-before c e);
+    room = λ c h e. exhausted-is y q c ∙ ap (λ (m : Limits). leb (m .checkpoints) (ownHistory c (transactorAt q c) .count)) (p .limits) ∙ ap (leb (s .limits .checkpoints)) (counts c) ∙ (sym (exhausted-is y s c) ∙ none-in-way y s 2 t (mendable-low y s t mends .1) c h (as-before c e));
+    frozen = λ c h e. unstable-is y q c ∙ ap not (all-frozen c h (as-before c e));
+  }
+
+  could : Checkpointable y q t (restingVolume y s t)
+  could = subst (Checkpointable y q t) (volume-as alike y t) (clear-could y q few t low (p .well) clear)
+
+  abbrev g : ℕ
+  g = restingVolume y s t
+
+  signing-fits : StepOk (signing g)
+  unfolding bound
+  signing-fits = record { kind = omega arith; transactor = omega arith; other = omega arith; zero = omega arith; message = could .bits; value = omega arith }
+
+  leaves : stepOf y q (signing g) .state ≡ checkpointGroup y q g
+  leaves = signing-leaves y q g (could .signs)
+
+  at-last : (P : Transactor → Type 0) (u : ℕ) → ((x : Transactor) → x ≡ transactorAt q u → named g u ≡ true → P (checkpointBy y u x)) → P (transactorAt q u) → P (transactorAt (checkpointGroup y q g) u)
+  unfolding transactorAt checkpointGroup checkpointAt
+  at-last P u f k = ⊎-elim
+      (λ (h : u < y .transactors). subst P (sym (getD-tabulate (checkpointAt y q g) (y .transactors) u noTransactor h)) (pick-view P (named g u) _ (transactorAt q u) (λ e. f (transactorAt q u) refl e) (λ e. k)))
+      (λ (h : y .transactors ≤ u). subst P (List·getD-eq-default (q .transactors) noTransactor {n = u} (omega (arith, p .well .packable .many)) ∙ sym (List·getD-eq-default (tabulate (y .transactors) (checkpointAt y q g)) noTransactor {n = u} (omega (arith, length-tabulate (checkpointAt y q g) (y .transactors))))) k)
+      (sides u (y .transactors))
+
+  last-value : (u : ℕ) → transactorAt (checkpointGroup y q g) u .value ≡ transactorAt s u .value
+  unfolding checkpointBy
+  last-value u = at-last (λ x. x .value ≡ transactorAt s u .value) u (λ x e n. ap (λ (i : Transactor). i .value) e ∙ values u) (values u)
+
+  not-named : (u : ℕ) → named g u ≡ false → u < y .transactors → toFreeze y s t u ≡ false
+  unfolding toFreeze restingVolume
+  not-named u n h = rw (sym (in-group (y .transactors) (λ c. throughAt s (y .transactors) c t) u h) ∙ n)
+
+  last-other : (u : ℕ) → named g u ≡ false → transactorAt (checkpointGroup y q g) u ≡ transactorAt s u
+  last-other u n = at-last (λ x. x ≡ transactorAt s u) u (λ x e m. absurd (false≢true (sym n ∙ m))) (p .rest u (not-named u n))
+
+  last-messages : checkpointGroup y q g .messages ≡ s .messages
+  unfolding checkpointGroup
+  last-messages = p .messages
+
+-- ---- the theorem
+
+pub plan-none : (y : Layout) (s : State) (t : ℕ) → mendable (impedimentOf y s t) and lettersFit y s t ≡ false → planOf y s t ≡ []
+unfolding planOf
+plan-none y s t e = rw e
+
+module _ {y : Layout} (z : Fitting y) {s : State} (w : WellFormed y s) (t : ℕ) (low : t < y .transactors) (there : live (transactorAt s t) ≡ true) where
+  module _ (mends : mendable (impedimentOf y s t) ≡ true) (fits : lettersFit y s t ≡ true) where
+    first : Before z w t low there mends (y .transactors)
+    first = before z w t low there mends fits (y .transactors) (omega arith)
+
+    volume : ℕ
+    volume = restingVolume y s t
+
+    steps : ℕ
+    steps = first .steps
+
+    last-step : Runs y (first .after) (packStep (signing (restingVolume y s t))) 1 (checkpointGroup y (first .after) (restingVolume y s t))
+    last-step = runs-one y (first .after) (checkpointGroup y (first .after) (restingVolume y s t)) (signing (restingVolume y s t)) (signing-fits z w t low there mends (first .prepared))
+        (could z w t low there mends (first .prepared) .signs) (leaves z w t low there mends (first .prepared))
+
+    abbrev bytes : List ℕ
+    bytes = chunks (y .transactors) (stepsFor y s t) ++ packStep (signing (restingVolume y s t))
+
+    plan-is : planOf y s t ≡ bytes
+    unfolding planOf
+    plan-is = rw (mends, fits)
+
+    all-steps : Runs y s bytes (first .steps + 1) (checkpointGroup y (first .after) (restingVolume y s t))
+    all-steps = runs-append y (first .runs) last-step
+
+    -- how many steps there are
+    many-steps : stepsIn bytes ≡ first .steps + 1
+    many-steps = let e = all-steps .whole in omega arith
+
+    ends : stateAfter y s bytes (stepsIn bytes) ≡ checkpointGroup y (first .after) (restingVolume y s t)
+    ends = ap (stateAfter y s bytes) many-steps ∙ all-steps .ends
+
+    pub attains-bytes : Attains y s t bytes
+    attains-bytes = record {
+      some = omega (arith, many-steps);
+      replies = λ i h. all-steps .replies i (omega (arith, many-steps));
+      last =
+          let e : stepsIn bytes - 1 ≡ first .steps + 0 = omega (arith, many-steps) in
+          ap (stepAt bytes) e ∙ at-right (chunks (y .transactors) (stepsFor y s t)) (packStep (signing (restingVolume y s t))) (first .steps) (first .runs .whole) 0
+          ∙ step-one (signing (restingVolume y s t)) (signing-fits z w t low there mends (first .prepared));
+      contains = could z w t low there mends (first .prepared) .contains;
+      values = λ u. ap (λ (q : State). transactorAt q u .value) ends ∙ last-value z w t low there mends (first .prepared) u;
+      others = λ u n. ap (λ (q : State). transactorAt q u) ends ∙ last-other z w t low there mends (first .prepared) u n;
+      messages = ap (λ (q : State). q .messages) ends ∙ last-messages z w t low there mends (first .prepared);
+    }
+
+    -- Where neither hopeless nor exhausted is answered and the letters fit, the plan attains the take.
+    pub plan-attains : Attains y s t (planOf y s t)
+    plan-attains = subst (Attains y s t) (sym plan-is) attains-bytes
+
+    pub plan-octets : Octets (planOf y s t)
+    plan-octets = subst Octets (sym plan-is) (all-steps .octets)
+
+  -- Every plan that has a step attains it.
+  pub some-attains : 0 < stepsIn (planOf y s t) → Attains y s t (planOf y s t)
+  some-attains h = go (mendable (impedimentOf y s t)) refl (lettersFit y s t) refl
+    where
+      nothing : mendable (impedimentOf y s t) and lettersFit y s t ≡ false → Attains y s t (planOf y s t)
+      nothing e = absurd (none-of (plan-none y s t e))
+        where
+          none-of : planOf y s t ≡ [] → ⊥
+          none-of f = let k : stepsIn (planOf y s t) ≡ 0 = ap (λ (b : List ℕ). stepsIn b) f in omega arith
+
+      go : (a : Bool) → mendable (impedimentOf y s t) ≡ a → (b : Bool) → lettersFit y s t ≡ b → Attains y s t (planOf y s t)
+      go true e true f = plan-attains e f
+      go true e false f = nothing (rw (e, f))
+      go false e b f = nothing (rw e)
