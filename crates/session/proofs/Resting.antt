@@ -175,7 +175,7 @@ module _ {y : Layout} {s : State} (well : WellFormed y s) {b : Provenance} (r : 
       go (inl q) f = f t w there q
       go (inr q) f = let p = f t k there (q .0) in rests-trans p (f k w (through-live there p) (q .1))
 
-  through-of : {t w : ℕ} → Live (b .holders t .status) → RestsThrough b t w → throughAt s (y .transactors) t w ≡ true
+  pub through-of : {t w : ℕ} → Live (b .holders t .status) → RestsThrough b t w → throughAt s (y .transactors) t w ≡ true
   through-of {t} there itself = through-self s (y .transactors) t
   through-of {t} {w} there (via {u} q e) =
       let l = through-live there q in

@@ -18,12 +18,12 @@ use Rattle.rules.specs.Step.{root, letter, receive, new, send, read, write, fre
 use Rattle.rules.specs.Refusals.{named}
 use Rattle.rules.proofs.Keep.Accepted.{kind-known}
 use Rattle.session.specs.Provenance.{Status, unused, annihilated, Live, is-idle, is-busy, Holder, WaitingMessage, Provenance, find}
-use Rattle.session.specs.Grounds.{Ground, in-state, in-creation}
+use Rattle.session.specs.Grounds.{Ground, in-state, in-creation, Equal}
 use Rattle.session.specs.Steps.{isNil, anew, rolledBackHolder, reads, writes, freezes, finishes, rollsBackOrFinishes, rollsBackOrStays, acted, isDropped, isRolledBack, received, receives, opensRoot, opensChild, applied, checkpointedAt, provenanceRefusal, ProvenanceStep, refuses, applies, signing, not-ready}
 use Rattle.session.proofs.Model.{Ledger}
 use Rattle.session.proofs.Tables.{pick-view, and-of}
 use Rattle.session.proofs.Relation.{live-used, gone-used, Rel}
-use Rattle.session.proofs.Sign.{Ready, equal-ready, live-there}
+use Rattle.session.proofs.Sign.{live-there}
 use Rattle.session.proofs.Accepted.{provenance-accepted, acting-live, receiving-live, named-live}
 
 -- ---- one take, h before and k after
@@ -123,17 +123,21 @@ module _ (l : Ledger) (b : Provenance) (r : Rel l b) (y : Layout) (p : Step) whe
   unfolding checkpointedAt
   checkpointed-turn g lives u = pick-view (Turn (named g u ≡ true) u (H u)) (named g u) _ _ (λ e. checkpoints e (lives u e) refl) (λ e. stays refl)
 
-  -- take u is signed only in a volume that is ready
-  pub turn-because : p .message < bound 2 → {c : Provenance} → ProvenanceStep y b p c → (u : ℕ) → Turn ((g : ℕ) × (named g u ≡ true) × Ready l (named g)) u (b .holders u) (c .holders u)
-  turn-because bits (refuses z) u = stays refl
-  turn-because bits (applies z n) u = turn-map (λ k. absurd k) (applied-turn z n u)
-  turn-because bits (signing z k e) u =
-      let lives = named-live l b r y p z k bits in
-      turn-map (λ n. (p .message, n, equal-ready l b r (p .message) lives e)) (checkpointed-turn (p .message) lives u)
-  turn-because bits (not-ready z k e) u = stays refl
+  -- why take u is signed: this step signs a volume with it
+  pub record SignedBy (u : ℕ) : Type 0 where
+    pub names : named (p .message) u ≡ true
+    pub zero : provenanceRefusal y b p ≡ 0
+    pub kind : p .kind ≡ sign
+    pub same : Equal b (p .message)
+
+  pub turn-signs : p .message < bound 2 → {c : Provenance} → ProvenanceStep y b p c → (u : ℕ) → Turn (SignedBy u) u (b .holders u) (c .holders u)
+  turn-signs bits (refuses z) u = stays refl
+  turn-signs bits (applies z n) u = turn-map (λ k. absurd k) (applied-turn z n u)
+  turn-signs bits (signing z k e) u = turn-map (λ n. record { names = n; zero = z; kind = k; same = e }) (checkpointed-turn (p .message) (named-live l b r y p z k bits) u)
+  turn-signs bits (not-ready z k e) u = stays refl
 
   pub turn : p .message < bound 2 → {c : Provenance} → ProvenanceStep y b p c → (u : ℕ) → Turn Unit u (b .holders u) (c .holders u)
-  turn bits k u = turn-map (λ s. tt) (turn-because bits k u)
+  turn bits k u = turn-map (λ s. tt) (turn-signs bits k u)
 
 -- ---- any number of steps
 

@@ -37,12 +37,13 @@ use Rattle.rules.specs.Calls.{wrongLength, stateAfter, stepsIn, runAnswer, ranI
 use Rattle.rules.specs.Dependents.{dependentsOf}
 use Rattle.rules.specs.Internal.Well.{StepOk, Known, TransactorFormed, not-opened, gone, alive, WellFormed}
 use Rattle.rules.proofs.Pack.RoundTrip.{unpack-pack}
+use Rattle.rules.proofs.Groups.Planned.{signing-of}
 use Rattle.rules.proofs.Keep.Run.{stepOk-at}
 use Rattle.rules.proofs.Keep.Step.{keeps, keeps-after}
 use Rattle.session.specs.Provenance.{Status, unused, idle, busy, annihilated, statusNumber, Live, is-idle, is-busy, Holder, Provenance}
 use Rattle.session.specs.Grounds.{from-start, from-noted, from-list, Ground, in-state, in-creation, RestsOn, Present, CheckpointedNow, SupersededOrAnnihilated, neither, StablePresent, Equal}
 use Rattle.session.specs.Grounds as grounds
-use Rattle.session.specs.Steps.{isNil, anew, rolledBackHolder, ProvenanceStep, refuses, applies, signing, not-ready}
+use Rattle.session.specs.Steps.{isNil, anew, rolledBackHolder, provenanceRefusal, ProvenanceStep, refuses, applies, signing, not-ready}
 use Rattle.session.specs.Fed.{provenanceQueryRefusal, ProvenanceOf}
 use Rattle.session.specs.Trace.{Trace, callsOf, none, one-more}
 use Rattle.session.specs.Point.{Point, at-end}
@@ -53,7 +54,8 @@ use Rattle.session.proofs.Tables.{pick-view}
 use Rattle.session.proofs.Sets.{cell-some}
 use Rattle.session.proofs.Relation.{live-or-not, live-used, present, present-live, Whole, Rel, whole-known, own-history}
 use Rattle.session.proofs.Relation as relation
-use Rattle.session.proofs.Sign.{Ready, checkpointed-stands, present-stands, own-has, ready-live, Settled, settled, settled-equal, equal-settled}
+use Rattle.session.proofs.Sign.{Ready, equal-ready, checkpointed-stands, present-stands, own-has, ready-live, Settled, settled, settled-equal, equal-settled}
+use Rattle.session.proofs.Accepted.{provenance-accepted, named-live}
 use Rattle.session.proofs.Kept.{provenance-determined}
 use Rattle.session.proofs.Locals.{isNil-true}
 use Rattle.session.proofs.ViewState.{no-transactor, own-view, view-no-map}
@@ -66,7 +68,7 @@ use Rattle.session.proofs.Onward.{Stays, stays-refl, limits-stay}
 use Rattle.session.proofs.Carried.{signing-on}
 use Rattle.session.proofs.Waiting.{signs-exactly, ready-on, ready-rule, call-keeps}
 use Rattle.session.proofs.Resting.{ground-live, rests-ground, rests-present, resting-exactly, rests-trans, through-exactly}
-use Rattle.session.proofs.Turns.{Keeps, Turns, kept-all, Past, passed, vanished, past-on, past-all, Turn, turn, turn-because, Fate, kept, lost, fate-on}
+use Rattle.session.proofs.Turns.{Keeps, Turns, kept-all, Past, passed, vanished, past-on, past-all, Turn, turn, SignedBy, turn-signs, Fate, kept, lost, fate-on}
 use Rattle.session.proofs.Turns as turns
 use Rattle.session.proofs.Falling.{rolled, rolled-past, present-not-past, Alone, checkpointed-others, alone}
 use Rattle.session.proofs.Reached.{related, well}
@@ -198,7 +200,7 @@ pub record Reaches (y : Layout) (b : Provenance) (s : State) : Type 1 where
   pub turns : (u : ℕ) → Turns u (b .holders u) (after .holders u)
 
 module _ {y : Layout} (z : Fitting y) {s : State} (w : WellFormed y s) {b : Provenance} (r : Rel (view s) b) where
-  reach : {after : State} → Further y s after → Reaches y b after
+  pub reach : {after : State} → Further y s after → Reaches y b after
   reach here = record { after = b; well = w; rel = r; turns = λ u. turns.none }
   reach (step {now} o steps octets i) = one (reach o)
     where
@@ -244,9 +246,13 @@ module _ {y : Layout} (z : Fitting y) {s : State} (w : WellFormed y s) {b : Prov
 -- ---- what rests on a take that can't be signed any more
 
 module _ {y : Layout} (z : Fitting y) {s : State} (w : WellFormed y s) {b : Provenance} (r : Rel (view s) b) where
-  -- the same with the signing rule, whatever the refusals
+  -- R does not come true of a volume with take u, after whatever steps, as long as u keeps its life
+  abbrev pub Barred : (State → ℕ → Type 0) → ℕ → Type 0
+  Barred R u = (after : State) → Further y s after → SameIncarnation s after u → (v : ℕ) → named v u ≡ true → R after v → ⊥
+
+  -- the signing rule, whatever the refusals; with ReadyGroup for R it is Doomed
   abbrev pub Unready : ℕ → Type 0
-  Unready u = (after : State) → Further y s after → SameIncarnation s after u → (v : ℕ) → named v u ≡ true → Ready (view after) (named v) → ⊥
+  Unready u = Barred (λ after v. Ready (view after) (named v)) u
 
   pub unready-doomed : {u : ℕ} → Unready u → Doomed y s u
   unready-doomed d after o same v n k =
@@ -257,7 +263,30 @@ module _ {y : Layout} (z : Fitting y) {s : State} (w : WellFormed y s) {b : Prov
   withdrawn-unready rests wd after o same v n ok =
       spoilt (view after) (far z w r rests wd o same .after) (far z w r rests wd o same .rel) (from-start (keeps-ground z w r rests wd o same)) (still-withdrawn z w r rests wd o same) v n ok
 
-  module _ {u : ℕ} (there : Live (b .holders u .status)) (unready : Unready u) where
+  -- where R is true the signing rule is met, and it is true where a step signs
+  record Signs (R : State → ℕ → Type 0) : Type 1 where
+    rule : {after : State} → Reaches y b after → (v : ℕ) → R after v → Ready (view after) (named v)
+    signed : {now : State} (q : Reaches y b now) (p : Step) → StepOk p → provenanceRefusal y (q .after) p ≡ 0 → p .kind ≡ sign → Equal (q .after) (p .message) → R now (p .message)
+
+  rule-signs : Signs (λ after v. Ready (view after) (named v))
+  rule-signs = record {
+    rule = λ q v k. k;
+    signed = λ {now} q p ok e k i. equal-ready (view now) (q .after) (q .rel) (p .message) (named-live (view now) (q .after) (q .rel) y p e k (ok .message)) i;
+  }
+
+  group-signs : Signs (ReadyGroup y)
+  group-signs = record {
+    rule = λ q v k. ready-rule z (q .well) (q .rel) k;
+    signed = λ {now} q p ok e k i. record {
+      bits = ok .message;
+      signs = signs-exactly z (q .well) (q .rel) (p .message) (ok .message) .1 (record {
+        zero = subst (λ (x : Step). provenanceRefusal y (q .after) x ≡ 0) (signing-of p (provenance-accepted (view now) (q .after) (q .rel) y p e .formed) k) e;
+        same = i;
+      });
+    };
+  }
+
+  module _ {R : State → ℕ → Type 0} (signs : Signs R) {u : ℕ} (there : Live (b .holders u .status)) (barred : Barred R u) where
     record Fated (after : State) : Type 1 where
       reaches : Reaches y b after
       fate : Fate (b .holders u) (reaches .after .holders u)
@@ -279,7 +308,7 @@ module _ {y : Layout} (z : Fitting y) {s : State} (w : WellFormed y s) {b : Prov
             let q = f .reaches in
             let ok = stepOk-at steps octets i in
             let k = state-kept (q .well) (q .rel) (stepAt steps i) (ok .message) in
-            let t = turn-because (view now) (q .after) (q .rel) y (stepAt steps i) (ok .message) (k .step) u in
+            let t = turn-signs (view now) (q .after) (q .rel) y (stepAt steps i) (ok .message) (k .step) u in
             record {
               reaches = record {
                 after = k .after;
@@ -287,15 +316,18 @@ module _ {y : Layout} (z : Fitting y) {s : State} (w : WellFormed y s) {b : Prov
                 rel = k .rel;
                 turns = λ x. turns.more (q .turns x) (turn (view now) (q .after) (q .rel) y (stepAt steps i) (ok .message) (k .step) x);
               };
-              fate = fate-on (f .fate) t (λ g c. unready now o (same-incarnation q c) (g .0) (g .1) (g .2));
+              fate = fate-on (f .fate) t (λ g c. barred now o (same-incarnation q c) (stepAt steps i .message) (g .names) (signs .signed q (stepAt steps i) ok (g .zero) (g .kind) (g .same)));
             }
 
-    -- Whoever rests on its present life can't be signed any more either, as long as that take keeps its own.
-    pub unready-through : {x : ℕ} → RestsOn b x u (b .holders u .history .incarnation) → Unready x
-    unready-through {x} rests after o same v n ok = go (f .fate)
+    -- Whoever rests on its present life is barred too, as long as that take keeps its own.
+    barred-through : {x : ℕ} → RestsOn b x u (b .holders u .history .incarnation) → Barred R x
+    barred-through {x} rests after o same v n true-now = go (f .fate)
       where
         f : Fated after
         f = fated o
+
+        ok : Ready (view after) (named v)
+        ok = signs .rule (f .reaches) v true-now
 
         ground : Ground (b .holders x) u (b .holders u .history .incarnation)
         ground = rests-present (view s) b r rests
@@ -312,7 +344,13 @@ module _ {y : Layout} (z : Fitting y) {s : State} (w : WellFormed y s) {b : Prov
           where
             at : CheckpointedNow (f .reaches .after) u (b .holders u .history .incarnation) ⊎ StablePresent (f .reaches .after) v u (b .holders u .history .incarnation) → ⊥
             at (inl c) = checkpointed-longer (c .is) (ap (λ (a : Incarnation). a .checkpoints) (sym (k .incarnation)))
-            at (inr p) = unready after o (same-incarnation (f .reaches) k) v (p .named) ok
+            at (inr p) = barred after o (same-incarnation (f .reaches) k) v (p .named) true-now
+
+  pub unready-through : {u : ℕ} → Live (b .holders u .status) → Unready u → {x : ℕ} → RestsOn b x u (b .holders u .history .incarnation) → Unready x
+  unready-through there d rests = barred-through rule-signs there d rests
+
+  pub doomed-through : {u : ℕ} → Live (b .holders u .status) → Doomed y s u → {x : ℕ} → RestsOn b x u (b .holders u .history .incarnation) → Doomed y s x
+  doomed-through there d rests = barred-through group-signs there d rests
 
   -- whoever is spoilt
   spoilt-unready : {x : ℕ} → Spoilt b x → Unready x

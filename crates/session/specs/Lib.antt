@@ -15,3 +15,4 @@ pub mod Meanings
 pub mod Play
 pub mod Sessions
 pub mod Withdrawal
+pub mod Attainable

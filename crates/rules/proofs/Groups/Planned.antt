@@ -9,13 +9,13 @@ use native.Mathlib.Omega.{arith}
 use lib.Dec.{eqb, leb}
 use lib.ListN.{length, getD, set, take, drop, length-append, List·getD-append}
 use lib.Seq.{take-append-seam, drop-append-add, getD-at, getD-set-same, set-set}
-use borrow.Author.Tests.{eq-eqb, ne-eqb, lt-leb}
-use Rattle.octets.specs.Bytes.{pick, _and_, part, any, Octets}
+use borrow.Author.Tests.{eq-eqb, eqb-true, ne-eqb, lt-leb, not-false}
+use Rattle.octets.specs.Bytes.{pick, _and_, _or_, part, any, Octets}
 use Rattle.octets.specs.Numbers.{be, ofBe, bound}
 use Rattle.octets.proofs.Chunks.{sides}
 use Rattle.octets.proofs.Put.{part-whole, octets-append, octets-nil}
 use Rattle.octets.proofs.Numbers.{length-be, octets-be}
-use Rattle.octets.proofs.Tests.{and-false}
+use Rattle.octets.proofs.Tests.{and-false, or-off, pick-view}
 use Rattle.octets.proofs.Zero.{any-off}
 use Rattle.maps.specs.declared.DependenceMap.{DependenceMap}
 use Rattle.maps.specs.Map.{Sized, heldAt, historyAt, emptyMap, withEntry, firstSuperseded, anyUnrelated, supersededEntry, supersededAt, unrelatedEntry, unrelatedAt}
@@ -26,11 +26,12 @@ use Rattle.maps.proofs.Superseded.{superseded-none}
 use Rattle.marks.specs.History.{stabilized}
 use Rattle.rules.specs.Layout.{Layout, lastNumber}
 use Rattle.rules.specs.Status.{idle, busy, annihilated}
-use Rattle.rules.specs.State.{Transactor, Message, State, noMessage, transactorAt, messageAt, ownHistory, withStatus, withState, withTransactor, withMessage, withoutMessage, placeOf, numbered}
-use Rattle.rules.specs.Step.{Step, stepBytes, unpackStep, stepAt, done, receive, freeze}
+use Rattle.rules.specs.State.{Transactor, Message, State, noMessage, transactorAt, messageAt, ownHistory, withStatus, withState, withTransactor, withOpened, withMessage, withoutMessage, placeOf, numbered}
+use Rattle.rules.specs.Step.{Step, stepBytes, unpackStep, stepAt, done, root, letter, receive, new, send, freeze, lose, sign}
 use Rattle.rules.specs.Refusals.{malformed}
-use Rattle.rules.specs.Rules.{Effect, Result, noDependences, known, taken, messageSuperseded, receiverSuperseded, messageUnrelated, receiveBy, freezeBy, localBy, receiptRollsBack, receiptUnrelated, refusal, answer, applyLetter, applyReceive, applyLocal, stepOf}
+use Rattle.rules.specs.Rules.{Effect, Result, noDependences, known, taken, messageSuperseded, receiverSuperseded, messageUnrelated, receiveBy, freezeBy, localBy, receiptRollsBack, receiptUnrelated, groupReady, checkpointGroup, refusal, answer, opened, applyRoot, applyLetter, applyReceive, applyNew, applySend, applyLocal, applyLose, applySign, apply, stepOf}
 use Rattle.rules.specs.Calls.{stateAfter}
+use Rattle.rules.specs.Groups.{signing}
 use Rattle.rules.specs.Plan.{packStep, waking, receipt, freezing}
 use Rattle.rules.specs.Internal.Well.{StepOk}
 use Rattle.rules.specs.Internal.Guards.{roomRefusal, isLastIncarnation}
@@ -257,3 +258,35 @@ module _ (y : Layout) (s : State) (c : ℕ) (opened : c < s .opened) (x : Transa
   freeze-done =
       applied-same y s (freezing c) freeze-passes ∙ applies y s (freezing c) .local (omega arith) (omega arith)
       ∙ rw (is, frozen-is)
+
+-- ---- a signing
+
+-- a step of kind sign that is not refused with 20 is the signing of its volume, and has no other field
+pub signing-of : (p : Step) → malformed p ≡ false → p .kind ≡ sign → p ≡ signing (p .message)
+unfolding malformed
+signing-of p e k =
+    let a : not (eqb (p .transactor) 0) or (not (eqb (p .other) 0) or (not (eqb (p .zero) 0) or not (eqb (p .value) 0))) ≡ false = rw k at e in
+    let b = or-off (not (eqb (p .transactor) 0)) (not (eqb (p .other) 0) or (not (eqb (p .zero) 0) or not (eqb (p .value) 0))) a in
+    let c = or-off (not (eqb (p .other) 0)) (not (eqb (p .zero) 0) or not (eqb (p .value) 0)) (b .1) in
+    let d = or-off (not (eqb (p .zero) 0)) (not (eqb (p .value) 0)) (c .1) in
+    let t : p .transactor ≡ 0 = eqb-true (p .transactor) 0 (not-false (eqb (p .transactor) 0) (b .0)) in
+    let o : p .other ≡ 0 = eqb-true (p .other) 0 (not-false (eqb (p .other) 0) (c .0)) in
+    let z : p .zero ≡ 0 = eqb-true (p .zero) 0 (not-false (eqb (p .zero) 0) (d .0)) in
+    let v : p .value ≡ 0 = eqb-true (p .value) 0 (not-false (eqb (p .value) 0) (d .1)) in
+    λ i. record { kind = k i; transactor = t i; other = o i; zero = z i; message = p .message; value = v i }
+
+-- ---- no step changes the limits
+
+pub limits-same : (y : Layout) (s : State) (p : Step) → stepOf y s p .state .limits ≡ s .limits
+unfolding stepOf apply applyRoot applyLetter applyReceive applyNew applySend applyLose applySign applyLocal opened withOpened withTransactor withMessage withoutMessage checkpointGroup
+limits-same y s p =
+    let k : ℕ = p .kind in
+    let P : Result → Type 0 = λ r. r .state .limits ≡ s .limits in
+    pick-view P (eqb (refusal y s p) 0) _ _ (λ e.
+    pick-view P (eqb k root) _ _ (λ e. refl) λ e0.
+    pick-view P (eqb k letter) _ _ (λ e. refl) λ e1.
+    pick-view P (eqb k receive) _ _ (λ e. refl) λ e2.
+    pick-view P (eqb k new) _ _ (λ e. refl) λ e3.
+    pick-view P (eqb k send) _ _ (λ e. refl) λ e4.
+    pick-view P (eqb k lose) _ _ (λ e. refl) λ e5.
+    pick-view P (eqb k sign) _ _ (λ e. pick-view P (groupReady y s (p .message)) _ _ (λ e. refl) (λ e. refl)) λ e6. refl) (λ e. refl)

@@ -530,6 +530,28 @@ module _ {y : Layout} (z : Fitting y) {s : State} (w : WellFormed y s) (t : ℕ)
     steps : ℕ
     steps = first .steps
 
+    -- before the signing: take t has its life, and the volume is ready
+    pub record Readied : Type 0 where
+      pub list : List ℕ
+      pub octets : Octets list
+      pub count : ℕ
+      pub live : live (transactorAt (stateAfter y s list count) t) ≡ true
+      pub same : incarnationOf (ownHistory t (transactorAt (stateAfter y s list count) t)) ≡ incarnationOf (ownHistory t (transactorAt s t))
+      pub could : Checkpointable y (stateAfter y s list count) t (restingVolume y s t)
+
+    pub readied : Readied
+    readied =
+        let a = alike z w t low there mends (first .prepared) in
+        let e = sym (first .runs .ends) in
+        record {
+          list = chunks (y .transactors) (stepsFor y s t);
+          octets = first .runs .octets;
+          count = first .steps;
+          live = subst (λ (q : State). live (transactorAt q t) ≡ true) e (a .live t ∙ there);
+          same = subst (λ (q : State). incarnationOf (ownHistory t (transactorAt q t)) ≡ incarnationOf (ownHistory t (transactorAt s t))) e (a .lives t t);
+          could = subst (λ (q : State). Checkpointable y q t (restingVolume y s t)) e (could z w t low there mends (first .prepared));
+        }
+
     last-step : Runs y (first .after) (packStep (signing (restingVolume y s t))) 1 (checkpointGroup y (first .after) (restingVolume y s t))
     last-step = runs-one y (first .after) (checkpointGroup y (first .after) (restingVolume y s t)) (signing (restingVolume y s t)) (signing-fits z w t low there mends (first .prepared))
         (could z w t low there mends (first .prepared) .signs) (leaves z w t low there mends (first .prepared))

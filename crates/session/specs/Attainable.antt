@@ -1,0 +1,40 @@
+-- Which takes can still be signed in the lives that they have: what `impediment` and `plan` say of a take, for the whole of the session's future.
+use Prim.Native.Nat.{ℕ, _≤_, _<_}
+use mathlib.Core.Bool.{true, false}
+use mathlib.Core.Path.{_≡_}
+use mathlib.Core.Logic.{_↔_}
+use lib.ListN.{length}
+use Rattle.rules.specs.Layout.{Layout}
+use Rattle.rules.specs.State.{State}
+use Rattle.rules.specs.Refusals.{named}
+use Rattle.rules.specs.Impediment.{impedimentOf}
+use Rattle.rules.specs.Plan.{mendable, lettersFit}
+use Rattle.session.specs.Provenance.{Provenance}
+use Rattle.session.specs.Waiting.{ReadyGroup}
+use Rattle.session.specs.Withdrawal.{Further, SameIncarnation, RestsThrough, Spoilt, Doomed}
+
+-- After some further steps a volume with take t is ready, and t still has the life that it has in s. (The opposite of Doomed.)
+pub record Attainable (y : Layout) (s : State) (t : ℕ) : Type 0 where
+  pub after : State
+  pub further : Further y s after
+  pub same : SameIncarnation s after t
+  pub group : ℕ
+  pub names : named group t ≡ true
+  pub ready : ReadyGroup y after group
+
+-- Take c, which may be t itself, has all the signings that the session allows, and t rests on its present life, directly or through others.
+pub record ExhaustedBelow (b : Provenance) (t : ℕ) : Type 0 where
+  pub transactor : ℕ
+  pub through : RestsThrough b transactor t
+  pub full : b .limits .checkpoints ≤ length (b .holders transactor .history .incarnation .checkpoints)
+
+-- A live take t at a point with state s and book b.
+pub record AttainableExactly (y : Layout) (s : State) (b : Provenance) (t : ℕ) : Type 0 where
+  -- `impediment` says neither hopeless nor exhausted exactly if the take is not spoilt and rests on none that has all its signings.
+  pub answered : (mendable (impedimentOf y s t) ≡ true) ↔ ((Spoilt b t → ⊥) × (ExhaustedBelow b t → ⊥))
+  -- If so, and if the letters that are needed have room, it can be signed in the life that it has: the plan's steps lead there.
+  pub attained : mendable (impedimentOf y s t) ≡ true → lettersFit y s t ≡ true → Attainable y s t
+  -- If it can, by whatever steps and whatever room there is, it is so.
+  pub needed : Attainable y s t → mendable (impedimentOf y s t) ≡ true
+  -- If not, it can't be signed any more in that life, whatever comes.
+  pub doomed : mendable (impedimentOf y s t) ≡ false → Doomed y s t
