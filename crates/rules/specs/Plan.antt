@@ -40,35 +40,38 @@ receipt n = record { kind = receive; transactor = 0; other = 0; zero = 0; messag
 abbrev pub freezing : ℕ → Step
 freezing c = record { kind = freeze; transactor = c; other = 0; zero = 0; message = 0; value = 0 }
 
--- ---- what is to be done
+-- ---- what is to be done with the takes of volume g
 
--- take t is take c or rests on it, directly or through the present lives of others, and c is not frozen
-unfoldable pub toFreeze : Layout → State → ℕ → ℕ → Bool
-toFreeze y s t c = throughAt s (y .transactors) c t and not (ownHistory c (transactorAt s c) .stable)
+-- take c is one of them, and not frozen
+unfoldable pub toFreeze : State → ℕ → ℕ → Bool
+toFreeze s g c = named g c and not (ownHistory c (transactorAt s c) .stable)
 
--- and c is idle: a letter has to wake it first
-unfoldable pub toWake : Layout → State → ℕ → ℕ → Bool
-toWake y s t c = toFreeze y s t c and eqb (transactorAt s c .status) idle
+-- and it is idle: a letter has to wake it first
+unfoldable pub toWake : State → ℕ → ℕ → Bool
+toWake s g c = toFreeze s g c and eqb (transactorAt s c .status) idle
 
 -- for take c; a letter has the number that is next once the takes below c have had theirs
-unfoldable pub stepsFor : Layout → State → ℕ → ℕ → List ℕ
-stepsFor y s t c =
-    pick (toFreeze y s t c)
-    (pick (toWake y s t c)
-    (packStep (waking c) ++ packStep (receipt (s .next + howMany c (toWake y s t))) ++ packStep (freezing c))
+unfoldable pub stepsFor : State → ℕ → ℕ → List ℕ
+stepsFor s g c =
+    pick (toFreeze s g c)
+    (pick (toWake s g c)
+    (packStep (waking c) ++ packStep (receipt (s .next + howMany c (toWake s g))) ++ packStep (freezing c))
     (packStep (freezing c)))
     []
 
--- all that take t rests on, itself among them
+-- how many letters
+unfoldable pub letters : Layout → State → ℕ → ℕ
+letters y s g = howMany (y .transactors) (toWake s g)
+
+-- there is room for them: one place at a time, and a number each
+unfoldable pub lettersFit : Layout → State → ℕ → Bool
+lettersFit y s g = eqb (letters y s g) 0 or (ltb (length (s .messages)) (s .limits .messages) and leb (s .next + letters y s g) lastNumber)
+
+-- ---- the plan
+
+-- all that take t rests on, directly or through the present lives of others, itself among them
 unfoldable pub restingVolume : Layout → State → ℕ → ℕ
 restingVolume y s t = groupOf (y .transactors) (λ c. throughAt s (y .transactors) c t)
-
-unfoldable pub letters : Layout → State → ℕ → ℕ
-letters y s t = howMany (y .transactors) (toWake y s t)
-
--- there is room for the letters: one place at a time, and a number each
-unfoldable pub lettersFit : Layout → State → ℕ → Bool
-lettersFit y s t = eqb (letters y s t) 0 or (ltb (length (s .messages)) (s .limits .messages) and leb (s .next + letters y s t) lastNumber)
 
 -- nothing is in the way that lasts: neither hopeless nor exhausted
 abbrev pub mendable : Impediment → Bool
@@ -77,12 +80,13 @@ mendable (Hopeless c u x) = false
 mendable (Exhausted c x) = false
 mendable (Unstable c x) = true
 
--- The steps, packed; none if something is in the way that lasts, or if there is no room for a letter that is needed.
+-- the steps that sign volume g, packed; none if there is no room for a letter that is needed
+unfoldable pub stepsToSign : Layout → State → ℕ → List ℕ
+stepsToSign y s g = pick (lettersFit y s g) (chunks (y .transactors) (stepsFor s g) ++ packStep (signing g)) []
+
+-- those that sign take t with all that it rests on; none if something is in the way that lasts
 unfoldable pub planOf : Layout → State → ℕ → List ℕ
-planOf y s t =
-    pick (mendable (impedimentOf y s t) and lettersFit y s t)
-    (chunks (y .transactors) (stepsFor y s t) ++ packStep (signing (restingVolume y s t)))
-    []
+planOf y s t = pick (mendable (impedimentOf y s t)) (stepsToSign y s (restingVolume y s t)) []
 
 -- ---- the call
 

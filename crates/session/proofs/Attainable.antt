@@ -152,7 +152,7 @@ module _ {y : Layout} (z : Fitting y) {img : List ℕ} {τ : Trace y img} {s : S
         go o e (means-exhausted {c} l h) f = below-doomed (record { transactor = c; through = l .through; full = h })
         go o e (means-unstable l h) f = absurd (false≢true (sym f))
 
-    planned : mendable (impedimentOf y s t) ≡ true → lettersFit y s t ≡ true → Attainable y s t
+    planned : mendable (impedimentOf y s t) ≡ true → lettersFit y s (restingVolume y s t) ≡ true → Attainable y s t
     planned e f =
         let q = readied z (well z k) t low alive e f in
         record {

@@ -8,7 +8,7 @@ use Rattle.rules.specs.Layout.{Layout}
 use Rattle.rules.specs.State.{State}
 use Rattle.rules.specs.Refusals.{named}
 use Rattle.rules.specs.Impediment.{impedimentOf}
-use Rattle.rules.specs.Plan.{mendable, lettersFit}
+use Rattle.rules.specs.Plan.{mendable, lettersFit, restingVolume}
 use Rattle.session.specs.Provenance.{Provenance}
 use Rattle.session.specs.Waiting.{ReadyGroup}
 use Rattle.session.specs.Withdrawal.{Further, SameIncarnation, RestsThrough, Spoilt, Doomed}
@@ -33,7 +33,7 @@ pub record AttainableExactly (y : Layout) (s : State) (b : Provenance) (t : ℕ)
   -- `impediment` says neither hopeless nor exhausted exactly if the take is not spoilt and rests on none that has all its signings.
   pub answered : (mendable (impedimentOf y s t) ≡ true) ↔ ((Spoilt b t → ⊥) × (ExhaustedBelow b t → ⊥))
   -- If so, and if the letters that are needed have room, it can be signed in the life that it has: the plan's steps lead there.
-  pub attained : mendable (impedimentOf y s t) ≡ true → lettersFit y s t ≡ true → Attainable y s t
+  pub attained : mendable (impedimentOf y s t) ≡ true → lettersFit y s (restingVolume y s t) ≡ true → Attainable y s t
   -- If it can, by whatever steps and whatever room there is, it is so.
   pub needed : Attainable y s t → mendable (impedimentOf y s t) ≡ true
   -- If not, it can't be signed any more in that life, whatever comes.

@@ -31,7 +31,7 @@ use Rattle.rules.specs.Groups.{signing, Checkpointable}
 use Rattle.rules.specs.ReadyGroups.{howMany}
 use Rattle.rules.specs.Dependents.{holdsPresent, restsAt, throughAt, groupOf}
 use Rattle.rules.specs.Impediment.{isWithdrawn, withdrawnIn, withdrawnBy, lostGround, impedesAt, lowestFor, impedimentOf}
-use Rattle.rules.specs.Plan.{packStep, waking, receipt, freezing, toFreeze, toWake, stepsFor, restingVolume, letters, lettersFit, mendable, planOf, Attains}
+use Rattle.rules.specs.Plan.{packStep, waking, receipt, freezing, toFreeze, toWake, stepsFor, restingVolume, letters, lettersFit, mendable, stepsToSign, planOf, Attains}
 use Rattle.rules.specs.Internal.Guards.{groupIn}
 use Rattle.rules.specs.Internal.Well.{StepOk, Live, is-idle, is-busy, TransactorFormed, not-opened, gone, alive, Alive, TransactorOk, WellFormed}
 use Rattle.rules.proofs.Keep.Run.{at-right}
@@ -65,39 +65,48 @@ many-next f k = refl
 
 -- ---- what a plan has for a take
 
-module _ (y : Layout) (s : State) (t c : ℕ) where
-  steps-none : toFreeze y s t c ≡ false → stepsFor y s t c ≡ []
+module _ (s : State) (g c : ℕ) where
+  steps-none : toFreeze s g c ≡ false → stepsFor s g c ≡ []
   unfolding stepsFor
   steps-none e = rw e
 
-  steps-busy : toFreeze y s t c ≡ true → toWake y s t c ≡ false → stepsFor y s t c ≡ packStep (freezing c)
+  steps-busy : toFreeze s g c ≡ true → toWake s g c ≡ false → stepsFor s g c ≡ packStep (freezing c)
   unfolding stepsFor
   steps-busy e f = rw (e, f)
 
-  steps-idle : toFreeze y s t c ≡ true → toWake y s t c ≡ true → stepsFor y s t c ≡ packStep (waking c) ++ packStep (receipt (s .next + howMany c (toWake y s t))) ++ packStep (freezing c)
+  steps-idle : toFreeze s g c ≡ true → toWake s g c ≡ true → stepsFor s g c ≡ packStep (waking c) ++ packStep (receipt (s .next + howMany c (toWake s g))) ++ packStep (freezing c)
   unfolding stepsFor
   steps-idle e f = rw (e, f)
 
-  wake-none : toFreeze y s t c ≡ false → toWake y s t c ≡ false
+  wake-none : toFreeze s g c ≡ false → toWake s g c ≡ false
   unfolding toWake
   wake-none e = rw e
 
-  wake-is : toFreeze y s t c ≡ true → toWake y s t c ≡ eqb (transactorAt s c .status) idle
+  wake-is : toFreeze s g c ≡ true → toWake s g c ≡ eqb (transactorAt s c .status) idle
   unfolding toWake
   wake-is e = rw e
 
-  freeze-through : toFreeze y s t c ≡ true → throughAt s (y .transactors) c t ≡ true
+  freeze-named : toFreeze s g c ≡ true → named g c ≡ true
   unfolding toFreeze
-  freeze-through e = both (throughAt s (y .transactors) c t) (not (ownHistory c (transactorAt s c) .stable)) e .0
+  freeze-named e = both (named g c) (not (ownHistory c (transactorAt s c) .stable)) e .0
 
-  frozen-already : toFreeze y s t c ≡ false → throughAt s (y .transactors) c t ≡ true → ownHistory c (transactorAt s c) .stable ≡ true
+  frozen-already : toFreeze s g c ≡ false → named g c ≡ true → ownHistory c (transactorAt s c) .stable ≡ true
   unfolding toFreeze
-  frozen-already e f = go (throughAt s (y .transactors) c t) (ownHistory c (transactorAt s c) .stable) e f
+  frozen-already e f = go (named g c) (ownHistory c (transactorAt s c) .stable) e f
     where
       go : (a b : Bool) → a and not b ≡ false → a ≡ true → b ≡ true
       go true true e f = refl
       go true false e f = absurd (false≢true (sym e))
       go false b e f = absurd (false≢true f)
+
+  freeze-unnamed : named g c ≡ false → toFreeze s g c ≡ false
+  unfolding toFreeze
+  freeze-unnamed e = rw e
+
+-- the takes of the volume
+in-volume : (y : Layout) (s : State) (t c : ℕ) → c < y .transactors → named (restingVolume y s t) c ≡ throughAt s (y .transactors) c t
+unfolding restingVolume
+in-volume y s t c h = in-group (y .transactors) (λ c. throughAt s (y .transactors) c t) c h
 
 -- a take that can be woken and frozen
 record Member (y : Layout) (o c : ℕ) (x : Transactor) : Type 0 where
@@ -145,9 +154,9 @@ module _ {y : Layout} (z : Fitting y) {s : State} (w : WellFormed y s) (t : ℕ)
     limits : q .limits ≡ s .limits
     opened : q .opened ≡ s .opened
     messages : q .messages ≡ s .messages
-    next : q .next ≡ s .next + howMany k (toWake y s t)
-    frozen : (u : ℕ) → u < k → toFreeze y s t u ≡ true → transactorAt q u ≡ frozenBy u (transactorAt s u)
-    rest : (u : ℕ) → (u < k → toFreeze y s t u ≡ false) → transactorAt q u ≡ transactorAt s u
+    next : q .next ≡ s .next + howMany k (toWake s (restingVolume y s t))
+    frozen : (u : ℕ) → u < k → toFreeze s (restingVolume y s t) u ≡ true → transactorAt q u ≡ frozenBy u (transactorAt s u)
+    rest : (u : ℕ) → (u < k → toFreeze s (restingVolume y s t) u ≡ false) → transactorAt q u ≡ transactorAt s u
 
   prepared-none : Prepared 0 s
   unfolding howMany
@@ -155,25 +164,25 @@ module _ {y : Layout} (z : Fitting y) {s : State} (w : WellFormed y s) (t : ℕ)
 
   module _ (k : ℕ) (below : k < y .transactors) {q : State} (p : Prepared k q) where
     -- nothing to do
-    prepared-same : toFreeze y s t k ≡ false → Prepared (suc k) q
+    prepared-same : toFreeze s (restingVolume y s t) k ≡ false → Prepared (suc k) q
     prepared-same e = record {
       well = p .well;
       limits = p .limits;
       opened = p .opened;
       messages = p .messages;
-      next = p .next ∙ ap (λ (i : ℕ). s .next + i) (sym (many-next (toWake y s t) k ∙ rw (wake-none y s t k e) (omega arith)));
-      frozen = λ u h f. ⊎-elim (λ (l : u < k). p .frozen u l f) (λ (l : k ≤ u). absurd (false≢true (sym e ∙ subst (λ (i : ℕ). toFreeze y s t i ≡ true) {x = u} {y = k} (omega arith) f))) (sides u k);
+      next = p .next ∙ ap (λ (i : ℕ). s .next + i) (sym (many-next (toWake s (restingVolume y s t)) k ∙ rw (wake-none s (restingVolume y s t) k e) (omega arith)));
+      frozen = λ u h f. ⊎-elim (λ (l : u < k). p .frozen u l f) (λ (l : k ≤ u). absurd (false≢true (sym e ∙ subst (λ (i : ℕ). toFreeze s (restingVolume y s t) i ≡ true) {x = u} {y = k} (omega arith) f))) (sides u k);
       rest = λ u f. p .rest u (λ h. f (omega arith));
     }
 
     -- one more is frozen
-    prepared-more : toFreeze y s t k ≡ true → (q' : State) → WellFormed y q' → Changed q q' k (frozenBy k (transactorAt s k)) (pick (toWake y s t k) 1 0) → Prepared (suc k) q'
+    prepared-more : toFreeze s (restingVolume y s t) k ≡ true → (q' : State) → WellFormed y q' → Changed q q' k (frozenBy k (transactorAt s k)) (pick (toWake s (restingVolume y s t) k) 1 0) → Prepared (suc k) q'
     prepared-more e q' v c = record {
       well = v;
       limits = c .limits ∙ p .limits;
       opened = c .opened ∙ p .opened;
       messages = c .messages ∙ p .messages;
-      next = c .next ∙ omega (arith, p .next, many-next (toWake y s t) k);
+      next = c .next ∙ omega (arith, p .next, many-next (toWake s (restingVolume y s t)) k);
       frozen = λ u h f. ⊎-elim
           (λ (l : u < k). c .elsewhere u (omega arith) ∙ p .frozen u l f)
           (λ (l : k ≤ u). subst (λ (i : ℕ). transactorAt q' i ≡ frozenBy i (transactorAt s i)) {x = k} {y = u} (omega arith) (c .here))
@@ -181,17 +190,17 @@ module _ {y : Layout} (z : Fitting y) {s : State} (w : WellFormed y s) (t : ℕ)
       rest = λ u f. other u f (ℕ-discrete u k);
     }
       where
-        other : (u : ℕ) → (u < suc k → toFreeze y s t u ≡ false) → Dec (u ≡ k) → transactorAt q' u ≡ transactorAt s u
-        other u f (yes i) = absurd (false≢true (sym (f (omega arith)) ∙ subst (λ (j : ℕ). toFreeze y s t j ≡ true) (sym i) e))
+        other : (u : ℕ) → (u < suc k → toFreeze s (restingVolume y s t) u ≡ false) → Dec (u ≡ k) → transactorAt q' u ≡ transactorAt s u
+        other u f (yes i) = absurd (false≢true (sym (f (omega arith)) ∙ subst (λ (j : ℕ). toFreeze s (restingVolume y s t) j ≡ true) (sym i) e))
         other u f (no d) = c .elsewhere u d ∙ p .rest u (λ h. f (omega arith))
 
     -- where take k has to be frozen
-    module _ (e : toFreeze y s t k ≡ true) where
+    module _ (e : toFreeze s (restingVolume y s t) k ≡ true) where
       abbrev x : Transactor
       x = transactorAt s k
 
       is-member : Member y (s .opened) k (transactorAt s k)
-      is-member = member k below (freeze-through y s t k e)
+      is-member = member k below (sym (in-volume y s t k below) ∙ freeze-named s (restingVolume y s t) k e)
 
       found : transactorAt q k ≡ transactorAt s k
       found = p .rest k (λ h. absurd (omega arith))
@@ -214,8 +223,8 @@ module _ {y : Layout} (z : Fitting y) {s : State} (w : WellFormed y s) (t : ℕ)
       waking-ok = record { kind = omega arith; transactor = low-number; other = omega arith; zero = omega arith; message = omega arith; value = omega arith }
 
       -- at work: frozen at once
-      busy-status : toWake y s t k ≡ false → transactorAt s k .status ≡ busy
-      busy-status f = go (is-member .status) (eqb-false (transactorAt s k .status) idle (sym (wake-is y s t k e) ∙ f))
+      busy-status : toWake s (restingVolume y s t) k ≡ false → transactorAt s k .status ≡ busy
+      busy-status f = go (is-member .status) (eqb-false (transactorAt s k .status) idle (sym (wake-is s (restingVolume y s t) k e) ∙ f))
         where
           go : {i : ℕ} → Live i → (i ≡ idle → ⊥) → i ≡ busy
           go is-idle d = absurd (d refl)
@@ -224,7 +233,7 @@ module _ {y : Layout} (z : Fitting y) {s : State} (w : WellFormed y s) (t : ℕ)
       frozen-state : State
       frozen-state = withTransactor q k (frozenBy k (transactorAt s k))
 
-      changed-busy : toWake y s t k ≡ false → Changed q (withTransactor q k (frozenBy k (transactorAt s k))) k (frozenBy k (transactorAt s k)) (pick (toWake y s t k) 1 0)
+      changed-busy : toWake s (restingVolume y s t) k ≡ false → Changed q (withTransactor q k (frozenBy k (transactorAt s k))) k (frozenBy k (transactorAt s k)) (pick (toWake s (restingVolume y s t) k) 1 0)
       unfolding withTransactor
       changed-busy f = record {
         limits = refl;
@@ -235,29 +244,29 @@ module _ {y : Layout} (z : Fitting y) {s : State} (w : WellFormed y s) (t : ℕ)
         elsewhere = λ u d. withTransactor-other q k (frozenBy k (transactorAt s k)) u d;
       }
 
-      runs-busy : toWake y s t k ≡ false → Runs y q (stepsFor y s t k) 1 (withTransactor q k (frozenBy k (transactorAt s k)))
+      runs-busy : toWake s (restingVolume y s t) k ≡ false → Runs y q (stepsFor s (restingVolume y s t) k) 1 (withTransactor q k (frozenBy k (transactorAt s k)))
       runs-busy f =
           let d = freeze-done y q k opened-now (transactorAt s k) found (busy-status f) in
-          subst (λ (b : List ℕ). Runs y q b 1 (withTransactor q k (frozenBy k (transactorAt s k)))) (sym (steps-busy y s t k e f))
+          subst (λ (b : List ℕ). Runs y q b 1 (withTransactor q k (frozenBy k (transactorAt s k)))) (sym (steps-busy s (restingVolume y s t) k e f))
           (runs-one y q (withTransactor q k (frozenBy k (transactorAt s k))) (freezing k) freezing-ok (ap (λ (r : Result). r .reply .outcome) d) (ap (λ (r : Result). r .state) d))
 
       -- idle: a letter first
-      module _ (f : toWake y s t k ≡ true) (fits : lettersFit y s t ≡ true) where
+      module _ (f : toWake s (restingVolume y s t) k ≡ true) (fits : lettersFit y s (restingVolume y s t) ≡ true) where
         idle-status : transactorAt s k .status ≡ idle
-        idle-status = eqb-true (transactorAt s k .status) idle (sym (wake-is y s t k e) ∙ f)
+        idle-status = eqb-true (transactorAt s k .status) idle (sym (wake-is s (restingVolume y s t) k e) ∙ f)
 
-        one-more : howMany k (toWake y s t) + 1 ≤ letters y s t
+        one-more : howMany k (toWake s (restingVolume y s t)) + 1 ≤ letters y s (restingVolume y s t)
         unfolding letters
         one-more =
-            let one : _≡_ {A = ℕ} (pick (toWake y s t k) 1 0) 1 = rw f in
-            omega (arith, many-next (toWake y s t) k, one, howMany-up (toWake y s t) (suc k) (y .transactors) below)
+            let one : _≡_ {A = ℕ} (pick (toWake s (restingVolume y s t) k) 1 0) 1 = rw f in
+            omega (arith, many-next (toWake s (restingVolume y s t)) k, one, howMany-up (toWake s (restingVolume y s t)) (suc k) (y .transactors) below)
 
-        room : (length (s .messages) < s .limits .messages) × (s .next + letters y s t ≤ lastNumber)
+        room : (length (s .messages) < s .limits .messages) × (s .next + letters y s (restingVolume y s t) ≤ lastNumber)
         unfolding lettersFit
         room =
-            let a = otherwise (eqb (letters y s t) 0) (ltb (length (s .messages)) (s .limits .messages) and leb (s .next + letters y s t) lastNumber) fits (ne-eqb (letters y s t) 0 (λ (i : letters y s t ≡ 0). omega (arith, one-more))) in
-            let b = both (ltb (length (s .messages)) (s .limits .messages)) (leb (s .next + letters y s t) lastNumber) a in
-            (ltb-true (length (s .messages)) (s .limits .messages) (b .0), leb-true (s .next + letters y s t) lastNumber (b .1))
+            let a = otherwise (eqb (letters y s (restingVolume y s t)) 0) (ltb (length (s .messages)) (s .limits .messages) and leb (s .next + letters y s (restingVolume y s t)) lastNumber) fits (ne-eqb (letters y s (restingVolume y s t)) 0 (λ (i : letters y s (restingVolume y s t) ≡ 0). omega (arith, one-more))) in
+            let b = both (ltb (length (s .messages)) (s .limits .messages)) (leb (s .next + letters y s (restingVolume y s t)) lastNumber) a in
+            (ltb-true (length (s .messages)) (s .limits .messages) (b .0), leb-true (s .next + letters y s (restingVolume y s t)) lastNumber (b .1))
 
         number-is : q .next < lastNumber
         number-is = omega (arith, p .next, room .1, one-more)
@@ -298,13 +307,13 @@ module _ {y : Layout} (z : Fitting y) {s : State} (w : WellFormed y s) (t : ℕ)
             let d = freeze-done y roused k roused-opened (woken (transactorAt s k)) roused-is refl in
             runs-one y roused ended (freezing k) freezing-ok (ap (λ (r : Result). r .reply .outcome) d) (ap (λ (r : Result). r .state) d)
 
-        runs-idle : Runs y q (stepsFor y s t k) 3 ended
+        runs-idle : Runs y q (stepsFor s (restingVolume y s t) k) 3 ended
         runs-idle =
-            subst (λ (b : List ℕ). Runs y q b 3 ended) (sym (steps-idle y s t k e f))
+            subst (λ (b : List ℕ). Runs y q b 3 ended) (sym (steps-idle s (restingVolume y s t) k e f))
             (subst (λ (i : ℕ). Runs y q (packStep (waking k) ++ packStep (receipt i) ++ packStep (freezing k)) 3 ended) (p .next)
             (runs-append y (runs-append y posting rousing) ending))
 
-        changed-idle : Changed q ended k (frozenBy k (transactorAt s k)) (pick (toWake y s t k) 1 0)
+        changed-idle : Changed q ended k (frozenBy k (transactorAt s k)) (pick (toWake s (restingVolume y s t) k) 1 0)
         unfolding withTransactor transactorAt
         changed-idle = record {
           limits = refl;
@@ -318,27 +327,27 @@ module _ {y : Layout} (z : Fitting y) {s : State} (w : WellFormed y s) (t : ℕ)
     record Next : Type 0 where
       steps : ℕ
       after : State
-      runs : Runs y q (stepsFor y s t k) steps after
+      runs : Runs y q (stepsFor s (restingVolume y s t) k) steps after
       prepared : Prepared (suc k) after
 
-    next : lettersFit y s t ≡ true → Next
-    next fits = go (toFreeze y s t k) refl (toWake y s t k) refl
+    next : lettersFit y s (restingVolume y s t) ≡ true → Next
+    next fits = go (toFreeze s (restingVolume y s t) k) refl (toWake s (restingVolume y s t) k) refl
       where
         still-well : {b : List ℕ} {i : ℕ} {q' : State} → Runs y q b i q' → WellFormed y q'
         still-well {b} {i} r = subst (WellFormed y) (r .ends) (keeps-after z (p .well) b (r .octets) i)
 
-        go : (a : Bool) → toFreeze y s t k ≡ a → (b : Bool) → toWake y s t k ≡ b → Next
-        go false e b f = record { steps = 0; after = q; runs = subst (λ (b : List ℕ). Runs y q b 0 q) (sym (steps-none y s t k e)) (runs-none y q); prepared = prepared-same e }
+        go : (a : Bool) → toFreeze s (restingVolume y s t) k ≡ a → (b : Bool) → toWake s (restingVolume y s t) k ≡ b → Next
+        go false e b f = record { steps = 0; after = q; runs = subst (λ (b : List ℕ). Runs y q b 0 q) (sym (steps-none s (restingVolume y s t) k e)) (runs-none y q); prepared = prepared-same e }
         go true e false f = record { steps = 1; after = _; runs = runs-busy e f; prepared = prepared-more e _ (still-well (runs-busy e f)) (changed-busy e f) }
         go true e true f = record { steps = 3; after = _; runs = runs-idle e f fits; prepared = prepared-more e _ (still-well (runs-idle e f fits)) (changed-idle e f fits) }
 
   record Before (k : ℕ) : Type 0 where
     steps : ℕ
     after : State
-    runs : Runs y s (chunks k (stepsFor y s t)) steps after
+    runs : Runs y s (chunks k (stepsFor s (restingVolume y s t))) steps after
     prepared : Prepared k after
 
-  before : lettersFit y s t ≡ true → (k : ℕ) → k ≤ y .transactors → Before k
+  before : lettersFit y s (restingVolume y s t) ≡ true → (k : ℕ) → k ≤ y .transactors → Before k
   unfolding chunks
   before fits zero h = record { steps = 0; after = s; runs = runs-none y s; prepared = prepared-none }
   before fits (suc k) h =
@@ -434,12 +443,12 @@ signing-leaves y s v e =
 module _ {y : Layout} (z : Fitting y) {s : State} (w : WellFormed y s) (t : ℕ) (low : t < y .transactors) (there : live (transactorAt s t) ≡ true)
     (mends : mendable (impedimentOf y s t) ≡ true) {q : State} (p : Prepared z w t low there mends (y .transactors) q) where
   -- every take is as it was, or frozen
-  by-take : (P : ℕ → Transactor → Type 0) → ((u : ℕ) → P u (transactorAt s u)) → ((u : ℕ) → u < y .transactors → Member y (s .opened) u (transactorAt s u) → toFreeze y s t u ≡ true → P u (frozenBy u (transactorAt s u)))
+  by-take : (P : ℕ → Transactor → Type 0) → ((u : ℕ) → P u (transactorAt s u)) → ((u : ℕ) → u < y .transactors → Member y (s .opened) u (transactorAt s u) → toFreeze s (restingVolume y s t) u ≡ true → P u (frozenBy u (transactorAt s u)))
       → (u : ℕ) → P u (transactorAt q u)
-  by-take P f g u = go (sides u (y .transactors)) (toFreeze y s t u) refl
+  by-take P f g u = go (sides u (y .transactors)) (toFreeze s (restingVolume y s t) u) refl
     where
-      go : (u < y .transactors) ⊎ (y .transactors ≤ u) → (b : Bool) → toFreeze y s t u ≡ b → P u (transactorAt q u)
-      go (inl h) true e = subst (P u) (sym (p .frozen u h e)) (g u h (member z w t low there mends u h (freeze-through y s t u e)) e)
+      go : (u < y .transactors) ⊎ (y .transactors ≤ u) → (b : Bool) → toFreeze s (restingVolume y s t) u ≡ b → P u (transactorAt q u)
+      go (inl h) true e = subst (P u) (sym (p .frozen u h e)) (g u h (member z w t low there mends u h (sym (in-volume y s t u h) ∙ freeze-named s (restingVolume y s t) u e)) e)
       go (inl h) false e = subst (P u) (sym (p .rest u (λ i. e))) (f u)
       go (inr h) b e = subst (P u) (sym (p .rest u (λ i. absurd (omega arith)))) (f u)
 
@@ -459,11 +468,11 @@ module _ {y : Layout} (z : Fitting y) {s : State} (w : WellFormed y s) (t : ℕ)
 
   -- who is in the volume is frozen
   all-frozen : (c : ℕ) → c < y .transactors → throughAt s (y .transactors) c t ≡ true → ownHistory c (transactorAt q c) .stable ≡ true
-  all-frozen c h e = go (toFreeze y s t c) refl
+  all-frozen c h e = go (toFreeze s (restingVolume y s t) c) refl
     where
-      go : (b : Bool) → toFreeze y s t c ≡ b → ownHistory c (transactorAt q c) .stable ≡ true
+      go : (b : Bool) → toFreeze s (restingVolume y s t) c ≡ b → ownHistory c (transactorAt q c) .stable ≡ true
       go true f = ap (λ (x : Transactor). ownHistory c x .stable) (p .frozen c h f) ∙ ap (λ (h : History). h .stable) (own-frozen (member z w t low there mends c h e) h)
-      go false f = ap (λ (x : Transactor). ownHistory c x .stable) (p .rest c (λ i. f)) ∙ frozen-already y s t c f e
+      go false f = ap (λ (x : Transactor). ownHistory c x .stable) (p .rest c (λ i. f)) ∙ frozen-already s (restingVolume y s t) c f (in-volume y s t c h ∙ e)
 
   as-before : (c : ℕ) → throughAt q (y .transactors) c t ≡ true → throughAt s (y .transactors) c t ≡ true
   as-before c e = sym (through-as alike (y .transactors) c t) ∙ e
@@ -502,12 +511,8 @@ module _ {y : Layout} (z : Fitting y) {s : State} (w : WellFormed y s) (t : ℕ)
   unfolding checkpointBy
   last-value u = at-last (λ x. x .value ≡ transactorAt s u .value) u (λ x e n. ap (λ (i : Transactor). i .value) e ∙ values u) (values u)
 
-  not-named : (u : ℕ) → named g u ≡ false → u < y .transactors → toFreeze y s t u ≡ false
-  unfolding toFreeze restingVolume
-  not-named u n h = rw (sym (in-group (y .transactors) (λ c. throughAt s (y .transactors) c t) u h) ∙ n)
-
   last-other : (u : ℕ) → named g u ≡ false → transactorAt (checkpointGroup y q g) u ≡ transactorAt s u
-  last-other u n = at-last (λ x. x ≡ transactorAt s u) u (λ x e m. absurd (false≢true (sym n ∙ m))) (p .rest u (not-named u n))
+  last-other u n = at-last (λ x. x ≡ transactorAt s u) u (λ x e m. absurd (false≢true (sym n ∙ m))) (p .rest u (λ h. freeze-unnamed s g u n))
 
   last-messages : checkpointGroup y q g .messages ≡ s .messages
   unfolding checkpointGroup
@@ -515,12 +520,17 @@ module _ {y : Layout} (z : Fitting y) {s : State} (w : WellFormed y s) (t : ℕ)
 
 -- ---- the theorem
 
-pub plan-none : (y : Layout) (s : State) (t : ℕ) → mendable (impedimentOf y s t) and lettersFit y s t ≡ false → planOf y s t ≡ []
-unfolding planOf
-plan-none y s t e = rw e
+pub plan-none : (y : Layout) (s : State) (t : ℕ) → mendable (impedimentOf y s t) and lettersFit y s (restingVolume y s t) ≡ false → planOf y s t ≡ []
+unfolding planOf stepsToSign
+plan-none y s t = go (mendable (impedimentOf y s t)) (lettersFit y s (restingVolume y s t)) (chunks (y .transactors) (stepsFor s (restingVolume y s t)) ++ packStep (signing (restingVolume y s t)))
+  where
+    go : (a b : Bool) (l : List ℕ) → a and b ≡ false → pick a (pick b l []) [] ≡ []
+    go true true l e = absurd (false≢true (sym e))
+    go true false l e = refl
+    go false b l e = refl
 
 module _ {y : Layout} (z : Fitting y) {s : State} (w : WellFormed y s) (t : ℕ) (low : t < y .transactors) (there : live (transactorAt s t) ≡ true) where
-  module _ (mends : mendable (impedimentOf y s t) ≡ true) (fits : lettersFit y s t ≡ true) where
+  module _ (mends : mendable (impedimentOf y s t) ≡ true) (fits : lettersFit y s (restingVolume y s t) ≡ true) where
     first : Before z w t low there mends (y .transactors)
     first = before z w t low there mends fits (y .transactors) (omega arith)
 
@@ -544,7 +554,7 @@ module _ {y : Layout} (z : Fitting y) {s : State} (w : WellFormed y s) (t : ℕ)
         let a = alike z w t low there mends (first .prepared) in
         let e = sym (first .runs .ends) in
         record {
-          list = chunks (y .transactors) (stepsFor y s t);
+          list = chunks (y .transactors) (stepsFor s (restingVolume y s t));
           octets = first .runs .octets;
           count = first .steps;
           live = subst (λ (q : State). live (transactorAt q t) ≡ true) e (a .live t ∙ there);
@@ -557,10 +567,10 @@ module _ {y : Layout} (z : Fitting y) {s : State} (w : WellFormed y s) (t : ℕ)
         (could z w t low there mends (first .prepared) .signs) (leaves z w t low there mends (first .prepared))
 
     abbrev bytes : List ℕ
-    bytes = chunks (y .transactors) (stepsFor y s t) ++ packStep (signing (restingVolume y s t))
+    bytes = chunks (y .transactors) (stepsFor s (restingVolume y s t)) ++ packStep (signing (restingVolume y s t))
 
     plan-is : planOf y s t ≡ bytes
-    unfolding planOf
+    unfolding planOf stepsToSign
     plan-is = rw (mends, fits)
 
     all-steps : Runs y s bytes (first .steps + 1) (checkpointGroup y (first .after) (restingVolume y s t))
@@ -579,7 +589,7 @@ module _ {y : Layout} (z : Fitting y) {s : State} (w : WellFormed y s) (t : ℕ)
       replies = λ i h. all-steps .replies i (omega (arith, many-steps));
       last =
           let e : stepsIn bytes - 1 ≡ first .steps + 0 = omega (arith, many-steps) in
-          ap (stepAt bytes) e ∙ at-right (chunks (y .transactors) (stepsFor y s t)) (packStep (signing (restingVolume y s t))) (first .steps) (first .runs .whole) 0
+          ap (stepAt bytes) e ∙ at-right (chunks (y .transactors) (stepsFor s (restingVolume y s t))) (packStep (signing (restingVolume y s t))) (first .steps) (first .runs .whole) 0
           ∙ step-one (signing (restingVolume y s t)) (signing-fits z w t low there mends (first .prepared));
       contains = could z w t low there mends (first .prepared) .contains;
       values = λ u. ap (λ (q : State). transactorAt q u .value) ends ∙ last-value z w t low there mends (first .prepared) u;
@@ -596,15 +606,15 @@ module _ {y : Layout} (z : Fitting y) {s : State} (w : WellFormed y s) (t : ℕ)
 
   -- Every plan that has a step attains it.
   pub some-attains : 0 < stepsIn (planOf y s t) → Attains y s t (planOf y s t)
-  some-attains h = go (mendable (impedimentOf y s t)) refl (lettersFit y s t) refl
+  some-attains h = go (mendable (impedimentOf y s t)) refl (lettersFit y s (restingVolume y s t)) refl
     where
-      nothing : mendable (impedimentOf y s t) and lettersFit y s t ≡ false → Attains y s t (planOf y s t)
+      nothing : mendable (impedimentOf y s t) and lettersFit y s (restingVolume y s t) ≡ false → Attains y s t (planOf y s t)
       nothing e = absurd (none-of (plan-none y s t e))
         where
           none-of : planOf y s t ≡ [] → ⊥
           none-of f = let k : stepsIn (planOf y s t) ≡ 0 = ap (λ (b : List ℕ). stepsIn b) f in omega arith
 
-      go : (a : Bool) → mendable (impedimentOf y s t) ≡ a → (b : Bool) → lettersFit y s t ≡ b → Attains y s t (planOf y s t)
+      go : (a : Bool) → mendable (impedimentOf y s t) ≡ a → (b : Bool) → lettersFit y s (restingVolume y s t) ≡ b → Attains y s t (planOf y s t)
       go true e true f = plan-attains e f
       go true e false f = nothing (rw (e, f))
       go false e b f = nothing (rw e)
