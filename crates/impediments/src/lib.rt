@@ -1,5 +1,5 @@
 // Why no group with a transactor could be checkpointed (document 01: no volume with a take could be signed).
-mod ways;
+pub mod ways;
 
 use crate::ways::Reach;
 use crate::ways::reach_of;

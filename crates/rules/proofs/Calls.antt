@@ -2,6 +2,7 @@
 pub mod Begin
 pub mod Heard
 pub mod Offer
+pub mod Planning
 pub mod Query
 pub mod Run
 pub mod Show

@@ -4,20 +4,20 @@ use Prim.Native.Nat.{ℕ, _+_, _*_, _-_, _/_, _<_}
 use mathlib.Core.Bool.{Bool, true, false, not}
 use mathlib.Core.Path.{_≡_}
 use mathlib.Core.List.{List, [], _++_}
-use lib.ListN.{length}
+use lib.ListN.{length, getD}
 use lib.Dec.{eqb, ltb, leb}
-use Rattle.octets.specs.Bytes.{pick, _and_, _or_, chunks, zeros}
+use Rattle.octets.specs.Bytes.{pick, _and_, _or_, part, chunks, zeros}
 use Rattle.octets.specs.Numbers.{be}
 use Rattle.rules.specs.declared.Impediment.{Impediment}
 use Rattle.rules.specs.declared.Impediment.the-variants.{Nothing, Hopeless, Exhausted, Unstable}
 use Rattle.rules.specs.Layout.{Layout, lastNumber}
 use Rattle.rules.specs.Status.{idle}
-use Rattle.rules.specs.State.{State, Transactor, transactorAt, ownHistory}
+use Rattle.rules.specs.State.{State, transactorAt, ownHistory}
 use Rattle.rules.specs.Step.{Step, stepBytes, stepAt, letter, receive, freeze, done}
 use Rattle.rules.specs.Refusals.{named}
 use Rattle.rules.specs.Rules.{stepOf}
-use Rattle.rules.specs.Pack.{unpack}
-use Rattle.rules.specs.Calls.{stateAfter, stepsIn, queryRefusal}
+use Rattle.rules.specs.Pack.{transactorPart, messagePart, unpack}
+use Rattle.rules.specs.Calls.{stateAfter, stepsIn, runAnswer, runImage, runReplies, queryRefusal}
 use Rattle.rules.specs.Groups.{signing}
 use Rattle.rules.specs.ReadyGroups.{howMany}
 use Rattle.rules.specs.Dependents.{throughAt, groupOf}
@@ -114,7 +114,8 @@ planOut y img t out =
 
 -- The steps b, run from state s. Nobody falls (outcome 3 or 4): every outcome is 0.
 pub record Attains (y : Layout) (s : State) (t : ℕ) (b : List ℕ) : Type 0 where
-  -- at least one
+  -- whole steps, at least one
+  pub whole : length b ≡ stepBytes * stepsIn b
   pub some : 0 < stepsIn b
   -- every step is answered with 0
   pub replies : (i : ℕ) → i < stepsIn b → stepOf y (stateAfter y s b i) (stepAt b i) .reply .outcome ≡ done
@@ -125,3 +126,17 @@ pub record Attains (y : Layout) (s : State) (t : ℕ) (b : List ℕ) : Type 0 wh
   pub values : (u : ℕ) → transactorAt (stateAfter y s b (stepsIn b)) u .value ≡ transactorAt s u .value
   pub others : (u : ℕ) → named (restingVolume y s t) u ≡ false → transactorAt (stateAfter y s b (stepsIn b)) u ≡ transactorAt s u
   pub messages : stateAfter y s b (stepsIn b) .messages ≡ s .messages
+
+-- The list that the call wrote, run on that image from byte 0 on up to where its steps end, with lent for the replies.
+pub record PlanRuns (y : Layout) (img : List ℕ) (t : ℕ) (out lent : List ℕ) : Type 0 where
+  -- it is the plan, which attains take t
+  pub is : part 0 (stepBytes * planAnswer y img t out) (planOut y img t out) ≡ planOf y (unpack y img) t
+  pub attains : Attains y (unpack y img) t (planOf y (unpack y img) t)
+  -- the run is accepted, and every reply has outcome 0
+  pub accepted : runAnswer y img (planOut y img t out) 0 (stepBytes * planAnswer y img t out) lent ≡ 0
+  pub replies : (i : ℕ) → i < planAnswer y img t out → getD (runReplies y img (planOut y img t out) 0 (stepBytes * planAnswer y img t out) lent) (stepBytes * i) 0 ≡ done
+  -- the image after it: no text changes; the takes that are not in the volume and the waiting parcels are the same byte for byte
+  pub values : (u : ℕ) → transactorAt (unpack y (runImage y img (planOut y img t out) 0 (stepBytes * planAnswer y img t out) lent)) u .value ≡ transactorAt (unpack y img) u .value
+  pub others : (u : ℕ) → u < y .transactors → named (restingVolume y (unpack y img) t) u ≡ false
+      → transactorPart y (runImage y img (planOut y img t out) 0 (stepBytes * planAnswer y img t out) lent) u ≡ transactorPart y img u
+  pub messages : (k : ℕ) → k < y .messages → messagePart y (runImage y img (planOut y img t out) 0 (stepBytes * planAnswer y img t out) lent) k ≡ messagePart y img k

@@ -16,6 +16,7 @@ use Rattle.rules.specs.ReadyGroups.{readyRefusal, readyAnswer}
 use Rattle.rules.specs.Dependents.{dependentsAnswer}
 use Rattle.rules.specs.Obstacle.{obstacleRefusal, obstacleAnswer}
 use Rattle.rules.specs.Impediment.{impedimentAnswer}
+use Rattle.rules.specs.Plan.{planRefusal, planAnswer, planOut}
 
 abbrev pub BeginPromise : Layout → Limits → (img : List ℕ) (r : ℕ) (after : List ℕ) → Type 0
 BeginPromise y m img r after = (r ≡ beginAnswer y m img) × (after ≡ beginImage y m img)
@@ -48,6 +49,10 @@ ObstaclePromise y img v r o = (r ≡ obstacleRefusal y img v) × (o ≡ obstacle
 
 abbrev pub ImpedimentPromise : Layout → (img : List ℕ) (t r : ℕ) → Impediment → Type 0
 ImpedimentPromise y img t r o = (r ≡ queryRefusal y img t) × (o ≡ impedimentAnswer y img t)
+
+-- lent, given: the bytes for the steps at entry and exit; n: how many steps
+abbrev pub PlanPromise : Layout → (img : List ℕ) (t : ℕ) (lent : List ℕ) (r : ℕ) (given : List ℕ) (n : ℕ) → Type 0
+PlanPromise y img t lent r given n = (r ≡ planRefusal y img t lent) × (given ≡ planOut y img t lent) × (n ≡ planAnswer y img t lent)
 
 abbrev pub ShowPromise : Layout → (img : List ℕ) (n r : ℕ) (bytes : List ℕ) → Type 0
 ShowPromise y img n r bytes = (bytes ≡ shown y img n) × (r ≡ showRefusal y img n)

@@ -585,6 +585,7 @@ module _ {y : Layout} (z : Fitting y) {s : State} (w : WellFormed y s) (t : ℕ)
 
     pub attains-bytes : Attains y s t bytes
     attains-bytes = record {
+      whole = all-steps .whole ∙ ap (λ (i : ℕ). stepBytes * i) (sym many-steps);
       some = omega (arith, many-steps);
       replies = λ i h. all-steps .replies i (omega (arith, many-steps));
       last =
@@ -600,9 +601,6 @@ module _ {y : Layout} (z : Fitting y) {s : State} (w : WellFormed y s) (t : ℕ)
     -- Where neither hopeless nor exhausted is answered and the letters fit, the plan attains the take.
     pub plan-attains : Attains y s t (planOf y s t)
     plan-attains = subst (Attains y s t) (sym plan-is) attains-bytes
-
-    pub plan-octets : Octets (planOf y s t)
-    plan-octets = subst Octets (sym plan-is) (all-steps .octets)
 
   -- Every plan that has a step attains it.
   pub some-attains : 0 < stepsIn (planOf y s t) → Attains y s t (planOf y s t)
