@@ -1,27 +1,35 @@
 -- A plan as the code writes it: what is to be done with each take, its steps one behind the other, zeros after them.
-use Prim.Native.Nat.{ℕ, zero, suc, _+_, _*_, _-_, _/_, _%_, _≤_, _<_}
+use Prim.Native.Nat.{ℕ, zero, suc, _+_, _*_, _-_, _/_, _%_, _^_, _≤_, _<_}
 use mathlib.Core.Bool.{Bool, true, false, not, false≢true}
 use mathlib.Core.Path.{_≡_, refl, sym, ap, _∙_, subst}
 use mathlib.Core.List.{List, [], _∷_, _++_}
 use native.Mathlib.Numerals.{add-one}
 use native.Mathlib.Omega.{arith}
 use lib.Dec.{eqb, ltb, leb}
-use lib.ListN.{length, take, drop, length-append}
+use lib.ListN.{length, getD, drop, length-append, length-drop}
 use borrow.Author.Tests.{eq-eqb, ne-eqb, eqb-true, lt-ltb, le-ltb}
 use Rattle.octets.specs.Bytes.{pick, _and_, _or_, put, chunks, zeros}
 use Rattle.octets.specs.Numbers.{be}
 use Rattle.octets.proofs.Put.{put-def, put-append, put-nil, put-whole, length-put}
-use Rattle.octets.proofs.Zero.{length-zeros}
+use Rattle.octets.proofs.Zero.{length-zeros, zeros-is, allZero-drop, allZero-zeros}
 use Rattle.octets.proofs.Tests.{pick-view}
 use Rattle.rules.specs.Layout.{Layout, base, lastNumber}
 use Rattle.rules.specs.Status.{idle}
 use Rattle.rules.specs.State.{State, transactorAt, ownHistory}
-use Rattle.rules.specs.Refusals.{named}
+use Rattle.rules.specs.Refusals.{named, groupBits}
 use Rattle.rules.specs.Step.{stepBytes}
-use Rattle.rules.specs.Calls.{stepsIn}
+use Rattle.rules.specs.Pack.{unpack}
+use Rattle.rules.specs.Calls.{stepsIn, queryRefusal}
+use Rattle.rules.specs.Dependents.{throughAt}
+use Rattle.rules.specs.Impediment.{impedimentOf}
+use Rattle.rules.specs.Promises.{PlanPromise}
+use Rattle.rules.specs.Internal.Closure.{Names}
 use Rattle.rules.specs.Groups.{signing}
 use Rattle.rules.specs.ReadyGroups.{howMany}
-use Rattle.rules.specs.Plan.{packStep, waking, receipt, freezing, toFreeze, toWake, stepsFor, letters, lettersFit, stepsToSign, planBytes}
+use Rattle.rules.specs.Plan.{packStep, waking, receipt, freezing, toFreeze, toWake, stepsFor, letters, lettersFit, restingVolume, mendable, stepsToSign, planOf, planBytes, planRefusal, planAnswer, planOut}
+use Rattle.impediments.specs.Internal.Ways.{Reached}
+use Rattle.rules.proofs.Bits.{names-fits}
+use Rattle.rules.proofs.Groups.Dependents.{in-group, names-end}
 use Rattle.rules.proofs.Groups.Planned.{length-packStep}
 use Rattle.plans.specs.Internal.Written.{taskOf, tasked, nextNumber, Written, Planned}
 
@@ -117,25 +125,25 @@ module _ (at c n : ℕ) (l : List ℕ) where
       d3 = length-packStep (freezing c)
 
       ab : length (packStep (waking c) ++ packStep (receipt n)) ≡ 16
-      ab = length-append (packStep (waking c)) (packStep (receipt n)) ∙ omega arith
+      ab = length-append (packStep (waking c)) (packStep (receipt n)) ∙ omega (arith, a, b)
 
       two : l2 ≡ put at (packStep (waking c) ++ packStep (receipt n)) l
       two = f2 ∙ ap (put (at + 8) (packStep (receipt n))) f1
           ∙ ap (λ (i : ℕ). put (at + i) (packStep (receipt n)) (put at (packStep (waking c)) l)) (sym a)
-          ∙ put-append at (packStep (waking c)) (packStep (receipt n)) l (omega arith)
+          ∙ put-append at (packStep (waking c)) (packStep (receipt n)) l (omega (arith, a, b))
 
       three : put (at + 2 * 8) (packStep (freezing c)) l2 ≡ put at (packStep (waking c) ++ packStep (receipt n) ++ packStep (freezing c)) l
       three = ap (put (at + 2 * 8) (packStep (freezing c))) two
           ∙ ap (λ (i : ℕ). put (at + i) (packStep (freezing c)) (put at (packStep (waking c) ++ packStep (receipt n)) l)) (sym ab)
-          ∙ put-append at (packStep (waking c) ++ packStep (receipt n)) (packStep (freezing c)) l (omega arith)
+          ∙ put-append at (packStep (waking c) ++ packStep (receipt n)) (packStep (freezing c)) l (omega (arith, ab, d3))
 
 -- ---- all takes
 
 -- after c turns of the loop
-pub record Stored (s : State) (g c : ℕ) (l l' : List ℕ) (at number : ℕ) : Type 0 where
+pub record Stored (s : State) (g c : ℕ) (l l' : List ℕ) (at m : ℕ) : Type 0 where
   pub written : Written (chunks c (stepsFor s g)) 0 l l' at
   pub short : at ≤ 24 * c
-  pub number : number ≡ s .next + howMany c (toWake s g)
+  pub number : m ≡ s .next + howMany c (toWake s g)
 
 pub stored-none : (s : State) (g : ℕ) (l : List ℕ) (n : ℕ) → n ≡ s .next → Stored s g 0 l l 0 n
 unfolding chunks howMany
@@ -160,13 +168,131 @@ stored-more {s} {g} {c} {l} {l'} {l''} {at} {at'} {n} {n'} {k} p h long e w q f 
     short-steps : length (stepsFor s g c) ≤ 24
     short-steps = subst (λ (b : List ℕ). length b ≤ 24) is-steps (tasked-short k c n)
 
+pub stored-all : {s : State} {g c : ℕ} {l l' : List ℕ} {at m : ℕ} → Stored s g c l l' at m → c ≤ 16 → 16 ≤ c → Written (chunks (base .transactors) (stepsFor s g)) 0 l l' at
+stored-all {s} {g} {c} {l} {l'} {at} p h k = subst (λ (i : ℕ). Written (chunks i (stepsFor s g)) 0 l l' at) {x = c} {y = 16} (omega arith) (p .written)
+
 -- ---- the whole
 
 drop-zeros : (k n : ℕ) → drop k (zeros n) ≡ zeros (n - k)
-unfolding zeros
-drop-zeros zero n = refl
-drop-zeros (suc k) zero = refl
-drop-zeros (suc k) (suc n) = drop-zeros k n
+drop-zeros k n = zeros-is (drop k (zeros n)) (allZero-drop k (zeros n) (allZero-zeros n)) ∙ ap zeros (rw (length-drop, length-zeros))
 
 put-zeros : (b : List ℕ) (n : ℕ) → put 0 b (zeros n) ≡ b ++ zeros (n - length b)
 put-zeros b n = put-def 0 b (zeros n) ∙ ap (λ (l : List ℕ). b ++ l) (drop-zeros (length b) n)
+
+-- nothing is written
+pub planned-none : (b l : List ℕ) → b ≡ [] → l ≡ zeros (planBytes base) → Planned b l 0
+planned-none b l e f = record { is = f ∙ ap (λ (c : List ℕ). c ++ zeros (planBytes base - length c)) (sym e); many = ap (λ (c : List ℕ). stepsIn c) (sym e) }
+
+module _ (s : State) (g : ℕ) where
+  pub sign-none : lettersFit base s g ≡ false → stepsToSign base s g ≡ []
+  unfolding stepsToSign
+  sign-none e = rw e
+
+  -- the steps of all takes, and the signing behind them
+  pub planned-some : lettersFit base s g ≡ true → (l l' l'' : List ℕ) (at : ℕ) → l ≡ zeros (planBytes base) → Written (chunks (base .transactors) (stepsFor s g)) 0 l l' at → at ≤ 384
+      → l'' ≡ put at (packStep (signing g)) l' → Planned (stepsToSign base s g) l'' (at / 8 + 1)
+  unfolding stepsToSign
+  planned-some e l l' l'' at f w h q = rw e (record {
+    is = q ∙ ap (λ (i : ℕ). put i (packStep (signing g)) l') (w .ends) ∙ ap (put (0 + length b) (packStep (signing g))) (w .is)
+        ∙ put-append 0 b (packStep (signing g)) l (omega (arith, w .ends, n, long)) ∙ ap (put 0 (b ++ packStep (signing g))) f ∙ put-zeros (b ++ packStep (signing g)) (planBytes base);
+    many = let k : length (b ++ packStep (signing g)) ≡ at + 8 = length-append b (packStep (signing g)) ∙ omega (arith, w .ends, n) in omega arith;
+  })
+    where
+      b : List ℕ
+      b = chunks (base .transactors) (stepsFor s g)
+
+      n : length (packStep (signing g)) ≡ 8
+      n = length-packStep (signing g)
+
+      long : length l ≡ 392
+      long = ap length f ∙ length-zeros (planBytes base)
+
+-- ---- as the code comes by them
+
+pub next-wake : (k n : ℕ) → k ≡ 2 → n + 1 ≡ nextNumber k n
+unfolding nextNumber
+next-wake k n e = rw e
+
+pub next-other : (k n : ℕ) → (k ≡ 2 → ⊥) → n ≡ nextNumber k n
+unfolding nextNumber
+next-other k n d = rw (ne-eqb k 2 d)
+
+pub stored-step : (k t m at : ℕ) (l l' : List ℕ) → l' ≡ put at ((16 * k + t) % 256 ∷ 0 ∷ m / 256 % 256 ∷ m % 256 ∷ 0 ∷ 0 ∷ 0 ∷ 0 ∷ []) l
+    → l' ≡ put at (packStep (record { kind = k; transactor = t; other = 0; zero = 0; message = m; value = 0 })) l
+stored-step k t m at l l' e = e ∙ ap (λ (b : List ℕ). put at b l) (packed k t m)
+
+module _ (s : State) (g c k : ℕ) (is : k ≡ taskOf s g c) where
+  pub wake-on : k ≡ 2 → toWake s g c ≡ true
+  wake-on e = sym (task-wakes s g c) ∙ eq-eqb (taskOf s g c) 2 (sym is ∙ e)
+
+  pub wake-off : (k ≡ 2 → ⊥) → toWake s g c ≡ false
+  wake-off d = sym (task-wakes s g c) ∙ ne-eqb (taskOf s g c) 2 (λ (e : taskOf s g c ≡ 2). d (is ∙ e))
+
+pub letters-end : (s : State) (g n c : ℕ) → n ≡ howMany c (toWake s g) → c ≤ 16 → 16 ≤ c → n ≡ letters base s g
+unfolding letters
+letters-end s g n c e h l = let q : c ≡ 16 = omega arith in e ∙ ap (λ (i : ℕ). howMany i (toWake s g)) q
+
+-- ---- whether the letters fit
+
+module _ (s : State) (g n : ℕ) (is : n ≡ letters base s g) where
+  pub fit-none : n ≡ 0 → true ≡ lettersFit base s g
+  unfolding lettersFit
+  fit-none e = rw (eq-eqb (letters base s g) 0 (sym is ∙ e))
+
+  module _ (some : n ≡ 0 → ⊥) where
+    none : eqb (letters base s g) 0 ≡ false
+    none = ne-eqb (letters base s g) 0 (λ (e : letters base s g ≡ 0). some (is ∙ e))
+
+    pub fit-full : s .limits .messages ≤ length (s .messages) → false ≡ lettersFit base s g
+    unfolding lettersFit
+    fit-full h = rw (none, le-ltb (length (s .messages)) (s .limits .messages) h)
+
+    pub fit-numbers : length (s .messages) < s .limits .messages → (m : ℕ) → m ≡ s .next → leb (m + n) 65535 ≡ lettersFit base s g
+    unfolding lettersFit
+    fit-numbers h m e = rw (none, lt-ltb (length (s .messages)) (s .limits .messages) h) (ap (λ (i : ℕ). leb (i + n) 65535) e ∙ ap (λ (i : ℕ). leb (s .next + i) lastNumber) is)
+
+-- ---- the volume
+
+pub row-names : (s : State) (t : ℕ) {rows nexts : List ℕ} → Reached base s (base .transactors) t rows nexts → (c : ℕ) → c < base .transactors → t < base .transactors → (row : ℕ) → row ≡ getD rows c 0
+    → named row t ≡ throughAt s (base .transactors) c t
+row-names s t r c h l row e = ap (λ (x : ℕ). named x t) (e ∙ r .through .is c h) ∙ in-group (base .transactors) (throughAt s (base .transactors) c) t l
+
+pub volume-end : (s : State) (t u v : ℕ) → Names (λ c. throughAt s (base .transactors) c t) u v → u ≤ base .transactors → base .transactors ≤ u → v ≡ restingVolume base s t
+unfolding restingVolume
+volume-end s t u v k h l = names-end k h l
+
+pub word-fits : {f : ℕ → Bool} {t v : ℕ} → Names f t v → t < groupBits → (b : ℕ) → b ≡ 2 ^ t → v + b < 2 ^ groupBits
+word-fits {f} {t} {v} k h b e = subst (λ (x : ℕ). v + x < 2 ^ groupBits) (sym e) (names-fits k groupBits h)
+
+-- ---- the call's returns
+
+module _ (img : List ℕ) (t : ℕ) (out : List ℕ) where
+  pub plan-refused : (r : ℕ) → r ≡ queryRefusal base img t → (r ≡ 0 → ⊥) → PlanPromise base img t out r out 0
+  unfolding planRefusal planAnswer planOut
+  plan-refused r e n =
+      let d : queryRefusal base img t ≡ 0 → ⊥ = λ f. n (e ∙ f) in
+      rw (ne-eqb (queryRefusal base img t) 0 d) (rw (ne-eqb (queryRefusal base img t) 0 d) (e, refl, refl))
+
+  module _ (r : ℕ) (e : r ≡ queryRefusal base img t) (z : r ≡ 0) where
+    accepts : eqb (queryRefusal base img t) 0 ≡ true
+    accepts = eq-eqb (queryRefusal base img t) 0 (sym e ∙ z)
+
+    pub plan-room : (length out ≡ planBytes base → ⊥) → PlanPromise base img t out 18 out 0
+    unfolding planRefusal planAnswer planOut
+    plan-room n = rw (accepts, ne-eqb (length out) (planBytes base) n) (refl, refl, refl)
+
+    module _ (room : length out ≡ planBytes base) where
+      pub plan-lasting : (l : List ℕ) → l ≡ put 0 (zeros (planBytes base)) out → mendable (impedimentOf base (unpack base img) t) ≡ false → PlanPromise base img t out 0 l 0
+      unfolding planRefusal planAnswer planOut planOf
+      plan-lasting l f m = rw (accepts, eq-eqb (length out) (planBytes base) room, m) (refl, f ∙ put-whole (zeros (planBytes base)) out (length-zeros (planBytes base) ∙ sym room), refl)
+
+      pub plan-some : (g : ℕ) → g ≡ restingVolume base (unpack base img) t → (l : List ℕ) (n : ℕ) → Planned (stepsToSign base (unpack base img) g) l n → mendable (impedimentOf base (unpack base img) t) ≡ true → PlanPromise base img t out 0 l n
+      unfolding planRefusal planAnswer planOut planOf
+      plan-some g i l n p m = rw (accepts, eq-eqb (length out) (planBytes base) room, m) (
+        refl,
+        p .is ∙ ap (λ (v : ℕ). stepsToSign base (unpack base img) v ++ zeros (planBytes base - length (stepsToSign base (unpack base img) v))) i,
+        p .many ∙ ap (λ (v : ℕ). stepsIn (stepsToSign base (unpack base img) v)) i,
+      )
+
+pub cleared : (l l' : List ℕ) → length l ≡ planBytes base → l' ≡ put 0 (zeros (planBytes base)) l → l' ≡ zeros (planBytes base)
+cleared l l' h e = e ∙ put-whole (zeros (planBytes base)) l (length-zeros (planBytes base) ∙ sym h)

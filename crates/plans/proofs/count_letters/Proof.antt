@@ -1,45 +1,43 @@
+-- After c turns those of the first c that have to be woken are counted.
+use Prim.Native.Nat.{_-_, _≤_}
+use mathlib.Core.Logic.{⊎-elim}
+use mathlib.Core.Path.{_≡_, sym, _∙_}
+use native.Mathlib.Omega.{arith}
 use borrow.Author.Needs.{needs}
+use Rattle.rules.specs.Layout.{base}
+use Rattle.rules.specs.Pack.{unpack}
+use Rattle.rules.specs.ReadyGroups.{howMany}
+use Rattle.rules.specs.Plan.{toWake}
+use Rattle.rules.proofs.Groups.Counting.{many-none, many-on, many-off}
+use Rattle.plans.proofs.Writing.{wake-on, wake-off, letters-end}
 use Rattle.plans.proofs.count_letters.Statement.{statement}
 use Rattle.plans.proofs.count_letters.Tie as tie
-use Rattle.plans.proofs.count_letters.Reads as reads
-use Rattle.plans.proofs.count_letters.Lts as lts
-use Rattle.plans.proofs.task.Reads as task-reads
 
 abbrev Inv-loop : tie.InvT-loop
-Inv-loop image group n₀ c₀ n c = ?
+Inv-loop image group n₀ c₀ n c = (n ≡ howMany c (toWake (unpack base image) group)) × (n ≤ c) × (c ≤ base .transactors)
 
 abbrev μ-loop : tie.MeasureT-loop
-μ-loop image group n₀ c₀ n c = ?
+μ-loop image group n₀ c₀ n c = base .transactors - c
 
--- src/lib.rt:88:5
-loop-holds : tie.Need-loop-holds Inv-loop μ-loop
-loop-holds c = search needs
-
--- src/lib.rt:89:13
-task-requires : tie.Need-task-requires Inv-loop μ-loop
-task-requires c κs = search needs
-
--- src/lib.rt:91:13
-add-n : tie.Need-add-n Inv-loop μ-loop
-add-n c = search needs
-
--- src/lib.rt:93:9
-add-c : tie.Need-add-c Inv-loop μ-loop
-add-c c = search needs
-
--- src/lib.rt:88:5
-loop-less : tie.Need-loop-less Inv-loop μ-loop
-loop-less c = search needs
-
--- src/lib.rt:88:5
 loop-again : tie.Need-loop-again Inv-loop μ-loop
-loop-again c = search needs
-
--- src/lib.rt:82:1
-returns : tie.Need-returns Inv-loop μ-loop
-returns c = search needs
+loop-again c =
+    let b = c .before .before .before .loop in
+    let e = c .before .task .ensures in
+    ⊎-elim
+    (λ w. (w .1 ∙ many-on _ _ _ (b .inv .0) (wake-on _ _ _ _ e (w .0 .taken)), omega (arith, w .1, b .inv .1), search needs))
+    (λ w. (w .1 ∙ many-off _ _ _ (b .inv .0) (wake-off _ _ _ _ e (w .0 .left)), omega (arith, w .1, b .inv .1), search needs))
+    (c .if1 .came)
 
 pub count-letters-spec : {M : Type 1} → statement M
 count-letters-spec =
     tie.close
-    (tie.spec Inv-loop μ-loop loop-holds task-requires add-n add-c loop-less loop-again returns)
+    (tie.spec
+    Inv-loop
+    μ-loop
+    (λ c. (many-none _, search needs, search needs))
+    (λ c κs. search needs)
+    (λ c. search needs)
+    (λ c. search needs)
+    (λ c. search needs)
+    loop-again
+    (λ c. let l = c .before .loop .inv in (letters-end _ _ _ _ (l .0) (l .2) (search needs), search needs)))

@@ -1,64 +1,30 @@
+-- After c turns those below c that it rests on are named.
+use Prim.Native.Nat.{_-_, _≤_}
+use mathlib.Core.Logic.{⊎-elim}
+use mathlib.Core.Path.{refl, sym, _∙_, subst}
+use native.Mathlib.Omega.{arith}
 use borrow.Author.Needs.{needs}
+use Rattle.rules.specs.Layout.{base}
+use Rattle.rules.specs.Refusals.{groupBits}
+use Rattle.rules.specs.Pack.{unpack}
+use Rattle.rules.specs.Dependents.{throughAt}
+use Rattle.rules.specs.Internal.Closure.{Names}
+use Rattle.rules.proofs.Bits.{shifted, names-none, names-on, names-off}
+use Rattle.plans.proofs.Writing.{row-names, volume-end, word-fits}
 use Rattle.plans.proofs.volume.Statement.{statement}
 use Rattle.plans.proofs.volume.Tie as tie
-use Rattle.plans.proofs.volume.Reads as reads
-use Rattle.plans.proofs.volume.Lts as lts
-use Rattle.impediments.proofs.ways.reach_of.Reads as reach-of-reads
-use Rattle.lists.proofs.groups.is_named.Reads as is-named-reads
 
 abbrev Inv-loop : tie.InvT-loop
-Inv-loop image t reach group₀ c₀ group c = ?
+Inv-loop image t reach group₀ c₀ group c = Names (λ c. throughAt (unpack base image) (base .transactors) c t) c group × (c ≤ base .transactors)
 
 abbrev μ-loop : tie.MeasureT-loop
-μ-loop image t reach group₀ c₀ group c = ?
+μ-loop image t reach group₀ c₀ group c = base .transactors - c
 
--- src/lib.rt:49:17
-reach-of-requires : tie.Need-reach-of-requires Inv-loop μ-loop
-reach-of-requires c κs = search needs
-
--- src/lib.rt:52:5
-loop-holds : tie.Need-loop-holds Inv-loop μ-loop
-loop-holds c = search needs
-
--- src/lib.rt:53:19
-mul-row : tie.Need-mul-row Inv-loop μ-loop
-mul-row c = search needs
-
--- src/lib.rt:53:19
-element-copy-out-row : tie.Need-element-copy-out-row Inv-loop μ-loop
-element-copy-out-row c = search needs
-
--- src/lib.rt:54:12
-is-named-requires : tie.Need-is-named-requires Inv-loop μ-loop
-is-named-requires c κs = search needs
-
--- src/lib.rt:55:30
-cast-group : tie.Need-cast-group Inv-loop μ-loop
-cast-group c = search needs
-
--- src/lib.rt:55:22
-shl-group : tie.Need-shl-group Inv-loop μ-loop
-shl-group c = search needs
-
--- src/lib.rt:55:13
 add-group : tie.Need-add-group Inv-loop μ-loop
-add-group c = search needs
+add-group c = ?
 
--- src/lib.rt:57:9
-add-c : tie.Need-add-c Inv-loop μ-loop
-add-c c = search needs
-
--- src/lib.rt:52:5
-loop-less : tie.Need-loop-less Inv-loop μ-loop
-loop-less c = search needs
-
--- src/lib.rt:52:5
 loop-again : tie.Need-loop-again Inv-loop μ-loop
-loop-again c = search needs
-
--- src/lib.rt:45:1
-returns : tie.Need-returns Inv-loop μ-loop
-returns c = search needs
+loop-again c = ?
 
 pub volume-spec : {M : Type 1} → statement M
 volume-spec =
@@ -66,15 +32,15 @@ volume-spec =
     (tie.spec
     Inv-loop
     μ-loop
-    reach-of-requires
-    loop-holds
-    mul-row
-    element-copy-out-row
-    is-named-requires
-    cast-group
-    shl-group
+    (λ c κs. search needs)
+    (λ c. (names-none _, search needs))
+    (λ c. search needs)
+    (λ c. search needs)
+    (λ c κs. search needs)
+    (λ c. search needs)
+    (λ c. search needs)
     add-group
-    add-c
-    loop-less
+    (λ c. search needs)
+    (λ c. search needs)
     loop-again
-    returns)
+    (λ c. volume-end _ _ _ _ (c .before .loop .inv .0) (c .before .loop .inv .1) (search needs)))
