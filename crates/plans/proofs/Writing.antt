@@ -6,7 +6,7 @@ use mathlib.Core.List.{List, [], _∷_, _++_}
 use native.Mathlib.Numerals.{add-one}
 use native.Mathlib.Omega.{arith}
 use lib.Dec.{eqb, ltb, leb}
-use lib.ListN.{length, getD, drop, length-append, length-drop}
+use lib.ListN.{length, getD, take, drop, length-append, length-drop}
 use borrow.Author.Tests.{eq-eqb, ne-eqb, eqb-true, lt-ltb, le-ltb}
 use Rattle.octets.specs.Bytes.{pick, _and_, _or_, put, chunks, zeros}
 use Rattle.octets.specs.Numbers.{be}
@@ -72,7 +72,7 @@ module _ (s : State) (g c : ℕ) where
 
   pub task-number : nextNumber (taskOf s g c) (s .next + howMany c (toWake s g)) ≡ s .next + howMany (c + 1) (toWake s g)
   unfolding nextNumber howMany
-  task-number = rw (task-wakes, add-one) (go (toWake s g c))
+  task-number = rw task-wakes (go (toWake s g c) ∙ ap (λ (i : ℕ). s .next + howMany i (toWake s g)) {x = suc c} {y = c + 1} (omega arith))
     where
       go : (b : Bool) → pick b (s .next + howMany c (toWake s g) + 1) (s .next + howMany c (toWake s g)) ≡ s .next + (howMany c (toWake s g) + pick b 1 0)
       go true = omega arith
@@ -177,7 +177,10 @@ drop-zeros : (k n : ℕ) → drop k (zeros n) ≡ zeros (n - k)
 drop-zeros k n = zeros-is (drop k (zeros n)) (allZero-drop k (zeros n) (allZero-zeros n)) ∙ ap zeros (rw (length-drop, length-zeros))
 
 put-zeros : (b : List ℕ) (n : ℕ) → put 0 b (zeros n) ≡ b ++ zeros (n - length b)
-put-zeros b n = put-def 0 b (zeros n) ∙ ap (λ (l : List ℕ). b ++ l) (drop-zeros (length b) n)
+put-zeros b n = put-def 0 b (zeros n) ∙ first b (zeros n) ∙ ap (λ (l : List ℕ). b ++ l) (drop-zeros (length b) n)
+  where
+    first : (b l : List ℕ) → take 0 l ++ b ++ drop (0 + length b) l ≡ b ++ drop (length b) l
+    first b l = ap (λ (i : ℕ). b ++ drop i l) {x = 0 + length b} {y = length b} (omega arith)
 
 -- nothing is written
 pub planned-none : (b l : List ℕ) → b ≡ [] → l ≡ zeros (planBytes base) → Planned b l 0

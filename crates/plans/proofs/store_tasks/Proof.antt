@@ -17,19 +17,25 @@ abbrev μ-loop : tie.MeasureT-loop
 μ-loop image group out₀ number₀ at₀ c₀ out number at c = base .transactors - c
 
 loop-holds : tie.Need-loop-holds Inv-loop μ-loop
-loop-holds c = ?
+loop-holds c = (stored-none _ _ _ _ (c .next .ensures), search needs, search needs, c .before .before .before .pre .1)
 
 store-task-requires : tie.Need-store-task-requires Inv-loop μ-loop
-store-task-requires c κs = ?
+store-task-requires c κs = let i = c .before .before .before .loop .inv in (omega (arith, i .0 .short, i .3, c .before .before .loop-test .taken), search needs)
 
 number-after-requires : tie.Need-number-after-requires Inv-loop μ-loop
-number-after-requires c κs = ?
+number-after-requires c κs = let i = c .before .before .before .before .before .before .loop .inv in omega (arith, i .2, c .before .before .before .before .before .loop-test .taken)
 
 loop-again : tie.Need-loop-again Inv-loop μ-loop
-loop-again c = ?
+loop-again c =
+    let t = c .before .before .before in
+    let k = t .before .before in
+    let m = k .before .before in
+    let i = m .loop .inv in
+    let p = m .before .before .before .before .pre in
+    (stored-more (i .0) (search needs) (p .1) (k .task .ensures) (t .store-task .ensures .0) (t .store-task .ensures .1) (c .number-after .ensures .0), search needs, omega (arith, i .2, c .number-after .ensures .1), search (needs, i .3))
 
 returns : tie.Need-returns Inv-loop μ-loop
-returns c = ?
+returns c = let i = c .before .loop .inv in (stored-all (i .0) (i .1) (search needs), omega (arith, i .0 .short, i .1))
 
 pub store-tasks-spec : {M : Type 1} → statement M
 store-tasks-spec =

@@ -21,10 +21,20 @@ abbrev μ-loop : tie.MeasureT-loop
 μ-loop image t reach group₀ c₀ group c = base .transactors - c
 
 add-group : tie.Need-add-group Inv-loop μ-loop
-add-group c = ?
+add-group c =
+    let b = c .before .before .before .before .loop in
+    omega (arith, word-fits (b .inv .0) (search needs) _ (shifted _ groupBits (search needs)))
 
 loop-again : tie.Need-loop-again Inv-loop μ-loop
-loop-again c = ?
+loop-again c =
+    let m = c .before .before .before .before in
+    let b = m .loop in
+    let p = m .before .before .before .pre in
+    let n = sym (row-names _ _ (m .before .reach-of .ensures) _ (search needs) (p .1) _ refl) ∙ sym (c .before .is-named .ensures) in
+    ⊎-elim
+    (λ w. (subst (Names (λ x. throughAt (unpack base _) (base .transactors) x _) _) (sym (w .1)) (names-on (b .inv .0) _ (shifted _ groupBits (search needs)) (n ∙ w .0 .taken)), search needs))
+    (λ w. (subst (Names (λ x. throughAt (unpack base _) (base .transactors) x _) _) (sym (w .1)) (names-off (b .inv .0) (n ∙ w .0 .left)), search needs))
+    (c .if1 .came)
 
 pub volume-spec : {M : Type 1} → statement M
 volume-spec =
