@@ -133,6 +133,14 @@ struct ledger_obstacle ledger_obstacle(const uint8_t *image, size_t image_length
  * four numbers are 0. */
 struct ledger_impediment ledger_impediment(const uint8_t *image, size_t image_length, size_t transactor, uint8_t *refusal);
 
+/* What is left to do so that the transactor can be checkpointed: the steps, eight bytes each, written to out (LEDGER_PLAN bytes) with zero bytes after
+ * them; the answer is how many, *refusal is 0. Run from the same image, each is answered with outcome 0 and the last, a signing, checkpoints the
+ * transactor with all that it rests on; no value changes, nobody rolls back, and no waiting message is touched. An idle transactor is woken by an
+ * empty letter first. 0 steps: ledger_impediment says hopeless or exhausted, and then, in a session grown from a fresh one, the transactor can't be
+ * checkpointed any more as long as it keeps its present incarnation; or a letter is needed and no place or number is left for it. Refused: *refusal is
+ * 16, 19, 21, 22, or 18 if out has another length, no byte of out is changed, and the answer is 0. */
+size_t ledger_plan(const uint8_t *image, size_t image_length, size_t transactor, uint8_t *out, size_t out_length, uint8_t *refusal);
+
 /* The short list of the steps of list from byte start up to byte end: without those that a run from the image refuses, and without
  * the reads whose map is emptied unused. Run from the same image it leaves the same image, and each of its steps has its earlier
  * reply. It is written to out, with zero bytes after it, and the answer is how many steps it has; *refusal is 0. The image is only

@@ -9,7 +9,7 @@ use window::Worst;
 ghost use mathlib.Core.Path.{_≡_};
 ghost use Rattle.rules.specs.Layout.{base, limitsOf};
 ghost use Rattle.rules.specs.Calls.{queryRefusal, showRefusal};
-ghost use Rattle.rules.specs.Promises.{BeginPromise, RunPromise, OfferPromise, SmallestPromise, CountPromise, DependentsPromise};
+ghost use Rattle.rules.specs.Promises.{BeginPromise, RunPromise, OfferPromise, SmallestPromise, CountPromise, DependentsPromise, PlanPromise};
 ghost use Rattle.rules.specs.Heard.{heardAnswer};
 ghost use Rattle.rules.specs.Obstacle.{obstacleRefusal, obstacleAnswer};
 ghost use Rattle.rules.specs.Impediment.{impedimentAnswer};
@@ -208,6 +208,21 @@ pub extern "C" fn ledger_impediment(image: &[u8], transactor: usize, refusal: &m
             next: x,
         },
     }
+}
+
+// Writes the steps after which the transactor is checkpointed with all that it rests on, each answered with 0, and zeros after them: how many
+// steps; 0 exactly if something is in the way that lasts, or if there is no room for a letter that is needed. The lent number takes the refusal,
+// 16, 19, 21, 22 or 18, or 0; refused, no byte of out is changed and the answer is 0.
+#[no_mangle]
+pub extern "C" fn ledger_plan(
+    image: &[u8],
+    transactor: usize,
+    out: &mut [u8],
+    refusal: &mut u8,
+) -> usize
+    ensures { λ r. ⌜ PlanPromise base (now (image .entry)) transactor (now (out .entry)) (now (refusal .exit)) (now (out .exit)) r ⌝ }
+{
+    plans::plan(image, transactor, out, refusal)
 }
 
 // Writes the short list of the steps from start up to end, with zeros after it: how many steps are kept. The lent number takes the

@@ -6,47 +6,54 @@ use mathlib.Core.List.{List}
 use mathlib.Core.Logic.{_⊎_, inl, inr, ⊎-elim, _↔_}
 use native.Mathlib.Omega.{arith}
 use lib.ListN.{length}
-use borrow.Author.Tests.{eq-eqb, leb-true, leb-false, le-leb}
+use lib.Dec.{eqb, ltb, leb}
+use borrow.Author.Tests.{eq-eqb, leb-false, le-leb, lt-ltb}
 use Rattle.octets.specs.Bytes.{Octets}
 use Rattle.octets.specs.Numbers.{bound}
 use Rattle.octets.proofs.Chunks.{sides}
+use Rattle.octets.proofs.Tests.{or-of, and-of}
 use Rattle.marks.specs.Incarnation.{Incarnation}
 use Rattle.marks.specs.History.{HistoryView, incarnationOf}
 use Rattle.rules.specs.declared.Impediment.{Impediment}
 use Rattle.rules.specs.declared.Impediment.the-variants.{Nothing, Hopeless, Exhausted, Unstable}
-use Rattle.rules.specs.Layout.{Layout, Limits, Fitting, base}
+use Rattle.rules.specs.Layout.{Layout, Limits, lastNumber, Fitting, base}
 use Rattle.rules.specs.State.{State, transactorAt, ownHistory, live}
 use Rattle.rules.specs.Step.{stepAt, done}
 use Rattle.rules.specs.Refusals.{named, groupBits}
 use Rattle.rules.specs.Rules.{stepOf}
-use Rattle.rules.specs.Calls.{stateAfter}
+use Rattle.rules.specs.Pack.{unpack}
+use Rattle.rules.specs.Calls.{stateAfter, stepsIn}
 use Rattle.rules.specs.Groups.{signing}
 use Rattle.rules.specs.ReadyGroups.{readyGroup, Ready}
 use Rattle.rules.specs.Dependents.{throughAt}
 use Rattle.rules.specs.Impediment.{impedimentOf}
-use Rattle.rules.specs.Plan.{mendable, lettersFit, restingVolume}
+use Rattle.rules.specs.Plan.{mendable, letters, lettersFit, restingVolume, planOf, planRefusal, planAnswer}
 use Rattle.rules.specs.Internal.Well.{WellFormed}
 use Rattle.rules.proofs.Keep.Step.{fitting-base}
 use Rattle.rules.proofs.Bits.{named-past}
 use Rattle.rules.proofs.Groups.Signable.{ready-exactly}
 use Rattle.rules.proofs.Groups.Impediments.{live-low, none-in-way, mendable-low, exhausted-is}
 use Rattle.rules.proofs.Groups.Planned.{limits-same}
-use Rattle.rules.proofs.Groups.Plans.{Readied, readied}
+use Rattle.rules.proofs.Groups.Plans.{Readied, readied, plan-attains}
+use Rattle.rules.proofs.Calls.Planning.{plan-query, plan-runs}
+use Rattle.rules.proofs.Pack.Sizes.{octets-pack}
 use Rattle.session.specs.Provenance.{Live, Provenance}
-use Rattle.session.specs.Trace.{Trace}
-use Rattle.session.specs.Point.{Point}
+use Rattle.session.specs.Fed.{ProvenanceOf}
+use Rattle.session.specs.Trace.{Trace, callsOf}
+use Rattle.session.specs.Point.{Point, at-end}
 use Rattle.session.specs.Waiting.{ReadyGroup}
 use Rattle.session.specs.Withdrawal.{Further, here, step, SameIncarnation, RestsThrough, itself, via, Spoilt, on-withdrawn, on-spoilt, Doomed}
 use Rattle.session.specs.Meanings.{ImpedimentMeans, means-nothing, means-hopeless, means-exhausted, means-unstable}
 use Rattle.session.specs.Grounds.{neither}
-use Rattle.session.specs.Attainable.{Attainable, ExhaustedBelow, AttainableExactly}
+use Rattle.session.specs.Attainable.{Attainable, ExhaustedBelow, LettersFit, none-needed, room, AttainableExactly, PlanMeans}
 use Rattle.session.proofs.Model.{view}
 use Rattle.session.proofs.Relation.{live-or-not, Rel}
 use Rattle.session.proofs.ViewSeen.{seen-checkpoints}
 use Rattle.session.proofs.Resting.{live-below, through-of}
 use Rattle.session.proofs.Reached.{related, well}
 use Rattle.session.proofs.Obstacles.{life-is, live-of}
-use Rattle.session.proofs.Withdrawal.{Reaches, reach, withdrawn-unready, unready-doomed, doomed-through}
+use Rattle.session.proofs.Withdrawal.{Reaches, reach, withdrawn-unready, unready-doomed, doomed-through, query-live}
+use Rattle.session.proofs.Points.{held}
 use Rattle.session.proofs.Impediments.{hopeless-spoilt, spoilt-hopeless, hopeless-doomed, impediment-means}
 
 -- ---- the steps after a point
@@ -59,6 +66,13 @@ further-after : (y : Layout) (s : State) (b : List ℕ) → Octets b → (i : �
 unfolding stateAfter
 further-after y s b o zero = here
 further-after y s b o (suc i) = step (further-after y s b o i) b o i
+
+-- ---- room for the letters
+
+fits-test : (y : Layout) (s : State) (g : ℕ) → LettersFit y s g → lettersFit y s g ≡ true
+unfolding lettersFit
+fits-test y s g (none-needed e) = rw (eq-eqb (letters y s g) 0 e)
+fits-test y s g (room h k) = or-of (eqb (letters y s g) 0) _ (inr (and-of (ltb (length (s .messages)) (s .limits .messages)) (leb (s .next + letters y s g) lastNumber) (lt-ltb (length (s .messages)) (s .limits .messages) h) (le-leb (s .next + letters y s g) lastNumber k)))
 
 -- ---- a take that has all its signings
 
@@ -76,7 +90,7 @@ module _ {y : Layout} (z : Fitting y) {s : State} (w : WellFormed y s) {b : Prov
       let q = reach z w r o in
       let rule = ready-exactly y after v .0 (eq-eqb (stepOf y after (signing v) .reply .outcome) done (k .signs)) in
       let low : c < groupBits = ⊎-elim (λ h. h) (λ (h : groupBits ≤ c). absurd (false≢true (sym (named-past v c groupBits (k .bits) h) ∙ n))) (sides c groupBits) in
-      let room : ownHistory c (transactorAt after c) .count < after .limits .checkpoints = rule .room c low n in
+      let spare : ownHistory c (transactorAt after c) .count < after .limits .checkpoints = rule .room c low n in
       let e : ownHistory c (transactorAt after c) .count ≡ length (b .holders c .history .incarnation .checkpoints) =
           seen-checkpoints (q .well) c ∙ ap (λ (a : Incarnation). length (a .checkpoints)) (same .is ∙ life-is w r c) in
       let f : after .limits .checkpoints ≡ s .limits .checkpoints = ap (λ (m : Limits). m .checkpoints) (limits-kept y s o) in
@@ -135,12 +149,12 @@ module _ {y : Layout} (z : Fitting y) {img : List ℕ} {τ : Trace y img} {s : S
         go (inr l) = ⊎-elim (λ (i : t ≡ f .transactor). l (subst (λ (v : ℕ). Live (b .holders v .status)) i there)) (mends-unspoilt e) (dead-spoils l (f .through))
 
     both-mend : (Spoilt b t → ⊥) → (ExhaustedBelow b t → ⊥) → mendable (impedimentOf y s t) ≡ true
-    both-mend fine room = go (impedimentOf y s t) refl (impediment-means z k t there)
+    both-mend fine spare = go (impedimentOf y s t) refl (impediment-means z k t there)
       where
         go : (o : Impediment) → impedimentOf y s t ≡ o → ImpedimentMeans y s b t o → mendable o ≡ true
         go o e (means-nothing n q) = refl
         go o e (means-hopeless l rests wd) = absurd (fine (hopeless-spoilt z k e))
-        go o e (means-exhausted {c} l h) = absurd (room (record { transactor = c; through = l .through; full = h }))
+        go o e (means-exhausted {c} l h) = absurd (spare (record { transactor = c; through = l .through; full = h }))
         go o e (means-unstable l h) = refl
 
     lasting-doomed : mendable (impedimentOf y s t) ≡ false → Doomed y s t
@@ -152,9 +166,9 @@ module _ {y : Layout} (z : Fitting y) {img : List ℕ} {τ : Trace y img} {s : S
         go o e (means-exhausted {c} l h) f = below-doomed (record { transactor = c; through = l .through; full = h })
         go o e (means-unstable l h) f = absurd (false≢true (sym f))
 
-    planned : mendable (impedimentOf y s t) ≡ true → lettersFit y s (restingVolume y s t) ≡ true → Attainable y s t
+    planned : mendable (impedimentOf y s t) ≡ true → LettersFit y s (restingVolume y s t) → Attainable y s t
     planned e f =
-        let q = readied z (well z k) t low alive e f in
+        let q = readied z (well z k) t low alive e (fits-test y s (restingVolume y s t) f) in
         record {
           after = stateAfter y s (q .list) (q .count);
           further = further-after y s (q .list) (q .octets) (q .count);
@@ -184,3 +198,39 @@ module _ {y : Layout} (z : Fitting y) {img : List ℕ} {τ : Trace y img} {s : S
 -- At the ledger's own layout: no hypothesis but the trace.
 pub attainable-exactly-base : {img : List ℕ} {τ : Trace base img} {s : State} {b : Provenance} → Point base img τ s b → (t : ℕ) → Live (b .holders t .status) → AttainableExactly base s b t
 attainable-exactly-base k t there = attainable-exactly fitting-base k t there
+
+-- ---- what the call answers
+
+module _ {y : Layout} (z : Fitting y) {img : List ℕ} (τ : Trace y img) {b : Provenance} (f : ProvenanceOf y (callsOf τ) b) (t : ℕ) (out : List ℕ) (r : planRefusal y img t out ≡ 0) where
+  asked : Live (b .holders t .status)
+  asked = query-live z τ f t (plan-query y img t out r .0)
+
+  image-octets : Octets img
+  image-octets = subst Octets (held z τ f .back) (octets-pack y (unpack y img))
+
+  answered : planAnswer y img t out ≡ stepsIn (planOf y (unpack y img) t)
+  unfolding planAnswer
+  answered = rw (eq-eqb (planRefusal y img t out) 0 r)
+
+  no-steps : planAnswer y img t out ≡ 0 → mendable (impedimentOf y (unpack y img) t) ≡ true → lettersFit y (unpack y img) (restingVolume y (unpack y img) t) ≡ true → ⊥
+  no-steps e m l =
+      let k = at-end {τ = τ} f in
+      let a = live-of (well z k) (related z k) t asked in
+      let p = plan-attains z (well z k) t (live-low (well z k) t a) a m l in
+      omega (arith, p .some, answered)
+
+  -- Between two calls, and not refused: some steps, which sign the take; or none, and then it is doomed, or there is no room for the letters.
+  pub plan-answered : PlanMeans y img t out
+  plan-answered = record {
+    steps = λ some lent long. plan-runs z img t out lent image-octets r some long;
+    none = λ e. go e (mendable (impedimentOf y (unpack y img) t)) refl (lettersFit y (unpack y img) (restingVolume y (unpack y img) t)) refl;
+  }
+    where
+      go : planAnswer y img t out ≡ 0 → (c : Bool) → mendable (impedimentOf y (unpack y img) t) ≡ c → (d : Bool) → lettersFit y (unpack y img) (restingVolume y (unpack y img) t) ≡ d
+          → Doomed y (unpack y img) t ⊎ (LettersFit y (unpack y img) (restingVolume y (unpack y img) t) → ⊥)
+      go e false p d q = inl (attainable-exactly z (at-end {τ = τ} f) t asked .doomed p)
+      go e true p false q = inr (λ l. false≢true (sym q ∙ fits-test y (unpack y img) (restingVolume y (unpack y img) t) l))
+      go e true p true q = absurd (no-steps e p q)
+
+pub plan-answered-base : {img : List ℕ} (τ : Trace base img) {b : Provenance} → ProvenanceOf base (callsOf τ) b → (t : ℕ) (out : List ℕ) → planRefusal base img t out ≡ 0 → PlanMeans base img t out
+plan-answered-base τ f t out r = plan-answered fitting-base τ f t out r
