@@ -2,7 +2,7 @@
 use Prim.Native.Nat.{ℕ}
 use mathlib.Core.Bool.{true}
 use mathlib.Core.Path.{_≡_}
-use mathlib.Core.List.{List, [], _∷_}
+use mathlib.Core.List.{List, [], _∷_, _++_}
 use Rattle.rules.specs.declared.Step.{Step}
 use Rattle.rules.specs.declared.Obstacle.the-variants.{Unstable, Outside, SupersededOrAnnihilated}
 use Rattle.rules.specs.declared.Impediment.the-variants as impediment
@@ -12,7 +12,9 @@ use Rattle.rules.specs.State.{State, fresh}
 use Rattle.rules.specs.Rules.{stepOf}
 use Rattle.rules.specs.Dependents.{dependentsOf}
 use Rattle.rules.specs.Obstacle.{obstacleOf}
+use Rattle.rules.specs.Groups.{signing}
 use Rattle.rules.specs.Impediment.{impedimentOf}
+use Rattle.rules.specs.Plan.{packStep, waking, receipt, freezing, planOf}
 
 abbrev pub three : Layout
 three = record { width = 1; places = 1; transactors = 3; messages = 2; limited = true }
@@ -43,6 +45,10 @@ frozen = after pages (made 7 1 0 0 ∷ made 7 2 0 0 ∷ [])
 abbrev pub withdrawn : State
 withdrawn = after frozen (made 10 0 0 0 ∷ [])
 
+-- done 0: the names are idle
+abbrev pub rested : State
+rested = after frozen (made 8 0 0 0 ∷ [])
+
 pub record Computed : Type 0 where
   -- the names and the page set from them rest on the names' life; the page set from that page does not: its sender had not read
   pub names : dependentsOf three pages 0 .resting ≡ 3
@@ -63,5 +69,9 @@ pub record Computed : Type 0 where
   -- why there is no volume with page 2: the names are not frozen, and the chain goes by page 1; when they vanish, page 1 rests on a withdrawn life
   pub sixth : impedimentOf three frozen 2 ≡ impediment.Unstable 0 1
   pub seventh : impedimentOf three withdrawn 2 ≡ Hopeless 1 0 1
+  -- what is left to do for page 2: freeze the names, sign all three; if the names are idle, wake them first; when they vanished, nothing helps
+  pub plan : planOf three frozen 2 ≡ packStep (freezing 0) ++ packStep (signing 7)
+  pub woken : planOf three rested 2 ≡ packStep (waking 0) ++ packStep (receipt 4) ++ packStep (freezing 0) ++ packStep (signing 7)
+  pub lost : planOf three withdrawn 2 ≡ []
   -- asked about the next, page 1: it is in the way itself
   pub eighth : impedimentOf three withdrawn 1 ≡ Hopeless 1 0 1

@@ -82,7 +82,6 @@ limits-are s b r = ap (λ (m : Limits). m .checkpoints) (r .limits)
 
 module _ {y : Layout} (z : Fitting y) {s : State} (w : WellFormed y s) {b : Provenance} (r : Rel (view s) b) (c : ℕ)
     (full : b .limits .checkpoints ≤ length (b .holders c .history .incarnation .checkpoints)) where
-
   -- is in no ready volume, as long as it keeps its life: its count stays, and so does the limit
   full-doomed : Doomed y s c
   unfolding readyGroup bound
@@ -92,7 +91,7 @@ module _ {y : Layout} (z : Fitting y) {s : State} (w : WellFormed y s) {b : Prov
       let low : c < groupBits = ⊎-elim (λ h. h) (λ (h : groupBits ≤ c). absurd (false≢true (sym (named-past v c groupBits (k .bits) h) ∙ n))) (sides c groupBits) in
       let spare : ownHistory c (transactorAt after c) .count < after .limits .checkpoints = rule .room c low n in
       let e : ownHistory c (transactorAt after c) .count ≡ length (b .holders c .history .incarnation .checkpoints) =
-          seen-checkpoints (q .well) c ∙ ap (λ (a : Incarnation). length (a .checkpoints)) (same .is ∙ life-is w r c) in
+      seen-checkpoints (q .well) c ∙ ap (λ (a : Incarnation). length (a .checkpoints)) (same .is ∙ life-is w r c) in
       let f : after .limits .checkpoints ≡ s .limits .checkpoints = ap (λ (m : Limits). m .checkpoints) (limits-kept y s o) in
       omega (arith, limits-are s b r)
 
@@ -144,7 +143,7 @@ module _ {y : Layout} (z : Fitting y) {img : List ℕ} {τ : Trace y img} {s : S
             let i = none-in-way y s 2 t (mendable-low y s t e .1) (f .transactor) h (through-of (well z k) (related z k) l (f .through)) in
             let n = leb-false (s .limits .checkpoints) (ownHistory (f .transactor) (transactorAt s (f .transactor)) .count) (sym (exhausted-is y s (f .transactor)) ∙ i) in
             let m : ownHistory (f .transactor) (transactorAt s (f .transactor)) .count ≡ length (b .holders (f .transactor) .history .incarnation .checkpoints) =
-                seen-checkpoints (well z k) (f .transactor) ∙ ap (λ (a : Incarnation). length (a .checkpoints)) (life-is (well z k) (related z k) (f .transactor)) in
+            seen-checkpoints (well z k) (f .transactor) ∙ ap (λ (a : Incarnation). length (a .checkpoints)) (life-is (well z k) (related z k) (f .transactor)) in
             omega (arith, f .full, limits-are s b (related z k))
         go (inr l) = ⊎-elim (λ (i : t ≡ f .transactor). l (subst (λ (v : ℕ). Live (b .holders v .status)) i there)) (mends-unspoilt e) (dead-spoils l (f .through))
 

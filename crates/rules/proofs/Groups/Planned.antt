@@ -194,7 +194,7 @@ module _ (y : Layout) (s : State) (numbers : (k : ℕ) → k < length (s .messag
       let e : take (length (s .messages)) (s .messages ++ (sent ∷ [])) ≡ s .messages = take-append-seam (s .messages) (sent ∷ []) in
       let f : drop (length (s .messages) + 1) (s .messages ++ (sent ∷ [])) ≡ [] = drop-append-add (s .messages) (sent ∷ []) 1 in
       let g : take (length (s .messages)) (s .messages ++ (sent ∷ [])) ++ drop (length (s .messages) + 1) (s .messages ++ (sent ∷ [])) ≡ s .messages =
-          ap (λ (l : List Message). l ++ drop (length (s .messages) + 1) (s .messages ++ (sent ∷ []))) e ∙ ap (λ (l : List Message). s .messages ++ l) f ∙ append-nil (s .messages) in
+      ap (λ (l : List Message). l ++ drop (length (s .messages) + 1) (s .messages ++ (sent ∷ []))) e ∙ ap (λ (l : List Message). s .messages ++ l) f ∙ append-nil (s .messages) in
       λ i. record { limits = s .limits; opened = s .opened; next = s .next + 1; transactors = set (s .transactors) c x; messages = g i }
 
   module _ (x : Transactor) (is : transactorAt s c ≡ x) (status : x .status ≡ idle) (behaves : x .behaviour ≡ noDependences y)

@@ -7,12 +7,12 @@ use mathlib.Core.Logic.{_⊎_, inl, inr, ⊎-elim}
 use native.Mathlib.Decide.{ℕ-discrete}
 use native.Mathlib.Omega.{arith}
 use lib.Dec.{eqb, ltb, leb}
-use lib.ListN.{length, length-set, List·getD-eq-default}
-use borrow.Author.Tests.{eq-eqb, ne-eqb, eqb-true, eqb-false, ltb-true, leb-true}
+use lib.ListN.{length, length-append, length-set, List·getD-eq-default}
+use borrow.Author.Tests.{eq-eqb, ne-eqb, eqb-true, eqb-false, lt-ltb, ltb-true, le-leb, leb-true, leb-false}
 use Rattle.octets.specs.Bytes.{pick, _and_, _or_, tabulate, chunks, Octets}
 use Rattle.octets.specs.Numbers.{bound}
 use Rattle.octets.proofs.Chunks.{sides, cases, chunks-suc, getD-tabulate, length-tabulate}
-use Rattle.octets.proofs.Tests.{pick-view, or-to, otherwise}
+use Rattle.octets.proofs.Tests.{pick-view, pick-zero, or-of, and-of, otherwise}
 use Rattle.octets.proofs.Zero.{both}
 use Rattle.marks.specs.declared.History.{History}
 use Rattle.marks.specs.Incarnation.{Incarnation, checkpointedIn, sameIncarnation}
@@ -32,10 +32,10 @@ use Rattle.rules.specs.ReadyGroups.{howMany}
 use Rattle.rules.specs.Dependents.{holdsPresent, restsAt, throughAt, groupOf}
 use Rattle.rules.specs.Impediment.{isWithdrawn, withdrawnIn, withdrawnBy, lostGround, impedesAt, lowestFor, impedimentOf}
 use Rattle.rules.specs.Plan.{packStep, waking, receipt, freezing, toFreeze, toWake, stepsFor, restingVolume, letters, lettersFit, mendable, stepsToSign, planOf, Attains}
-use Rattle.rules.specs.Internal.Guards.{groupIn}
+use Rattle.rules.specs.Internal.Guards.{roomRefusal, groupIn}
 use Rattle.rules.specs.Internal.Well.{StepOk, Live, is-idle, is-busy, TransactorFormed, not-opened, gone, alive, Alive, TransactorOk, WellFormed}
-use Rattle.rules.proofs.Keep.Run.{at-right}
-use Rattle.rules.proofs.Keep.Step.{keeps-after, applied-same}
+use Rattle.rules.proofs.Keep.Run.{after-zero, at-left, at-right, after-left, after-append}
+use Rattle.rules.proofs.Keep.Step.{keeps-after, refused-same, applied-same}
 use Rattle.rules.proofs.Pack.Stores.{withTransactor-here, withTransactor-other}
 use Rattle.rules.proofs.ByKind.Refused.{refuses}
 use Rattle.rules.proofs.ByKind.Applied.{applies}
@@ -102,6 +102,35 @@ module _ (s : State) (g c : ℕ) where
   freeze-unnamed : named g c ≡ false → toFreeze s g c ≡ false
   unfolding toFreeze
   freeze-unnamed e = rw e
+
+  wake-freeze : toWake s g c ≡ true → toFreeze s g c ≡ true
+  unfolding toWake
+  wake-freeze e = both (toFreeze s g c) (eqb (transactorAt s c .status) idle) e .0
+
+  -- whole steps
+  whole-steps : (m : ℕ) × (length (stepsFor s g c) ≡ stepBytes * m)
+  unfolding stepsFor
+  whole-steps = pick-view (λ (l : List ℕ). (m : ℕ) × (length l ≡ stepBytes * m)) (toFreeze s g c) _ _ (λ e.
+      pick-view (λ (l : List ℕ). (m : ℕ) × (length l ≡ stepBytes * m)) (toWake s g c) _ _
+      (λ f. (3, three)) (λ f. (1, length-packStep (freezing c)))) (λ e. (0, refl))
+    where
+      n : ℕ
+      n = s .next + howMany c (toWake s g)
+
+      three : length (packStep (waking c) ++ packStep (receipt n) ++ packStep (freezing c)) ≡ 24
+      three = length-append (packStep (waking c) ++ packStep (receipt n)) (packStep (freezing c)) ∙ omega (arith, length-append (packStep (waking c)) (packStep (receipt n)), length-packStep (waking c), length-packStep (receipt n), length-packStep (freezing c))
+
+whole-chunks : (s : State) (g k : ℕ) → (m : ℕ) × (length (chunks k (stepsFor s g)) ≡ stepBytes * m)
+unfolding chunks
+whole-chunks s g zero = (0, refl)
+whole-chunks s g (suc k) =
+    let a = whole-chunks s g k in
+    let b = whole-steps s g k in
+    (a .0 + b .0, length-append (chunks k (stepsFor s g)) (stepsFor s g k) ∙ omega (arith, a .1, b .1))
+
+below-last : (n : ℕ) → n < bound 2 → (n ≡ lastNumber → ⊥) → n < lastNumber
+unfolding bound
+below-last n h d = omega arith
 
 -- the takes of the volume
 in-volume : (y : Layout) (s : State) (t c : ℕ) → c < y .transactors → named (restingVolume y s t) c ≡ throughAt s (y .transactors) c t
@@ -194,6 +223,31 @@ module _ {y : Layout} (z : Fitting y) {s : State} (w : WellFormed y s) (t : ℕ)
         other u f (yes i) = absurd (false≢true (sym (f (omega arith)) ∙ subst (λ (j : ℕ). toFreeze s (restingVolume y s t) j ≡ true) (sym i) e))
         other u f (no d) = c .elsewhere u d ∙ p .rest u (λ h. f (omega arith))
 
+    -- room for one letter
+    record Spare : Type 0 where
+      place : length (q .messages) < q .limits .messages
+      number : q .next < lastNumber
+
+    module _ (f : toWake s (restingVolume y s t) k ≡ true) (fits : lettersFit y s (restingVolume y s t) ≡ true) where
+      one-more : howMany k (toWake s (restingVolume y s t)) + 1 ≤ letters y s (restingVolume y s t)
+      unfolding letters
+      one-more =
+          let one : _≡_ {A = ℕ} (pick (toWake s (restingVolume y s t) k) 1 0) 1 = rw f in
+          omega (arith, many-next (toWake s (restingVolume y s t)) k, one, howMany-up (toWake s (restingVolume y s t)) (suc k) (y .transactors) below)
+
+      room : (length (s .messages) < s .limits .messages) × (s .next + letters y s (restingVolume y s t) ≤ lastNumber)
+      unfolding lettersFit
+      room =
+          let a = otherwise (eqb (letters y s (restingVolume y s t)) 0) (ltb (length (s .messages)) (s .limits .messages) and leb (s .next + letters y s (restingVolume y s t)) lastNumber) fits (ne-eqb (letters y s (restingVolume y s t)) 0 (λ (i : letters y s (restingVolume y s t) ≡ 0). omega (arith, one-more))) in
+          let b = both (ltb (length (s .messages)) (s .limits .messages)) (leb (s .next + letters y s (restingVolume y s t)) lastNumber) a in
+          (ltb-true (length (s .messages)) (s .limits .messages) (b .0), leb-true (s .next + letters y s (restingVolume y s t)) lastNumber (b .1))
+
+      spare-of : Spare
+      spare-of = record {
+        place = subst (λ (l : List Message). length l < q .limits .messages) (sym (p .messages)) (subst (λ (i : ℕ). length (s .messages) < i) (ap (λ (m : Limits). m .messages) (sym (p .limits))) (room .0));
+        number = omega (arith, p .next, room .1, one-more);
+      }
+
     -- where take k has to be frozen
     module _ (e : toFreeze s (restingVolume y s t) k ≡ true) where
       abbrev x : Transactor
@@ -251,25 +305,9 @@ module _ {y : Layout} (z : Fitting y) {s : State} (w : WellFormed y s) (t : ℕ)
           (runs-one y q (withTransactor q k (frozenBy k (transactorAt s k))) (freezing k) freezing-ok (ap (λ (r : Result). r .reply .outcome) d) (ap (λ (r : Result). r .state) d))
 
       -- idle: a letter first
-      module _ (f : toWake s (restingVolume y s t) k ≡ true) (fits : lettersFit y s (restingVolume y s t) ≡ true) where
+      module _ (f : toWake s (restingVolume y s t) k ≡ true) (spare : Spare) where
         idle-status : transactorAt s k .status ≡ idle
         idle-status = eqb-true (transactorAt s k .status) idle (sym (wake-is s (restingVolume y s t) k e) ∙ f)
-
-        one-more : howMany k (toWake s (restingVolume y s t)) + 1 ≤ letters y s (restingVolume y s t)
-        unfolding letters
-        one-more =
-            let one : _≡_ {A = ℕ} (pick (toWake s (restingVolume y s t) k) 1 0) 1 = rw f in
-            omega (arith, many-next (toWake s (restingVolume y s t)) k, one, howMany-up (toWake s (restingVolume y s t)) (suc k) (y .transactors) below)
-
-        room : (length (s .messages) < s .limits .messages) × (s .next + letters y s (restingVolume y s t) ≤ lastNumber)
-        unfolding lettersFit
-        room =
-            let a = otherwise (eqb (letters y s (restingVolume y s t)) 0) (ltb (length (s .messages)) (s .limits .messages) and leb (s .next + letters y s (restingVolume y s t)) lastNumber) fits (ne-eqb (letters y s (restingVolume y s t)) 0 (λ (i : letters y s (restingVolume y s t) ≡ 0). omega (arith, one-more))) in
-            let b = both (ltb (length (s .messages)) (s .limits .messages)) (leb (s .next + letters y s (restingVolume y s t)) lastNumber) a in
-            (ltb-true (length (s .messages)) (s .limits .messages) (b .0), leb-true (s .next + letters y s (restingVolume y s t)) lastNumber (b .1))
-
-        number-is : q .next < lastNumber
-        number-is = omega (arith, p .next, room .1, one-more)
 
         abbrev posted : State
         posted = withMessage q k 0 (noDependences y)
@@ -282,11 +320,11 @@ module _ {y : Layout} (z : Fitting y) {s : State} (w : WellFormed y s) (t : ℕ)
 
         receipt-ok : StepOk (receipt (q .next))
         unfolding bound
-        receipt-ok = record { kind = omega arith; transactor = omega arith; other = omega arith; zero = omega arith; message = omega (arith, number-is); value = omega arith }
+        receipt-ok = record { kind = omega arith; transactor = omega arith; other = omega arith; zero = omega arith; message = omega (arith, spare .number); value = omega arith }
 
         posting : Runs y q (packStep (waking k)) 1 posted
         posting =
-            let d = letter-done y q k opened-now (subst (λ (l : List Message). length l < q .limits .messages) (sym (p .messages)) (subst (λ (i : ℕ). length (s .messages) < i) (ap (λ m. m .messages) (sym (p .limits))) (room .0))) (λ (i : q .next ≡ lastNumber). omega (arith, number-is)) in
+            let d = letter-done y q k opened-now (spare .place) (λ (i : q .next ≡ lastNumber). omega (arith, spare .number)) in
             runs-one y q posted (waking k) waking-ok (ap (λ (r : Result). r .reply .outcome) d) (ap (λ (r : Result). r .state) d)
 
         rousing : Runs y posted (packStep (receipt (q .next))) 1 roused
@@ -330,8 +368,8 @@ module _ {y : Layout} (z : Fitting y) {s : State} (w : WellFormed y s) (t : ℕ)
       runs : Runs y q (stepsFor s (restingVolume y s t) k) steps after
       prepared : Prepared (suc k) after
 
-    next : lettersFit y s (restingVolume y s t) ≡ true → Next
-    next fits = go (toFreeze s (restingVolume y s t) k) refl (toWake s (restingVolume y s t) k) refl
+    next : (toWake s (restingVolume y s t) k ≡ true → Spare) → Next
+    next spare = go (toFreeze s (restingVolume y s t) k) refl (toWake s (restingVolume y s t) k) refl
       where
         still-well : {b : List ℕ} {i : ℕ} {q' : State} → Runs y q b i q' → WellFormed y q'
         still-well {b} {i} r = subst (WellFormed y) (r .ends) (keeps-after z (p .well) b (r .octets) i)
@@ -339,7 +377,7 @@ module _ {y : Layout} (z : Fitting y) {s : State} (w : WellFormed y s) (t : ℕ)
         go : (a : Bool) → toFreeze s (restingVolume y s t) k ≡ a → (b : Bool) → toWake s (restingVolume y s t) k ≡ b → Next
         go false e b f = record { steps = 0; after = q; runs = subst (λ (b : List ℕ). Runs y q b 0 q) (sym (steps-none s (restingVolume y s t) k e)) (runs-none y q); prepared = prepared-same e }
         go true e false f = record { steps = 1; after = _; runs = runs-busy e f; prepared = prepared-more e _ (still-well (runs-busy e f)) (changed-busy e f) }
-        go true e true f = record { steps = 3; after = _; runs = runs-idle e f fits; prepared = prepared-more e _ (still-well (runs-idle e f fits)) (changed-idle e f fits) }
+        go true e true f = record { steps = 3; after = _; runs = runs-idle e f (spare f); prepared = prepared-more e _ (still-well (runs-idle e f (spare f))) (changed-idle e f (spare f)) }
 
   record Before (k : ℕ) : Type 0 where
     steps : ℕ
@@ -352,8 +390,110 @@ module _ {y : Layout} (z : Fitting y) {s : State} (w : WellFormed y s) (t : ℕ)
   before fits zero h = record { steps = 0; after = s; runs = runs-none y s; prepared = prepared-none }
   before fits (suc k) h =
       let b = before fits k (omega arith) in
-      let m = next k h (b .prepared) fits in
+      let m = next k h (b .prepared) (λ f. spare-of k h (b .prepared) f fits) in
       record { steps = b .steps + m .steps; after = m .after; runs = runs-append y (b .runs) (m .runs); prepared = m .prepared }
+
+-- ---- they are all answered with 0 only if the letters fit
+
+-- the steps of b that are whole, run from s, are answered with 0
+record AllDone (y : Layout) (s : State) (b : List ℕ) : Type 0 where
+  replies : (i : ℕ) → stepBytes * i + stepBytes ≤ length b → stepOf y (stateAfter y s b i) (stepAt b i) .reply .outcome ≡ done
+
+module _ (y : Layout) (s : State) (b c : List ℕ) (m : ℕ) (whole : length b ≡ stepBytes * m) (all : AllDone y s (b ++ c)) where
+  first-done : AllDone y s b
+  first-done = record {
+    replies = λ i h.
+        let l : i < m = omega arith in
+        subst (λ (q : State). stepOf y q (stepAt b i) .reply .outcome ≡ done) (after-left b c m whole y s i (omega arith))
+        (subst (λ (p : Step). stepOf y (stateAfter y s (b ++ c) i) p .reply .outcome ≡ done) (at-left b c m whole i l) (all .replies i (omega (arith, length-append b c))));
+  }
+
+  rest-done : AllDone y (stateAfter y s b m) c
+  rest-done = record {
+    replies = λ i h.
+        subst (λ (q : State). stepOf y q (stepAt c i) .reply .outcome ≡ done) (after-append b c m whole y s i)
+        (subst (λ (p : Step). stepOf y (stateAfter y s (b ++ c) (m + i)) p .reply .outcome ≡ done) (at-right b c m whole i) (all .replies (m + i) (omega (arith, length-append b c, whole))));
+  }
+
+-- a list of steps that begins with p: p is answered with 0
+done-first : (y : Layout) (s : State) (p : Step) (c : List ℕ) → StepOk p → AllDone y s (packStep p ++ c) → stepOf y s p .reply .outcome ≡ done
+done-first y s p c ok all =
+    let a = first-done y s (packStep p) c 1 (length-packStep p) all .replies 0 (omega (arith, length-packStep p)) in
+    ap (λ (q : Step). stepOf y s q .reply .outcome) (sym (step-one p ok)) ∙ ap (λ (q : State). stepOf y q (stepAt (packStep p) 0) .reply .outcome) (sym (after-zero y s (packStep p))) ∙ a
+
+-- a letter that is answered with 0 had a place and a number
+letter-had : (y : Layout) (s : State) (c : ℕ) → stepOf y s (waking c) .reply .outcome ≡ done → (length (s .messages) < s .limits .messages) × (s .next ≡ lastNumber → ⊥)
+unfolding malformed roomRefusal
+letter-had y s c e = go (ℕ-discrete (refusal y s (waking c)) 0)
+  where
+    go : Dec (refusal y s (waking c) ≡ 0) → (length (s .messages) < s .limits .messages) × (s .next ≡ lastNumber → ⊥)
+    go (no n) = absurd (n (sym (ap (λ (r : Result). r .reply .outcome) (refused-same y s (waking c) n)) ∙ e))
+    go (yes z) =
+        let a = pick-zero (leb (s .opened) c) 21 _ (omega arith) (sym (refuses y s (waking c) refl .letter refl) ∙ z) in
+        let b = pick-zero (leb (s .limits .messages) (length (s .messages))) 26 _ (omega arith) (a .1) in
+        let d = pick-zero (eqb (s .next) lastNumber) 27 0 (omega arith) (b .1) in
+        (leb-false (s .limits .messages) (length (s .messages)) (b .0), eqb-false (s .next) lastNumber (d .0))
+
+module _ {y : Layout} (z : Fitting y) {s : State} (w : WellFormed y s) (t : ℕ) (low : t < y .transactors) (there : live (transactorAt s t) ≡ true)
+    (mends : mendable (impedimentOf y s t) ≡ true) where
+  -- after the first k takes, the letters that were needed had room
+  data Had (k : ℕ) : Type 0 where
+    none-yet : howMany k (toWake s (restingVolume y s t)) ≡ 0 → Had k
+    had-room : length (s .messages) < s .limits .messages → s .next + howMany k (toWake s (restingVolume y s t)) ≤ lastNumber → Had k
+
+  record Came (k : ℕ) : Type 0 where
+    before : Before z w t low there mends k
+    had : Had k
+
+  -- by the steps of take k, from where those of the takes below it lead
+  module _ (k : ℕ) (below : k < y .transactors) {q : State} (p : Prepared z w t low there mends k q) (all : AllDone y q (stepsFor s (restingVolume y s t) k)) where
+    spared : toWake s (restingVolume y s t) k ≡ true → Spare z w t low there mends k below p
+    spared f =
+        let e = wake-freeze s (restingVolume y s t) k f in
+        let b = subst (AllDone y q) (steps-idle s (restingVolume y s t) k e f) all in
+        let c = first-done y q (packStep (waking k) ++ packStep (receipt (s .next + howMany k (toWake s (restingVolume y s t))))) (packStep (freezing k)) 2
+        (length-append (packStep (waking k)) (packStep (receipt (s .next + howMany k (toWake s (restingVolume y s t))))) ∙ omega (arith, length-packStep (waking k), length-packStep (receipt (s .next + howMany k (toWake s (restingVolume y s t)))))) b in
+        let d = letter-had y q k (done-first y q (waking k) (packStep (receipt (s .next + howMany k (toWake s (restingVolume y s t))))) (waking-ok z w t low there mends k below p e) c) in
+        let h : q .next < bound 2 = p .well .packable .next in
+        record { place = d .0; number = less h (d .1) }
+      where
+        less : q .next < bound 2 → (q .next ≡ lastNumber → ⊥) → q .next < lastNumber
+        less h n = below-last (q .next) h n
+
+    had-more : Had k → Had (suc k)
+    had-more had = go (toWake s (restingVolume y s t) k) refl had
+      where
+        go : (b : Bool) → toWake s (restingVolume y s t) k ≡ b → Had k → Had (suc k)
+        go true f had =
+            let one : _≡_ {A = ℕ} (pick (toWake s (restingVolume y s t) k) 1 0) 1 = rw f in
+            let a = spared f in
+            had-room (subst (λ (l : List Message). length l < s .limits .messages) (p .messages) (subst (λ (i : ℕ). length (q .messages) < i) (ap (λ (m : Limits). m .messages) (p .limits)) (a .place)))
+            (omega (arith, many-next (toWake s (restingVolume y s t)) k, one, a .number, p .next))
+        go false f (none-yet e) = let one : _≡_ {A = ℕ} (pick (toWake s (restingVolume y s t) k) 1 0) 0 = rw f in none-yet (omega (arith, many-next (toWake s (restingVolume y s t)) k, one))
+        go false f (had-room a b) = let one : _≡_ {A = ℕ} (pick (toWake s (restingVolume y s t) k) 1 0) 0 = rw f in had-room a (omega (arith, many-next (toWake s (restingVolume y s t)) k, one))
+
+  came : (k : ℕ) → k ≤ y .transactors → AllDone y s (chunks k (stepsFor s (restingVolume y s t))) → Came k
+  unfolding chunks howMany
+  came zero h all = record { before = record { steps = 0; after = s; runs = runs-none y s; prepared = prepared-none z w t low there mends }; had = none-yet refl }
+  came (suc k) h all =
+      let m = whole-chunks s (restingVolume y s t) k in
+      let c = came k (omega arith) (first-done y s (chunks k (stepsFor s (restingVolume y s t))) (stepsFor s (restingVolume y s t) k) (m .0) (m .1) all) in
+      let b = c .before in
+      let rest = subst (λ (q : State). AllDone y q (stepsFor s (restingVolume y s t) k)) (b .runs .ends) (rest-done y s (chunks k (stepsFor s (restingVolume y s t))) (stepsFor s (restingVolume y s t) k) (b .steps) (b .runs .whole) all) in
+      let n = next z w t low there mends k h (b .prepared) (spared k h (b .prepared) rest) in
+      record {
+        before = record { steps = b .steps + n .steps; after = n .after; runs = runs-append y (b .runs) (n .runs); prepared = n .prepared };
+        had = had-more k h (b .prepared) rest (c .had);
+      }
+
+  -- The steps for all takes and the signing are answered with 0, each, only if there is room for the letters.
+  fits-only : AllDone y s (chunks (y .transactors) (stepsFor s (restingVolume y s t)) ++ packStep (signing (restingVolume y s t))) → lettersFit y s (restingVolume y s t) ≡ true
+  unfolding lettersFit letters
+  fits-only all = go (came (y .transactors) (omega arith) (first-done y s (chunks (y .transactors) (stepsFor s (restingVolume y s t))) (packStep (signing (restingVolume y s t))) (whole-chunks s (restingVolume y s t) (y .transactors) .0) (whole-chunks s (restingVolume y s t) (y .transactors) .1) all) .had)
+    where
+      go : Had (y .transactors) → eqb (howMany (y .transactors) (toWake s (restingVolume y s t))) 0 or (ltb (length (s .messages)) (s .limits .messages) and leb (s .next + howMany (y .transactors) (toWake s (restingVolume y s t))) lastNumber) ≡ true
+      go (none-yet e) = or-of (eqb (howMany (y .transactors) (toWake s (restingVolume y s t))) 0) _ (inl (eq-eqb (howMany (y .transactors) (toWake s (restingVolume y s t))) 0 e))
+      go (had-room a b) = or-of (eqb (howMany (y .transactors) (toWake s (restingVolume y s t))) 0) _ (inr (and-of (ltb (length (s .messages)) (s .limits .messages)) (leb (s .next + howMany (y .transactors) (toWake s (restingVolume y s t))) lastNumber) (lt-ltb (length (s .messages)) (s .limits .messages) a) (le-leb (s .next + howMany (y .transactors) (toWake s (restingVolume y s t))) lastNumber b)))
 
 -- ---- lives are as they were, so who rests on whom is too, and nothing more is in the way
 
@@ -601,6 +741,10 @@ module _ {y : Layout} (z : Fitting y) {s : State} (w : WellFormed y s) (t : ℕ)
     -- Where neither hopeless nor exhausted is answered and the letters fit, the plan attains the take.
     pub plan-attains : Attains y s t (planOf y s t)
     plan-attains = subst (Attains y s t) (sym plan-is) attains-bytes
+
+  -- And the steps attain it only if the letters fit, so a plan is kept back only where one of its steps would be refused.
+  pub attains-only : mendable (impedimentOf y s t) ≡ true → Attains y s t (chunks (y .transactors) (stepsFor s (restingVolume y s t)) ++ packStep (signing (restingVolume y s t))) → lettersFit y s (restingVolume y s t) ≡ true
+  attains-only mends a = fits-only z w t low there mends (record { replies = λ i h. a .replies i (omega (arith, a .whole)) })
 
   -- Every plan that has a step attains it.
   pub some-attains : 0 < stepsIn (planOf y s t) → Attains y s t (planOf y s t)
