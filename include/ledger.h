@@ -32,6 +32,7 @@ enum {
     LEDGER_OLD_IMAGE = 22132,  /* bytes of an image of the old form, with incarnation numbers of one byte */
     LEDGER_MAP = 528,          /* bytes of a map */
     LEDGER_HISTORY = 33,       /* bytes of a history */
+    LEDGER_PLAN = 392,         /* bytes lent for a plan: three steps for each transactor, and the signing */
     LEDGER_NONE = 65535        /* stands for no message: numbers run 0 to 65,534 */
 };
 
