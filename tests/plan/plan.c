@@ -16,11 +16,36 @@ static const uint8_t *own(const uint8_t *i, int t) { return take_at(i, t) + 9 + 
 static void life(const uint8_t *i, int t, uint8_t out[33]) { memcpy(out, own(i, t), 33); out[0] &= 0xBF; }
 static void fail(const char *why, long seed) { printf("failed: %s, session %ld\n", why, seed); exit(1); }
 
+static void play(int kind, int take, int other, int message) {
+    uint8_t p[8] = {kind * 16 + take, other * 16, message >> 8, message & 255}, r[8];
+    if (ledger_run(image, LEDGER_IMAGE, p, 8, 0, 8, r, 8) || r[0]) fail("a step of the chain", -1);
+}
+
+/* sixteen takes, each resting on the one before it, all idle: the longest plan */
+static void chain(void) {
+    ledger_begin(image, LEDGER_IMAGE, 16, 1, 1);
+    int n = 0;
+    for (int t = 0; t < 16; t++) play(0, 0, 0, 0);
+    for (int t = 0; t < 15; t++) {
+        play(1, t, 0, 0); play(2, 0, 0, n++); play(4, t, t + 1, 0); play(8, t, 0, 0); play(2, 0, 0, n++); play(6, t + 1, 0, 0); play(8, t + 1, 0, 0);
+    }
+    uint8_t out[LEDGER_PLAN], replies[LEDGER_PLAN], f;
+    if (ledger_plan(image, LEDGER_IMAGE, 15, out, sizeof out, &f) != 49 || f) fail("49 steps", -1);
+    if (ledger_plan(image, LEDGER_IMAGE, 0, out, sizeof out, &f) != 4 || f) fail("4 steps", -1);
+    if (ledger_plan(image, LEDGER_IMAGE, 15, out, sizeof out - 8, &f) != 0 || f != 18) fail("18", -1);
+    if (ledger_plan(image, LEDGER_IMAGE, 16, out, sizeof out, &f) != 0 || f != 21) fail("21", -1);
+    ledger_plan(image, LEDGER_IMAGE, 15, out, sizeof out, &f);
+    if (ledger_run(image, LEDGER_IMAGE, out, sizeof out, 0, 392, replies, 392)) fail("the chain's plan", -1);
+    for (int j = 0; j < 49; j++) if (replies[8 * j]) fail("a step of the chain's plan", -1);
+    if (ledger_plan(image, LEDGER_IMAGE, 15, out, sizeof out, &f) != 0 || f || ledger_impediment(image, LEDGER_IMAGE, 15, &f).kind != 2) fail("exhausted", -1);
+}
+
 int main(int argc, char **argv) {
+    chain();
     long sessions = argc > 1 ? atol(argv[1]) : 2000, plans = 0, empty = 0, lasting = 0, unfit = 0, steps_planned = 0, letters = 0, signed_doomed = 0, doomed_asked = 0;
     double spent = 0; long asked = 0; int longest = 0;
     for (long k = 0; k < sessions; k++) {
-        unsigned lt = 1 + rnd(16), lm = 1 + rnd(6), lc = 1 + rnd(3);
+        unsigned lt = 1 + rnd(16), lm = 1 + rnd(rnd(2) ? 32 : 4), lc = 1 + rnd(3);
         if (ledger_begin(image, LEDGER_IMAGE, lt, lm, lc) != 0) fail("begin", k);
         if (k % 10 == 0) { unsigned n = 65535 - rnd(8); image[1] = n >> 8; image[2] = n & 255; } /* few numbers left */
         static uint8_t doomed[16][64][33]; int many[16] = {0};

@@ -22,12 +22,12 @@ use Rattle.rules.specs.Step.{stepAt, done}
 use Rattle.rules.specs.Refusals.{named, groupBits}
 use Rattle.rules.specs.Rules.{stepOf}
 use Rattle.rules.specs.Pack.{unpack}
-use Rattle.rules.specs.Calls.{stateAfter, stepsIn}
+use Rattle.rules.specs.Calls.{stateAfter}
 use Rattle.rules.specs.Groups.{signing}
 use Rattle.rules.specs.ReadyGroups.{readyGroup, Ready}
 use Rattle.rules.specs.Dependents.{throughAt}
 use Rattle.rules.specs.Impediment.{impedimentOf}
-use Rattle.rules.specs.Plan.{mendable, letters, lettersFit, restingVolume, planOf, planRefusal, planAnswer}
+use Rattle.rules.specs.Plan.{mendable, letters, lettersFit, restingVolume, planRefusal, planAnswer}
 use Rattle.rules.specs.Internal.Well.{WellFormed}
 use Rattle.rules.proofs.Keep.Step.{fitting-base}
 use Rattle.rules.proofs.Bits.{named-past}
@@ -35,7 +35,7 @@ use Rattle.rules.proofs.Groups.Signable.{ready-exactly}
 use Rattle.rules.proofs.Groups.Impediments.{live-low, none-in-way, mendable-low, exhausted-is}
 use Rattle.rules.proofs.Groups.Planned.{limits-same}
 use Rattle.rules.proofs.Groups.Plans.{Readied, readied, plan-attains}
-use Rattle.rules.proofs.Calls.Planning.{plan-query, plan-runs}
+use Rattle.rules.proofs.Calls.Planning.{plan-query, answer-is, plan-runs}
 use Rattle.rules.proofs.Pack.Sizes.{octets-pack}
 use Rattle.session.specs.Provenance.{Live, Provenance}
 use Rattle.session.specs.Fed.{ProvenanceOf}
@@ -207,16 +207,12 @@ module _ {y : Layout} (z : Fitting y) {img : List ℕ} (τ : Trace y img) {b : P
   image-octets : Octets img
   image-octets = subst Octets (held z τ f .back) (octets-pack y (unpack y img))
 
-  answered : planAnswer y img t out ≡ stepsIn (planOf y (unpack y img) t)
-  unfolding planAnswer
-  answered = rw (eq-eqb (planRefusal y img t out) 0 r)
-
   no-steps : planAnswer y img t out ≡ 0 → mendable (impedimentOf y (unpack y img) t) ≡ true → lettersFit y (unpack y img) (restingVolume y (unpack y img) t) ≡ true → ⊥
   no-steps e m l =
       let k = at-end {τ = τ} f in
       let a = live-of (well z k) (related z k) t asked in
       let p = plan-attains z (well z k) t (live-low (well z k) t a) a m l in
-      omega (arith, p .some, answered)
+      omega (arith, p .some, answer-is y img t out r)
 
   -- Between two calls, and not refused: some steps, which sign the take; or none, and then it is doomed, or there is no room for the letters.
   pub plan-answered : PlanMeans y img t out

@@ -101,7 +101,7 @@ module _ (y : Layout) (img : List ℕ) (t : ℕ) (out : List ℕ) (r : planRefus
       go (yes e) = (e, eqb-true (length out) (planBytes y) (fits (eqb (length out) (planBytes y)) (rw (eq-eqb (queryRefusal y img t) 0 e) at r)))
       go (no n) = let f : queryRefusal y img t ≡ 0 = rw (ne-eqb (queryRefusal y img t) 0 n) at r in absurd (n f)
 
-  answer-is : planAnswer y img t out ≡ stepsIn (planOf y (unpack y img) t)
+  pub answer-is : planAnswer y img t out ≡ stepsIn (planOf y (unpack y img) t)
   unfolding planAnswer
   answer-is = rw (eq-eqb (planRefusal y img t out) 0 r)
 

@@ -284,9 +284,6 @@ module _ {y : Layout} (z : Fitting y) {s : State} (w : WellFormed y s) (t : ℕ)
           go is-idle d = absurd (d refl)
           go is-busy d = refl
 
-      frozen-state : State
-      frozen-state = withTransactor q k (frozenBy k (transactorAt s k))
-
       changed-busy : toWake s (restingVolume y s t) k ≡ false → Changed q (withTransactor q k (frozenBy k (transactorAt s k))) k (frozenBy k (transactorAt s k)) (pick (toWake s (restingVolume y s t) k) 1 0)
       unfolding withTransactor
       changed-busy f = record {
@@ -673,12 +670,6 @@ module _ {y : Layout} (z : Fitting y) {s : State} (w : WellFormed y s) (t : ℕ)
   module _ (mends : mendable (impedimentOf y s t) ≡ true) (fits : lettersFit y s (restingVolume y s t) ≡ true) where
     first : Before z w t low there mends (y .transactors)
     first = before z w t low there mends fits (y .transactors) (omega arith)
-
-    volume : ℕ
-    volume = restingVolume y s t
-
-    steps : ℕ
-    steps = first .steps
 
     -- before the signing: take t has its life, and the volume is ready
     pub record Readied : Type 0 where
