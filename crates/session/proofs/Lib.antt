@@ -5,6 +5,7 @@ pub mod Carried
 pub mod Count
 pub mod Demand3
 pub mod Falling
+pub mod Fixed
 pub mod Grown
 pub mod Impediments
 pub mod Independent

@@ -82,7 +82,7 @@ module _ (l : Ledger) (b : Provenance) (r : Rel l b) where
   own-has t k = state-has t t (b .holders t .history) (r .holders t .own k)
 
   -- what was noted is signed, and so is all that it brings in
-  value-checkpointed : (t : ℕ) (n : Incarnation) (u : ℕ) (a : Incarnation) → ValueRestsOn b t n u a → CheckpointedNow b u a
+  pub value-checkpointed : (t : ℕ) (n : Incarnation) (u : ℕ) (a : Incarnation) → ValueRestsOn b t n u a → CheckpointedNow b u a
   value-checkpointed t n u a (from-start s) = checkpointedNow-of b (r .noted .grounds _ _ _ _ s)
   value-checkpointed t n u a (from-noted x y) = checkpointedNow-of b (r .noted .grounds _ _ _ _ y)
   value-checkpointed t n u a (from-list {u = w} {a = z} {c = y} x e) = checkpointedNow-under b (checkpointed-under (before-checkpointed z y e)) (value-checkpointed t n w z x)

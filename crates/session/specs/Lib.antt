@@ -3,6 +3,7 @@ pub mod Unrelated
 pub mod Grounds
 pub mod Steps
 pub mod Fed
+pub mod Fixed
 pub mod Silent
 pub mod Stabilized
 pub mod Trace
