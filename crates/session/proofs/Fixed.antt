@@ -1,23 +1,31 @@
 -- What a signed text rests on is fixed at its signing (specs/Fixed).
-use Prim.Native.Nat.{ℕ}
+use Prim.Native.Nat.{ℕ, suc, _-_, _≤_, _<_}
 use mathlib.Core.Bool.{true}
-use mathlib.Core.Path.{_≡_, refl, ap, subst}
-use mathlib.Core.List.{List}
+use mathlib.Core.Path.{_≡_, refl, ap, sym, _∙_, subst}
+use mathlib.Core.List.{List, _∷_}
 use mathlib.Core.Logic.{_↔_}
+use native.Mathlib.Omega.{arith}
+use Rattle.octets.specs.Bytes.{part, Octets}
+use Rattle.octets.proofs.Put.{octets-part}
 use Rattle.marks.specs.Incarnation.{Incarnation}
 use Rattle.marks.proofs.Order.{checkpointed-longer}
 use Rattle.rules.specs.Layout.{Layout, Fitting, base}
 use Rattle.rules.specs.State.{State}
 use Rattle.rules.specs.declared.Step.{Step}
-use Rattle.rules.specs.Step.{stepAt, sign}
+use Rattle.rules.specs.Step.{stepAt, sign, done, notReady}
 use Rattle.rules.specs.Refusals.{named}
-use Rattle.rules.specs.Rules.{stepOf}
+use Rattle.rules.specs.Rules.{answer, stepOf}
+use Rattle.rules.specs.Calls.{stepsIn}
 use Rattle.rules.specs.Internal.Well.{StepOk, WellFormed}
 use Rattle.rules.proofs.Keep.Run.{stepOk-at}
-use Rattle.rules.proofs.Keep.Step.{keeps}
+use Rattle.rules.proofs.Keep.Step.{keeps, fitting-base}
 use Rattle.session.specs.Provenance.{Live, Provenance}
 use Rattle.session.specs.Grounds.{Brought, from-start, from-noted, from-list, in-state, RestsOn, ValueRestsOn, CheckpointedNow, Equal}
 use Rattle.session.specs.Steps.{NotedBy, before, now-checkpointed, signs, provenanceRefusal, ProvenanceStep, refuses, applies, signing, not-ready}
+use Rattle.session.specs.Fed as provenance
+use Rattle.session.specs.Fed.{Call, run, ProvenanceSteps, ProvenanceCall, provenance-refuses, provenance-runs, ProvenanceOf, new-provenance, fed}
+use Rattle.session.specs.Trace.{ran, Performed, Trace, called, callsOf}
+use Rattle.session.specs.Point.{StepIn, last-run, earlier-run, Point, at-end, at-step, earlier, SinceBegin, Afterwards, in-that-run, after-call, in-later-run, and-more, replied, outcomeIn}
 use Rattle.session.specs.Withdrawal.{RestsThrough, itself, via, ProvenanceFurther, no-further, further}
 use Rattle.session.specs.Fixed.{RestsInAll, Fixed}
 use Rattle.session.proofs.Model.{Ledger, view}
@@ -28,6 +36,13 @@ use Rattle.session.proofs.Kept.{provenance-determined}
 use Rattle.session.proofs.Onward.{notes}
 use Rattle.session.proofs.Resting.{rests-trans}
 use Rattle.session.proofs.ViewStep.{state-kept}
+use Rattle.session.proofs.Unique.{provenance-unique}
+use Rattle.session.proofs.Run.{first-packReply}
+use Rattle.session.proofs.Calls.{call-right}
+use Rattle.session.proofs.Points.{held, step-taken}
+use Rattle.session.proofs.Grown.{grown}
+use Rattle.session.proofs.Demand3.{step-refused, signs-exactly}
+use Rattle.session.proofs.Spreading.{further-trans, further-steps, further-call}
 
 -- ---- what sets bring in
 
@@ -156,3 +171,67 @@ module _ {y : Layout} (z : Fitting y) {s : State} {b : Provenance} (formed : Wel
   fixed-further {d} o =
       let q = later o in
       record { exactly = q .exactly; checkpointed = λ u a x. value-checkpointed (view (q .beside)) d (q .rel) t life u a (q .exactly u a .1 x) }
+
+-- ---- at the points of a session
+
+-- the book after one call more
+fed-last : {y : Layout} {cs : List Call} {k : Call} {b d : Provenance} → ProvenanceOf y cs b → ProvenanceOf y (k ∷ cs) d → ProvenanceCall y b k d
+fed-last f (new-provenance e) = elim f [ ]
+fed-last {y} {k = k} {d = d} f (fed g q) = subst (λ (x : Provenance). ProvenanceCall y x k d) (provenance-unique g f) q
+
+module _ {y : Layout} (z : Fitting y) where
+  -- the rest of the step's own run
+  rest-of-run : {img after list : List ℕ} {o : Octets list} {start end : ℕ} {lent replies : List ℕ} {r : ℕ} (τ : Trace y img) → Performed y img (run list o start end lent) (ran r replies) after
+      → {c b e d : Provenance} {i : ℕ} → ProvenanceOf y (callsOf τ) c → r ≡ 0 → suc i ≤ stepsIn (part start (end - start) list) → ProvenanceSteps y c (part start (end - start) list) i b
+      → ProvenanceStep y b (stepAt (part start (end - start) list) i) e → ProvenanceCall y c (run list o start end lent) d → ProvenanceFurther y e d
+  rest-of-run τ q f zero n g step (provenance-refuses m) = absurd (m (sym (call-right z (held z τ f) q .refusal) ∙ zero))
+  rest-of-run {list = list} {o} {start} {end} τ q f zero n g step (provenance-runs m k) = further-steps (part start (end - start) list) (octets-part start (end - start) list o) (provenance.more g step) k n
+
+  -- the end of the session is come to from every step since its last accepted begin
+  since-further : {img : List ℕ} {τ : Trace y img} {s s' : State} {b : Provenance} {p : Step} {reply : List ℕ} (k : StepIn y img τ s b p reply s') → SinceBegin k
+      → {c d : Provenance} → ProvenanceStep y b p c → ProvenanceOf y (callsOf τ) d → ProvenanceFurther y c d
+  unfolding SinceBegin callsOf
+  since-further (last-run {τ = τ} {p = q} i f e n g) since step h = rest-of-run τ q f e n g step (fed-last f h)
+  since-further (earlier-run {τ = τ} k) since step h =
+      let f = grown z τ .fed in
+      further-trans (since-further k (since .1) step f) (further-call z τ f (since .0) (fed-last f h))
+
+  -- every point after the step is come to from it
+  after-further : {img : List ℕ} {τ : Trace y img} {b : Provenance} {p : Step} {reply : List ℕ} {d : Provenance} → Afterwards y img τ b p reply d
+      → {c : Provenance} → ProvenanceStep y b p c → ProvenanceFurther y c d
+  after-further (in-that-run {list = list} {o} {start} {end} i j f e l n g h) step = further-steps (part start (end - start) list) (octets-part start (end - start) list o) (provenance.more g step) h l
+  after-further (after-call k since h) step = since-further k since step h
+  after-further (in-later-run {list = list} {o} {start} {end} k j since f e n h) step =
+      further-trans (since-further k since step f) (further-steps (part start (end - start) list) (octets-part start (end - start) list o) provenance.none h (omega arith))
+  after-further (and-more a) step = after-further a step
+
+  -- the step is a step of the session
+  pub after-step : {img : List ℕ} {τ : Trace y img} {b : Provenance} {p : Step} {reply : List ℕ} {d : Provenance} → Afterwards y img τ b p reply d
+      → (s : State) × (s' : State) × StepIn y img τ s b p reply s'
+  after-step (in-that-run {list = list} {o} {start} {end} i j f e l n g h) = let m : i < stepsIn (part start (end - start) list) = omega (arith, l, n) in (_, _, last-run i f e m g)
+  after-step (after-call k since h) = (_, _, k)
+  after-step (in-later-run k j since f e n h) = (_, _, earlier-run k)
+  after-step (and-more a) = let k = after-step a in (_, _, earlier-run (k .2))
+
+  -- and the point a point of it
+  pub after-point : {img : List ℕ} {τ : Trace y img} {b : Provenance} {p : Step} {reply : List ℕ} {d : Provenance} → Afterwards y img τ b p reply d → (s : State) × Point y img τ s d
+  after-point (in-that-run i j f e l n g h) = (_, at-step (last-run j f e n h))
+  after-point (after-call k since h) = (_, at-end h)
+  after-point (in-later-run k j since f e n h) = (_, at-step (last-run j f e n h))
+  after-point (and-more a) = let k = after-point a in (_, earlier (k .1))
+
+  -- What a signed text rests on is fixed at its signing.
+  pub fixed : {img : List ℕ} {τ : Trace y img} {b : Provenance} {p : Step} {reply : List ℕ} {d : Provenance} → Afterwards y img τ b p reply d
+      → p .kind ≡ sign → reply ≡ replied done → (t : ℕ) → named (p .message) t ≡ true → Fixed b d t
+  fixed {b = b} {p} {reply} a kind zero t n =
+      let k = after-step a .2 in
+      let taken = step-taken z k in
+      let low : outcomeIn reply ≤ notReady = subst (λ (x : List ℕ). outcomeIn x ≤ notReady) (sym zero) (omega (arith, first-packReply (answer 0 0 0 0) (omega arith))) in
+      let accepted : provenanceRefusal y b p ≡ 0 = step-refused y z k .0 .0 low in
+      let same = signs-exactly y z k accepted kind .0 .0 zero in
+      fixed-further z (taken .beside .well) (taken .beside .rel) (taken .ok) accepted kind same t n (after-further a (signing accepted kind same))
+
+-- At the ledger's own layout: no hypothesis but the session.
+pub fixed-base : {img : List ℕ} {τ : Trace base img} {b : Provenance} {p : Step} {reply : List ℕ} {d : Provenance} → Afterwards base img τ b p reply d
+    → p .kind ≡ sign → reply ≡ replied done → (t : ℕ) → named (p .message) t ≡ true → Fixed b d t
+fixed-base = fixed fitting-base
