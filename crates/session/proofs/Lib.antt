@@ -4,6 +4,7 @@ pub mod Calls
 pub mod Carried
 pub mod Count
 pub mod Demand3
+pub mod Earlier
 pub mod Falling
 pub mod Fixed
 pub mod Grown
