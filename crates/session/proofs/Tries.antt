@@ -120,6 +120,7 @@ record Computed : Type 0 where
   quiet-opener : quiet childProvenance (aStep freeze 0 ∷ []) ≡ true
   zero-opener : openerProvenance .holders 0 ≡ holder busy true incarnation0 (one 0 incarnation0) (one 1 incarnation0)
   one-opener : openerProvenance .holders 1 ≡ child busy true incarnation0 (one 1 incarnation0) (one 0 incarnation0) []
+  sign-opener : provenanceRefusal base openerProvenance (aSign 3) ≡ 0
   quiet-small : quiet (emptyProvenance smallLimits) smallSteps ≡ true
   third-take : provenanceRefusal base smallProvenance (aRoot 4) ≡ 25
   second-message : provenanceRefusal base smallProvenance (aLetter 0 5) ≡ 26
@@ -175,6 +176,7 @@ computed = record {
   quiet-opener = refl;
   zero-opener = refl;
   one-opener = refl;
+  sign-opener = refl;
   quiet-small = refl;
   third-take = refl;
   second-message = refl;
@@ -437,14 +439,50 @@ play-child = play-quiet wideProvenance childSteps (computed .quiet-child)
 pub child-alone : After childSteps (λ b. (b .holders 1 .state ≡ one 1 incarnation0) × (Equal b 2 → ⊥))
 child-alone = record { provenance = childProvenance; play = play-child; holds = (rw (computed .one-child), differ-child) }
 
+play-opener : Play wideProvenance openerSteps openerProvenance
+unfolding openerProvenance
+play-opener = play-on play-child (then (not-ready (computed .sign-child) refl differ-child) (play-quiet childProvenance (aStep freeze 0 ∷ []) (computed .quiet-opener)))
+
 -- With its opener, frozen too, it can.
 pub child-with-opener : After openerSteps (λ b. Equal b 3)
 unfolding openerProvenance
 child-with-opener = record {
   provenance = openerProvenance;
-  play = play-on play-child (then (not-ready (computed .sign-child) refl differ-child) (play-quiet childProvenance (aStep freeze 0 ∷ []) (computed .quiet-opener)));
+  play = play-opener;
   holds = equal-opener;
 }
+
+-- Signed with its opener, the child's text rests on the opener's life, which was in its creation set alone; and the opener's text not on the
+-- child's, which was in its behaviour set alone.
+pub child-rests-on-opener : After (openerSteps ++ (aSign 3 ∷ [])) (λ b. ValueRestsOn b 1 incarnation0 0 incarnation0 × (ValueRestsOn b 0 incarnation0 1 incarnation0 → ⊥))
+unfolding named
+child-rests-on-opener = record {
+  provenance = signs openerProvenance 3;
+  play = play-on play-opener (then (signing (computed .sign-opener) refl equal-opener) end);
+  holds = (from-start (now-checkpointed refl (rw (computed .one-opener)) (from-start by-creation)), λ k. absurd (apart (only 1 incarnation0 k .0)));
+}
+  where
+    by-creation : Ground (openerProvenance .holders 1) 0 incarnation0
+    by-creation = rw (computed .one-opener) (in-creation (List·Memᴰ·head refl))
+
+    apart : _≡_ {A = ℕ} 1 0 → ⊥
+    apart e = omega arith
+
+    opener-only : (u : ℕ) (a : Incarnation) → Ground (openerProvenance .holders 0) u a → (u ≡ 0) × (a ≡ incarnation0)
+    opener-only u a g = in-one (ground-state refl u a (rw (computed .zero-opener) at g))
+
+    noted-0 : (u : ℕ) (a : Incarnation) (t : ℕ) (c : Incarnation) → t ≡ 0 → NotedBy openerProvenance 3 t c u a → (u ≡ 0) × (a ≡ incarnation0)
+    noted-0 u a t c z (before x) = absurd (none-opener t c u a x)
+    noted-0 u a t c z (now-checkpointed n e r) =
+        let g = brings-itself none-opener (λ u a g. ap (λ (x : Incarnation). x .checkpoints) (opener-only u a (rw z at g) .1)) u a r in
+        opener-only u a (rw z at g)
+
+    only : (u : ℕ) (a : Incarnation) → ValueRestsOn (signs openerProvenance 3) 0 incarnation0 u a → (u ≡ 0) × (a ≡ incarnation0)
+    only u a (from-start x) = noted-0 u a 0 incarnation0 refl x
+    only u a (from-noted {t = t} {a = c} x y) = noted-0 u a t c (only t c x .0) y
+    only u c (from-list {a = a} x e) =
+        let n : 0 ≡ length (c .checkpoints) + 1 = ap length (sym (ap (λ (z : Incarnation). z .checkpoints) (only u a x .1)) ∙ e) ∙ length-append (c .checkpoints) (c .number ∷ []) in
+        absurd (omega arith)
 
 -- ---- the limits that a session begins with
 
