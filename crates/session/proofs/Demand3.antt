@@ -1,5 +1,5 @@
 -- Demand 3 of document 01, over every list of calls: each of its claims by itself, then the whole (specs/Demand3).
-use Prim.Native.Nat.{ℕ, _-_, _*_, _≤_, _<_}
+use Prim.Native.Nat.{ℕ, suc, _-_, _*_, _≤_, _<_}
 use mathlib.Core.Path.{_≡_, refl, ap, sym, _∙_, subst}
 use mathlib.Core.List.{List, _∷_}
 use mathlib.Core.Logic.{_↔_}
@@ -18,21 +18,24 @@ use Rattle.rules.specs.Pack.{pack, unpack}
 use Rattle.rules.specs.Calls.{stateAfter, stepsIn, runAnswer, ranImage, runImage}
 use Rattle.rules.proofs.Keep.Accepted.{refusal-range}
 use Rattle.rules.proofs.Pack.RoundTrip.{unpack-pack}
+use Rattle.rules.proofs.Keep.Run.{stepOk-at}
 use Rattle.rules.proofs.Keep.Step.{keeps-after, fitting-base}
 use Rattle.session.specs.Provenance.{Provenance}
 use Rattle.session.specs.Grounds.{Equal, Sound}
-use Rattle.session.specs.Steps.{provenanceSeen, provenanceRefusal}
+use Rattle.session.specs.Steps.{provenanceSeen, provenanceRefusal, ProvenanceStep}
+use Rattle.session.specs.Fed as provenance
 use Rattle.session.specs.Fed.{Call, run, callRefusal, ProvenanceSteps, provenance-runs, ProvenanceOf, fed}
 use Rattle.session.specs.Trace.{Answer, ran, refusalIn, Performed, running, Trace, called, callsOf, Matches, Started, Traced}
-use Rattle.session.specs.Point.{CallIn, last-call, earlier-call, StepIn, last-run, earlier-run, Point, at-end, at-step, replied, outcomeIn}
+use Rattle.session.specs.Point.{CallIn, last-call, earlier-call, StepIn, last-run, earlier-run, Point, at-end, at-step, earlier, replied, outcomeIn}
 use Rattle.session.specs.Demand3.{Demand3}
 use Rattle.session.proofs.Model.{view}
 use Rattle.session.proofs.Sign.{rel-sound}
 use Rattle.session.proofs.Unique.{provenance-unique}
 use Rattle.session.proofs.Step.{SigningRight, checkpointed, uncheckpointed, Stepped, step-right, matches-rel}
+use Rattle.session.proofs.ViewStep.{state-kept}
 use Rattle.session.proofs.Run.{first-packReply, run-right}
 use Rattle.session.proofs.Calls.{call-right}
-use Rattle.session.proofs.Points.{Taken, held, point-beside, step-taken}
+use Rattle.session.proofs.Points.{Taken, held, beside-steps, point-beside, step-taken}
 use Rattle.session.proofs.Grown.{grown}
 use Rattle.session.proofs.Traces.{every-list-base}
 
@@ -154,6 +157,17 @@ module _ (y : Layout) (z : Fitting y) where
           let refusal : callRefusal y b (run list o start end lent) ≡ 0 = sym (call-right z h (running {o = o} k) .refusal) ∙ e in
           let fed-all : ProvenanceOf y (run list o start end lent ∷ callsOf τ) d = fed f (provenance-runs refusal (subst (λ (j : ℕ). ProvenanceSteps y b steps j d) m g)) in
           subst (λ (s : State). Point y after (called τ (run list o start end lent) (ran r replies) (running k)) s d) (back ∙ ap (stateAfter y (unpack y img) steps) (sym m)) (at-end fed-all)
+
+  -- So there is one just after every step.
+  pub next-point : {img : List ℕ} {τ : Trace y img} {s s' : State} {b : Provenance} {p : Step} {reply : List ℕ} → StepIn y img τ s b p reply s'
+      → (c : Provenance) × Point y img τ s' c × ProvenanceStep y b p c
+  next-point (last-run {list = list} {o = o} {start = start} {end = end} {τ = τ} i f e n g) =
+      let steps : List ℕ = part start (end - start) list in
+      let octets : Octets steps = octets-part start (end - start) list o in
+      let t = beside-steps z (held z τ f) steps octets i g in
+      let q = state-kept (t .well) (t .rel) (stepAt steps i) (stepOk-at steps octets i .message) in
+      (q .after, in-run (suc i) f e n (provenance.more g (q .step)), q .step)
+  next-point (earlier-run k) = let n = next-point k in (n .0, earlier (n .1), n .2)
 
   -- ---- the whole
 

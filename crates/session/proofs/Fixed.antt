@@ -188,7 +188,7 @@ module _ {y : Layout} (z : Fitting y) where
   rest-of-run {list = list} {o} {start} {end} τ q f zero n g step (provenance-runs m k) = further-steps (part start (end - start) list) (octets-part start (end - start) list o) (provenance.more g step) k n
 
   -- the end of the session is come to from every step since its last accepted begin
-  since-further : {img : List ℕ} {τ : Trace y img} {s s' : State} {b : Provenance} {p : Step} {reply : List ℕ} (k : StepIn y img τ s b p reply s') → SinceBegin k
+  pub since-further : {img : List ℕ} {τ : Trace y img} {s s' : State} {b : Provenance} {p : Step} {reply : List ℕ} (k : StepIn y img τ s b p reply s') → SinceBegin k
       → {c d : Provenance} → ProvenanceStep y b p c → ProvenanceOf y (callsOf τ) d → ProvenanceFurther y c d
   unfolding SinceBegin callsOf
   since-further (last-run {τ = τ} {p = q} i f e n g) since step h = rest-of-run τ q f e n g step (fed-last f h)

@@ -1,6 +1,6 @@
 -- Document 02, W4: in a session grown from fresh every frozen mark of a map was frozen by an earlier step since the last accepted begin.
-use Prim.Native.Nat.{ℕ, zero, suc, _-_}
-use mathlib.Core.Bool.{Bool, true, false, not}
+use Prim.Native.Nat.{ℕ, zero, suc, _-_, _<_}
+use mathlib.Core.Bool.{Bool, true, false, not, false≢true}
 use mathlib.Core.Path.{_≡_, refl, sym, _∙_, subst}
 use mathlib.Core.List.{List, [], _∷_}
 use mathlib.Core.Logic.{_≢_}
@@ -35,19 +35,50 @@ use Rattle.rules.proofs.Keep.Step.{keeps-after, fitting-base}
 use Rattle.session.specs.Provenance.{unused, Provenance, emptyProvenance}
 use Rattle.session.specs.Steps.{freezes, acted, applied, ProvenanceStep, refuses, applies, signing, not-ready}
 use Rattle.session.specs.Fed as book
-use Rattle.session.specs.Fed.{Call, begin, run, heard, callRefusal, ProvenanceSteps, ProvenanceCall, provenance-refuses, provenance-begins, provenance-runs, provenance-offers, provenance-names, provenance-hears, provenance-counts, provenance-depends, provenance-hinders, provenance-blocks, provenance-shows, ProvenanceOf, new-provenance, fed}
-use Rattle.session.specs.Trace.{Answer, told, Performed, beginning, running, offering, naming, hearing, counting, depending, hindering, blocking, showing, Trace, opened, called, callsOf}
-use Rattle.session.specs.Stabilized.{Stabilizes, StabilizedBy, at-step, restarts, StabilizedIn, in-run, in-earlier}
+use Rattle.session.specs.Fed.{Call, begin, run, offer, smallest, heard, counts, depends, hinders, blocks, show, callRefusal, ProvenanceSteps, ProvenanceCall, provenance-refuses, provenance-begins, provenance-runs, provenance-offers, provenance-names, provenance-hears, provenance-counts, provenance-depends, provenance-hinders, provenance-blocks, provenance-shows, ProvenanceOf, new-provenance, fed}
+use Rattle.session.specs.Trace.{Answer, told, Performed, beginning, running, offering, naming, hearing, counting, depending, hindering, blocking, showing, Trace, opened, called, callsOf, GoesOn}
+use Rattle.session.specs.Point.{StepIn, last-run, earlier-run, SinceBegin, Point}
+use Rattle.session.specs.Withdrawal.{ProvenanceFurther}
+use Rattle.session.specs.Stabilized.{Stabilizes, StabilizedIn}
 use Rattle.session.proofs.Model.{view}
 use Rattle.session.proofs.Relation.{freshLedger, Rel, nothing-checkpointed}
 use Rattle.session.proofs.News.{informed-law}
 use Rattle.session.proofs.ViewRules.{droppedAt, rolledBackAt}
 use Rattle.session.proofs.ViewState.{view-fresh}
 use Rattle.session.proofs.ViewStep.{readyAt, view-step, same-refusal, state-kept}
-use Rattle.session.proofs.Calls.{Holds, holds-pack, holds-fresh, right-length, run-same, kept}
+use Rattle.session.proofs.Calls.{Holds, holds-pack, holds-fresh, right-length, call-right, run-same, kept}
+use Rattle.session.proofs.Points.{held}
+use Rattle.session.proofs.Demand3.{next-point}
+use Rattle.session.proofs.Fixed.{since-further}
 use Rattle.session.proofs.Log.{Log, emptyLog, LogAfter, earlier, just-now, absent, none1, backed-has}
 use Rattle.session.proofs.Logged.{Logged, log-kept}
-use Rattle.session.proofs.Unique.{provenance-unique}
+
+-- ---- the steps of a list of calls that freeze
+
+-- one of the first i steps of a part, from the book b on, freezes take u in its life a
+pub data StabilizedBy (y : Layout) (b : Provenance) (steps : List ℕ) (i u : ℕ) (a : Incarnation) : Type 1 where
+  at-step : (j : ℕ) (c : Provenance) → j < i → ProvenanceSteps y b steps j c → Stabilizes y c (stepAt steps j) u a → StabilizedBy y b steps i u a
+
+-- an accepted begin
+abbrev pub restarts : Layout → Call → Bool
+restarts y (begin m) = inRange y m
+restarts y (run list o start end lent) = false
+restarts y (offer t) = false
+restarts y (smallest t) = false
+restarts y (heard t) = false
+restarts y (counts n) = false
+restarts y (depends t) = false
+restarts y (hinders v) = false
+restarts y (blocks t) = false
+restarts y (show n) = false
+
+-- a step of these calls, the last one first, freezes take u in its life a, in an accepted run after which there is no accepted begin
+pub data FrozenIn (y : Layout) : List Call → ℕ → Incarnation → Type 1 where
+  in-run : {cs : List Call} {list : List ℕ} {o : Octets list} {start end : ℕ} {lent : List ℕ} {b : Provenance} {u : ℕ} {a : Incarnation}
+      → ProvenanceOf y cs b → callRefusal y b (run list o start end lent) ≡ 0
+      → StabilizedBy y b (part start (end - start) list) (stepsIn (part start (end - start) list)) u a
+      → FrozenIn y (run list o start end lent ∷ cs) u a
+  in-earlier : {cs : List Call} {c : Call} {u : ℕ} {a : Incarnation} → restarts y c ≡ false → FrozenIn y cs u a → FrozenIn y (c ∷ cs) u a
 
 -- ---- one step
 
@@ -108,7 +139,7 @@ pub record GrownLog (y : Layout) (img : List ℕ) (cs : List Call) : Type 1 wher
   pub holds : Holds y img provenance
   pub log : Log
   pub logged : Logged (view (unpack y img)) provenance log
-  pub true-log : (u : ℕ) (a : Incarnation) → log u a → StabilizedIn y cs u a
+  pub true-log : (u : ℕ) (a : Incarnation) → log u a → FrozenIn y cs u a
 
 fresh-logged : (m : Limits) → Logged (freshLedger m) (emptyProvenance m) emptyLog
 fresh-logged m = record {
@@ -183,7 +214,7 @@ module _ {y : Layout} {img : List ℕ} {cs : List Call} (g : GrownLog y img cs) 
               true-log = λ u a h. told u a (k .true-log u a h);
             })
           where
-            told : (u : ℕ) (a : Incarnation) → Since y (g .provenance) (g .log) part-of (stepsIn part-of) u a → StabilizedIn y (the-run ∷ cs) u a
+            told : (u : ℕ) (a : Incarnation) → Since y (g .provenance) (g .log) part-of (stepsIn part-of) u a → FrozenIn y (the-run ∷ cs) u a
             told u a (old h) = in-earlier refl (g .true-log u a h)
             told u a (by-step h) = in-run (g .fed-by) e h
         go (no n) =
@@ -220,18 +251,61 @@ module _ {y : Layout} (z : Fitting y) where
   grown-log (opened m img e) = begun-grown z m img e
   grown-log (called τ c a p) = performed-grown (grown-log τ) p
 
+-- ---- as a step of the session, beside the session's own book
+
+goes-on : (y : Layout) (img : List ℕ) (c : Call) → restarts y c ≡ false → GoesOn y img c
+goes-on y img c e m i f = false≢true (sym (subst (λ (k : Call). restarts y k ≡ false) i e) ∙ begin-accepted y img m f .0)
+
+module _ {y : Layout} (z : Fitting y) {u : ℕ} {a : Incarnation} where
+  in-last : {img after : List ℕ} (τ : Trace y img) {list : List ℕ} {o : Octets list} {start end : ℕ} {lent : List ℕ} {x : Answer} (p : Performed y img (run list o start end lent) x after) {b : Provenance}
+      → ProvenanceOf y (callsOf τ) b → callRefusal y b (run list o start end lent) ≡ 0 → StabilizedBy y b (part start (end - start) list) (stepsIn (part start (end - start) list)) u a
+      → StabilizedIn y after (called τ (run list o start end lent) x p) u a
+  unfolding SinceBegin
+  in-last τ {o = o} (running k) f e (at-step j c h s w) = record {
+    state = _;
+    after = _;
+    provenance = c;
+    step = _;
+    reply = _;
+    taken = last-run j f (call-right z (held z τ f) (running {o = o} k) .refusal ∙ e) h s;
+    since = tt;
+    stabilizes = w;
+  }
+
+  and-then : {img after : List ℕ} {τ : Trace y img} {c : Call} {x : Answer} {p : Performed y img c x after} → GoesOn y img c → StabilizedIn y img τ u a → StabilizedIn y after (called τ c x p) u a
+  unfolding SinceBegin
+  and-then g k = record {
+    state = k .state;
+    after = k .after;
+    provenance = k .provenance;
+    step = k .step;
+    reply = k .reply;
+    taken = earlier-run (k .taken);
+    since = (g, k .since);
+    stabilizes = k .stabilizes;
+  }
+
+  none-frozen : FrozenIn y [] u a → ⊥
+  none-frozen k = elim k [ ]
+
+  in-session : {img : List ℕ} (τ : Trace y img) → FrozenIn y (callsOf τ) u a → StabilizedIn y img τ u a
+  unfolding callsOf
+  in-session (opened m img e) (in-earlier f k) = absurd (none-frozen k)
+  in-session (called τ c x p) (in-run f e k) = in-last τ p f e k
+  in-session (called {img} τ c x p) (in-earlier e k) = and-then (goes-on y img c e) (in-session τ k)
+
 -- ---- "all heard frozen"
 
 module _ {y : Layout} (z : Fitting y) {img : List ℕ} (τ : Trace y img) where
   -- a frozen mark of a take's two maps was frozen by an earlier step, its own included
-  pub heard-stable : (t u : ℕ) (h : HistoryView) → Heard (unpack y img) t u h → h .stable ≡ true → StabilizedIn y (callsOf τ) u (h .incarnation)
+  pub heard-stable : (t u : ℕ) (h : HistoryView) → Heard (unpack y img) t u h → h .stable ≡ true → StabilizedIn y img τ u (h .incarnation)
   unfolding view
-  heard-stable t u h (in-state e) i = let g = grown-log z τ in g .true-log u (h .incarnation) (backed-has (g .logged .ledger .nodes t .state u) e i)
-  heard-stable t u h (in-creation e) i = let g = grown-log z τ in g .true-log u (h .incarnation) (backed-has (g .logged .ledger .nodes t .creation u) e i)
+  heard-stable t u h (in-state e) i = let g = grown-log z τ in in-session z τ (g .true-log u (h .incarnation) (backed-has (g .logged .ledger .nodes t .state u) e i))
+  heard-stable t u h (in-creation e) i = let g = grown-log z τ in in-session z τ (g .true-log u (h .incarnation) (backed-has (g .logged .ledger .nodes t .creation u) e i))
 
   -- "In a session grown from fresh, yes must mean that each such life was frozen at some earlier step": where the query's answer is
   -- yes, the life of every other entry of the take's two maps was frozen by a step of this session since its last accepted begin.
-  pub yes-means : (t : ℕ) → heardAnswer y img t ≡ true → (u : ℕ) (h : HistoryView) → u ≢ t → Heard (unpack y img) t u h → StabilizedIn y (callsOf τ) u (h .incarnation)
+  pub yes-means : (t : ℕ) → heardAnswer y img t ≡ true → (u : ℕ) (h : HistoryView) → u ≢ t → Heard (unpack y img) t u h → StabilizedIn y img τ u (h .incarnation)
   unfolding heardAnswer
   yes-means t yes-is u h n k =
       let p = both (eqb (queryRefusal y img t) 0) (allHeardStable y t (transactorAt (unpack y img) t)) yes-is in
@@ -241,7 +315,7 @@ module _ {y : Layout} (z : Fitting y) {img : List ℕ} (τ : Trace y img) where
 
 -- The same at the ledger's own layout, said of the call: whatever refusal it gives with its yes.
 pub yes-means-base : {img : List ℕ} (τ : Trace base img) {t r : ℕ} {after : List ℕ} → Performed base img (heard t) (told r true) after
-    → (u : ℕ) (h : HistoryView) → u ≢ t → Heard (unpack base img) t u h → StabilizedIn base (callsOf τ) u (h .incarnation)
+    → (u : ℕ) (h : HistoryView) → u ≢ t → Heard (unpack base img) t u h → StabilizedIn base img τ u (h .incarnation)
 yes-means-base τ {t} c = yes-means fitting-base τ t (sym (answered c))
   where
     answered : {img after : List ℕ} {t r : ℕ} {stable : Bool} → Performed base img (heard t) (told r stable) after → stable ≡ heardAnswer base img t
@@ -258,16 +332,11 @@ module _ {y : Layout} {u : ℕ} {a : Incarnation} where
   stabilizes-sets k (signing e i f) = absurd (omega (arith, k .kind, i))
   stabilizes-sets k (not-ready e i f) = absurd (omega (arith, k .kind, i))
 
-  -- no step, no freeze
-  pub none-unstepped : {b : Provenance} {steps : List ℕ} → StabilizedBy y b steps 0 u a → ⊥
-  none-unstepped (at-step j c h s k) = omega (arith, h)
-
-  -- none since an accepted begin
-  pub none-begun : {m : Limits} {cs : List Call} → StabilizedIn y (begin m ∷ cs) u a → inRange y m ≡ false
-  none-begun (in-earlier e k) = e
-
-  -- none by a run that is refused
-  pub none-refused : {cs : List Call} {b : Provenance} {list : List ℕ} {o : Octets list} {start end : ℕ} {lent : List ℕ} → ProvenanceOf y cs b
-      → (callRefusal y b (run list o start end lent) ≡ 0 → ⊥) → StabilizedIn y (run list o start end lent ∷ cs) u a → StabilizedIn y cs u a
-  none-refused {list = list} {o} {start} {end} {lent} p n (in-run q e k) = absurd (n (subst (λ b. callRefusal y b (run list o start end lent) ≡ 0) (provenance-unique q p) e))
-  none-refused p n (in-earlier e k) = k
+-- It was so at a point of the session, going by the session's own book: just after the step. From there the session comes to its end by further
+-- steps: none of its calls between is an accepted begin.
+pub stabilized-then : {y : Layout} (z : Fitting y) {img : List ℕ} {τ : Trace y img} {u : ℕ} {a : Incarnation} → StabilizedIn y img τ u a
+    → (s : State) × (c : Provenance) × Point y img τ s c × (c .holders u .history ≡ record { stable = true; incarnation = a })
+    × ((d : Provenance) → ProvenanceOf y (callsOf τ) d → ProvenanceFurther y c d)
+stabilized-then {y} z k =
+    let n = next-point y z (k .taken) in
+    (_, n .0, n .1, stabilizes-sets (k .stabilizes) (n .2), λ d f. since-further z (k .taken) (k .since) (n .2) f)
