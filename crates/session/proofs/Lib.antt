@@ -7,6 +7,7 @@ pub mod Demand3
 pub mod Earlier
 pub mod Falling
 pub mod Fixed
+pub mod Saved
 pub mod Grown
 pub mod Impediments
 pub mod Independent

@@ -4,6 +4,7 @@ pub mod Grounds
 pub mod Steps
 pub mod Fed
 pub mod Fixed
+pub mod Saved
 pub mod Silent
 pub mod Stabilized
 pub mod Trace
