@@ -340,3 +340,8 @@ pub stabilized-then : {y : Layout} (z : Fitting y) {img : List ℕ} {τ : Trace 
 stabilized-then {y} z k =
     let n = next-point y z (k .taken) in
     (_, n .0, n .1, stabilizes-sets (k .stabilizes) (n .2), λ d f. since-further z (k .taken) (k .since) (n .2) f)
+
+pub stabilized-then-base : {img : List ℕ} {τ : Trace base img} {u : ℕ} {a : Incarnation} → StabilizedIn base img τ u a
+    → (s : State) × (c : Provenance) × Point base img τ s c × (c .holders u .history ≡ record { stable = true; incarnation = a })
+    × ((d : Provenance) → ProvenanceOf base (callsOf τ) d → ProvenanceFurther base c d)
+stabilized-then-base k = stabilized-then fitting-base k

@@ -12,7 +12,7 @@ use borrow.Author.Tests.{eq-eqb, ne-eqb, eqb-true, eqb-false}
 use Rattle.octets.specs.Bytes.{pick, _and_, part, tabulate, Octets}
 use Rattle.octets.proofs.Put.{octets-part}
 use Rattle.octets.proofs.Chunks.{sides, length-tabulate, getD-tabulate}
-use Rattle.rules.specs.Layout.{Layout, Limits, inRange, Fitting}
+use Rattle.rules.specs.Layout.{Layout, Limits, inRange, base, Fitting}
 use Rattle.rules.specs.Status.{unused}
 use Rattle.rules.specs.State.{fresh, Transactor, State, Message, bare, noTransactor, transactorAt, messageAt, ownHistory, withTransactor, withOpened, withMessage, withoutMessage, placeOf}
 use Rattle.rules.specs.declared.Step.{Step}
@@ -27,10 +27,17 @@ use Rattle.rules.proofs.Calls.Begin.{begin-accepted}
 use Rattle.rules.proofs.Pack.RoundTrip.{unpack-pack}
 use Rattle.rules.proofs.Pack.Fresh.{pack-fresh}
 use Rattle.rules.proofs.Keep.State.{well-fresh}
-use Rattle.rules.proofs.Keep.Step.{keeps-after}
+use Rattle.rules.proofs.Keep.Step.{keeps-after, fitting-base}
 use Rattle.session.specs.Fed.{Call}
 use Rattle.session.specs.Trace.{Answer, Performed, beginning, running, offering, naming, hearing, counting, depending, hindering, blocking, showing, Trace, opened, called}
-use Rattle.session.specs.Saved.{signsTake, lastSigned, signedOver, signedText}
+use Rattle.session.specs.Provenance.{Provenance}
+use Rattle.session.specs.Point as session
+use Rattle.session.specs.Point.{StepIn, last-run, earlier-run, Point}
+use Rattle.session.specs.Withdrawal.{RolledBackIn}
+use Rattle.session.specs.Saved.{signsTake, lastSigned, signedOver, signedText, SignedAt, at-end, at-step, earlier}
+use Rattle.session.proofs.Points.{step-taken}
+use Rattle.session.proofs.Falling.{rolled}
+use Rattle.session.proofs.Withdrawals.{withdraws}
 use Rattle.session.proofs.Tables.{pick-view}
 use Rattle.session.proofs.Grown.{grown}
 use Rattle.session.proofs.ViewState.{no-transactor, at-transactor}
@@ -67,6 +74,11 @@ module _ (y : Layout) (t : ℕ) (x : Transactor) (never : ownHistory t x .count 
   rollback-saved : Keeps (rollback y t x)
   unfolding rollback
   rollback-saved = pick-view Keeps (eqb (ownHistory t x .count) 0) _ _ (λ e. sym (never (eqb-true (ownHistory t x .count) 0 e))) (λ e. refl)
+
+  -- a take that falls has its saved text; one that vanishes had none
+  rollback-value : rollback y t x .transactor .value ≡ x .saved
+  unfolding rollback
+  rollback-value = pick-view (λ (e : Effect). e .transactor .value ≡ x .saved) (eqb (ownHistory t x .count) 0) _ _ (λ e. sym (never (eqb-true (ownHistory t x .count) 0 e))) (λ e. refl)
 
   local-saved : (k v : ℕ) → Keeps (localBy y k t v x)
   unfolding localBy readBy writeBy freezeBy finishBy fallBy failBy
@@ -248,3 +260,37 @@ module _ {y : Layout} (z : Fitting y) where
   run-text {img} τ list o start end t i =
       steps-saved z (grown z τ .holds .well) (part start (end - start) list) (octets-part start (end - start) list o) t i
       ∙ ap (λ (v : ℕ). lastSigned y (unpack y img) (part start (end - start) list) t v i) (session-saved τ t)
+
+  -- ---- at every point
+
+  pub point-saved : {t : ℕ} {img : List ℕ} {τ : Trace y img} {s : State} {v : ℕ} → SignedAt y t img τ s v → transactorAt s t .saved ≡ v
+  point-saved {t} (at-end {τ = τ}) = session-saved τ t
+  point-saved {t} (at-step {list = list} {o} {start} {end} {τ = τ} i e n) = run-text τ list o start end t i
+  point-saved (earlier k) = point-saved k
+
+  -- every point has one
+  step-signed : (t : ℕ) {img : List ℕ} {τ : Trace y img} {s s' : State} {b : Provenance} {p : Step} {reply : List ℕ} → StepIn y img τ s b p reply s' → (v : ℕ) × SignedAt y t img τ s v
+  step-signed t (last-run i f e n g) = (_, at-step i e n)
+  step-signed t (earlier-run k) = let q = step-signed t k in (_, earlier (q .1))
+
+  pub point-signed : (t : ℕ) {img : List ℕ} {τ : Trace y img} {s : State} {b : Provenance} → Point y img τ s b → (v : ℕ) × SignedAt y t img τ s v
+  point-signed t (session.at-end f) = (_, at-end)
+  point-signed t (session.at-step k) = step-signed t k
+  point-signed t (session.earlier k) = let q = point-signed t k in (_, earlier (q .1))
+
+  -- After a step by which take t falls, outcome 3 or 4, its text is the one that was saved: that of its last signing; and 0 if it vanished.
+  pub fallen-text : {img : List ℕ} {τ : Trace y img} {s s' : State} {b : Provenance} {p : Step} {reply : List ℕ} → StepIn y img τ s b p reply s'
+      → {t v : ℕ} → SignedAt y t img τ s v → RolledBackIn reply t → transactorAt s' t .value ≡ v
+  fallen-text {s = s} {p = p} k {t} {v} at f =
+      let q = step-taken z k in
+      let w = rolled (q .beside .well) (q .beside .rel) p (q .ok .message) (withdraws z k f) .1 in
+      ap (λ (x : State). transactorAt x t .value) (q .after) ∙ ap (λ (x : Transactor). x .value) (w .is)
+      ∙ rollback-value y t (transactorAt s t) (never-saved (q .beside .well) t) ∙ point-saved at
+
+-- At the ledger's own layout.
+pub point-saved-base : {t : ℕ} {img : List ℕ} {τ : Trace base img} {s : State} {v : ℕ} → SignedAt base t img τ s v → transactorAt s t .saved ≡ v
+point-saved-base k = point-saved fitting-base k
+
+pub fallen-text-base : {img : List ℕ} {τ : Trace base img} {s s' : State} {b : Provenance} {p : Step} {reply : List ℕ} → StepIn base img τ s b p reply s'
+    → {t v : ℕ} → SignedAt base t img τ s v → RolledBackIn reply t → transactorAt s' t .value ≡ v
+fallen-text-base k at f = fallen-text fitting-base k at f

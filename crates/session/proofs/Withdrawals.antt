@@ -39,7 +39,7 @@ module _ {y : Layout} (z : Fitting y) {img : List ℕ} {τ : Trace y img} {s s' 
   taken : Taken y s b p reply s'
   taken = step-taken z k
 
-  withdraws : {t : ℕ} → RolledBackIn reply t → Withdraws y s p t
+  pub withdraws : {t : ℕ} → RolledBackIn reply t → Withdraws y s p t
   withdraws {t} f = go f
     where
       fits : ReplyOk (stepOf y s p .reply)
