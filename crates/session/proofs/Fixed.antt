@@ -1,9 +1,10 @@
 -- What a signed text rests on is fixed at its signing (specs/Fixed).
-use Prim.Native.Nat.{ℕ, suc, _-_, _≤_, _<_}
+use Prim.Native.Nat.{ℕ, suc, _-_, _*_, _≤_, _<_}
 use mathlib.Core.Bool.{true}
 use mathlib.Core.Path.{_≡_, refl, ap, sym, _∙_, subst}
 use mathlib.Core.List.{List, _∷_}
 use mathlib.Core.Logic.{_↔_}
+use native.Mathlib.Decide.{ℕ-discrete}
 use native.Mathlib.Omega.{arith}
 use Rattle.octets.specs.Bytes.{part, Octets}
 use Rattle.octets.proofs.Put.{octets-part}
@@ -12,7 +13,7 @@ use Rattle.marks.proofs.Order.{checkpointed-longer}
 use Rattle.rules.specs.Layout.{Layout, Fitting, base}
 use Rattle.rules.specs.State.{State}
 use Rattle.rules.specs.declared.Step.{Step}
-use Rattle.rules.specs.Step.{stepAt, sign, done, notReady}
+use Rattle.rules.specs.Step.{stepBytes, stepAt, sign, done, notReady}
 use Rattle.rules.specs.Refusals.{named}
 use Rattle.rules.specs.Rules.{answer, stepOf}
 use Rattle.rules.specs.Calls.{stepsIn}
@@ -23,7 +24,7 @@ use Rattle.session.specs.Provenance.{Live, Provenance}
 use Rattle.session.specs.Grounds.{Brought, from-start, from-noted, from-list, in-state, RestsOn, ValueRestsOn, CheckpointedNow, Equal}
 use Rattle.session.specs.Steps.{NotedBy, before, now-checkpointed, signs, provenanceRefusal, ProvenanceStep, refuses, applies, signing, not-ready}
 use Rattle.session.specs.Fed as provenance
-use Rattle.session.specs.Fed.{Call, run, ProvenanceSteps, ProvenanceCall, provenance-refuses, provenance-runs, ProvenanceOf, new-provenance, fed}
+use Rattle.session.specs.Fed.{Call, run, callRefusal, ProvenanceSteps, ProvenanceCall, provenance-refuses, provenance-runs, ProvenanceOf, new-provenance, fed}
 use Rattle.session.specs.Trace.{ran, Performed, Trace, called, callsOf}
 use Rattle.session.specs.Point.{StepIn, last-run, earlier-run, Point, at-end, at-step, earlier, SinceBegin, Afterwards, in-that-run, after-call, in-later-run, and-more, replied, outcomeIn}
 use Rattle.session.specs.Withdrawal.{RestsThrough, itself, via, ProvenanceFurther, no-further, further}
@@ -39,7 +40,7 @@ use Rattle.session.proofs.ViewStep.{state-kept}
 use Rattle.session.proofs.Unique.{provenance-unique}
 use Rattle.session.proofs.Run.{first-packReply}
 use Rattle.session.proofs.Calls.{call-right}
-use Rattle.session.proofs.Points.{held, step-taken}
+use Rattle.session.proofs.Points.{held, beside-steps, step-taken}
 use Rattle.session.proofs.Grown.{grown}
 use Rattle.session.proofs.Demand3.{step-refused, signs-exactly}
 use Rattle.session.proofs.Spreading.{further-trans, further-steps, further-call}
@@ -219,6 +220,29 @@ module _ {y : Layout} (z : Fitting y) where
   after-point (after-call k since h) = (_, at-end h)
   after-point (in-later-run k j since f e n h) = (_, at-step (last-run j f e n h))
   after-point (and-more a) = let k = after-point a in (_, earlier (k .1))
+
+  -- The book just after the step is among those that are spoken of.
+  pub after-next : {img : List ℕ} {τ : Trace y img} {s s' : State} {b : Provenance} {p : Step} {reply : List ℕ} → StepIn y img τ s b p reply s'
+      → (c : Provenance) × ProvenanceStep y b p c × Afterwards y img τ b p reply c
+  unfolding SinceBegin callsOf
+  after-next (last-run {img = img} {after} {list} {o} {start} {end} {lent} {replies} {r} {τ} {p = q} {b} {d} i f e n g) =
+      let t = beside-steps z (held z τ f) steps octets i g in
+      let k = state-kept (t .well) (t .rel) (stepAt steps i) (stepOk-at steps octets i .message) in
+      (k .after, k .step, go (k .after) (provenance.more g (k .step)) (ℕ-discrete (suc i) (stepsIn steps)))
+    where
+      steps : List ℕ
+      steps = part start (end - start) list
+
+      octets : Octets steps
+      octets = octets-part start (end - start) list o
+
+      refusal : callRefusal y b (run list o start end lent) ≡ 0
+      refusal = sym (call-right z (held z τ f) q .refusal) ∙ e
+
+      go : (c : Provenance) → ProvenanceSteps y b steps (suc i) c → Dec (suc i ≡ stepsIn steps) → Afterwards y after (called τ (run list o start end lent) (ran r replies) q) d (stepAt steps i) (part (stepBytes * i) stepBytes replies) c
+      go c h (yes m) = after-call (last-run i f e n g) tt (fed f (provenance-runs refusal (subst (λ (j : ℕ). ProvenanceSteps y b steps j c) m h)))
+      go c h (no m) = let l : suc i < stepsIn steps = omega (arith, n) in in-that-run i (suc i) f e (omega arith) l g h
+  after-next (earlier-run k) = let a = after-next k in (_, a .1, and-more (a .2))
 
   -- What a signed text rests on is fixed at its signing.
   pub fixed : {img : List ℕ} {τ : Trace y img} {b : Provenance} {p : Step} {reply : List ℕ} {d : Provenance} → Afterwards y img τ b p reply d
