@@ -26,7 +26,8 @@ use Rattle.session.specs.Steps.{NotedBy, before, now-checkpointed, signs
 use Rattle.session.specs.Fed as provenance
 use Rattle.session.specs.Fed.{Call, run, callRefusal, ProvenanceSteps, ProvenanceCall, provenance-refuses, provenance-runs, ProvenanceOf, new-provenance, fed}
 use Rattle.session.specs.Trace.{ran, Performed, Trace, called, callsOf}
-use Rattle.session.specs.Point.{StepIn, last-run, earlier-run, Point, at-end, at-step, earlier, SinceBegin, Afterwards, in-that-run, after-call, in-later-run, and-more, replied, outcomeIn}
+use Rattle.session.specs.Point.{StepIn, last-run, earlier-run, Point, at-end, at-step, earlier, replied, outcomeIn}
+use Rattle.session.specs.Since.{SinceBegin, Afterwards, in-that-run, after-call, in-later-run, and-more}
 use Rattle.session.specs.Withdrawal.{RestsThrough, itself, via, ProvenanceFurther, no-further, further}
 use Rattle.session.specs.Fixed.{RestsInAll, Fixed}
 use Rattle.session.proofs.Model.{Ledger, view}

@@ -37,7 +37,8 @@ use Rattle.session.specs.Steps.{freezes, acted, applied, ProvenanceStep,
 use Rattle.session.specs.Fed as book
 use Rattle.session.specs.Fed.{Call, begin, run, offer, smallest, heard, counts, depends, hinders, blocks, show, callRefusal, ProvenanceSteps, ProvenanceCall, provenance-refuses, provenance-begins, provenance-runs, provenance-offers, provenance-names, provenance-hears, provenance-counts, provenance-depends, provenance-hinders, provenance-blocks, provenance-shows, ProvenanceOf, new-provenance, fed}
 use Rattle.session.specs.Trace.{Answer, told, Performed, beginning, running, offering, naming, hearing, counting, depending, hindering, blocking, showing, Trace, opened, called, callsOf, GoesOn}
-use Rattle.session.specs.Point.{StepIn, last-run, earlier-run, SinceBegin, Point}
+use Rattle.session.specs.Point.{StepIn, last-run, earlier-run, Point}
+use Rattle.session.specs.Since.{SinceBegin}
 use Rattle.session.specs.Withdrawal.{ProvenanceFurther}
 use Rattle.session.specs.Stabilized.{Stabilizes, StabilizedIn}
 use Rattle.session.proofs.Model.{view}

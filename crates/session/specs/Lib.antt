@@ -9,6 +9,7 @@ pub mod Silent
 pub mod Stabilized
 pub mod Trace
 pub mod Point
+pub mod Since
 pub mod Demand3
 pub mod Count
 pub mod Related

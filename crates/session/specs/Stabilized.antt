@@ -10,7 +10,8 @@ use Rattle.rules.specs.Step.{freeze}
 use Rattle.session.specs.Provenance.{Provenance}
 use Rattle.session.specs.Steps.{provenanceRefusal}
 use Rattle.session.specs.Trace.{Trace}
-use Rattle.session.specs.Point.{StepIn, SinceBegin}
+use Rattle.session.specs.Point.{StepIn}
+use Rattle.session.specs.Since.{SinceBegin}
 
 -- step p, beside the book b, is not refused and freezes take u in its life a, also where it was frozen already
 pub record Stabilizes (y : Layout) (b : Provenance) (p : Step) (u : ℕ) (a : Incarnation) : Type 0 where
