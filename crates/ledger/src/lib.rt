@@ -42,7 +42,7 @@ pub fn begin(image: &mut [u8], transactors: usize, messages: usize, checkpoints:
     0
 }
 
-// Nothing opened, nothing sent, no limits: every transactor as bare as the initial history's constant packs it.
+// Nothing opened, nothing sent, no limits: in every entry of every transactor's maps stands the initial history's constant, not present.
 fn refresh(image: &mut [u8])
     requires { ⌜ length (now image) ≡ imageBytes base ⌝ }
     ensures { λ _. ⌜ now (image .exit) ≡ zeros (imageBytes base) ⌝ }

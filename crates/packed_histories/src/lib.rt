@@ -12,6 +12,7 @@ ghost use Rattle.octets.specs.Bytes.{put, part, chunks, tabulate, allZero};
 ghost use Rattle.octets.specs.Numbers.{ofBe, be};
 ghost use Rattle.marks.specs.Internal.News.{mayShow};
 ghost use Rattle.marks.specs.Packed.{width, places, historySize, restSize, rampOf, bit, packNumberAt, packHistory, unpackHistory, loadNumberAt, presentIn, formedHistory};
+ghost use Rattle.packed_histories.specs.Internal.Absent.{packAs};
 
 // Writes the packed form from at on.
 pub fn store(h: History, image: &mut [u8], at: usize)
@@ -19,6 +20,17 @@ pub fn store(h: History, image: &mut [u8], at: usize)
     ensures { λ _. ⌜ now (image .exit) ≡ put at (packHistory width places h) (now (image .entry)) ⌝ }
 {
     image[at] = 128 + 64 * flag(h.stable) + h.count;
+    store_number(image, at + 1, h.incarnation);
+    let list = h.checkpoints;
+    store_numbers(image, at + 1 + WIDTH, list);
+}
+
+// Writes the same form with or without its presence bit; of the initial history, without it, only zeros.
+pub fn store_as(present: bool, h: History, image: &mut [u8], at: usize)
+    requires { ⌜ (at + historySize width places ≤ length (now image)) × (h .count ≤ places) ⌝ }
+    ensures { λ _. ⌜ now (image .exit) ≡ put at (packAs width places present h) (now (image .entry)) ⌝ }
+{
+    image[at] = 128 * flag(present) + 64 * flag(h.stable) + h.count;
     store_number(image, at + 1, h.incarnation);
     let list = h.checkpoints;
     store_numbers(image, at + 1 + WIDTH, list);

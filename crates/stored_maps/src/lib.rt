@@ -42,14 +42,14 @@ pub fn store(m: DependenceMap, image: &mut [u8], at: usize)
     }
 }
 
-// Writes the packed form of the empty map from at on: the initial history in no entry.
+// Writes the packed form of the empty map from at on: in every entry the initial history, which is not present, and so only zeros.
 pub fn store_empty(image: &mut [u8], at: usize)
     requires { ⌜ at + mapSize width places entries ≤ length (now image) ⌝ }
     ensures { λ _. ⌜ now (image .exit) ≡ put at (packMap width places entries (emptyMap places entries)) (now (image .entry)) ⌝ }
 {
     let mut i: usize = 0;
     while i < ENTRIES {
-        store_entry(image, at + marks::SIZE * i, false, History::INITIAL);
+        packed_histories::store_as(false, History::INITIAL, image, at + marks::SIZE * i);
         i += 1;
     }
 }

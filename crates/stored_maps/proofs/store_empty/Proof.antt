@@ -1,13 +1,16 @@
--- After i turns the first i entries.
+-- After i turns the first i entries: the opening mark, not present, is zeros.
 use Prim.Native.Nat.{_-_, _≤_}
+use mathlib.Core.Bool.{false}
 use mathlib.Core.Path.{_≡_, refl}
 use native.Mathlib.Omega.{arith}
 use lib.ListN.{length}
-use Rattle.octets.specs.Bytes.{put}
+use Rattle.octets.specs.Bytes.{put, zeros}
+use Rattle.marks.specs.History.{initialHistory}
 use Rattle.marks.specs.Packed.{width, places}
 use Rattle.maps.specs.Map.{emptyMap}
 use Rattle.maps.specs.Packed.{entries, packMap}
-use Rattle.maps.proofs.Placed.{put-map-none, put-empty-more, put-map-all}
+use Rattle.packed_histories.proofs.Absent.{put-initial}
+use Rattle.maps.proofs.Placed.{put-map-none, put-absent, put-empty-more, put-map-all}
 use borrow.Author.Needs.{needs}
 use Rattle.stored_maps.proofs.store_empty.Statement.{statement}
 use Rattle.stored_maps.proofs.store_empty.Tie as tie
@@ -19,9 +22,11 @@ abbrev μ-loop : tie.MeasureT-loop
 μ-loop image₀ at i₀ image i = entries - i
 
 loop-again : tie.Need-loop-again Inv-loop μ-loop
+unfolding zeros
 loop-again c =
     let b = c .before .before .before .before .before .loop in
-    (omega arith, put-empty-more width places _ entries (b .i) _ _ _ _ (b .inv .1) (c .before .before .store-entry .ensures) (omega arith), search needs)
+    let e = put-absent width places _ false (initialHistory places) _ _ refl (put-initial _ _ _ (c .before .before .store-as .ensures)) in
+    (omega arith, put-empty-more width places _ entries (b .i) _ _ _ _ (b .inv .1) e (omega arith), search needs)
 
 pub store-empty-spec : {M : Type 1} → statement M
 store-empty-spec =
