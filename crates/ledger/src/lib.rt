@@ -66,10 +66,12 @@ fn run_steps(image: &mut [u8], list: &[u8], replies: &mut [u8])
     ensures { λ _. ⌜ (now (image .exit) ≡ ranImage base (now (image .entry)) (now (list .entry))) × (now (replies .exit) ≡ ranReplies base (now (image .entry)) (now (list .entry))) ⌝ }
 {
     let n = list.len() / STEP;
+    // counted once, then carried from step to step
+    let mut waiting = messages::waiting(image);
     let mut i: usize = 0;
     while i < n {
         let p = packed::decode(list, STEP * i);
-        let r = steps::step(image, p);
+        let r = steps::step(image, &mut waiting, p);
         packed::encode(replies, STEP * i, r);
         i += 1;
     }

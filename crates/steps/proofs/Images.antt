@@ -1,5 +1,5 @@
 -- A step of each kind on an image: what each way out of the code gives.
-use Prim.Native.Nat.{ℕ, _≤_, _<_}
+use Prim.Native.Nat.{ℕ, _+_, _-_, _≤_, _<_}
 use mathlib.Core.Bool.{true, false, not}
 use mathlib.Core.Path.{_≡_, refl, sym, ap, _∙_}
 use mathlib.Core.List.{List}
@@ -19,7 +19,7 @@ use Rattle.rules.specs.Refusals.{malformed}
 use Rattle.rules.specs.Rules.{noDependences, carried, groupReady, checkpointGroup, refusal, answer, opened, applyRoot, applyLetter, applyNew, applySend, applyLose, applySign}
 use Rattle.rules.specs.Pack.{packTransactor, unpackTransactor, waitingIn, pack, unpack}
 use Rattle.rules.specs.Internal.Good.{Good}
-use Rattle.steps.specs.Internal.Stepped.{Stepped, Asked}
+use Rattle.steps.specs.Internal.Stepped.{Stepped, Asked, Counted}
 use Rattle.rules.specs.Internal.Guards.{first, busyRefusal, roomRefusal, busyIn, roomIn, groupIn}
 use Rattle.transactor.specs.Internal.Effects.{openBytes, adopts}
 use Rattle.rules.proofs.Pack.Stores.{withTransactor-many}
@@ -29,6 +29,7 @@ use Rattle.rules.proofs.ByKind.Guards.{first-taken, first-left, free}
 use Rattle.rules.proofs.ByKind.Refused.{refusal-malformed, Refuses, refuses}
 use Rattle.rules.proofs.ByKind.Applied.{applies}
 use Rattle.steps.proofs.Stepped.{stepped-refused, stepped-applied}
+use Rattle.steps.proofs.Counting.{one-more, one-fewer, counted-applied}
 
 -- what the image says, asked for 21 to 23 and for 26 and 27
 pub busy-in : (img : List ℕ) (r n t status : ℕ) → r ≡ busyRefusal n t status → n ≡ unpack base img .opened → status ≡ transactorAt (unpack base img) t .status → r ≡ busyIn (unpack base img) t
@@ -94,6 +95,11 @@ module _ (img : List ℕ) (p : Step) where
       letter-done z number after e i = stepped-applied img p (answer done (p .transactor) number 0) after (applyLetter base s p) (letter-left ∙ z) (applies base s p .letter (a .kind))
           (ap (λ (k : ℕ). answer done (p .transactor) k 0) e) i
 
+      pub letter-counted : roomIn s ≡ 0 → (n : ℕ) (after : List ℕ) → Counted n img → after ≡ pack base (withMessage s (p .transactor) (p .value) (noDependences base)) → Counted (n + 1) after
+      unfolding applyLetter
+      letter-counted z n after c i = counted-applied img p after (applyLetter base s p) (a .good) (a .step) (letter-left ∙ z) (applies base s p .letter (a .kind)) i (n + 1)
+          (omega (arith, c .is, unpack-waiting base img, one-more s (p .transactor) (p .value) (noDependences base)))
+
   -- ---- send
 
   -- what the acting take carries, as its bytes say
@@ -125,6 +131,12 @@ module _ (img : List ℕ) (p : Step) where
         send-done z number after e i =
             stepped-applied img p (answer done (p .transactor) number 0) after (applySend base s p) (send-left ∙ z) (applies base s p .send (a .kind))
             (ap (λ (k : ℕ). answer done (p .transactor) k 0) e) i
+
+        pub send-counted : roomIn s ≡ 0 → (n : ℕ) (after : List ℕ) → Counted n img
+            → after ≡ pack base (withMessage s (p .other) (p .value) (carried base (p .transactor) (transactorAt s (p .transactor)))) → Counted (n + 1) after
+        unfolding applySend
+        send-counted z n after c i = counted-applied img p after (applySend base s p) (a .good) (a .step) (send-left ∙ z) (applies base s p .send (a .kind)) i (n + 1)
+            (omega (arith, c .is, unpack-waiting base img, one-more s (p .other) (p .value) (carried base (p .transactor) (transactorAt s (p .transactor)))))
 
   -- ---- new
 
@@ -165,6 +177,13 @@ module _ (img : List ℕ) (p : Step) where
     unfolding applyLose
     lose-done after h i = stepped-applied img p (answer done 0 (p .message) 0) after (applyLose s p)
         (refused-by a .lose (a .kind) ∙ rw (unpack-waiting base img, lt-leb (waitingIn base img) (placeOf s (p .message)) h)) (applies base s p .lose (a .kind)) refl i
+
+    pub lose-counted : (n : ℕ) (after : List ℕ) → placeOf s (p .message) < waitingIn base img → Counted n img → after ≡ pack base (withoutMessage s (placeOf s (p .message)))
+        → Counted (n - 1) after
+    unfolding applyLose
+    lose-counted n after h c i = counted-applied img p after (applyLose s p) (a .good) (a .step)
+        (refused-by a .lose (a .kind) ∙ rw (unpack-waiting base img, lt-leb (waitingIn base img) (placeOf s (p .message)) h)) (applies base s p .lose (a .kind)) i (n - 1)
+        (omega (arith, c .is, unpack-waiting base img, one-fewer s (placeOf s (p .message)) (omega (arith, unpack-waiting base img))))
 
   -- ---- sign
 

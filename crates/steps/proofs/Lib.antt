@@ -1,3 +1,4 @@
+mod Counting
 mod Effects
 mod Images
 mod Locals

@@ -1,7 +1,7 @@
 -- A receipt on an image.
-use Prim.Native.Nat.{ℕ, _≤_, _<_}
+use Prim.Native.Nat.{ℕ, _-_, _≤_, _<_}
 use mathlib.Core.Bool.{Bool, not}
-use mathlib.Core.Path.{_≡_, sym, ap, _∙_}
+use mathlib.Core.Path.{_≡_, sym, ap, _∙_, subst}
 use mathlib.Core.List.{List}
 use native.Mathlib.Omega.{arith}
 use lib.Dec.{eqb, leb}
@@ -19,7 +19,7 @@ use Rattle.rules.specs.Pack.{waitingIn, pack, unpack}
 use Rattle.rules.specs.Internal.Well.{WellFormed}
 use Rattle.rules.specs.Internal.Good.{Good}
 use Rattle.transactor.specs.Internal.Effects.{ActsAt, acceptBy}
-use Rattle.steps.specs.Internal.Stepped.{Stepped, Asked}
+use Rattle.steps.specs.Internal.Stepped.{Stepped, Asked, Counted}
 use Rattle.rules.specs.Internal.Guards.{isLastIncarnation, receiverRefusal}
 use Rattle.transactor.proofs.Accepting.{kept-at}
 use Rattle.rules.proofs.ByKind.Guards.{first-taken, receiver-first}
@@ -27,6 +27,7 @@ use Rattle.rules.proofs.ByKind.Refused.{refuses}
 use Rattle.steps.proofs.Effects.{Judged, judged-refused, judged-applied, answering, receipt-judged}
 use Rattle.rules.proofs.ByKind.Applied.{applies}
 use Rattle.steps.proofs.Stepped.{stepped-refused, stepped-applied}
+use Rattle.steps.proofs.Counting.{one-fewer, counted-applied}
 use Rattle.rules.proofs.Pack.Sizes.{length-pack}
 use Rattle.rules.proofs.Pack.Loads.{unpack-waiting}
 use Rattle.rules.proofs.Pack.RoundTrip.{waiting-pack, unpack-pack}
@@ -116,11 +117,16 @@ module _ {img : List ℕ} {p : Step} {k t : ℕ} (found : Found img p k t) where
     judged = receipt-judged base t x message
 
     -- 31 or 28
-    pub receive-refused : (r : Reply) → 20 ≤ o → r ≡ answer o 0 0 0 → Stepped img p r after
-    receive-refused r h q =
-        let j = judged-refused judged (omega (arith, acts .outcome)) in
-        let same : after ≡ img = acts .image ∙ ap (λ (z : Transactor). pack base (withTransactor s t z)) (j .1) ∙ sym (kept-at img good t) in
-        rw same (stepped-refused img p r good o (receive-left ∙ j .0 ∙ sym (acts .outcome)) (λ z. omega arith) q)
+    module _ (stays : 20 ≤ o) where
+      unchanged : after ≡ img
+      unchanged = acts .image ∙ ap (λ (z : Transactor). pack base (withTransactor s t z)) (judged-refused judged (omega (arith, acts .outcome)) .1) ∙ sym (kept-at img good t)
+
+      pub receive-refused : (r : Reply) → r ≡ answer o 0 0 0 → Stepped img p r after
+      receive-refused r q =
+          rw unchanged (stepped-refused img p r good o (receive-left ∙ judged-refused judged (omega (arith, acts .outcome)) .0 ∙ sym (acts .outcome)) (λ z. omega arith) q)
+
+      pub refused-counted : {n : ℕ} → Counted n img → Counted n after
+      refused-counted {n} = subst (Counted n) (sym unchanged)
 
     module _ (goes : o < 20) where
       small : taken .outcome < 20
@@ -160,3 +166,8 @@ module _ {img : List ℕ} {p : Step} {k t : ℕ} (found : Found img p k t) where
       receive-done end value q i = stepped-applied img p (answer o t (p .message) value) end _ accepts receive-applies
           (rw (← same, ← (acts .outcome)) (ap (λ (n : ℕ). answer o t (p .message) n) q))
           (i ∙ rw (there, ← same))
+
+      pub receive-counted : (n : ℕ) (end : List ℕ) → Counted n img → end ≡ pack base (withoutMessage (unpack base after) k) → Counted (n - 1) end
+      unfolding withTransactor
+      receive-counted n end c i = counted-applied img p end _ good (found .asked .step) accepts receive-applies (i ∙ rw (there, ← same)) (n - 1)
+          (omega (arith, c .is, unpack-waiting base img, one-fewer (withTransactor s t (received .transactor)) k waits))

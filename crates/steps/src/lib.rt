@@ -24,7 +24,7 @@ ghost use Rattle.rules.specs.Rules.{answer};
 ghost use Rattle.rules.specs.Pack.{waitingIn, unpack};
 ghost use Rattle.rules.specs.Internal.Well.{StepOk};
 ghost use Rattle.rules.specs.Internal.Good.{Good};
-ghost use Rattle.steps.specs.Internal.Stepped.{Stepped, Asked};
+ghost use Rattle.steps.specs.Internal.Stepped.{Stepped, Asked, Counted};
 ghost use Rattle.rules.specs.Internal.Guards.{busyIn, roomIn};
 ghost use Rattle.transactor.specs.Internal.Effects.{openBytes};
 
@@ -56,7 +56,7 @@ fn room_refusal(image: &[u8], n: usize) -> u8
     refusals::room(limits::messages(image) as usize, n, head::next(image))
 }
 
-// ---- the kinds
+// ---- the kinds; the four that add or take away a message are lent the number of those that wait
 
 // Opens transactor c, the next one.
 fn open(image: &mut [u8], c: u8, value: u32, creation: DependenceMap)
@@ -87,21 +87,22 @@ fn root(image: &mut [u8], p: Step) -> Reply
     }
 }
 
-fn letter(image: &mut [u8], p: Step) -> Reply
-    requires { ⌜ Asked letter (now image) p ⌝ }
-    ensures { λ r. ⌜ Stepped (now (image .entry)) p r (now (image .exit)) ⌝ }
+fn letter(image: &mut [u8], waiting: &mut usize, p: Step) -> Reply
+    requires { ⌜ Asked letter (now image) p × Counted (now waiting) (now image) ⌝ }
+    ensures { λ r. ⌜ Stepped (now (image .entry)) p r (now (image .exit)) × Counted (now (waiting .exit)) (now (image .exit)) ⌝ }
 {
     let to = p.transactor;
     if head::opened(image) <= to {
         return answered(numbers::UNOPENED);
     }
-    let n = messages::waiting(image);
+    let n = *waiting;
     let r = room_refusal(image, n);
     if r != 0 {
         return answered(r);
     }
     let number = head::next(image);
     messages::append_empty(image, n, to, p.value);
+    *waiting = n + 1;
     Reply {
         outcome: numbers::DONE,
         transactor: to,
@@ -110,11 +111,11 @@ fn letter(image: &mut [u8], p: Step) -> Reply
     }
 }
 
-fn receive(image: &mut [u8], p: Step) -> Reply
-    requires { ⌜ Asked receive (now image) p ⌝ }
-    ensures { λ r. ⌜ Stepped (now (image .entry)) p r (now (image .exit)) ⌝ }
+fn receive(image: &mut [u8], waiting: &mut usize, p: Step) -> Reply
+    requires { ⌜ Asked receive (now image) p × Counted (now waiting) (now image) ⌝ }
+    ensures { λ r. ⌜ Stepped (now (image .entry)) p r (now (image .exit)) × Counted (now (waiting .exit)) (now (image .exit)) ⌝ }
 {
-    let n = messages::waiting(image);
+    let n = *waiting;
     let k = messages::place_of(image, n, p.message);
     if n <= k {
         return answered(numbers::NOT_WAITING);
@@ -132,6 +133,7 @@ fn receive(image: &mut [u8], p: Step) -> Reply
         return answered(outcome);
     }
     messages::remove(image, k, n);
+    *waiting = n - 1;
     let value = if outcome == numbers::DONE { content } else { 0 };
     Reply {
         outcome,
@@ -167,9 +169,9 @@ fn new(image: &mut [u8], p: Step) -> Reply
     }
 }
 
-fn send(image: &mut [u8], p: Step) -> Reply
-    requires { ⌜ Asked send (now image) p ⌝ }
-    ensures { λ r. ⌜ Stepped (now (image .entry)) p r (now (image .exit)) ⌝ }
+fn send(image: &mut [u8], waiting: &mut usize, p: Step) -> Reply
+    requires { ⌜ Asked send (now image) p × Counted (now waiting) (now image) ⌝ }
+    ensures { λ r. ⌜ Stepped (now (image .entry)) p r (now (image .exit)) × Counted (now (waiting .exit)) (now (image .exit)) ⌝ }
 {
     let t = p.transactor as usize;
     let to = p.other;
@@ -180,13 +182,14 @@ fn send(image: &mut [u8], p: Step) -> Reply
     if w != 0 {
         return answered(w);
     }
-    let n = messages::waiting(image);
+    let n = *waiting;
     let r = room_refusal(image, n);
     if r != 0 {
         return answered(r);
     }
     let number = head::next(image);
     messages::append(image, n, to, p.value, t);
+    *waiting = n + 1;
     Reply {
         outcome: numbers::DONE,
         transactor: p.transactor,
@@ -219,16 +222,17 @@ fn local(image: &mut [u8], p: Step) -> Reply
     }
 }
 
-fn lose(image: &mut [u8], p: Step) -> Reply
-    requires { ⌜ Asked lose (now image) p ⌝ }
-    ensures { λ r. ⌜ Stepped (now (image .entry)) p r (now (image .exit)) ⌝ }
+fn lose(image: &mut [u8], waiting: &mut usize, p: Step) -> Reply
+    requires { ⌜ Asked lose (now image) p × Counted (now waiting) (now image) ⌝ }
+    ensures { λ r. ⌜ Stepped (now (image .entry)) p r (now (image .exit)) × Counted (now (waiting .exit)) (now (image .exit)) ⌝ }
 {
-    let n = messages::waiting(image);
+    let n = *waiting;
     let k = messages::place_of(image, n, p.message);
     if n <= k {
         return answered(numbers::NOT_WAITING);
     }
     messages::remove(image, k, n);
+    *waiting = n - 1;
     Reply {
         outcome: numbers::DONE,
         transactor: 0,
@@ -253,10 +257,10 @@ fn sign(image: &mut [u8], p: Step) -> Reply
     answered(numbers::DONE)
 }
 
-// One step, of any kind.
-pub fn step(image: &mut [u8], p: Step) -> Reply
-    requires { ⌜ Good (now image) × StepOk p ⌝ }
-    ensures { λ r. ⌜ Stepped (now (image .entry)) p r (now (image .exit)) ⌝ }
+// One step, of any kind; the lent number is how many messages wait, before and after it.
+pub fn step(image: &mut [u8], waiting: &mut usize, p: Step) -> Reply
+    requires { ⌜ Good (now image) × StepOk p × Counted (now waiting) (now image) ⌝ }
+    ensures { λ r. ⌜ Stepped (now (image .entry)) p r (now (image .exit)) × Counted (now (waiting .exit)) (now (image .exit)) ⌝ }
 {
     if fields::malformed(p) {
         return answered(numbers::MALFORMED);
@@ -264,11 +268,11 @@ pub fn step(image: &mut [u8], p: Step) -> Reply
     let kind = p.kind;
     match kind {
         numbers::ROOT => root(image, p),
-        numbers::LETTER => letter(image, p),
-        numbers::RECEIVE => receive(image, p),
+        numbers::LETTER => letter(image, waiting, p),
+        numbers::RECEIVE => receive(image, waiting, p),
         numbers::NEW => new(image, p),
-        numbers::SEND => send(image, p),
-        numbers::LOSE => lose(image, p),
+        numbers::SEND => send(image, waiting, p),
+        numbers::LOSE => lose(image, waiting, p),
         numbers::SIGN => sign(image, p),
         _ => local(image, p),
     }

@@ -1,5 +1,5 @@
 -- A step on an image: what the kinds ask and give.
-use Prim.Native.Nat.{ℕ}
+use Prim.Native.Nat.{ℕ, _≤_}
 use mathlib.Core.Bool.{false}
 use mathlib.Core.Path.{_≡_}
 use mathlib.Core.List.{List}
@@ -8,7 +8,7 @@ use Rattle.rules.specs.declared.Step.{Step}
 use Rattle.rules.specs.declared.Reply.{Reply}
 use Rattle.rules.specs.Refusals.{malformed}
 use Rattle.rules.specs.Rules.{stepOf}
-use Rattle.rules.specs.Pack.{pack, unpack}
+use Rattle.rules.specs.Pack.{waitingIn, pack, unpack}
 use Rattle.rules.specs.Internal.Well.{StepOk}
 use Rattle.rules.specs.Internal.Good.{Good}
 
@@ -23,3 +23,8 @@ pub record Asked (k : ℕ) (img : List ℕ) (p : Step) : Type 0 where
   pub step : StepOk p
   pub formed : malformed p ≡ false
   pub kind : p .kind ≡ k
+
+-- so many parcels wait in the image
+pub record Counted (n : ℕ) (img : List ℕ) : Type 0 where
+  pub is : n ≡ waitingIn base img
+  pub few : n ≤ base .messages
