@@ -90,8 +90,8 @@ int verb_show(int count, char **words) {
 }
 
 static void tell_side(const char *mark, const uint8_t *line, size_t length) {
-    printf("%s %.*s", mark, (int)length, (const char *)line);
-    if (length == 0) putchar('\n');
+    if (length == 0) printf("%s (nothing)\n", mark);
+    else printf("%s %.*s", mark, (int)length, (const char *)line);
 }
 
 int verb_diff(int count, char **words) {
@@ -137,12 +137,17 @@ int verb_who(int count, char **words) {
     return DONE;
 }
 
-static void takes_line(const char *before, unsigned a, const char *between, unsigned b, const char *after) {
-    fputs(before, stdout);
-    tell_take(a);
-    fputs(between, stdout);
-    if (*after) tell_take(b), fputs(after, stdout);
-    putchar('\n');
+/* "take 1 is not frozen", "take 1 rests on take 0". */
+static void one_line(unsigned take, const char *says) {
+    tell_take(take);
+    puts(says);
+}
+
+static void two_line(unsigned take, const char *says, unsigned ground, const char *end) {
+    tell_take(take);
+    fputs(says, stdout);
+    tell_take(ground);
+    puts(end);
 }
 
 static int json_reason(const char *kind, unsigned take, unsigned ground) {
@@ -163,12 +168,12 @@ static int why_none(const char *name, struct bytes image, unsigned take) {
     }
     for (unsigned at = take; at != o.transactor;) {
         struct ledger_impediment_answer on = ledger_impediment(image.at, image.length, at, &refusal);
-        takes_line("", at, " rests on ", on.next, " ");
+        two_line(at, " rests on ", on.next, "");
         at = on.next;
     }
-    if (o.kind == LEDGER_HOPELESS) takes_line("", o.transactor, " rests on a withdrawn life of ", o.ground, " ");
-    if (o.kind == LEDGER_EXHAUSTED) takes_line("", o.transactor, " has all its signings", 0, "");
-    if (o.kind == LEDGER_NOT_STABLE) takes_line("", o.transactor, " is not frozen", 0, "");
+    if (o.kind == LEDGER_HOPELESS) two_line(o.transactor, " rests on a withdrawn life of ", o.ground, "");
+    if (o.kind == LEDGER_EXHAUSTED) one_line(o.transactor, " has all its signings");
+    if (o.kind == LEDGER_NOT_STABLE) one_line(o.transactor, " is not frozen");
     return NO;
 }
 
@@ -183,9 +188,9 @@ int verb_why(int count, char **words) {
     if (refusal) return refused(words[0], refusal);
     if (options.json) return json_reason(KINDS[o.kind], o.transactor, o.ground);
     if (o.kind == LEDGER_NOTHING) return volume_line("can be signed", (unsigned)group), DONE;
-    if (o.kind == LEDGER_UNSTABLE) takes_line("", o.transactor, " is not frozen", 0, "");
-    if (o.kind == LEDGER_OUTSIDE) takes_line("", o.transactor, " rests on ", o.ground, ", which is not in the volume");
-    if (o.kind == LEDGER_SUPERSEDED_OR_ANNIHILATED) takes_line("", o.transactor, " rests on a withdrawn life of ", o.ground, " ");
+    if (o.kind == LEDGER_UNSTABLE) one_line(o.transactor, " is not frozen");
+    if (o.kind == LEDGER_OUTSIDE) two_line(o.transactor, " rests on ", o.ground, ", which is not in the volume");
+    if (o.kind == LEDGER_SUPERSEDED_OR_ANNIHILATED) two_line(o.transactor, " rests on a withdrawn life of ", o.ground, "");
     return NO;
 }
 

@@ -27,7 +27,7 @@ struct bytes room(size_t length) {
 
 /* The output is out, or this fails: nobody is to take a part for the whole. */
 static int finished(int status) {
-    if (fflush(stdout) || ferror(stdout)) fail("can't write", "the output");
+    if (fflush(stdout) || ferror(stdout)) fail_errno("can't write", "the output");
     return status;
 }
 
@@ -136,7 +136,7 @@ static int asks_help(int count, char **words) {
 
 int main(int count, char **words) {
     const char *name = count > 1 ? words[1] : "";
-    if (*name == 0) return wrong_use("what shall it do?", "");
+    if (*name == 0) return wrong_use("a verb is wanted", "");
     if (strcmp(name, "--help") == 0 || strcmp(name, "-h") == 0 || (strcmp(name, "help") == 0 && count == 2)) return help_all(stdout);
     if (strcmp(name, "help") == 0) return help_verb(words[2], stdout);
     if (strcmp(name, "--version") == 0) {

@@ -22,8 +22,9 @@ int verb_pack(int count, char **words) {
 
 int verb_unpack(int count, char **words) {
     struct bytes list = load(words[0]);
-    if (list.length % LEDGER_STEP != 0) {
-        fprintf(stderr, "take-ledger: %s is not whole steps of %d bytes\n", words[0], LEDGER_STEP);
+    enum kind is = kind_of(list);
+    if (list.length % LEDGER_STEP != 0 || is == TEXT_FILE || is == IMAGE_FILE) {
+        fprintf(stderr, "take-ledger: %s is no packed steps of %d bytes each\n", words[0], LEDGER_STEP);
         return NO;
     }
     struct bytes text = text_of(list);
@@ -41,7 +42,7 @@ static void start(uint8_t *image) {
         return;
     }
     uint8_t refusal = ledger_begin(image, LEDGER_IMAGE, options.limits[0], options.limits[1], options.limits[2]);
-    if (refusal) exit(refused("--limits", refusal) == NO ? WRONG : WRONG);
+    if (refusal) refused("--limits", refusal), exit(WRONG);
 }
 
 static void tell_played(const uint8_t *step, const uint8_t *reply, struct bytes comment) {

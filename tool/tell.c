@@ -52,27 +52,38 @@ void tell_take(unsigned take) {
 
 /* ---- volumes and steps */
 
+/* " (speaker names, page 1)": the takes of a volume by their names, where one has a name. */
+static void tell_members(unsigned volume) {
+    const char *between = " (";
+    int named = 0;
+    for (unsigned t = 0; t < LEDGER_TRANSACTORS; t++) named |= (volume >> t & 1) && take_names[t].length > 0;
+    for (unsigned t = 0; named && t < LEDGER_TRANSACTORS; t++) {
+        if (!(volume >> t & 1)) continue;
+        fputs(between, stdout);
+        if (take_names[t].length > 0) fwrite(take_names[t].at, 1, take_names[t].length, stdout);
+        else printf("take %u", t);
+        between = ", ";
+    }
+    if (named) putchar(')');
+}
+
 void tell_volume(unsigned volume) {
     uint8_t step[LEDGER_STEP], line[NOTATION_LINE];
     ledger_step(step, LEDGER_SIGN, 0, 0, volume, 0);
     size_t n = step_words(step, sizeof step, 0, line), word = strlen("sign ");
     if (volume == 0) fputs("nobody", stdout);
     else fwrite(line + word, 1, n - word, stdout);
-    for (unsigned t = 0; t < LEDGER_TRANSACTORS; t++)
-        if (volume >> t & 1 && take_names[t].length > 0) printf(" %u", t), tell_name(t);
+    tell_members(volume);
 }
 
 /* The takes that a step's line names, for a reader who goes by names. */
 void tell_step(const uint8_t *step) {
     uint8_t line[NOTATION_LINE];
-    size_t n = step_words(step, LEDGER_STEP, 0, line);
-    fwrite(line, 1, n, stdout);
-    unsigned kind = step[0] >> 4, take = step[0] & 15, other = step[1] >> 4;
-    if (kind == LEDGER_LETTER || (kind >= LEDGER_NEW && kind <= LEDGER_FAIL)) tell_name(take);
-    if (kind == LEDGER_SEND && take_names[other].length > 0) fputs(" to", stdout), tell_name(other);
-    if (kind != LEDGER_SIGN) return;
-    for (unsigned t = 0; t < LEDGER_TRANSACTORS; t++)
-        if (((unsigned)step[2] << 8 | step[3]) >> t & 1) tell_name(t);
+    fwrite(line, 1, step_words(step, LEDGER_STEP, 0, line), stdout);
+    unsigned kind = step[0] >> 4, take = step[0] & 15u, other = step[1] >> 4;
+    if (kind == LEDGER_SIGN) tell_members((unsigned)step[2] << 8 | step[3]);
+    else if (kind == LEDGER_SEND) tell_members(1u << take | 1u << other);
+    else if (kind == LEDGER_LETTER || (kind >= LEDGER_NEW && kind <= LEDGER_FAIL)) tell_members(1u << take);
 }
 
 /* ---- colours */
