@@ -37,7 +37,7 @@ use Rattle.session.specs.Provenance.{Live, Holder, Provenance}
 use Rattle.session.specs.Grounds.{Equal}
 use Rattle.session.specs.Steps.{provenanceRefusal, signing}
 use Rattle.session.specs.Fed.{Call, run}
-use Rattle.session.specs.Trace.{Answer, Performed, beginning, running, offering, naming, hearing, counting, depending, hindering, blocking, showing, Trace, none, one-more, GoesOn}
+use Rattle.session.specs.Trace.{Answer, Performed, beginning, running, offering, showing, Trace, none, one-more, GoesOn}
 use Rattle.session.specs.Waiting.{ReadyGroup, Grounded, Rolls, rolls-back, annihilates, rolls-last, Stands, NoSigning, Waits, Waiting, CheckpointsTransactor, Uncheckpointed, Leaves, Leaving}
 use Rattle.session.proofs.Model.{MessageView, own, findMessage, knownMap, view}
 use Rattle.session.proofs.Tables.{pick-view}
@@ -292,12 +292,6 @@ module _ (y : Layout) (z : Fitting y) where
   call-keeps P g (running {list} {o} {start} {end} {lent} e) keeps before = rw (e .1) (keeps list o start end lent refl before)
   call-keeps P {img} g (beginning {m} q) keeps before = rw (q .1) (pick-view (λ (i : List ℕ). P (unpack y i)) (eqb (beginAnswer y m img) 0) _ img (λ e. absurd (g m refl (eqb-true (beginAnswer y m img) 0 e))) (λ e. before))
   call-keeps P g (offering q) keeps before = before
-  call-keeps P g (naming q) keeps before = before
-  call-keeps P g (hearing q) keeps before = before
-  call-keeps P g (counting q) keeps before = before
-  call-keeps P g (depending q) keeps before = before
-  call-keeps P g (hindering q) keeps before = before
-  call-keeps P g (blocking q) keeps before = before
   call-keeps P g (showing q) keeps before = before
 
   -- ---- calls that sign nothing
