@@ -62,7 +62,7 @@ module _ {y : Layout} {img : List ℕ} {b : Provenance} (h : Holds y img b) wher
   right-length = ap not (eq-eqb (length img) (imageBytes y) (ap length (sym (h .back)) ∙ length-pack y (unpack y img)))
 
   -- it is well-formed, so 19 does not arise
-  right-form : wellFormed y img ≡ true
+  pub right-form : wellFormed y img ≡ true
   right-form = subst (λ i. wellFormed y i ≡ true) (h .back) (formed-pack y (unpack y img) (h .well))
 
   pub holds-matches : Matches (unpack y img) b

@@ -29,7 +29,7 @@ performs h (show n) = (_, _, showing (refl, refl))
 -- ---- every list of calls, the last one first
 
 -- an image of the right length is begun
-fresh-begins : (y : Layout) (m : Limits) → inRange y m ≡ true → beginAnswer y m (zeros (imageBytes y)) ≡ 0
+pub fresh-begins : (y : Layout) (m : Limits) → inRange y m ≡ true → beginAnswer y m (zeros (imageBytes y)) ≡ 0
 unfolding beginAnswer
 fresh-begins y m r =
     let e : wrongLength y (zeros (imageBytes y)) ≡ false = ap not (eq-eqb (length (zeros (imageBytes y))) (imageBytes y) (length-zeros (imageBytes y))) in

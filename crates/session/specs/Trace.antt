@@ -61,6 +61,11 @@ pub data CallsFrom (y : Layout) (P : List ℕ → Call → Type 0) (img : List �
   none : CallsFrom y P img img
   one-more : {now after : List ℕ} {c : Call} {a : Answer} → CallsFrom y P img now → P now c → Performed y now c a after → CallsFrom y P img after
 
+-- the session τ with these calls at its end
+unfoldable pub extended : {y : Layout} {P : List ℕ → Call → Type 0} {img after : List ℕ} → Trace y img → CallsFrom y P img after → Trace y after
+extended τ none = τ
+extended τ (one-more {c = c} {a = a} k g p) = called (extended τ k) c a p
+
 -- no accepted begin: the call c on the image img goes on with the same session
 abbrev pub GoesOn : Layout → (img : List ℕ) → Call → Type 0
 GoesOn y img c = (m : Limits) → c ≡ begin m → beginAnswer y m img ≡ 0 → ⊥
