@@ -62,8 +62,8 @@ pub record CountMeans (b : Provenance) (size n : ℕ) : Type 0 where
 
 -- ---- "all heard frozen" (document 02, W4)
 
--- Life a of take u is in the set X, or an earlier one of the same take; the newest there was frozen by a step of the session since its last
--- accepted begin.
+-- Of life a of take u, which is in the set X: the newest life of that take in X, a itself or a later one, was frozen by a step of the session
+-- since its last accepted begin.
 pub record NewestStabilized (y : Layout) (img : List ℕ) (τ : Trace y img) (X : Incarnations) (u : ℕ) (a : Incarnation) : Type 1 where
   pub newest : Incarnation
   pub has : In u newest X
