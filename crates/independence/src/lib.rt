@@ -18,10 +18,11 @@ use lists::refusals;
 use rules::Step;
 use rules::numbers;
 ghost use mathlib.Core.Path.{_≡_};
-ghost use mathlib.Core.Bool.{Bool};
-ghost use Prim.Native.Nat.{_≤_, _<_};
+ghost use mathlib.Core.Bool.{not};
+ghost use Prim.Native.Nat.{_<_};
+ghost use lib.Dec.{eqb};
 ghost use lib.ListN.{length};
-ghost use Rattle.octets.specs.Bytes.{_or_};
+ghost use Rattle.octets.specs.Bytes.{_and_};
 ghost use Rattle.rules.specs.Layout.{base, imageBytes};
 ghost use Rattle.rules.specs.State.{transactorAt};
 ghost use Rattle.rules.specs.Refusals as kinds;
@@ -79,6 +80,16 @@ fn receiver(image: &[u8], number: u16) -> usize
     messages::addressee(image, k)
 }
 
+// Whether a step of this kind opens transactor t, where so many are opened.
+fn opens_at(kind: u8, opened: usize, t: usize) -> bool
+    ensures { λ r. ⌜ r ≡ clauses.opens kind and eqb opened t ⌝ }
+{
+    if !opens(kind) {
+        return false;
+    }
+    opened == t
+}
+
 // Whether the step sees transactor t whole; so many are opened, and that one would receive.
 fn touches(p: Step, opened: usize, to: usize, t: usize) -> bool
     requires { ⌜ t < base .transactors ⌝ }
@@ -91,15 +102,24 @@ fn touches(p: Step, opened: usize, to: usize, t: usize) -> bool
     if kind == numbers::RECEIVE {
         return to == t;
     }
-    if opens(kind) {
-        if opened == t {
-            return true;
-        }
+    if opens_at(kind, opened, t) {
+        return true;
     }
     if !acts(kind) {
         return false;
     }
     p.transactor as usize == t
+}
+
+// Whether both steps see transactor t whole; the two that would receive are first and second.
+fn both_touch(p: Step, q: Step, opened: usize, first: usize, second: usize, t: usize) -> bool
+    requires { ⌜ t < base .transactors ⌝ }
+    ensures { λ r. ⌜ r ≡ footprint.touches opened first p t and footprint.touches opened second q t ⌝ }
+{
+    if !touches(p, opened, first, t) {
+        return false;
+    }
+    touches(q, opened, second, t)
 }
 
 // Whether both see some transactor whole.
@@ -112,10 +132,8 @@ fn takes_meet(image: &[u8], p: Step, q: Step) -> bool
     let second = receiver(image, q.message);
     let mut t: usize = 0;
     while t < TRANSACTORS {
-        if touches(p, opened, first, t) {
-            if touches(q, opened, second, t) {
-                return true;
-            }
+        if both_touch(p, q, opened, first, second, t) {
+            return true;
         }
         t += 1;
     }
@@ -148,19 +166,40 @@ fn handled(next: u16, p: Step) -> u16
     p.message
 }
 
+// Whether a step of this kind makes, receives or loses a message.
+fn handles(kind: u8) -> bool
+    ensures { λ r. ⌜ r ≡ footprint.handles kind ⌝ }
+{
+    if takes_away(kind) {
+        return true;
+    }
+    sends(kind)
+}
+
+// Whether all places are taken, p frees one, and q wants one.
+fn frees(full: bool, p: Step, q: Step) -> bool
+    ensures { λ r. ⌜ r ≡ full and clauses.takesAway (p .kind) and kinds.sends (q .kind) ⌝ }
+{
+    if !full {
+        return false;
+    }
+    if !takes_away(p.kind) {
+        return false;
+    }
+    sends(q.kind)
+}
+
 // Whether p frees a place where none is free, and q wants one; or both make, receive or lose the same message.
 fn messages_meet(next: u16, full: bool, p: Step, q: Step) -> bool
     ensures { λ r. ⌜ r ≡ footprint.parcelsMeet next full p q ⌝ }
 {
-    let gone = takes_away(p.kind);
-    let wants = sends(q.kind);
-    if full && gone && wants {
+    if frees(full, p, q) {
         return true;
     }
-    if !(gone || sends(p.kind)) {
+    if !handles(p.kind) {
         return false;
     }
-    if !(takes_away(q.kind) || wants) {
+    if !handles(q.kind) {
         return false;
     }
     handled(next, p) == handled(next, q)
@@ -169,7 +208,7 @@ fn messages_meet(next: u16, full: bool, p: Step, q: Step) -> bool
 // Whether p opens the transactor to which q is addressed, or they meet in a message or in the room for one.
 fn heads_meet(image: &[u8], p: Step, q: Step) -> bool
     requires { ⌜ Good (now image) ⌝ }
-    ensures { λ r. ⌜ r ≡ (footprint.headsMeet (unpack base (now (image .entry))) p q) ⌝ }
+    ensures { λ r. ⌜ r ≡ footprint.headsMeet (unpack base (now (image .entry))) p q ⌝ }
 {
     if opens(p.kind) {
         return addresses(q, head::opened(image));
@@ -207,6 +246,17 @@ fn has_history(image: &[u8], t: usize, u: usize) -> bool
     packed_histories::present(image, creation)
 }
 
+// Whether the group names transactor t, and it has.
+fn named_has(image: &[u8], group: u16, t: usize, u: usize) -> bool
+    requires { ⌜ Good (now image) × (t < base .transactors) × (u < base .transactors) ⌝ }
+    ensures { λ r. ⌜ r ≡ kinds.named group t and clauses.hasMark (transactorAt (unpack base (now (image .entry))) t) u ⌝ }
+{
+    if !is_named(group, t) {
+        return false;
+    }
+    has_history(image, t, u)
+}
+
 // Whether one that the group names has.
 fn have_history(image: &[u8], group: u16, u: usize) -> bool
     requires { ⌜ Good (now image) × (u < base .transactors) ⌝ }
@@ -214,14 +264,23 @@ fn have_history(image: &[u8], group: u16, u: usize) -> bool
 {
     let mut t: usize = 0;
     while t < TRANSACTORS {
-        if is_named(group, t) {
-            if has_history(image, t, u) {
-                return true;
-            }
+        if named_has(image, group, t, u) {
+            return true;
         }
         t += 1;
     }
     false
+}
+
+// Whether transactor t has another list in the copy, and one that the group names has a history of it.
+fn list_meets(image: &[u8], copy: &[u8], group: u16, t: usize) -> bool
+    requires { ⌜ Good (now image) × Good (now copy) × (t < base .transactors) ⌝ }
+    ensures { λ r. ⌜ r ≡ footprint.relisted (unpack base (now (image .entry))) (unpack base (now (copy .entry))) t and footprint.hasMarks (unpack base (now (image .entry))) group t ⌝ }
+{
+    if !relisted(image, copy, t) {
+        return false;
+    }
+    have_history(image, group, t)
 }
 
 // Whether q, a signing, looks at the checkpoints of a transactor that has another list in the copy.
@@ -235,10 +294,8 @@ fn lists_meet(image: &[u8], copy: &[u8], q: Step) -> bool
     let group = q.message;
     let mut t: usize = 0;
     while t < TRANSACTORS {
-        if relisted(image, copy, t) {
-            if have_history(image, group, t) {
-                return true;
-            }
+        if list_meets(image, copy, group, t) {
+            return true;
         }
         t += 1;
     }
@@ -269,6 +326,17 @@ fn leaves(p: Step, outcome: u8) -> bool
     kind == numbers::SIGN && outcome == numbers::NOT_READY
 }
 
+// Whether p, which has this outcome, changes a transactor that q sees whole.
+fn changes_meet(image: &[u8], p: Step, q: Step, outcome: u8) -> bool
+    requires { ⌜ Good (now image) ⌝ }
+    ensures { λ r. ⌜ r ≡ not (footprint.leavesBy p outcome) and footprint.takesMeet base (unpack base (now (image .entry))) p q ⌝ }
+{
+    if leaves(p, outcome) {
+        return false;
+    }
+    takes_meet(image, p, q)
+}
+
 // Whether q sees something that p changes. The copy is for the play.
 fn meets(image: &[u8], copy: &mut [u8], p: Step, q: Step) -> bool
     requires { ⌜ Good (now image) × (length (now copy) ≡ imageBytes base) × StepOk p ⌝ }
@@ -284,10 +352,8 @@ fn meets(image: &[u8], copy: &mut [u8], p: Step, q: Step) -> bool
     if heads_meet(image, p, q) {
         return true;
     }
-    if !leaves(p, outcome) {
-        if takes_meet(image, p, q) {
-            return true;
-        }
+    if changes_meet(image, p, q, outcome) {
+        return true;
     }
     lists_meet(image, copy, q)
 }
@@ -299,7 +365,10 @@ fn refused(image: &[u8], first: &[u8], second: &[u8]) -> u8
     if image.len() != IMAGE {
         return numbers::WRONG_LENGTH;
     }
-    if first.len() != STEP || second.len() != STEP {
+    if first.len() != STEP {
+        return numbers::WRONG_PART;
+    }
+    if second.len() != STEP {
         return numbers::WRONG_PART;
     }
     if !form::formed(image) {
