@@ -49,7 +49,7 @@ same-none [] n = refl
 same-none (x ∷ xs) n = refl
 
 -- a take never signed has no signed life
-none-signed : (a : Incarnation) (h : History) → h .count ≡ 0 → checkpointedIn a (incarnationOf h) ≡ false
+pub none-signed : (a : Incarnation) (h : History) → h .count ≡ 0 → checkpointedIn a (incarnationOf h) ≡ false
 unfolding checkpointedIn beginsWith
 none-signed a h e =
     let xs : List ℕ = a .checkpoints ++ (a .number ∷ []) in
@@ -57,7 +57,7 @@ none-signed a h e =
     ∙ ap (sameList xs) (take-none (length xs)) ∙ same-none (a .checkpoints) (a .number)
 
 -- the list alone counts
-list-signed : (a b c : Incarnation) → b .checkpoints ≡ c .checkpoints → checkpointedIn a b ≡ checkpointedIn a c
+pub list-signed : (a b c : Incarnation) → b .checkpoints ≡ c .checkpoints → checkpointedIn a b ≡ checkpointedIn a c
 unfolding checkpointedIn
 list-signed a b c e = ap (λ (l : List ℕ). beginsWith l (a .checkpoints ++ (a .number ∷ []))) e
 
