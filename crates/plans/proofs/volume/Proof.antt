@@ -9,8 +9,8 @@ use Rattle.rules.specs.Refusals.{groupBits}
 use Rattle.rules.specs.Pack.{unpack}
 use Rattle.rules.specs.Dependents.{throughAt}
 use Rattle.rules.specs.Internal.Closure.{Names}
-use Rattle.rules.proofs.Bits.{shifted, names-none, names-on, names-off}
-use Rattle.plans.proofs.Writing.{row-names, volume-end, word-fits}
+use Rattle.rules.proofs.Bits.{shifted, names-none, word-fits, names-on, names-off}
+use Rattle.plans.proofs.Writing.{row-names, volume-end}
 use Rattle.plans.proofs.volume.Statement.{statement}
 use Rattle.plans.proofs.volume.Tie as tie
 

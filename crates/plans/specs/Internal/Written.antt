@@ -8,7 +8,8 @@ use Rattle.octets.specs.Bytes.{pick, put, zeros}
 use Rattle.rules.specs.Layout.{base}
 use Rattle.rules.specs.State.{State}
 use Rattle.rules.specs.Calls.{stepsIn}
-use Rattle.rules.specs.Plan.{packStep, waking, receipt, freezing, toFreeze, toWake, planBytes}
+use Rattle.rules.specs.Step.{packStep}
+use Rattle.rules.specs.Plan.{waking, receipt, freezing, toFreeze, toWake, planBytes}
 
 -- what is to be done with take c of volume g: 0 nothing, 1 freeze it, 2 wake it first
 unfoldable pub taskOf : State → ℕ → ℕ → ℕ
