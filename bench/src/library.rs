@@ -51,6 +51,14 @@ extern "C" {
     fn ledger_dependents(image: *const u8, image_length: usize, take: usize, refusal: *mut u8) -> Dependents;
     fn ledger_obstacle(image: *const u8, image_length: usize, volume: usize, refusal: *mut u8) -> Reason;
     fn ledger_impediment(image: *const u8, image_length: usize, take: usize, refusal: *mut u8) -> Cause;
+    fn ledger_plan(
+        image: *const u8,
+        image_length: usize,
+        take: usize,
+        out: *mut u8,
+        out_length: usize,
+        refusal: *mut u8,
+    ) -> usize;
     fn ledger_ready_count(image: *const u8, image_length: usize, size: usize, refusal: *mut u8) -> usize;
     fn ledger_thin(
         image: *const u8,
@@ -164,6 +172,17 @@ pub fn impediment(image: &[u8], take: usize) -> Result<Impediment, u8> {
         (3, c, 0, x) => Ok(Impediment::NotFrozen(c, x)),
         other => panic!("no impediment has the numbers {other:?}"),
     }
+}
+
+pub fn plan(image: &[u8], take: usize, out: &mut [u8]) -> Result<usize, u8> {
+    let mut refusal = 255;
+    let (o, m) = (out.as_mut_ptr(), out.len());
+    let steps = unsafe { ledger_plan(image.as_ptr(), image.len(), take, o, m, &mut refusal) };
+    if refusal != 0 {
+        assert_eq!(steps, 0, "a refused query gives steps");
+        return Err(refusal);
+    }
+    Ok(steps)
 }
 
 pub fn ready_count(image: &[u8], size: usize) -> Result<usize, u8> {
