@@ -30,7 +30,7 @@ use Rattle.rules.specs.Plan.{waking, receipt, freezing, toFreeze, toWake, steps
 use Rattle.impediments.specs.Internal.Ways.{Reached}
 use Rattle.rules.proofs.Groups.Dependents.{in-group, names-end}
 use Rattle.rules.proofs.Pack.Steps.{length-packStep}
-use Rattle.plans.specs.Internal.Written.{taskOf, tasked, nextNumber, Written, Planned}
+use Rattle.plans.specs.Internal.Written.{rowNames, taskOf, tasked, nextNumber, Written, Planned}
 
 -- ---- one take
 
@@ -255,13 +255,19 @@ module _ (s : State) (g n : ℕ) (is : n ≡ letters base s g) where
 
 -- ---- the volume
 
-pub row-names : (s : State) (t : ℕ) {rows nexts : List ℕ} → Reached base s (base .transactors) t rows nexts → (c : ℕ) → c < base .transactors → t < base .transactors → (row : ℕ) → row ≡ getD rows c 0
-    → named row t ≡ throughAt s (base .transactors) c t
-row-names s t r c h l row e = ap (λ (x : ℕ). named x t) (e ∙ r .through .is c h) ∙ in-group (base .transactors) (throughAt s (base .transactors) c) t l
+pub row-is : (rows : List ℕ) (t c row : ℕ) → row ≡ getD rows c 0 → named row t ≡ rowNames rows t c
+unfolding rowNames
+row-is rows t c row e = ap (λ (x : ℕ). named x t) e
 
-pub volume-end : (s : State) (t u v : ℕ) → Names (λ c. throughAt s (base .transactors) c t) u v → u ≤ base .transactors → base .transactors ≤ u → v ≡ restingVolume base s t
-unfolding restingVolume
-volume-end s t u v k h l = names-end k h l
+-- all rows are looked at
+pub rows-end : {f : ℕ → Bool} {n u v : ℕ} → Names f u v → u ≤ n → n ≤ u → Names f n v
+rows-end {f} {n} {u} {v} k h l = let e : u ≡ n = omega arith in subst (λ (i : ℕ). Names f i v) e k
+
+-- and they are the rows of who rests on each
+pub volume-is : (s : State) (t : ℕ) {rows nexts : List ℕ} → Reached base s (base .transactors) t rows nexts → t < base .transactors → (v : ℕ) → Names (rowNames rows t) (base .transactors) v
+    → v ≡ restingVolume base s t
+unfolding restingVolume rowNames
+volume-is s t r l v k = names-end (record { bits = k .bits; exactly = λ c h. k .exactly c h ∙ ap (λ (x : ℕ). named x t) (r .through .is c h) ∙ in-group (base .transactors) (throughAt s (base .transactors) c) t l }) (omega arith) (omega arith)
 
 -- ---- the call's returns
 

@@ -6,7 +6,8 @@ use image::head;
 use image::layout::TRANSACTORS;
 use image::limits;
 use image::messages;
-use impediments::impediment_of;
+use impediments::impediment_in;
+use impediments::ways::Reach;
 use impediments::ways::reach_of;
 use lists::STEP;
 use lists::groups::is_named;
@@ -19,10 +20,11 @@ ghost use Rattle.octets.specs.Bytes.{put, chunks, zeros};
 ghost use Rattle.rules.specs.Layout.{base};
 ghost use Rattle.rules.specs.Pack.{unpack};
 ghost use Rattle.rules.specs.Step.{packStep};
-ghost use Rattle.rules.specs.Plan.{letters, lettersFit, stepsFor, stepsToSign, restingVolume, mendable, planBytes};
+ghost use Rattle.rules.specs.Plan.{letters, lettersFit, stepsFor, stepsToSign, mendable, planBytes};
 ghost use Rattle.rules.specs.Promises.{PlanPromise};
+ghost use Rattle.rules.specs.Internal.Closure.{Names};
 ghost use Rattle.rules.specs.Internal.Good.{Good};
-ghost use Rattle.plans.specs.Internal.Written.{taskOf, tasked, nextNumber, Written, Planned};
+ghost use Rattle.plans.specs.Internal.Written.{rowNames, taskOf, tasked, nextNumber, Written, Planned};
 
 // Bytes of a plan: three steps for each transactor, and the signing.
 pub const PLAN: usize = 392;
@@ -47,12 +49,11 @@ fn is_mendable(o: Impediment) -> bool
 }
 
 // The group that is to be signed: all that transactor t rests on through present incarnations (document 01:
-// lives), itself among them.
-fn volume(image: &[u8], t: usize) -> u16
-    requires { ⌜ Good (now image) × (t < base .transactors) ⌝ }
-    ensures { λ r. ⌜ r ≡ restingVolume base (unpack base (now (image .entry))) t ⌝ }
+// lives), itself among them. These are the ones whose rows name t.
+fn volume(reach: Reach, t: usize) -> u16
+    requires { ⌜ t < base .transactors ⌝ }
+    ensures { λ r. ⌜ Names (rowNames (reach .through) t) (base .transactors) r ⌝ }
 {
-    let reach = reach_of(image, t);
     let mut group: u16 = 0;
     let mut c: usize = 0;
     while c < TRANSACTORS {
@@ -222,10 +223,11 @@ pub fn plan(image: &[u8], transactor: usize, out: &mut [u8], refusal: &mut u8) -
     }
     *refusal = 0;
     octets::clear(out, 0, PLAN);
-    let o = impediment_of(image, transactor);
+    let reach = reach_of(image, transactor);
+    let o = impediment_in(image, reach, transactor);
     if !is_mendable(o) {
         return 0;
     }
-    let group = volume(image, transactor);
+    let group = volume(reach, transactor);
     store_plan(image, group, out)
 }
