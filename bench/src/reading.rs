@@ -139,7 +139,8 @@ pub fn plan(image: &[u8], t: usize) -> Vec<u64> {
     if matches!(impediment(image, t), Impediment::Hopeless(..) | Impediment::Exhausted(..)) {
         return Vec::new();
     }
-    let g: BTreeSet<usize> = (0..TAKES).filter(|c| live(image, *c) && dependents(image, *c).through >> t & 1 == 1).collect();
+    let g: BTreeSet<usize> =
+        (0..TAKES).filter(|c| live(image, *c) && dependents(image, *c).through >> t & 1 == 1).collect();
     let mut next = u16::from_be_bytes([image[1], image[2]]) as usize;
     let mut steps = Vec::new();
     for c in g.iter().copied().filter(|c| !generate::frozen(image, *c)) {

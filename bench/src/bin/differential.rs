@@ -441,10 +441,8 @@ impl Test {
 
     /// No steps: the impediment lasts; else a letter is needed, and there is no place or no number for it.
     fn unplanned(&mut self, take: usize) {
-        let lasts = matches!(
-            library::impediment(&self.theirs, take),
-            Ok(Impediment::Hopeless(..) | Impediment::Exhausted(..))
-        );
+        let lasts =
+            matches!(library::impediment(&self.theirs, take), Ok(Impediment::Hopeless(..) | Impediment::Exhausted(..)));
         self.planned[if lasts { 3 } else { 4 }] += 1;
         let next = u16::from_be_bytes([self.ours[1], self.ours[2]]) as usize;
         let room = generate::waiting(&self.ours) < generate::limits(&self.ours)[1] && next + TAKES <= 65_535;
@@ -958,7 +956,9 @@ impl Test {
         let ([nothing, hopeless, exhausted, unfrozen], [own, next, behind]) = (self.impeded, self.chained);
         println!("impediments: nothing {nothing}, hopeless {hopeless}, exhausted {exhausted}, not frozen {unfrozen}; in the way itself {own}, the next {next}, others between {behind}");
         let [plans, steps, letters, lasting, room] = self.planned;
-        println!("plans run {plans}, of {steps} steps, {letters} letters; none for what lasts {lasting}, for room {room}");
+        println!(
+            "plans run {plans}, of {steps} steps, {letters} letters; none for what lasts {lasting}, for room {room}"
+        );
         let [none, one, both, calls] = self.exchanged;
         println!("edits exchanged: none refused {none}, one {one}, both {both}; in refused calls {calls}");
         println!(
