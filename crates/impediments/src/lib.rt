@@ -5,13 +5,9 @@ use crate::ways::Reach;
 use crate::ways::reach_of;
 use group::is_full;
 use group::own;
-use image::layout::CREATION;
-use image::layout::FIRST_TRANSACTOR;
-use image::layout::STATE;
-use image::layout::TRANSACTOR;
 use image::layout::TRANSACTORS;
 use lists::groups::is_named;
-use obstacles::history;
+use obstacles::entry;
 use obstacles::is_nothing;
 use rules::Impediment;
 ghost use mathlib.Core.Path.{_≡_};
@@ -39,15 +35,8 @@ fn superseded(image: &[u8], c: usize, u: usize) -> bool
     requires { ⌜ Good (now image) × (c < base .transactors) × (u < base .transactors) ⌝ }
     ensures { λ r. ⌜ r ≡ withdrawnBy (unpack base (now (image .entry))) c u ⌝ }
 {
-    let at = FIRST_TRANSACTOR + TRANSACTOR * c;
-    let state = at + STATE + marks::SIZE * u;
-    let o = history(image, ALL, c, u, state);
-    if !is_nothing(o) {
-        return true;
-    }
-    let creation = at + CREATION + marks::SIZE * u;
-    let p = history(image, ALL, c, u, creation);
-    !is_nothing(p)
+    let o = entry(image, ALL, c, u);
+    !is_nothing(o)
 }
 
 // The first transactor of which it has, or how many there are.

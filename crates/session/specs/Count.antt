@@ -47,8 +47,8 @@ repliesIn (grouped r group) = []
 repliesIn (told r stable) = []
 repliesIn (counted r n) = []
 repliesIn (depended r d) = []
-repliesIn (hindered r o) = []
-repliesIn (blocked r o) = []
+repliesIn (hindered r n) = []
+repliesIn (blocked r n) = []
 repliesIn (showed r bytes) = []
 
 -- a call, n counted before it: an accepted begin counts from 0, an accepted run adds its steps

@@ -11,8 +11,8 @@ use Rattle.rules.specs.Layout.{Layout, Limits, inRange}
 use Rattle.rules.specs.State.{State, Transactor, transactorAt, ownHistory}
 use Rattle.rules.specs.Calls.{beginAnswer, beginImage}
 use Rattle.rules.specs.declared.Dependents.{Dependents}
-use Rattle.rules.specs.declared.Obstacle.{Obstacle}
-use Rattle.rules.specs.declared.Impediment.{Impediment}
+use Rattle.rules.specs.Obstacle.{ObstacleNumbers}
+use Rattle.rules.specs.Impediment.{ImpedimentNumbers}
 use Rattle.rules.specs.Promises.{BeginPromise, RunPromise, OfferPromise, SmallestPromise, HeardPromise, CountPromise, DependentsPromise, ObstaclePromise, ImpedimentPromise, ShowPromise}
 use Rattle.session.specs.Provenance.{statusNumber, Live, Holder, Provenance}
 use Rattle.session.specs.Fed.{Call, begin, run, offer, smallest, heard, counts, depends, hinders, blocks, show}
@@ -34,10 +34,10 @@ pub data Answer : Type 0 where
   counted : ℕ → ℕ → Answer
   -- who rests on the take
   depended : ℕ → Dependents → Answer
-  -- why the volume can't be signed
-  hindered : ℕ → Obstacle → Answer
-  -- why no volume with the take could be signed
-  blocked : ℕ → Impediment → Answer
+  -- why the volume can't be signed, in numbers
+  hindered : ℕ → ObstacleNumbers → Answer
+  -- why no volume with the take could be signed, in numbers
+  blocked : ℕ → ImpedimentNumbers → Answer
   -- the part of the image
   showed : ℕ → List ℕ → Answer
 
@@ -50,8 +50,8 @@ refusalIn (grouped r group) = r
 refusalIn (told r stable) = r
 refusalIn (counted r n) = r
 refusalIn (depended r d) = r
-refusalIn (hindered r o) = r
-refusalIn (blocked r o) = r
+refusalIn (hindered r n) = r
+refusalIn (blocked r n) = r
 refusalIn (showed r bytes) = r
 
 -- A call performed on the image img: the answer and the image after it are what the contract of begin, run, offer, smallest_group,
@@ -66,8 +66,8 @@ pub data Performed (y : Layout) (img : List ℕ) : Call → Answer → List ℕ 
   hearing : {t r : ℕ} {stable : Bool} → HeardPromise y img t r stable → Performed y img (heard t) (told r stable) img
   counting : {size r n : ℕ} → CountPromise y img size r n → Performed y img (counts size) (counted r n) img
   depending : {t r : ℕ} {d : Dependents} → DependentsPromise y img t r d → Performed y img (depends t) (depended r d) img
-  hindering : {v r : ℕ} {o : Obstacle} → ObstaclePromise y img v r o → Performed y img (hinders v) (hindered r o) img
-  blocking : {t r : ℕ} {o : Impediment} → ImpedimentPromise y img t r o → Performed y img (blocks t) (blocked r o) img
+  hindering : {v r : ℕ} {n : ObstacleNumbers} → ObstaclePromise y img v r n → Performed y img (hinders v) (hindered r n) img
+  blocking : {t r : ℕ} {n : ImpedimentNumbers} → ImpedimentPromise y img t r n → Performed y img (blocks t) (blocked r n) img
   showing : {n r : ℕ} {bytes : List ℕ} → ShowPromise y img n r bytes → Performed y img (show n) (showed r bytes) img
 
 -- "A session grown from a fresh one is an accepted begin, then any list of begins, runs, offers and shows on that image, refused ones

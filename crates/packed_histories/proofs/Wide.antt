@@ -1,4 +1,5 @@
--- Packed histories compared many bytes at a time: the bytes of a place are the same exactly if its numbers are.
+-- Packed histories compared many bytes at a time (same_in, agree): the bytes of a place are the same exactly if its numbers are. A function has one
+-- width, so these laws are about it; those of marks are over every width.
 use Prim.Native.Nat.{ℕ, _+_, _-_, _*_, _/_, _%_, _≤_, _<_}
 use mathlib.Core.Bool.{Bool, true, false}
 use mathlib.Core.Path.{_≡_, sym, ap, _∙_}

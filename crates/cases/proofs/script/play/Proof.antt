@@ -3,8 +3,8 @@ use Prim.Native.Nat.{_+_, _-_, _≤_}
 use mathlib.Core.Path.{_≡_}
 use lib.ListN.{length}
 use borrow.Author.Needs.{needs}
-use Rattle.test_vectors.proofs.lines.play.Statement.{statement}
-use Rattle.test_vectors.proofs.lines.play.Tie as tie
+use Rattle.cases.proofs.script.play.Statement.{statement}
+use Rattle.cases.proofs.script.play.Tie as tie
 
 abbrev Inv-loop : tie.InvT-loop
 Inv-loop space₀ list₀ s old₀ number₀ at₀ space list old number at = (number ≤ «at» + 1) × (length space ≡ length space₀) × (length list ≡ length list₀)

@@ -2,8 +2,8 @@
 use native.Mathlib.Omega.{arith}
 use lib.ListN.{length-take}
 use borrow.Author.Needs.{needs}
-use Rattle.test_vectors.proofs.lines.line.Statement.{statement}
-use Rattle.test_vectors.proofs.lines.line.Tie as tie
+use Rattle.cases.proofs.script.line.Statement.{statement}
+use Rattle.cases.proofs.script.line.Tie as tie
 
 pub line-spec : {M : Type 1} → statement M
 line-spec =

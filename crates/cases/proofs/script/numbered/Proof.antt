@@ -2,8 +2,8 @@
 use native.Mathlib.Omega.{arith}
 use lib.ListN.{length-take}
 use borrow.Author.Needs.{needs}
-use Rattle.test_vectors.proofs.lines.numbered.Statement.{statement}
-use Rattle.test_vectors.proofs.lines.numbered.Tie as tie
+use Rattle.cases.proofs.script.numbered.Statement.{statement}
+use Rattle.cases.proofs.script.numbered.Tie as tie
 
 pub numbered-spec : {M : Type 1} → statement M
 numbered-spec =

@@ -1,12 +1,15 @@
-// Plays the script line by line.
-use cases::bytes;
-use cases::dependences;
-use cases::forms;
-use cases::histories;
-use cases::lines;
-use cases::numbers;
-use cases::print;
-use cases::raw;
+// A script, played line by line.
+use crate::bytes;
+use crate::calls;
+use crate::conversions;
+use crate::dependences;
+use crate::forms;
+use crate::histories;
+use crate::lines;
+use crate::numbers;
+use crate::print;
+use crate::raw;
+use crate::runs;
 use image::layout::IMAGE;
 
 // The bytes of an image, and of the longest that a script asks for.
@@ -22,8 +25,8 @@ fn operation(group: u8, image: &mut [u8], list: &mut [u8], n: &[u8]) -> u8 {
         b'b' => raw::play(image, n),
         b'h' => histories::play(image, n),
         b'm' => dependences::play(image, n),
-        b'c' => cases::calls::play(image, n),
-        b'r' => cases::runs::play(image, list, n),
+        b'c' => calls::play(image, n),
+        b'r' => runs::play(image, list, n),
         _ => print::BAD,
     }
 }
@@ -50,7 +53,7 @@ fn image_length(n: &[u8], old: usize) -> usize {
 fn numbered(space: &mut [u8], list: &mut [u8], old: usize, n: &[u8], number: usize) -> usize {
     let group = forms::group(&FORMS, n);
     if group == b'v' {
-        return cases::conversions::play(space, old, n, number);
+        return conversions::play(space, old, n, number);
     }
     let length = image_length(n, old);
     if space.len() < length {

@@ -1,0 +1,8 @@
+-- Inside, or past the end.
+use borrow.Author.Needs.{needs}
+use Rattle.cases.proofs.Past.{set-past}
+use Rattle.cases.proofs.bytes.set.Statement.{statement}
+use Rattle.cases.proofs.bytes.set.Tie as tie
+
+pub set-spec : {M : Type 1} → statement M
+set-spec = tie.close (tie.spec (λ c. search needs) (λ c. search needs) (λ c. search needs) (λ c. set-past _ _ _ (search needs)))
