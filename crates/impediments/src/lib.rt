@@ -39,7 +39,7 @@ fn superseded(image: &[u8], c: usize, u: usize) -> bool
     !is_nothing(o)
 }
 
-// The first transactor of which it has, or how many there are.
+// The first transactor of which c has such a history; TRANSACTORS if there is none.
 fn lost_ground(image: &[u8], c: usize) -> usize
     requires { ⌜ Good (now image) × (c < base .transactors) ⌝ }
     ensures { λ r. ⌜ (r ≡ lostGround base (unpack base (now (image .entry))) c) × (r ≤ base .transactors) ⌝ }
@@ -69,7 +69,7 @@ fn impedes(image: &[u8], kind: u8, c: usize) -> bool
     !h.stable
 }
 
-// And transactor t, one of row, rests on it.
+// Whether transactor t rests on c, as the row of c says, and c is in the way.
 fn in_way(image: &[u8], kind: u8, c: usize, row: u16, t: usize) -> bool
     requires { ⌜ Good (now image) × (c < base .transactors) × (t < base .transactors) ⌝ }
     ensures { λ r. ⌜ r ≡ named row t and impedesAt base (unpack base (now (image .entry))) kind c ⌝ }
@@ -80,7 +80,7 @@ fn in_way(image: &[u8], kind: u8, c: usize, row: u16, t: usize) -> bool
     impedes(image, kind, c)
 }
 
-// The lowest that is, or how many there are.
+// The lowest transactor that t rests on and that is in the way in this manner; TRANSACTORS if there is none.
 fn lowest(image: &[u8], reach: Reach, kind: u8, t: usize) -> usize
     requires { ⌜ Good (now image) × (t < base .transactors) × Reached base (unpack base (now image)) (base .transactors) t (reach .through) (reach .next) ⌝ }
     ensures { λ r. ⌜ (r ≡ lowestFor base (unpack base (now (image .entry))) kind t) × (r ≤ base .transactors) ⌝ }

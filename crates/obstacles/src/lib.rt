@@ -47,7 +47,7 @@ fn unstable(image: &[u8], group: u16, t: usize) -> Obstacle
     Obstacle::Unstable(t as u8)
 }
 
-// What the history at at, if there is one, of transactor u in a map of transactor t keeps from being checkpointed.
+// Why the history of transactor u at at, in a map of transactor t, keeps the group from being checkpointed; nothing where there is none.
 fn history(image: &[u8], group: u16, t: usize, u: usize, at: usize) -> Obstacle
     requires { ⌜ Good (now image) × (t < base .transactors) × (u < base .transactors) × (at + historyBytes base ≤ imageBytes base)
         × Roomy (base .places) (historyIn (base .width) (base .places) (now image) at) ⌝ }
