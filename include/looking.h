@@ -25,17 +25,11 @@
 extern "C" {
 #endif
 
-/* What a receipt would do. */
-enum looking_decision_kind {
-    LOOKING_UNDECIDED = 0,           /* refused */
-    LOOKING_ACCEPTED = 1,            /* the message is taken in */
-    LOOKING_MESSAGE_SUPERSEDED = 2,  /* it is dropped: its history of transactor is superseded by the receiver's */
-    LOOKING_RECEIVER_SUPERSEDED = 3  /* the receiver rolls back: its history of transactor is superseded by the message's */
-};
-
+/* What a receipt would reply. */
 struct looking_decision {
-    size_t kind;
-    size_t transactor; /* the first of which there is such a history; 0 where the message is accepted */
+    size_t outcome;    /* LEDGER_DONE, LEDGER_DROPPED, LEDGER_FALLEN_BACK or LEDGER_VANISHED: 0, 2, 3 or 4 */
+    size_t transactor; /* dropped: the first whose history in the message is superseded by the receiver's; fallen back or
+                          vanished: the first whose history in the receiver's maps is superseded by the message's; done: 0 */
 };
 
 /* Two histories of a transactor compared; of the middle four the named one is the earlier. */
@@ -83,7 +77,7 @@ struct looking_field {
     uint8_t byte;   /* which byte of the field, from 0, the most significant one */
 };
 
-/* What the receipt of the waiting message with this number would do now, and whose histories decide it; *refusal is 0. The image is only read.
+/* What the receipt of the waiting message with this number would reply now, and whose histories decide it; *refusal is 0. The image is only read.
  * Refused: *refusal is 16, 19, or what the receipt would get, 24, 22, 23, 31 or 28, and both numbers are 0. */
 struct looking_decision looking_decision(const uint8_t *image, size_t image_length, size_t number, uint8_t *refusal);
 
