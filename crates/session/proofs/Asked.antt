@@ -39,7 +39,9 @@ use Rattle.session.specs.Steps.{provenanceSeen, provenanceRefusal}
 use Rattle.session.specs.Fed.{ProvenanceOf}
 use Rattle.session.specs.Trace.{Trace, callsOf}
 use Rattle.session.specs.Point.{Point, at-end}
-use Rattle.session.specs.Meanings.{WaitsIn, OfferMeans, no-message, lowest, Signable, SmallestMeans, no-group, smallest, CountMeans, NewestStabilized, HeardMeans, DependentsMean, ObstacleMeans, ImpedimentMeans}
+use Rattle.rules.specs.Obstacle.{obstacleAnswer}
+use Rattle.rules.specs.Impediment.{impedimentAnswer}
+use Rattle.session.specs.Meanings.{WaitsIn, OfferMeans, no-message, lowest, Signable, SmallestMeans, no-group, smallest, CountMeans, NewestStabilized, HeardMeans, DependentsMean}
 use Rattle.session.specs.Queries.{Asked}
 use Rattle.session.proofs.Model.{view}
 use Rattle.session.proofs.Sets.{cell-some}
@@ -196,8 +198,8 @@ module _ {y : Layout} (z : Fitting y) {img : List ℕ} (τ : Trace y img) {b : P
     heard = λ t e. (e .0 ∙ query-same there t, λ q. heard-means (sym (e .1) ∙ q));
     counts = λ size e. (e .0 ∙ counts-same there size, λ q. subst (CountMeans b size) (sym (e .1)) (count-means (sym (e .0) ∙ q)));
     dependents = λ t e. (e .0 ∙ query-same there t, λ q. subst (DependentsMean b t) (sym (e .1)) (dependents-answered z τ f t (sym (e .0) ∙ q)));
-    obstacle = λ v e. (e .0 ∙ hinders-same there v, λ q. subst (ObstacleMeans b v) (sym (e .1)) (obstacle-answered z τ f v (sym (e .0) ∙ q)));
-    impediment = λ t e. (e .0 ∙ query-same there t, λ q. subst (ImpedimentMeans y (unpack y img) b t) (sym (e .1)) (impediment-answered z τ f t (sym (e .0) ∙ q)));
+    obstacle = λ v e. (e .0 ∙ hinders-same there v, λ q. (obstacleAnswer y img v, e .1, obstacle-answered z τ f v (sym (e .0) ∙ q)));
+    impediment = λ t e. (e .0 ∙ query-same there t, λ q. (impedimentAnswer y img t, e .1, impediment-answered z τ f t (sym (e .0) ∙ q)));
     plan = λ t lent e. (e .0 ∙ plan-same there t lent, λ q. plan-answered z τ f t lent (sym (e .0) ∙ q));
   }
 

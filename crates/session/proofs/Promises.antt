@@ -6,8 +6,8 @@ use mathlib.Core.List.{List}
 use mathlib.Core.Bool.{Bool}
 use mathlib.Core.Option.{Option}
 use Rattle.rules.specs.declared.Dependents.{Dependents}
-use Rattle.rules.specs.declared.Obstacle.{Obstacle}
-use Rattle.rules.specs.declared.Impediment.{Impediment}
+use Rattle.rules.specs.Obstacle.{ObstacleNumbers}
+use Rattle.rules.specs.Impediment.{ImpedimentNumbers}
 use Rattle.rules.specs.Layout.{Layout}
 use Rattle.rules.specs.Promises.{SmallestPromise, HeardPromise, CountPromise, DependentsPromise, ObstaclePromise, ImpedimentPromise, PlanPromise}
 use Rattle.rules.proofs.Calls.Offer.{offers-unique}
@@ -36,10 +36,10 @@ module _ (y : Layout) (img : List ℕ) where
   pub dependents-once : (t : ℕ) {r q : ℕ} {a x : Dependents} → DependentsPromise y img t r a → DependentsPromise y img t q x → (r ≡ q) × (a ≡ x)
   dependents-once t e f = (e .0 ∙ sym (f .0), e .1 ∙ sym (f .1))
 
-  pub obstacle-once : (v : ℕ) {r q : ℕ} {a x : Obstacle} → ObstaclePromise y img v r a → ObstaclePromise y img v q x → (r ≡ q) × (a ≡ x)
+  pub obstacle-once : (v : ℕ) {r q : ℕ} {a x : ObstacleNumbers} → ObstaclePromise y img v r a → ObstaclePromise y img v q x → (r ≡ q) × (a ≡ x)
   obstacle-once v e f = (e .0 ∙ sym (f .0), e .1 ∙ sym (f .1))
 
-  pub impediment-once : (t : ℕ) {r q : ℕ} {a x : Impediment} → ImpedimentPromise y img t r a → ImpedimentPromise y img t q x → (r ≡ q) × (a ≡ x)
+  pub impediment-once : (t : ℕ) {r q : ℕ} {a x : ImpedimentNumbers} → ImpedimentPromise y img t r a → ImpedimentPromise y img t q x → (r ≡ q) × (a ≡ x)
   impediment-once t e f = (e .0 ∙ sym (f .0), e .1 ∙ sym (f .1))
 
   pub plan-once : (t : ℕ) (lent : List ℕ) {r q n m : ℕ} {a x : List ℕ} → PlanPromise y img t lent r a n → PlanPromise y img t lent q x m → (r ≡ q) × (a ≡ x) × (n ≡ m)

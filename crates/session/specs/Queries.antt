@@ -16,6 +16,8 @@ use Rattle.rules.specs.Layout.{Layout}
 use Rattle.rules.specs.Refusals.{groupBits}
 use Rattle.rules.specs.Pack.{unpack}
 use Rattle.rules.specs.Groups.{signingRefusal}
+use Rattle.rules.specs.Obstacle.{ObstacleNumbers, obstacleNumbers}
+use Rattle.rules.specs.Impediment.{ImpedimentNumbers, impedimentNumbers}
 use Rattle.rules.specs.Plan.{planBytes}
 use Rattle.rules.specs.Promises.{OfferPromise, SmallestPromise, HeardPromise, CountPromise, DependentsPromise, ObstaclePromise, ImpedimentPromise, PlanPromise}
 use Rattle.session.specs.Provenance.{Provenance}
@@ -42,13 +44,16 @@ provenancePlanRefusal y b t lent =
 
 -- ---- the questions, after the calls of the session τ, which leave the image img; b, the book that is fed them
 
--- Each is refused exactly where the book refuses it, r being the refusal or 0; and if it is not, its answer means this in the book.
+-- Each is refused exactly where the book refuses it, r being the refusal or 0; and if it is not, its answer means this in the book. Of obstacle and
+-- impediment n are the answer's numbers.
 pub record Asked (y : Layout) (img : List ℕ) (τ : Trace y img) (b : Provenance) : Type 1 where
   pub offer : (t : ℕ) {r : ℕ} {message : Option ℕ} → OfferPromise y img t r message → (r ≡ provenanceQueryRefusal b t) × (r ≡ 0 → OfferMeans b t message)
   pub smallest : (t : ℕ) {r : ℕ} {group : Option ℕ} → SmallestPromise y img t r group → (r ≡ provenanceQueryRefusal b t) × (r ≡ 0 → SmallestMeans b t group)
   pub heard : (t : ℕ) {r : ℕ} {stable : Bool} → HeardPromise y img t r stable → (r ≡ provenanceQueryRefusal b t) × (stable ≡ true → HeardMeans y img τ b t)
   pub counts : (size : ℕ) {r n : ℕ} → CountPromise y img size r n → (r ≡ provenanceCountRefusal size) × (r ≡ 0 → CountMeans b size n)
   pub dependents : (t : ℕ) {r : ℕ} {d : Dependents} → DependentsPromise y img t r d → (r ≡ provenanceQueryRefusal b t) × (r ≡ 0 → DependentsMean b t d)
-  pub obstacle : (v : ℕ) {r : ℕ} {o : Obstacle} → ObstaclePromise y img v r o → (r ≡ provenanceSigningRefusal y b v) × (r ≡ 0 → ObstacleMeans b v o)
-  pub impediment : (t : ℕ) {r : ℕ} {o : Impediment} → ImpedimentPromise y img t r o → (r ≡ provenanceQueryRefusal b t) × (r ≡ 0 → ImpedimentMeans y (unpack y img) b t o)
+  pub obstacle : (v : ℕ) {r : ℕ} {n : ObstacleNumbers} → ObstaclePromise y img v r n
+      → (r ≡ provenanceSigningRefusal y b v) × (r ≡ 0 → (o : Obstacle) × (n ≡ obstacleNumbers o) × ObstacleMeans b v o)
+  pub impediment : (t : ℕ) {r : ℕ} {n : ImpedimentNumbers} → ImpedimentPromise y img t r n
+      → (r ≡ provenanceQueryRefusal b t) × (r ≡ 0 → (o : Impediment) × (n ≡ impedimentNumbers o) × ImpedimentMeans y (unpack y img) b t o)
   pub plan : (t : ℕ) (lent : List ℕ) {r n : ℕ} {given : List ℕ} → PlanPromise y img t lent r given n → (r ≡ provenancePlanRefusal y b t lent) × (r ≡ 0 → PlanMeans y img t lent)
