@@ -223,15 +223,17 @@ fn by_tests(tests: &Tests, slips: &[(u32, u64)]) {
 /// Steps of one list.
 const STEPS: usize = 256;
 
-/// A well-formed image: of a session, which goes on from list to list, or one that no session grows.
-fn start(r: &mut Random, last: &mut Vec<u8>) -> Vec<u8> {
+/// A well-formed image that no session grows.
+fn strange(r: &mut Random) -> Vec<u8> {
+    let mut image = generate::image(r);
     if r.one_in(2) {
-        let mut image = generate::image(r);
-        if r.one_in(2) {
-            generate::paste(r, &mut image);
-        }
-        return image;
+        generate::paste(r, &mut image);
     }
+    image
+}
+
+/// The image of a session, which goes on from list to list; now and then it is begun anew.
+fn going_on(r: &mut Random, last: &mut Vec<u8>) -> Vec<u8> {
     if last.is_empty() || r.one_in(8) {
         *last = generate::fresh();
         if r.one_in(2) {
@@ -291,11 +293,14 @@ fn replies(r: &mut Random) -> Vec<u8> {
     replies
 }
 
-fn by_random(slips: &[(u32, u64)], steps: usize, seed: u64) {
-    let (mut left, mut r, mut last) = (slips.to_vec(), Random(seed), Vec::new());
-    let mut found = |call: &Call, left: &mut Vec<(u32, u64)>| {
+/// The slips that no call has found yet, each with the calls to be asked of it.
+struct Left(Vec<(u32, u64)>);
+
+impl Left {
+    /// Asks a call of all, and leaves out those that it finds. What the ledger as it is answers.
+    fn ask(&mut self, call: &Call) -> Answer {
         let expected = plain(call);
-        left.retain(|(slip, calls)| {
+        self.0.retain(|(slip, calls)| {
             let found = calls >> call.name & 1 == 1 && finds(*slip, call, &expected);
             if found {
                 println!("{slip} {}", call.name);
@@ -303,32 +308,47 @@ fn by_random(slips: &[(u32, u64)], steps: usize, seed: u64) {
             !found
         });
         expected
-    };
-    for _ in 0..steps.div_ceil(STEPS) {
-        let image = start(&mut r, &mut last);
-        let (mut after, mix) = (image.clone(), r.pick(&generate::MIXES).unwrap());
-        let list = generate::steps(&mut r, &mix, &mut after, STEPS);
-        let numbers = [0, list.len() as u64, list.len() as u64, 0, 0, 0];
-        let ran = found(&Call { name: 1, image: &image, list: &list, numbers }, &mut left);
-        let mut old = vec![0; 22_132];
-        plain::convert::back(&ran.image, &mut old);
-        let mut damaged = ran.image.clone();
-        generate::damage(&mut r, &mut damaged);
-        if r.one_in(2) {
-            let at = r.below(old.len());
-            old[if r.one_in(2) { at } else { 4 + 825 * (at % 16) + at % 60 }] ^= 1 << r.below(8);
-        }
-        for call in questions(&mut r, &ran.image, &damaged, &list, &old) {
-            found(&call, &mut left);
-        }
-        let told = replies(&mut r);
-        let width = [asked(&mut r) * 3, 0, 0, 0, 0, 0];
-        found(&Call { name: 15, image: &[], list: &told, numbers: width }, &mut left);
-        if ran.image[4] == image[4] && generate::status(&last, 0) != 0 {
-            last = if image == last { ran.image } else { last };
-        }
     }
-    println!("{} left", left.len());
+}
+
+/// The image in the old form, often with a bit turned; all zero where it has none.
+fn old_form(r: &mut Random, image: &[u8]) -> Vec<u8> {
+    let mut old = vec![0; 22_132];
+    plain::convert::back(image, &mut old);
+    if r.one_in(2) {
+        let at = r.below(old.len());
+        old[if r.one_in(2) { at } else { 4 + 825 * (at % 16) + at % 60 }] ^= 1 << r.below(8);
+    }
+    old
+}
+
+/// A list of steps on an image, and the calls on the image that it leaves.
+fn round(r: &mut Random, left: &mut Left, last: &mut Vec<u8>) {
+    let session = r.one_in(2);
+    let image = if session { going_on(r, last) } else { strange(r) };
+    let mix = r.pick(&generate::MIXES).unwrap();
+    let list = generate::steps(r, &mix, &mut image.clone(), STEPS);
+    let numbers = [0, list.len() as u64, list.len() as u64, 0, 0, 0];
+    let ran = left.ask(&Call { name: 1, image: &image, list: &list, numbers });
+    let mut damaged = ran.image.clone();
+    generate::damage(r, &mut damaged);
+    let old = old_form(r, &ran.image);
+    for call in questions(r, &ran.image, &damaged, &list, &old) {
+        left.ask(&call);
+    }
+    let (told, width) = (replies(r), asked(r) * 3);
+    left.ask(&Call { name: 15, image: &[], list: &told, numbers: [width, 0, 0, 0, 0, 0] });
+    if session {
+        *last = ran.image;
+    }
+}
+
+fn by_random(slips: &[(u32, u64)], steps: usize, seed: u64) {
+    let (mut left, mut r, mut last) = (Left(slips.to_vec()), Random(seed), Vec::new());
+    for _ in 0..steps.div_ceil(STEPS) {
+        round(&mut r, &mut left, &mut last);
+    }
+    println!("{} left", left.0.len());
 }
 
 fn main() {
