@@ -176,6 +176,20 @@ pub fn meetings(image: &[u8], p: u64, q: u64) -> Vec<[usize; 2]> {
     all
 }
 
+/// The call: 16, then 17 unless both steps have eight bytes, then 19; else whether the steps are independent.
+pub fn independent(image: &[u8], first: &[u8], second: &[u8]) -> Result<bool, u8> {
+    if image.len() != ledger::IMAGE {
+        return Err(16);
+    }
+    let (Ok(p), Ok(q)) = (first.try_into(), second.try_into()) else {
+        return Err(17);
+    };
+    if !ledger::formed(image) {
+        return Err(19);
+    }
+    Ok(meetings(image, u64::from_be_bytes(p), u64::from_be_bytes(q)).is_empty())
+}
+
 /// Both orders on copies: whether they leave the same image and give each step the same reply.
 pub fn exchange(image: &[u8], p: u64, q: u64) -> bool {
     let (mut one, mut other) = (image.to_vec(), image.to_vec());

@@ -10,6 +10,7 @@ export const IMAGE = 42616;
 export const OLD_IMAGE = 22132;
 export const STEP = 8;
 export const LONGEST = 8192;
+export const PLAN = 392;
 const NO_PARCEL = 65535;
 const OBSTACLES = ["nothing", "not frozen", "outside", "withdrawn"];
 const RELATIONS = ["same life", "left signed", "right signed", "left withdrawn", "right withdrawn", "unrelated"];
@@ -202,8 +203,42 @@ export class Session {
   }
 
   /**
+<<<<<<< HEAD
    * What the receipt of a waiting parcel would reply now: its outcome, 0 done, 2 dropped, 3 fallen back, 4 vanished; and the take whose marks decide
    * it: dropped, the parcel's mark of that take is stale; fallen back or vanished, the addressee's; done, 0. Refused as the receipt would be.
+=======
+   * What is left to do so that the take is signed: the steps, packed. Run on this session each is answered with outcome 0, and the last
+   * signs the take with all that it rests on. No steps: impediment says "withdrawn" or "all signed", and then it can't be signed any more in
+   * the life that it has; where it says anything else, there is no place or no number for a letter that is needed.
+   * @param {number} take
+   * @param {number} [room] for the steps, in bytes
+   * @returns {Uint8Array}
+   */
+  plan(take, room = PLAN) {
+    return query(this.#image, (c, at, length, refusal, m) => {
+      const out = m.room(room);
+      const steps = Number(c.ledger_plan(at, length, wide(take), out, wide(room), refusal));
+      return m.copy(out, STEP * steps);
+    });
+  }
+
+  /**
+   * Whether two packed steps are independent here: then both orders leave the same image, and give each step the same reply.
+   * @param {Uint8Array} first
+   * @param {Uint8Array} second
+   * @returns {boolean}
+   */
+  independent(first, second) {
+    return query(this.#image, (c, at, length, refusal, m) => {
+      const p = m.lend(first), q = m.lend(second);
+      return (c.looking_independent(at, length, p, wide(first.length), q, wide(second.length), refusal) & 255) === 1;
+    }, "looking");
+  }
+
+  /**
+   * What the receipt of a waiting parcel would do now, and the take whose marks decide it: dropped, the parcel's mark of that take is stale;
+   * falls, the addressee's. Refused as the receipt would be.
+>>>>>>> b41
    * @param {number} parcel
    * @returns {Decision}
    */

@@ -84,11 +84,22 @@ fn refused_ones() -> Asked {
             ("raw 7000000000000001", "freeze 0", Free, "So does a freeze with a text."),
             ("receive 9", "lose 9", Free, "Both are refused, whatever comes before: nothing is changed."),
             ("write 2 text 8", "write 2 text 9", Free, "Take 2 is idle: both are refused."),
-            ("write 2 text 8", "receive 2", Shows, "A refused step still sees its take: after the receipt it is not refused."),
+            (
+                "write 2 text 8",
+                "receive 2",
+                Shows,
+                "A refused step still sees its take: after the receipt it is not refused.",
+            ),
             ("sign {0}", "freeze 1", Free, "A signing that is not ready, and a take that it does not name."),
             ("sign {0}", "freeze 0", Shows, "It names the take that is frozen."),
             ("sign {0}", "write 0 text 9", Meets, "It sees the take, though it stays unfrozen."),
             ("sign {0}", "sign {1}", Free, "Neither is ready, and neither names what the other does."),
+            (
+                "sign {0}",
+                "send 0 to 2 text 9",
+                Free,
+                "Both see take 0: a signing that is not ready changes nothing, a send nothing of its take.",
+            ),
         ],
     }
 }
@@ -113,7 +124,8 @@ const SIGNABLE: &str = "root text 1; root text 2; root text 3; letter to 0 text 
 fn signings() -> Asked {
     Asked {
         name: "signings",
-        told: "Take 1 rests on take 0's present life, and both are frozen; take 2 is at work; parcel 3 waits for take 0.",
+        told:
+            "Take 1 rests on take 0's present life, and both are frozen; take 2 is at work; parcel 3 waits for take 0.",
         image: grown(LIMITS, &list(SIGNABLE)),
         pairs: vec![
             ("sign {1}", "sign {0}", Shows, "Take 1 alone is not ready before take 0 is signed, and ready after."),
@@ -133,7 +145,11 @@ fn signings() -> Asked {
 
 /// An image that no session grows.
 fn strange() -> Asked {
-    let image = Image::fresh(LIMITS).take(AT_WORK, 1, frozen(&[], 0)).take(IDLE, 2, frozen(&[], 0)).take(AT_WORK, 3, mark(&[], 0));
+    let image = Image::fresh(LIMITS).take(AT_WORK, 1, frozen(&[], 0)).take(IDLE, 2, frozen(&[], 0)).take(
+        AT_WORK,
+        3,
+        mark(&[], 0),
+    );
     let image = image.take(IDLE, 4, frozen(&[], 0)).has(Map::Creation(1), 0, &mark(&[], 0));
     let image = image.has(Map::Behaviour(2), 2, &mark(&[0], 0)).has(Map::State(3), 2, &mark(&[], 0));
     Asked {
@@ -174,7 +190,13 @@ impl Builder<'_> {
             let (p, q) = (notation::step(first), notation::step(second));
             let met = self.add(asked.name, comment, &asked.image, p, q);
             let shows = !order::exchange(&asked.image, p, q);
-            let is = if met.is_empty() { Free } else if shows { Shows } else { Meets };
+            let is = if met.is_empty() {
+                Free
+            } else if shows {
+                Shows
+            } else {
+                Meets
+            };
             assert!(is == *said, "{}: {first}, {second}: {met:?}, shows: {shows}", asked.name);
             if is == Shows {
                 let alone = |side: usize| met.iter().all(|m| m[side] == met[0][side]);

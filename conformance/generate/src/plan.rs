@@ -38,7 +38,11 @@ fn grown_ones() -> Vec<Asked> {
             questions: vec![
                 (0, Ok("freeze 0; sign {0}"), "At work: it is frozen and signed."),
                 (1, Ok("freeze 0; freeze 1; sign {0,1}"), "What it rests on is frozen and signed with it."),
-                (2, Ok("letter to 2 text 0; receive 2; freeze 2; sign {2}"), "Idle: a letter wakes it, which gets the next number."),
+                (
+                    2,
+                    Ok("letter to 2 text 0; receive 2; freeze 2; sign {2}"),
+                    "Idle: a letter wakes it, which gets the next number.",
+                ),
                 (3, Err(21), "Not opened."),
             ],
         },
@@ -46,7 +50,11 @@ fn grown_ones() -> Vec<Asked> {
             name: "idle",
             told: "The same, and take 0 is done.",
             image: after(LIMITS, "done 0"),
-            questions: vec![(1, Ok("letter to 0 text 0; receive 2; freeze 0; freeze 1; sign {0,1}"), "The idle take is woken, the other is not.")],
+            questions: vec![(
+                1,
+                Ok("letter to 0 text 0; receive 2; freeze 0; freeze 1; sign {0,1}"),
+                "The idle take is woken, the other is not.",
+            )],
         },
         Asked {
             name: "both idle",
@@ -240,7 +248,10 @@ fn runs(image: &[u8], take: usize, steps: &[u8]) {
     for u in 0..TAKES {
         let at = take_at(u);
         assert!(after[at + 1..at + 5] == image[at + 1..at + 5], "a plan changes a text");
-        assert!(volume >> u & 1 == 1 || after[at..at + TAKE] == image[at..at + TAKE], "a plan changes a take that it does not sign");
+        assert!(
+            volume >> u & 1 == 1 || after[at..at + TAKE] == image[at..at + TAKE],
+            "a plan changes a take that it does not sign"
+        );
     }
     assert!(after[FIRST_PARCEL..] == image[FIRST_PARCEL..], "a plan changes the parcels");
 }
@@ -265,7 +276,8 @@ fn possible(image: &[u8]) -> Vec<u64> {
         steps.extend((3..=10).filter(|k| *k != 4).map(|k| packed(k, t, 0, 0, 0)));
         steps.extend((0..takes).map(|u| packed(4, t, u, 0, 0)));
     }
-    steps.extend((0..waiting(image)).flat_map(|k| [2, 11].map(|kind| packed(kind, 0, 0, number(image, k) as usize, 0))));
+    steps
+        .extend((0..waiting(image)).flat_map(|k| [2, 11].map(|kind| packed(kind, 0, 0, number(image, k) as usize, 0))));
     steps.extend((1..1 << takes).map(|volume| packed(12, 0, 0, volume, 0)));
     steps
 }
@@ -329,12 +341,16 @@ fn random(b: &mut Builder) {
                 b.ask(&name, &image, take, "Of a random session.").unwrap();
             }
             runs(&image, take, &steps);
-            let lasts = matches!(ledger::impediment(&image, take), Ok(Impediment::Hopeless(..) | Impediment::Exhausted(..)));
+            let lasts =
+                matches!(ledger::impediment(&image, take), Ok(Impediment::Hopeless(..) | Impediment::Exhausted(..)));
             assert!(!lasts || steps.is_empty());
             let n = steps.len() / 8;
             if seed % 20 == 0 && (lasts || n > 0 && n <= DEPTH) {
                 let found = searched(&image, take);
-                assert!(if lasts { found.is_none() } else { found.is_some_and(|f| f <= n) }, "seed {seed}, take {take}: {found:?}");
+                assert!(
+                    if lasts { found.is_none() } else { found.is_some_and(|f| f <= n) },
+                    "seed {seed}, take {take}: {found:?}"
+                );
                 *if lasts { &mut doomed } else { &mut planned } += 1;
             }
         }

@@ -16,8 +16,8 @@ use image::layout::IMAGE;
 pub const ROOM: usize = IMAGE + 1;
 
 // The operations: each letter, the least and the most numbers that it takes, from 0 on, its group, and a space. (B is 18, H is 24.)
-const FORMS: [u8; 215] =
-    *b"n00c i22b b33c z00b p2Hb v24b x22b f22c s55r r66r c55r l2Hr m66r u44r d55r t22r o11c g11c q11c a11c h11c y11c e11c D11c F11c w22c j11v k11v H3Bh Z11h R11h K11h N33h S22h C22h I22h T22h W11h P11h Q11h J33m E11m M33m ";
+const FORMS: [u8; 220] =
+    *b"n00c i22b b33c z00b p2Hb v24b x22b f22c s55r r66r c55r l2Hr m66r u44r d55r G66r t22r o11c g11c q11c a11c h11c y11c e11c D11c F11c w22c j11v k11v H3Bh Z11h R11h K11h N33h S22h C22h I22h T22h W11h P11h Q11h J33m E11m M33m ";
 
 // Plays an operation of a group: bytes, histories, maps, calls, runs.
 fn operation(group: u8, image: &mut [u8], list: &mut [u8], n: &[u8]) -> u8 {
