@@ -203,10 +203,6 @@ export class Session {
   }
 
   /**
-<<<<<<< HEAD
-   * What the receipt of a waiting parcel would reply now: its outcome, 0 done, 2 dropped, 3 fallen back, 4 vanished; and the take whose marks decide
-   * it: dropped, the parcel's mark of that take is stale; fallen back or vanished, the addressee's; done, 0. Refused as the receipt would be.
-=======
    * What is left to do so that the take is signed: the steps, packed. Run on this session each is answered with outcome 0, and the last
    * signs the take with all that it rests on. No steps: impediment says "withdrawn" or "all signed", and then it can't be signed any more in
    * the life that it has; where it says anything else, there is no place or no number for a letter that is needed.
@@ -236,9 +232,8 @@ export class Session {
   }
 
   /**
-   * What the receipt of a waiting parcel would do now, and the take whose marks decide it: dropped, the parcel's mark of that take is stale;
-   * falls, the addressee's. Refused as the receipt would be.
->>>>>>> b41
+   * What the receipt of a waiting parcel would reply now: its outcome, 0 done, 2 dropped, 3 fallen back, 4 vanished; and the take whose marks decide
+   * it: dropped, the parcel's mark of that take is stale; fallen back or vanished, the addressee's; done, 0. Refused as the receipt would be.
    * @param {number} parcel
    * @returns {Decision}
    */
