@@ -1,5 +1,5 @@
 //! Whether two steps may change places on an image: what a step sees and what it changes, a line a clause
-//! (docs/RULES.md, section 10, "Any order of arrival"). Read from the bytes of a well-formed image.
+//! (docs/RULES.md, 9.11). Read from the bytes of a well-formed image.
 
 use crate::generate::{self, take_at, MAP, MARK, STATE};
 use crate::ledger::{self, TAKES};
