@@ -32,6 +32,7 @@ use Rattle.rules.specs.Heard as heard
 use Rattle.rules.specs.ReadyGroups.{sizeOf, howMany, readyGroup, readyCount, readyRefusal, readyAnswer}
 use Rattle.rules.specs.Internal.Well.{WellFormed}
 use Rattle.rules.proofs.Bits.{named-zero, unnamed-all}
+use Rattle.rules.proofs.Groups.Counting.{zero-size}
 use Rattle.rules.proofs.Keep.Accepted.{named-room}
 use Rattle.rules.proofs.Keep.Step.{fitting-base}
 use Rattle.session.specs.Provenance.{Status, unused, idle, busy, annihilated, statusNumber, Live, is-idle, is-busy, In, WaitingMessage, Provenance, noWaitingMessage}
@@ -54,6 +55,7 @@ use Rattle.session.proofs.Waiting.{signs-exactly}
 use Rattle.session.proofs.Spreading.{at-place, place-in, as-many}
 use Rattle.session.proofs.LogTrace.{yes-means}
 use Rattle.session.proofs.Withdrawals.{dependents-answered}
+use Rattle.session.proofs.Carried.{live-there}
 use Rattle.session.proofs.Obstacles.{obstacle-answered}
 use Rattle.session.proofs.Impediments.{impediment-answered}
 use Rattle.session.proofs.Attainable.{plan-answered}
@@ -92,10 +94,6 @@ module _ (s : State) {b : Provenance} (r : Rel (view s) b) {t n : ℕ} where
 
 -- ---- volumes that could be signed
 
-live-there : {s : Status} → Live s → eqb (statusNumber s) number.annihilated ≡ false
-live-there is-idle = refl
-live-there is-busy = refl
-
 module _ {y : Layout} (z : Fitting y) {s : State} (well : WellFormed y s) {b : Provenance} (r : Rel (view s) b) (v : ℕ) where
   signable-to : v < bound 2 → stepOf y s (signing v) .reply .outcome ≡ done → Signable b v
   unfolding provenanceSeen
@@ -130,10 +128,6 @@ module _ {y : Layout} (z : Fitting y) {s : State} (well : WellFormed y s) {b : P
 -- a volume that names a take is none of no take
 some-named : (v t : ℕ) → named v t ≡ true → v ≡ 0 → ⊥
 some-named v t n e = false≢true (sym (named-zero t) ∙ ap (λ g. named g t) (sym e) ∙ n)
-
-size-none : sizeOf 0 ≡ 0
-unfolding sizeOf howMany
-size-none = rw (named-zero 0, named-zero 1, named-zero 2, named-zero 3, named-zero 4, named-zero 5, named-zero 6, named-zero 7, named-zero 8, named-zero 9, named-zero 10, named-zero 11, named-zero 12, named-zero 13, named-zero 14, named-zero 15)
 
 -- ---- after the calls of a session
 
@@ -177,7 +171,7 @@ module _ {y : Layout} (z : Fitting y) {img : List ℕ} (τ : Trace y img) {b : P
 
       of : (v : ℕ) → (sizeOf v ≡ size) × Signable b v → eqb (sizeOf v) size and eqb (stepOf y (unpack y img) (signing v) .reply .outcome) done ≡ true
       of v k =
-          let n : v ≡ 0 → ⊥ = λ i. (let q : sizeOf v ≡ 0 = ap sizeOf i ∙ size-none in omega (arith, some, k .0)) in
+          let n : v ≡ 0 → ⊥ = λ i. (let q : sizeOf v ≡ 0 = ap sizeOf i ∙ zero-size in omega (arith, some, k .0)) in
           and-of (eqb (sizeOf v) size) (eqb (stepOf y (unpack y img) (signing v) .reply .outcome) done) (eq-eqb (sizeOf v) size (k .0)) (eq-eqb (stepOf y (unpack y img) (signing v) .reply .outcome) done (signable-of z (there .well) (there .rel) v n (k .1)))
 
   heard-means : {t : ℕ} → heardAnswer y img t ≡ true → HeardMeans y img τ b t
