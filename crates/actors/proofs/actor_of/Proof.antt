@@ -1,50 +1,46 @@
+-- By kind.
 use borrow.Author.Needs.{needs}
+use Rattle.rules.specs.Layout.{base}
+use Rattle.rules.specs.Pack.{unpack}
+use Rattle.actors.proofs.Acting.{actor-malformed, actor-receive, actor-sign, actor-low, actor-high, actor-acts}
 use Rattle.actors.proofs.actor_of.Statement.{statement}
 use Rattle.actors.proofs.actor_of.Tie as tie
-use Rattle.actors.proofs.actor_of.Reads as reads
-use Rattle.actors.proofs.actor_of.Lts as lts
-use Rattle.actors.proofs.receiver.Reads as receiver-reads
-use Rattle.lists.proofs.fields.malformed.Reads as malformed-reads
 
--- src/lib.rt:45:8
-malformed-requires : tie.Need-malformed-requires
-malformed-requires c κs = search needs
-
--- src/lib.rt:46:9
 returns : tie.Need-returns
-returns c = search needs
+returns c = actor-malformed (unpack base (c .before .before .before .args .image .now)) _ (c .before .malformed .ensures) (c .if1 .taken)
 
--- src/lib.rt:50:9
-receiver-requires : tie.Need-receiver-requires
-receiver-requires c κs = search needs
-
--- src/lib.rt:50:9
 returns-2 : tie.Need-returns-2
-returns-2 c = search needs
+returns-2 c =
+    let d = c .before .before in
+    actor-receive _ _ (d .before .malformed .ensures) (d .if1 .left) (c .before .if2 .taken) (c .receiver .ensures)
 
--- src/lib.rt:53:9
 returns-3 : tie.Need-returns-3
-returns-3 c = search needs
+returns-3 c =
+    let d = c .before .before in
+    actor-sign (unpack base (d .before .before .before .args .image .now)) _ (d .before .malformed .ensures) (d .if1 .left) (c .before .if2 .left) (c .if3 .taken)
 
--- src/lib.rt:56:9
 returns-4 : tie.Need-returns-4
-returns-4 c = search needs
+returns-4 c =
+    let d = c .before .before .before in
+    actor-low (unpack base (d .before .before .before .args .image .now)) _ (d .before .malformed .ensures) (d .if1 .left) (c .before .before .if2 .left) (c .before .if3 .left) (c .if4 .taken)
 
--- src/lib.rt:59:9
 returns-5 : tie.Need-returns-5
-returns-5 c = search needs
+returns-5 c =
+    let d = c .before .before .before .before in
+    actor-high (unpack base (d .before .before .before .args .image .now)) _ (d .before .malformed .ensures) (d .if1 .left) (c .before .before .before .if2 .left) (c .before .before .if3 .left) (c .before .if4 .left) (c .if5 .taken)
 
--- src/lib.rt:41:1
 returns-6 : tie.Need-returns-6
-returns-6 c = search needs
+returns-6 c =
+    let d = c .before .before .before .before in
+    actor-acts (unpack base (d .before .before .before .args .image .now)) _ (d .before .malformed .ensures) (d .if1 .left) (c .before .before .before .if2 .left) (c .before .before .if3 .left) (c .before .if4 .left) (c .if5 .left)
 
 pub actor-of-spec : {M : Type 1} → statement M
 actor-of-spec =
     tie.close
     (tie.spec
-    malformed-requires
+    (λ c κs. search needs)
     returns
-    receiver-requires
+    (λ c κs. search needs)
     returns-2
     returns-3
     returns-4

@@ -1,48 +1,27 @@
+-- The tests in their order, and then by kind.
+use mathlib.Core.Bool.{not}
+use mathlib.Core.Path.{sym, ap, _∙_}
 use borrow.Author.Needs.{needs}
+use Rattle.actors.proofs.Acting.{actor-16, actor-17, actor-19, actor-0}
 use Rattle.actors.proofs.for_whom.Statement.{statement}
 use Rattle.actors.proofs.for_whom.Tie as tie
-use Rattle.actors.proofs.for_whom.Reads as reads
-use Rattle.actors.proofs.for_whom.Lts as lts
-use Rattle.actors.proofs.actor_of.Reads as actor-of-reads
-use Rattle.form.proofs.formed.Reads as formed-reads
-use Rattle.lists.proofs.packed.decode.Reads as decode-reads
 
--- src/lib.rt:70:9
-returns : tie.Need-returns
-returns c = search needs
-
--- src/lib.rt:74:9
-returns-2 : tie.Need-returns-2
-returns-2 c = search needs
-
--- src/lib.rt:76:9
-formed-requires : tie.Need-formed-requires
-formed-requires c κs = search needs
-
--- src/lib.rt:78:9
 returns-3 : tie.Need-returns-3
-returns-3 c = search needs
+returns-3 c = actor-19 _ _ (search needs) (search needs) (ap not (sym (c .before .formed .ensures)) ∙ c .if3 .taken)
 
--- src/lib.rt:81:21
-decode-requires : tie.Need-decode-requires
-decode-requires c κs = search needs
-
--- src/lib.rt:81:5
-actor-of-requires : tie.Need-actor-of-requires
-actor-of-requires c κs = search needs
-
--- src/lib.rt:65:1
 returns-4 : tie.Need-returns-4
-returns-4 c = search needs
+returns-4 c =
+    let d = c .before .before in
+    actor-0 _ _ (search needs) (search needs) (ap not (sym (d .before .formed .ensures)) ∙ d .if3 .left) _ (c .before .decode .ensures) _ (c .actor-of .ensures)
 
 pub for-whom-spec : {M : Type 1} → statement M
 for-whom-spec =
     tie.close
     (tie.spec
-    returns
-    returns-2
-    formed-requires
+    (λ c. actor-16 _ _ (search needs))
+    (λ c. actor-17 _ _ (search needs) (search needs))
+    (λ c κs. search needs)
     returns-3
-    decode-requires
-    actor-of-requires
+    (λ c κs. search needs)
+    (λ c κs. search needs)
     returns-4)
