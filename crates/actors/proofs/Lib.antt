@@ -1,2 +1,3 @@
 mod Acting
+pub mod Members
 pub mod Others
