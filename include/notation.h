@@ -2,12 +2,10 @@
  * the documents' words.
  *
  * The library is built by `rt staticlib notation_c` as target/staticlib/libnotation_c.a, for x86-64 Linux, and can be linked alone or beside
- * the ledger's. It keeps nothing between calls, allocates nothing and needs only memcpy, memmove and memset.
+ * the ledger's.
  *
- * A buffer is a pointer and its length in bytes. The caller owes, for each call: pointers that are not null (also for a length of 0), as
- * many bytes behind each as its length says, readable, and writable where the pointer is not to const; and that what is written (out, line,
- * column, expected) overlaps no other buffer of the call. Buffers that are only read may overlap each other. Every other input is allowed. A
- * refused call changes no byte of out. No text is ended by a zero byte.
+ * What a caller owes (buffers, threads, stack) is said once, in ledger_steps.h.
+ * No text is ended by a zero byte.
  *
  * Stack of each call in KiB, at most, beside that of memcpy, memmove and memset (tools/stack measures the compiled library):
  *
@@ -16,8 +14,7 @@
 #ifndef NOTATION_H
 #define NOTATION_H
 
-#include <stddef.h>
-#include <stdint.h>
+#include "ledger_steps.h"
 
 #ifdef __cplusplus
 extern "C" {

@@ -79,7 +79,7 @@ int main(int argc, char **argv) {
                 if (f) { if (n || out[0] != 0xAA || out[391] != 0xAA) fail("refused and written", k); empty++; continue; }
                 if (n > 49) fail("too long", k);
                 for (size_t j = 8 * n; j < sizeof out; j++) if (out[j]) fail("not zero past the steps", k);
-                struct ledger_impediment c = ledger_impediment(image, LEDGER_IMAGE, u, &g);
+                struct ledger_cause c = ledger_impediment(image, LEDGER_IMAGE, u, &g);
                 if (n == 0) {
                     if (c.kind == 1 || c.kind == 2) {
                         lasting++; uint8_t now[33]; life(image, u, now); int seen = 0;

@@ -1,5 +1,5 @@
 // The ledger's calls for programs in other languages, as include/ledger.h declares them: a slice is a pointer and a length, a
-// lent number a pointer. None has a precondition, and each promises what the call of ledger, queries, plans, actors, thin, convert or window promises.
+// lent number a pointer. None has a precondition, and each promises what the call of ledger, queries, plans, actors, defects, thin, convert or window promises.
 use actors::Actor;
 use rules::Dependents;
 use rules::Grouped;
@@ -15,6 +15,7 @@ ghost use Rattle.rules.specs.Heard.{heardAnswer};
 ghost use Rattle.rules.specs.Obstacle.{obstacleRefusal, obstacleAnswer};
 ghost use Rattle.rules.specs.Impediment.{impedimentAnswer};
 ghost use Rattle.actors.specs.Actor.{actorRefusal, actorAnswer};
+ghost use Rattle.defects.specs.Defect.{defectRefusal, defectAnswer};
 ghost use Rattle.thin.specs.Thin.{thinRefusal, thinOut, thinCount};
 ghost use Rattle.convert.specs.Convert.{forwardAnswer, forwardImage, backAnswer, backImage};
 ghost use Rattle.window.specs.Window.{windowRefusal, worstWindow};
@@ -23,8 +24,8 @@ ghost use Rattle.ledger_c.specs.Interface.{version, offeredBy, groupOf, 
 // The number that stands for no message.
 pub const NONE: u16 = 65535;
 
-// The interface's major, minor and patch number, a byte each: LEDGER_VERSION of include/ledger.h.
-pub const VERSION: u32 = 196608;
+// The interface's major, minor and patch number, a byte each, as the file VERSION has them: LEDGER_VERSION of include/ledger.h.
+pub const VERSION: u32 = 262144;
 
 // The kinds of what is in the way of every group with a transactor.
 const HOPELESS: u8 = 1;
@@ -76,7 +77,7 @@ pub struct Acting {
 // The version of this library.
 #[no_mangle]
 pub extern "C" fn ledger_version() -> u32
-    ensures { λ r. ⌜ r ≡ version 3 0 0 ⌝ }
+    ensures { λ r. ⌜ r ≡ version 4 0 0 ⌝ }
 {
     VERSION
 }
@@ -247,6 +248,18 @@ pub extern "C" fn ledger_actor(image: &[u8], step: &[u8], refusal: &mut u8) -> A
             takes: members as usize,
         },
     }
+}
+
+// Where the image fails the form first: the byte and the clause, lent numbers, both 0 where it does not. 16, 19 if it does, or 0.
+#[no_mangle]
+pub extern "C" fn ledger_fault(image: &[u8], at: &mut usize, clause: &mut u8) -> u8
+    ensures { λ r. ⌜ (r ≡ defectRefusal base (now (image .entry))) × (now (at .exit) ≡ defectAnswer base (now (image .entry)) .at) × (now (clause .exit) ≡ defectAnswer base (now (image .entry)) .clause) ⌝ }
+{
+    let mut refusal: u8 = 0;
+    let d = defects::first_defect(image, &mut refusal);
+    *at = d.at;
+    *clause = d.clause;
+    refusal
 }
 
 // Writes the steps after which the transactor is checkpointed with all that it rests on, each answered with 0, and zeros after them: how many
