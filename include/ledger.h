@@ -98,23 +98,24 @@ struct ledger_acting {
     size_t takes; /* the transactors, as their bits: one for LEDGER_ONE_TRANSACTOR, the group for LEDGER_GROUP, else 0 */
 };
 
-/* The clauses of an image's form, in the documents' order: what is wrong. */
+/* The clauses of an image's form by their numbers in docs/RULES.md, section 8: what is wrong. */
 enum ledger_clause {
     LEDGER_WELL_FORMED = 0,
-    LEDGER_NOT_ZERO = 1,        /* a zero field or unused place not zero, outside a map */
-    LEDGER_WRONG_MAP = 2,       /* the same in a map; or a history of a transactor that is not opened; or more checkpoints than the limit */
-    LEDGER_OVER_OPENED = 3,     /* more transactors opened than the limit */
-    LEDGER_NO_STATUS = 4,       /* an opened transactor with status 0 */
-    LEDGER_NO_OWN_HISTORY = 5,  /* a live transactor without its own history */
-    LEDGER_SAVED_VALUE = 6,     /* a transactor never checkpointed with a saved value */
-    LEDGER_IDLE_BEHAVIOUR = 7,  /* an idle transactor with a behaviour map */
-    LEDGER_OVER_STATUS = 8,     /* an annihilated transactor with more than its status */
-    LEDGER_GAP = 9,             /* messages with gaps */
-    LEDGER_OUT_OF_ORDER = 10,   /* a message with no higher number than the one before it */
-    LEDGER_OVER_NEXT = 11,      /* a message at or above the next number */
-    LEDGER_TO_UNOPENED = 12,    /* a message to a transactor that is not opened */
-    LEDGER_WRONG_LIMITS = 13,   /* limits out of range */
-    LEDGER_OVER_WAITING = 14    /* more messages waiting than the limit */
+    LEDGER_FRONT_ZEROS = 1,      /* byte 3 or 7 not zero */
+    LEDGER_WRONG_LIMITS = 2,     /* limits out of range */
+    LEDGER_TRANSACTOR_ZEROS = 3, /* in a transactor's place a zero bit that is set, or a place past those opened that is not zero */
+    LEDGER_PLACE_ZEROS = 4,      /* in a message's place a zero bit that is set, or a free place that is not zero */
+    LEDGER_WRONG_MAP = 5,        /* in a map: the same; a history of a transactor that is not opened; or more checkpoints than the limit */
+    LEDGER_OVER_LIMIT = 6,       /* more transactors opened, or more messages waiting, than the limits */
+    LEDGER_NO_STATUS = 7,        /* an opened transactor with status 0 */
+    LEDGER_NO_OWN_HISTORY = 8,   /* a live transactor without its own history */
+    LEDGER_SAVED_VALUE = 9,      /* a transactor never checkpointed with a saved value */
+    LEDGER_IDLE_BEHAVIOUR = 10,  /* an idle transactor with a behaviour map */
+    LEDGER_OVER_STATUS = 11,     /* an annihilated transactor with more than its status */
+    LEDGER_GAP = 12,             /* messages with gaps */
+    LEDGER_OUT_OF_ORDER = 13,    /* a message with no higher number than the one before it */
+    LEDGER_OVER_NEXT = 14,       /* a message at or above the next number */
+    LEDGER_TO_UNOPENED = 15      /* a message to a transactor that is not opened */
 };
 
 /* LEDGER_VERSION of the library that is linked. */

@@ -56,11 +56,11 @@ test("every refusal has the library's words, and no other number has any", () =>
 
 // Each clause by one byte changed in the image of a small session: where it stands, and its number.
 const FAULTS = [
-  [3, 1, 3, 1], [7, 1, 7, 1], [4, 0, 4, 13], [4, 17, 4, 13], [0, 17, 0, 3], [5, 1, 5, 14], // head and limits
-  [8, 0x41, 8, 1], [8, 0, 8, 4], [8, 0xc0, 9, 8], [17, 0, 17, 5], [16, 1, 13, 6], [1073, 0x80, 1073, 7], // take 0, idle
-  [20, 1, 17, 2], [545 + 33 * 9, 0x80, 545, 2], [1601 + 1593, 0x40, 1601 + 1593, 1], // its maps; take 2, which is not opened
-  [25496, 0x85, 25496, 12], [25496, 0x90, 25496, 1], [25497, 1, 25497, 11], // parcel place 0
-  [26033, 0, 26032, 10], [26032 + 535, 9, 26031 + 535, 1], [26031 + 1070, 0x80, 26031 + 1070, 9], // places 1, 2 and 3
+  [3, 1, 3, 1], [7, 1, 7, 1], [4, 0, 4, 2], [4, 17, 4, 2], [0, 17, 0, 6], [5, 1, 5, 6], // head and limits
+  [8, 0x41, 8, 3], [8, 0, 8, 7], [8, 0xc0, 9, 11], [17, 0, 17, 8], [16, 1, 13, 9], [1073, 0x80, 1073, 10], // take 0, idle
+  [20, 1, 17, 5], [545 + 33 * 9, 0x80, 545, 5], [1601 + 1593, 0x40, 1601 + 1593, 3], // its maps; take 2, which is not opened
+  [25496, 0x85, 25496, 15], [25496, 0x90, 25496, 4], [25497, 1, 25497, 14], // parcel place 0
+  [26033, 0, 26032, 13], [26032 + 535, 9, 26031 + 535, 4], [26031 + 1070, 0x80, 26031 + 1070, 12], // places 1, 2 and 3
 ];
 
 test("the first fault of an image: which byte, which clause", () => {

@@ -33,17 +33,17 @@ module _ (img : List ℕ) where
       same : inRange base (limitsOf a b c) ≡ inRange base (unpack base img .limits)
       same = ap (inRange base) (λ i. limitsOf (transactors i) (messages i) (checkpoints i))
 
-      pub front-limits : not (inRange base (limitsOf a b c)) ≡ true → record { at = 4; clause = 13 } ≡ frontDefect base img
+      pub front-limits : not (inRange base (limitsOf a b c)) ≡ true → record { at = 4; clause = 2 } ≡ frontDefect base img
       unfolding frontDefect limitsZero
       front-limits n = rw (eq-eqb (getD img 3 0) 0 blank, eq-eqb (getD img 7 0) 0 fourth, ← same, not-true (inRange base (limitsOf a b c)) n)
 
       module _ (range : not (inRange base (limitsOf a b c)) ≡ false) where
-        pub front-opened : a < unpack base img .opened → record { at = 0; clause = 3 } ≡ frontDefect base img
+        pub front-opened : a < unpack base img .opened → record { at = 0; clause = 6 } ≡ frontDefect base img
         unfolding frontDefect limitsZero
         front-opened h = rw (eq-eqb (getD img 3 0) 0 blank, eq-eqb (getD img 7 0) 0 fourth, ← same, not-false (inRange base (limitsOf a b c)) range, lt-leb (unpack base img .opened) (unpack base img .limits .transactors) (omega arith))
 
         module _ (few : unpack base img .opened ≤ a) where
-          pub front-waiting : b < waitingIn base img → record { at = 5; clause = 14 } ≡ frontDefect base img
+          pub front-waiting : b < waitingIn base img → record { at = 5; clause = 6 } ≡ frontDefect base img
           unfolding frontDefect limitsZero
           front-waiting h = rw (eq-eqb (getD img 3 0) 0 blank, eq-eqb (getD img 7 0) 0 fourth, ← same, not-false (inRange base (limitsOf a b c)) range, le-leb (unpack base img .opened) (unpack base img .limits .transactors) (omega arith), lt-leb (waitingIn base img) (unpack base img .limits .messages) (omega arith))
 

@@ -1,20 +1,24 @@
 -- No clause fails exactly if the image is well-formed, and so the call refuses an image as every other call does.
-use Prim.Native.Nat.{ℕ, zero, suc, _+_, _≤_, _<_}
+use Prim.Native.Nat.{ℕ, zero, suc, _+_, _-_, _/_, _%_, _≤_, _<_}
 use mathlib.Core.Bool.{Bool, true, false, not}
 use mathlib.Core.Path.{_≡_, refl, sym, ap, _∙_}
 use mathlib.Core.List.{List}
 use mathlib.Core.Logic.{⊎-elim}
 use native.Mathlib.Omega.{arith}
-use lib.ListN.{length}
-use lib.Dec.{eqb}
+use lib.ListN.{length, getD}
+use lib.Dec.{eqb, ltb, leb}
 use borrow.Author.Tests.{eq-eqb}
-use Rattle.octets.specs.Bytes.{pick, _and_, _or_, every, Octets}
+use Rattle.octets.specs.Bytes.{pick, _and_, part, every, allZero, Octets}
+use Rattle.octets.specs.Numbers.{ofBe}
+use Rattle.marks.specs.Packed.{presentIn}
 use Rattle.octets.proofs.Chunks.{sides}
 use Rattle.octets.proofs.Tests.{same-test}
 use Rattle.octets.proofs.Zero.{both, every-at, every-all}
-use Rattle.rules.specs.Layout.{Layout, base, imageBytes}
-use Rattle.rules.specs.Pack.{unpack}
-use Rattle.rules.specs.Form.{wellFormed}
+use Rattle.rules.specs.Layout.{Layout, inRange, imageBytes, historyBytes, mapBytes, savedAt, stateAt, creationAt, behaviourAt, transactorBytes, messageBytes, transactorAddress, messageAddress}
+use Rattle.rules.specs.Status.{unused, idle, annihilated}
+use Rattle.rules.specs.Pack.{waitingIn, unpack}
+use Rattle.rules.specs.Form.{mapFormed, limitsZero, wellFormed}
+use Rattle.image.specs.Internal.Addresses.{ownAt, mapAt}
 use Rattle.rules.specs.Internal.Guards.{imageRefusal}
 use Rattle.rules.specs.Calls.{wrongLength}
 use Rattle.form.specs.Internal.Tests.{formedOwnAt, formedLiveAt, formedTransactorAt, leastAt, formedMessageAt, formedFront, formedImage}
@@ -28,21 +32,29 @@ none d = eqb (d .clause) 0
 
 -- ---- tests one after the other
 
-five : (a b c d e : Bool) (i j k l m : ℕ) (f g h n o : ℕ) → none (check a i (suc f) (check b j (suc g) (check c k (suc h) (check d l (suc n) (check e m (suc o) sound))))) ≡ a and b and c and d and e
-five false b c d e i j k l m f g h n o = refl
-five true false c d e i j k l m f g h n o = refl
-five true true false d e i j k l m f g h n o = refl
-five true true true false e i j k l m f g h n o = refl
-five true true true true false i j k l m f g h n o = refl
-five true true true true true i j k l m f g h n o = refl
+of-front : (a b c d e : Bool) → none (check a 3 1 (check b 7 1 (check c 4 2 (check d 0 6 (check e 5 6 sound))))) ≡ a and b and c and d and e
+of-front false b c d e = refl
+of-front true false c d e = refl
+of-front true true false d e = refl
+of-front true true true false e = refl
+of-front true true true true false = refl
+of-front true true true true true = refl
 
-idle-or-not : (i z m : Bool) (a : ℕ) → none (pick i (check z a 7 sound) (check m a 2 sound)) ≡ pick i z m
+of-waiting : (a b c d e : Bool) (i j : ℕ) (k : ℕ) → none (check a i 4 (check b i 15 (check c j 14 (check d j 13 (check e k 5 sound))))) ≡ a and b and c and d and e
+of-waiting false b c d e i j k = refl
+of-waiting true false c d e i j k = refl
+of-waiting true true false d e i j k = refl
+of-waiting true true true false e i j k = refl
+of-waiting true true true true false i j k = refl
+of-waiting true true true true true i j k = refl
+
+idle-or-not : (i z m : Bool) (a : ℕ) → none (pick i (check z a 10 sound) (check m a 5 sound)) ≡ pick i z m
 idle-or-not true true m a = refl
 idle-or-not true false m a = refl
 idle-or-not false z true a = refl
 idle-or-not false z false a = refl
 
-living : (s c p w b : Bool) (i j k l : ℕ) (d : Defect) → none d ≡ b → none (check s i 2 (check c j 2 (check p k 5 (check w l 6 d)))) ≡ s and c and (p and w) and b
+living : (s c p w b : Bool) (i j k l : ℕ) (d : Defect) → none d ≡ b → none (check s i 5 (check c j 5 (check p k 8 (check w l 9 d)))) ≡ s and c and (p and w) and b
 living false c p w b i j k l d e = refl
 living true false p w b i j k l d e = refl
 living true true false w b i j k l d e = refl
@@ -50,7 +62,7 @@ living true true true false b i j k l d e = refl
 living true true true true b i j k l d e = e
 
 of-transactor : (o z h u v r b : Bool) (i j : ℕ) (d : Defect) → none d ≡ b
-    → none (pick o (check z i 1 sound) (check h i 1 (check u i 4 (pick v (check r j 8 sound) d)))) ≡ pick o z (h and u and pick v r b)
+    → none (pick o (check z i 3 sound) (check h i 3 (check u i 7 (pick v (check r j 11 sound) d)))) ≡ pick o z (h and u and pick v r b)
 of-transactor true true h u v r b i j d e = refl
 of-transactor true false h u v r b i j d e = refl
 of-transactor false z false u v r b i j d e = refl
@@ -59,7 +71,7 @@ of-transactor false z true true true true b i j d e = refl
 of-transactor false z true true true false b i j d e = refl
 of-transactor false z true true false r b i j d e = e
 
-of-message : (o z g b : Bool) (i : ℕ) (d : Defect) → none d ≡ b → none (pick o (check z i (pick g 1 9) sound) d) ≡ pick o z b
+of-message : (o z g b : Bool) (i : ℕ) (d : Defect) → none d ≡ b → none (pick o (check z i (pick g 4 12) sound) d) ≡ pick o z b
 of-message true true g b i d e = refl
 of-message true false true b i d e = refl
 of-message true false false b i d e = refl
@@ -70,15 +82,48 @@ of-message false z g b i d e = e
 module _ (y : Layout) (img : List ℕ) where
   front-is : none (frontDefect y img) ≡ formedFront y img
   unfolding frontDefect formedFront
-  front-is = five _ _ _ _ _ 3 7 4 0 5 0 0 12 2 13
+  front-is = of-front (eqb (getD img 3 0) 0) (limitsZero y img) (inRange y (unpack y img .limits)) (leb (unpack y img .opened) (unpack y img .limits .transactors)) (leb (waitingIn y img) (unpack y img .limits .messages))
 
-  live-is : (t : ℕ) → none (liveDefect y img t) ≡ formedLiveAt y img t
-  unfolding liveDefect savedRightAt behaviourDefect formedLiveAt formedOwnAt
-  live-is t = living _ _ _ _ _ _ _ _ _ _ (idle-or-not _ _ _ _)
+  module _ (t : ℕ) where
+    abbrev at : ℕ
+    at = transactorAddress y t
 
-  transactor-is : (t : ℕ) → none (transactorDefect y img t) ≡ formedTransactorAt y img t
-  unfolding transactorDefect formedTransactorAt
-  transactor-is t = of-transactor _ _ _ _ _ _ _ _ _ _ (live-is t)
+    abbrev formedAt : ℕ → Bool
+    formedAt i = mapFormed y (unpack y img) (at + i) img
+
+    abbrev isIdle : Bool
+    isIdle = eqb (getD img at 0 / 64) idle
+
+    abbrev zeroBehaviour : Bool
+    zeroBehaviour = allZero (part (at + behaviourAt y) (mapBytes y) img)
+
+    behaviour-is : none (behaviourDefect y img t) ≡ pick isIdle zeroBehaviour (formedAt (behaviourAt y))
+    unfolding behaviourDefect
+    behaviour-is = idle-or-not isIdle zeroBehaviour (formedAt (behaviourAt y)) (at + behaviourAt y)
+
+    live-is : none (liveDefect y img t) ≡ formedLiveAt y img t
+    unfolding liveDefect savedRightAt formedLiveAt formedOwnAt
+    live-is = living (formedAt stateAt) (formedAt (creationAt y)) (presentIn (part (ownAt y t) (historyBytes y) img)) (savedRightAt y img t)
+        (pick isIdle zeroBehaviour (formedAt (behaviourAt y))) (at + stateAt) (at + creationAt y) (ownAt y t) (at + savedAt) (behaviourDefect y img t) behaviour-is
+
+    transactor-is : none (transactorDefect y img t) ≡ formedTransactorAt y img t
+    unfolding transactorDefect formedTransactorAt
+    transactor-is = of-transactor (leb (unpack y img .opened) t) (allZero (part at (transactorBytes y) img)) (eqb (getD img at 0 % 64) 0)
+        (not (eqb (getD img at 0 / 64) unused)) (eqb (getD img at 0 / 64) annihilated) (allZero (part (at + 1) (transactorBytes y - 1) img))
+        (formedLiveAt y img t) at (at + 1) (liveDefect y img t) live-is
+
+  module _ (k : ℕ) where
+    abbrev place : ℕ
+    place = messageAddress y k
+
+    abbrev number : ℕ
+    number = ofBe 2 (part (place + 1) 2 img)
+
+    waiting-is : none (waitingDefect y img k) ≡ eqb (getD img place 0 / 16) 8 and ltb (getD img place 0 % 16) (unpack y img .opened)
+        and ltb number (unpack y img .next) and leb (leastNumber y img k) number and mapFormed y (unpack y img) (mapAt y k) img
+    unfolding waitingDefect
+    waiting-is = of-waiting (eqb (getD img place 0 / 16) 8) (ltb (getD img place 0 % 16) (unpack y img .opened))
+        (ltb number (unpack y img .next)) (leb (leastNumber y img k) number) (mapFormed y (unpack y img) (mapAt y k) img) place (place + 1) (mapAt y k)
 
   least-same : (k : ℕ) → leastNumber y img k ≡ leastAt y img k
   unfolding leastNumber leastAt
@@ -86,8 +131,11 @@ module _ (y : Layout) (img : List ℕ) where
   least-same (suc k) = refl
 
   message-is : (k : ℕ) → none (messageDefect y img k) ≡ formedMessageAt y img k
-  unfolding messageDefect waitingDefect formedMessageAt
-  message-is k = of-message _ _ _ _ _ _ (rw (least-same k) (five _ _ _ _ _ _ _ _ _ _ 0 11 10 9 1))
+  unfolding messageDefect formedMessageAt
+  message-is k = of-message (leb (waitingIn y img) k) (allZero (part (messageAddress y k) (messageBytes y) img)) (ltb (getD img (messageAddress y k) 0) 128)
+      _ (messageAddress y k) (waitingDefect y img k)
+      (waiting-is k ∙ ap (λ (n : ℕ). eqb (getD img (place k) 0 / 16) 8 and ltb (getD img (place k) 0 % 16) (unpack y img .opened)
+      and ltb (number k) (unpack y img .next) and leb n (number k) and mapFormed y (unpack y img) (mapAt y k) img) (least-same k))
 
 -- ---- the first of many
 
@@ -141,7 +189,7 @@ module _ (y : Layout) (img : List ℕ) where
     unfolding defectRefusal imageRefusal
     refused-alike = rw no-defect (flip (wellFormed y img))
       where
-        flip : (b : Bool) → pick (wrongLength y img) 16 (pick b 0 19) ≡ pick (wrongLength y img) 16 (pick (not b) 19 0)
+        flip : (b : Bool) → _≡_ {A = ℕ} (pick (wrongLength y img) 16 (pick b 0 19)) (pick (wrongLength y img) 16 (pick (not b) 19 0))
         flip true = refl
         flip false = refl
 

@@ -17,63 +17,67 @@ use Rattle.rules.specs.Calls.{wrongLength}
 use Rattle.image.specs.Internal.Addresses.{ownAt, mapAt}
 use Rattle.defects.specs.declared.Defect.{Defect}
 
--- ---- the clauses by their numbers, in the documents' order
+-- ---- the clauses by their numbers, those of docs/RULES.md, section 8
 
--- "a zero field or unused place not zero", outside a map
-abbrev pub notZero : ℕ
-notZero = 1
-
--- the same in a map; or "a mark of an unopened take"; or more entries in a list than the session's signings
-abbrev pub wrongMap : ℕ
-wrongMap = 2
-
--- "over 16 opened": more takes opened than the session's limit
-abbrev pub overOpened : ℕ
-overOpened = 3
-
--- "an opened take with status 0"
-abbrev pub wrongStatus : ℕ
-wrongStatus = 4
-
--- "a live take without its own mark"
-abbrev pub noOwnMark : ℕ
-noOwnMark = 5
-
--- "a never signed take with a saved text"
-abbrev pub savedText : ℕ
-savedText = 6
-
--- "an idle take with a behaviour map"
-abbrev pub idleBehaviour : ℕ
-idleBehaviour = 7
-
--- "a vanished take with more than its status"
-abbrev pub overStatus : ℕ
-overStatus = 8
-
--- "parcels with gaps"
-abbrev pub gap : ℕ
-gap = 9
-
--- "out of order"
-abbrev pub outOfOrder : ℕ
-outOfOrder = 10
-
--- "at or above the next number"
-abbrev pub overNext : ℕ
-overNext = 11
-
--- "to unopened takes"
-abbrev pub toUnopened : ℕ
-toUnopened = 12
+-- bytes 3 and 7: "a zero field .. not zero", in the head and behind the limits
+abbrev pub frontZeros : ℕ
+frontZeros = 1
 
 -- document 02, W7: limits not in range
 abbrev pub wrongLimits : ℕ
-wrongLimits = 13
+wrongLimits = 2
 
--- document 02, W7: more parcels waiting than the session's limit
-abbrev pub overWaiting : ℕ
-overWaiting = 14
+-- "a zero field or unused place not zero", in a take's place
+abbrev pub takeZeros : ℕ
+takeZeros = 3
+
+-- the same in a parcel's place
+abbrev pub placeZeros : ℕ
+placeZeros = 4
+
+-- the same in a map; or "a mark of an unopened take"; or more entries in a list than the session's signings
+abbrev pub wrongMap : ℕ
+wrongMap = 5
+
+-- "over 16 opened": more takes opened, or more parcels waiting, than the session's limits
+abbrev pub overLimit : ℕ
+overLimit = 6
+
+-- "an opened take with status 0"
+abbrev pub wrongStatus : ℕ
+wrongStatus = 7
+
+-- "a live take without its own mark"
+abbrev pub noOwnMark : ℕ
+noOwnMark = 8
+
+-- "a never signed take with a saved text"
+abbrev pub savedText : ℕ
+savedText = 9
+
+-- "an idle take with a behaviour map"
+abbrev pub idleBehaviour : ℕ
+idleBehaviour = 10
+
+-- "a vanished take with more than its status"
+abbrev pub overStatus : ℕ
+overStatus = 11
+
+-- "parcels with gaps"
+abbrev pub gap : ℕ
+gap = 12
+
+-- "out of order"
+abbrev pub outOfOrder : ℕ
+outOfOrder = 13
+
+-- "at or above the next number"
+abbrev pub overNext : ℕ
+overNext = 14
+
+-- "to unopened takes"
+abbrev pub toUnopened : ℕ
+toUnopened = 15
 
 -- ---- one after the other
 
@@ -99,11 +103,11 @@ firstOf f k (suc n) = orElse (f k) (firstOf f (suc k) n)
 -- takes opened 8, next parcel number 16, zero 8; the limits: takes, parcels waiting, signings, zero, 8 each
 unfoldable pub frontDefect : Layout → List ℕ → Defect
 frontDefect y img =
-    check (eqb (getD img 3 0) 0) 3 notZero
-    (check (limitsZero y img) 7 notZero
+    check (eqb (getD img 3 0) 0) 3 frontZeros
+    (check (limitsZero y img) 7 frontZeros
     (check (inRange y (unpack y img .limits)) 4 wrongLimits
-    (check (leb (unpack y img .opened) (unpack y img .limits .transactors)) 0 overOpened
-    (check (leb (waitingIn y img) (unpack y img .limits .messages)) 5 overWaiting sound))))
+    (check (leb (unpack y img .opened) (unpack y img .limits .transactors)) 0 overLimit
+    (check (leb (waitingIn y img) (unpack y img .limits .messages)) 5 overLimit sound))))
 
 -- the behaviour map of take t, idle or at work
 unfoldable pub behaviourDefect : Layout → List ℕ → ℕ → Defect
@@ -129,8 +133,8 @@ liveDefect y img t =
 -- take t: unopened, vanished, idle or at work
 unfoldable pub transactorDefect : Layout → List ℕ → ℕ → Defect
 transactorDefect y img t =
-    pick (leb (unpack y img .opened) t) (check (allZero (part (transactorAddress y t) (transactorBytes y) img)) (transactorAddress y t) notZero sound)
-    (check (eqb (getD img (transactorAddress y t) 0 % 64) 0) (transactorAddress y t) notZero
+    pick (leb (unpack y img .opened) t) (check (allZero (part (transactorAddress y t) (transactorBytes y) img)) (transactorAddress y t) takeZeros sound)
+    (check (eqb (getD img (transactorAddress y t) 0 % 64) 0) (transactorAddress y t) takeZeros
     (check (not (eqb (getD img (transactorAddress y t) 0 / 64) unused)) (transactorAddress y t) wrongStatus
     (pick (eqb (getD img (transactorAddress y t) 0 / 64) annihilated)
     (check (allZero (part (transactorAddress y t + 1) (transactorBytes y - 1) img)) (transactorAddress y t + 1) overStatus sound)
@@ -144,7 +148,7 @@ leastNumber y img (suc k) = ofBe 2 (part (messageAddress y k + 1) 2 img) + 1
 -- place k, in which a parcel waits: the first byte, its addressee, its number, its map
 unfoldable pub waitingDefect : Layout → List ℕ → ℕ → Defect
 waitingDefect y img k =
-    check (eqb (getD img (messageAddress y k) 0 / 16) 8) (messageAddress y k) notZero
+    check (eqb (getD img (messageAddress y k) 0 / 16) 8) (messageAddress y k) placeZeros
     (check (ltb (getD img (messageAddress y k) 0 % 16) (unpack y img .opened)) (messageAddress y k) toUnopened
     (check (ltb (ofBe 2 (part (messageAddress y k + 1) 2 img)) (unpack y img .next)) (messageAddress y k + 1) overNext
     (check (leb (leastNumber y img k) (ofBe 2 (part (messageAddress y k + 1) 2 img))) (messageAddress y k + 1) outOfOrder
@@ -154,7 +158,7 @@ waitingDefect y img k =
 unfoldable pub messageDefect : Layout → List ℕ → ℕ → Defect
 messageDefect y img k =
     pick (leb (waitingIn y img) k)
-    (check (allZero (part (messageAddress y k) (messageBytes y) img)) (messageAddress y k) (pick (ltb (getD img (messageAddress y k) 0) 128) notZero gap) sound)
+    (check (allZero (part (messageAddress y k) (messageBytes y) img)) (messageAddress y k) (pick (ltb (getD img (messageAddress y k) 0) 128) placeZeros gap) sound)
     (waitingDefect y img k)
 
 unfoldable pub defectOf : Layout → List ℕ → Defect

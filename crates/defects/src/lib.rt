@@ -39,34 +39,36 @@ pub struct Defect {
 
 const SOUND: Defect = Defect { at: 0, clause: 0 };
 
-// The clauses, in the documents' order.
-const NOT_ZERO: u8 = 1;
+// The clauses by their numbers in docs/RULES.md, section 8.
+const FRONT_ZEROS: u8 = 1;
 
-const WRONG_MAP: u8 = 2;
+const WRONG_LIMITS: u8 = 2;
 
-const OVER_OPENED: u8 = 3;
+const TRANSACTOR_ZEROS: u8 = 3;
 
-const WRONG_STATUS: u8 = 4;
+const PLACE_ZEROS: u8 = 4;
 
-const NO_OWN_HISTORY: u8 = 5;
+const WRONG_MAP: u8 = 5;
 
-const SAVED_VALUE: u8 = 6;
+const OVER_LIMIT: u8 = 6;
 
-const IDLE_BEHAVIOUR: u8 = 7;
+const WRONG_STATUS: u8 = 7;
 
-const OVER_STATUS: u8 = 8;
+const NO_OWN_HISTORY: u8 = 8;
 
-const GAP: u8 = 9;
+const SAVED_VALUE: u8 = 9;
 
-const OUT_OF_ORDER: u8 = 10;
+const IDLE_BEHAVIOUR: u8 = 10;
 
-const OVER_NEXT: u8 = 11;
+const OVER_STATUS: u8 = 11;
 
-const TO_UNOPENED: u8 = 12;
+const GAP: u8 = 12;
 
-const WRONG_LIMITS: u8 = 13;
+const OUT_OF_ORDER: u8 = 13;
 
-const OVER_WAITING: u8 = 14;
+const OVER_NEXT: u8 = 14;
+
+const TO_UNOPENED: u8 = 15;
 
 // Clause c fails at byte at.
 fn fails(at: usize, clause: u8) -> Defect
@@ -81,10 +83,10 @@ fn front(s: &[u8], n: usize) -> Defect
     ensures { λ r. ⌜ r ≡ frontDefect base (now (s .entry)) ⌝ }
 {
     if s[BLANK] != 0 {
-        return fails(BLANK, NOT_ZERO);
+        return fails(BLANK, FRONT_ZEROS);
     }
     if s[LIMITS_BLANK] != 0 {
-        return fails(LIMITS_BLANK, NOT_ZERO);
+        return fails(LIMITS_BLANK, FRONT_ZEROS);
     }
     let most = limits::transactors(s);
     let most_messages = limits::messages(s) as usize;
@@ -96,10 +98,10 @@ fn front(s: &[u8], n: usize) -> Defect
         return fails(MOST_TRANSACTORS, WRONG_LIMITS);
     }
     if most < head::opened(s) {
-        return fails(OPENED, OVER_OPENED);
+        return fails(OPENED, OVER_LIMIT);
     }
     if most_messages < n {
-        return fails(MOST_MESSAGES, OVER_WAITING);
+        return fails(MOST_MESSAGES, OVER_LIMIT);
     }
     SOUND
 }
@@ -164,13 +166,13 @@ fn transactor(s: &[u8], t: usize, opened: usize, limit: u8) -> Defect
     let at = FIRST_TRANSACTOR + TRANSACTOR * t;
     if opened <= t {
         if !octets::all_zero(s, at, TRANSACTOR) {
-            return fails(at, NOT_ZERO);
+            return fails(at, TRANSACTOR_ZEROS);
         }
         return SOUND;
     }
     let first = s[at];
     if first % 64 != 0 {
-        return fails(at, NOT_ZERO);
+        return fails(at, TRANSACTOR_ZEROS);
     }
     let status = first / 64;
     if status == numbers::UNUSED {
@@ -205,7 +207,7 @@ fn waits(s: &[u8], k: usize, opened: usize, next: u16, limit: u8) -> Defect
     let at = FIRST_MESSAGE + MESSAGE * k;
     let first = s[at];
     if first / 16 != 8 {
-        return fails(at, NOT_ZERO);
+        return fails(at, PLACE_ZEROS);
     }
     let to = (first % 16) as usize;
     if opened <= to {
@@ -237,7 +239,7 @@ fn message(s: &[u8], k: usize, n: usize, opened: usize, next: u16, limit: u8) ->
         return SOUND;
     }
     if s[at] < 128 {
-        return fails(at, NOT_ZERO);
+        return fails(at, PLACE_ZEROS);
     }
     fails(at, GAP)
 }
