@@ -23,7 +23,8 @@
 extern "C" {
 #endif
 
-/* Major, minor and patch number, a byte each, made from the file VERSION; ledger_version() is the library's own. */
+/* Major, minor and patch number, a byte each, made from the file VERSION; ledger_version() is the
+ * library's own. */
 #define LEDGER_VERSION 0x040000
 #define LEDGER_VERSION_STRING "4.0.0"
 
@@ -167,14 +168,18 @@ struct ledger_reason ledger_obstacle(const uint8_t *image, size_t image_length, 
  * four numbers are 0. */
 struct ledger_cause ledger_impediment(const uint8_t *image, size_t image_length, size_t transactor, uint8_t *refusal);
 
-/* For whom the step, LEDGER_STEP bytes, acts on this image: whoever gives people rights asks it before the step is run. Whether the step would be
- * refused with more than 20 is not asked. A step changes no transactor that is opened before it and that it does not act for, refused or not.
- * *refusal is 0. Refused: *refusal is 16, 17 (step not LEDGER_STEP bytes) or 19, and both numbers are 0. */
+/* For whom the step, LEDGER_STEP bytes, acts on this image: whoever gives people rights asks it
+ * before the step is run. Whether the step would be refused with more than 20 is not asked. A step
+ * changes no transactor that is opened before it and that it does not act for, refused or not.
+ * *refusal is 0. Refused: *refusal is 16, 17 (step not LEDGER_STEP bytes) or 19, and both numbers
+ * are 0. */
 struct ledger_acting ledger_actor(const uint8_t *image, size_t image_length, const uint8_t *step, size_t step_length, uint8_t *refusal);
 
-/* Where an image fails the form first: answers 0 if it is well-formed, with *at and *clause 0; 19 if it is not, with the byte in *at (where the field, map
- * or place begins) and the clause in *clause; 16, with both 0, if it has another length. So the answer is what every other call refuses the image
- * with. The head and the limits come first, then the transactors, then the places of messages, each in the order of the bytes. */
+/* Where an image fails the form first: answers 0 if it is well-formed, with *at and *clause 0; 19
+ * if it is not, with the byte in *at (where the field, map or place begins) and the clause in
+ * *clause; 16, with both 0, if it has another length. So the answer is what every other call
+ * refuses the image with. The head and the limits come first, then the transactors, then the places
+ * of messages, each in the order of the bytes. */
 uint8_t ledger_fault(const uint8_t *image, size_t image_length, size_t *at, uint8_t *clause);
 
 /* What is left to do so that the transactor can be checkpointed: the steps, eight bytes each, written to out (LEDGER_PLAN bytes) with zero bytes after

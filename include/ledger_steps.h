@@ -18,22 +18,27 @@
  *
  * ---- How every call of these libraries is used
  *
- * Buffers. A buffer is a pointer and its length in bytes. The caller owes, for each call: pointers that are not null, also for a length of 0 (any
- * address will do there); as many bytes behind each as its length says, readable, and writable where the pointer is not to const; and that what is
- * written (an image that is run, replies, out, target, a lent number) overlaps no other buffer of the call. Buffers that are only read may
- * overlap each other. No alignment is asked of bytes. Every other input is allowed, and refused where the documents refuse it.
+ * Buffers. A buffer is a pointer and its length in bytes. The caller owes, for each call: pointers
+ * that are not null, also for a length of 0 (any address will do there); as many bytes behind each
+ * as its length says, readable, and writable where the pointer is not to const; and that what is
+ * written (an image that is run, replies, out, target, a lent number) overlaps no other buffer of
+ * the call. Buffers that are only read may overlap each other. No alignment is asked of bytes.
+ * Every other input is allowed, and refused where the documents refuse it.
  *
  * Refused calls change no byte but the lent number for the refusal.
  *
- * Threads. The libraries keep nothing between calls, have no variable of their own and allocate nothing. Any number of threads may call at the
- * same time; two calls of which one writes to a buffer must not have that buffer in common at the same time, as for any memory.
+ * Threads. The libraries keep nothing between calls, have no variable of their own and allocate
+ * nothing. Any number of threads may call at the same time; two calls of which one writes to a
+ * buffer must not have that buffer in common at the same time, as for any memory.
  *
- * Stack. Each header says how much stack each of its calls takes at most. No call calls back, waits, or asks the operating system for anything;
- * each ends. They need memcpy, memmove and memset and nothing else.
+ * Stack. Each header says how much stack each of its calls takes at most. No call calls back,
+ * waits, or asks the operating system for anything; each ends. They need memcpy, memmove and memset
+ * and nothing else.
  *
- * The code. The libraries are for x86-64 Linux. The code is position-independent and has neither unwind tables nor marks for control-flow
- * enforcement (CET), which the compiler of the proved language does not make: an exception must not be thrown through a call (none calls back),
- * and a debugger can't walk up from inside one.
+ * The code. The libraries are for x86-64 Linux. The code is position-independent and has neither
+ * unwind tables nor marks for control-flow enforcement (CET), which the compiler of the proved
+ * language does not make: an exception must not be thrown through a call (none calls back), and a
+ * debugger can't walk up from inside one.
  */
 #ifndef LEDGER_STEPS_H
 #define LEDGER_STEPS_H
@@ -76,8 +81,9 @@ enum ledger_outcome {
     LEDGER_OUTCOME_NOT_READY = 5
 };
 
-/* The answer of a call, or what a lent number takes: 0 if it is accepted; or why a call or a step is refused, of a step a reply's first
- * byte too. notation_refusal_text (notation.h) has the words of each. */
+/* The answer of a call, or what a lent number takes: 0 if it is accepted; or why a call or a step
+ * is refused, of a step a reply's first byte too. notation_refusal_text (notation.h) has the words
+ * of each. */
 enum ledger_refusal {
     LEDGER_ACCEPTED = 0,
     /* calls */
@@ -108,8 +114,9 @@ enum ledger_refusal {
     LEDGER_WRONG_WIDTH = 35   /* width outside 1 to 256 */
 };
 
-/* Writes a step: ledger_step(list + LEDGER_STEP * i, LEDGER_SEND, 0, 1, 0, 9). Each number must fit its field; no bit beyond it is written. The
- * functions below, one for each kind, take the fields of that kind alone, and write nothing where a number does not fit. */
+/* Writes a step: ledger_step(list + LEDGER_STEP * i, LEDGER_SEND, 0, 1, 0, 9). Each number must fit
+ * its field; no bit beyond it is written. The functions below, one for each kind, take the fields
+ * of that kind alone, and write nothing where a number does not fit. */
 static inline void ledger_step(uint8_t *at, enum ledger_kind kind, unsigned transactor, unsigned other, unsigned message, uint32_t value) {
     at[0] = (uint8_t)(((unsigned)kind & 15u) << 4 | (transactor & 15u));
     at[1] = (uint8_t)((other & 15u) << 4);
@@ -121,7 +128,8 @@ static inline void ledger_step(uint8_t *at, enum ledger_kind kind, unsigned tran
     at[7] = (uint8_t)(value & 255u);
 }
 
-/* Each writes a step of its kind and answers 1; or 0, with no byte written, where a transactor is past 15, or a message or group past 65,535. */
+/* Each writes a step of its kind and answers 1; or 0, with no byte written, where a transactor is
+ * past 15, or a message or group past 65,535. */
 static inline int ledger_fitting_step(uint8_t *at, enum ledger_kind kind, size_t transactor, size_t other, size_t message, uint32_t value) {
     if (transactor >= LEDGER_TRANSACTORS || other >= LEDGER_TRANSACTORS || message > 65535u) return 0;
     ledger_step(at, kind, (unsigned)transactor, (unsigned)other, (unsigned)message, value);

@@ -66,7 +66,8 @@ size_t notation_parse(const uint8_t *text, size_t text_length, uint8_t *out, siz
 /* Writes the words of what was expected, as `a take, 0 to 15`, without LF; nothing for a number that is not 1 to 12. 18. */
 struct notation_given notation_expected_text(uint8_t expected, uint8_t *out, size_t out_length);
 
-/* Writes the words of a refusal, as `image ill-formed`, without LF; nothing for a number that is not 16 to 35. 18. */
+/* Writes the words of a refusal, as `image ill-formed`, without LF; nothing for a number that is
+ * not 16 to 35. 18. */
 struct notation_given notation_refusal_text(uint8_t number, uint8_t *out, size_t out_length);
 
 /* How long the text of a list is. 17. */
