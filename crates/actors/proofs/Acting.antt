@@ -1,23 +1,21 @@
 -- For whom a step acts: each return of the code, and that the one take has a number below 16.
-use Prim.Native.Nat.{ℕ, _%_, _≤_, _<_}
+use Prim.Native.Nat.{ℕ, _≤_, _<_}
 use mathlib.Core.Bool.{Bool, true, false, not}
-use mathlib.Core.Path.{_≡_, refl, sym, ap, _∙_, subst}
+use mathlib.Core.Path.{_≡_, refl}
 use mathlib.Core.List.{List}
 use native.Mathlib.Omega.{arith}
-use lib.ListN.{length, getD}
-use lib.Dec.{eqb, leb}
-use borrow.Author.Tests.{eq-eqb, ne-eqb, le-leb, lt-leb, leb-false}
-use Rattle.octets.specs.Bytes.{pick, part}
-use Rattle.octets.proofs.Tests.{pick-view}
+use lib.ListN.{length}
+use borrow.Author.Tests.{eq-eqb, ne-eqb, le-leb, lt-leb}
+use Rattle.octets.specs.Bytes.{part}
 use Rattle.rules.specs.Layout.{base, imageBytes}
 use Rattle.rules.specs.State.{State, messageAt, placeOf}
 use Rattle.rules.specs.declared.Step.{Step}
 use Rattle.rules.specs.Step.{stepBytes, unpackStep, stepAt, receive, sign, new, fail}
-use Rattle.rules.specs.Refusals.{acts, malformed}
+use Rattle.rules.specs.Refusals.{malformed}
 use Rattle.rules.specs.Pack.{waitingIn, unpack}
 use Rattle.rules.specs.Form.{wellFormed}
 use Rattle.rules.proofs.Calls.Begin.{wrong-length, right-length}
-use Rattle.rules.proofs.Pack.Loads.{read-addressee, unpack-waiting}
+use Rattle.rules.proofs.Pack.Loads.{unpack-waiting}
 use Rattle.actors.specs.declared.Actor.{Actor}
 use Rattle.actors.specs.declared.Actor.the-variants.{Nobody, House, One, Group}
 use Rattle.actors.specs.Actor.{receiverOf, actorOf, actorRefusal, actorAnswer, ActorPromise}

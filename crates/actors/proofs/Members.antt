@@ -1,13 +1,11 @@
 -- The one take that a step acts for has a number below 16, so it counts as one of a volume.
 use Prim.Native.Nat.{ℕ, _%_, _<_}
-use mathlib.Core.Bool.{Bool}
-use mathlib.Core.Path.{_≡_, sym, subst}
+use mathlib.Core.Path.{_≡_, subst}
 use mathlib.Core.List.{List}
 use native.Mathlib.Omega.{arith}
 use lib.ListN.{length, getD}
 use lib.Dec.{eqb, leb}
 use borrow.Author.Tests.{leb-false}
-use Rattle.octets.specs.Bytes.{pick}
 use Rattle.octets.proofs.Tests.{pick-view}
 use Rattle.rules.specs.Layout.{base, messageAddress}
 use Rattle.rules.specs.State.{messageAt, placeOf}

@@ -5,24 +5,22 @@ use mathlib.Core.Path.{_≡_, refl, sym, ap, _∙_, subst}
 use mathlib.Core.Logic.{⊎-elim}
 use mathlib.Core.Option.{Option, none, some}
 use native.Mathlib.Omega.{arith}
-use lib.Dec.{eqb, leb}
+use lib.Dec.{eqb}
 use lib.ListN.{length}
-use borrow.Author.Tests.{eq-eqb, ne-eqb, eqb-true, le-leb, lt-leb}
+use borrow.Author.Tests.{eq-eqb, ne-eqb, eqb-true, le-leb}
 use Rattle.octets.specs.Bytes.{pick}
 use Rattle.octets.proofs.Tests.{pick-view, true-or-false, never}
 use Rattle.rules.specs.Layout.{Layout}
-use Rattle.rules.specs.State.{Transactor, State, noTransactor, transactorAt, messageAt, placeOf}
+use Rattle.rules.specs.State.{Transactor, State, noTransactor, transactorAt}
 use Rattle.rules.specs.declared.Step.{Step}
-use Rattle.rules.specs.Step.{receive, new, fail, read, send, sign}
+use Rattle.rules.specs.Step.{receive, new, fail, sign}
 use Rattle.rules.specs.Refusals.{named, malformed}
 use Rattle.rules.specs.Rules.{groupReady, seen, refusal, stepOf}
 use Rattle.rules.proofs.Keep.Accepted.{accepted as step-accepted}
 use Rattle.rules.proofs.Keep.Step.{refused-same}
 use Rattle.rules.proofs.ByKind.Refused.{receiver}
-use Rattle.rules.proofs.Independent.Lists.{overlay, overlay-none, single}
-use Rattle.rules.proofs.Independent.Effects.{Delta, Doing, Kind, is-root, is-letter, is-receive, is-new, is-send, is-local, is-lose, is-sign, kind-of, act, nothing, doing, applied-doing, present-receive}
-use Rattle.actors.specs.declared.Actor.{Actor}
-use Rattle.actors.specs.declared.Actor.the-variants.{One, Group}
+use Rattle.rules.proofs.Independent.Lists.{overlay-none, single}
+use Rattle.rules.proofs.Independent.Effects.{Delta, Doing, Kind, is-root, is-letter, is-receive, is-new, is-send, is-local, is-lose, is-sign, kind-of, act, doing, applied-doing, present-receive}
 use Rattle.actors.specs.Actor.{receiverOf, actorOf, ActsFor, alone, member}
 
 -- a take of which nothing is new

@@ -1,14 +1,13 @@
 -- The first clause that fails: each return of the code.
-use Prim.Native.Nat.{ℕ, zero, suc, _+_, _-_, _≤_, _<_}
-use mathlib.Core.Bool.{Bool, true, false, not}
-use mathlib.Core.Path.{_≡_, refl, sym, ap, _∙_, subst}
+use Prim.Native.Nat.{ℕ, suc, _+_, _-_, _≤_, _<_}
+use mathlib.Core.Bool.{true, false, not}
+use mathlib.Core.Path.{_≡_, sym, ap, _∙_, subst}
 use mathlib.Core.List.{List}
 use native.Mathlib.Numerals.{add-one}
 use native.Mathlib.Omega.{arith}
 use lib.ListN.{length, getD}
-use lib.Dec.{eqb, ltb, leb}
 use borrow.Author.Tests.{eq-eqb, ne-eqb, le-leb, lt-leb, not-true, not-false}
-use Rattle.octets.specs.Bytes.{pick, part}
+use Rattle.octets.specs.Bytes.{part}
 use Rattle.octets.specs.Numbers.{ofBe}
 use Rattle.rules.specs.Layout.{base, limitsOf, inRange, imageBytes, messageAddress}
 use Rattle.rules.specs.Pack.{waitingIn, unpack}

@@ -9,9 +9,9 @@ use lib.Dec.{eqb, ltb, leb}
 use Rattle.octets.specs.Bytes.{pick, _or_, part, allZero}
 use Rattle.octets.specs.Numbers.{ofBe}
 use Rattle.marks.specs.Packed.{unpackHistory, presentIn}
-use Rattle.rules.specs.Layout.{Layout, inRange, historyBytes, mapBytes, savedAt, stateAt, creationAt, behaviourAt, transactorBytes, dependencesAt, messageBytes, transactorAddress, messageAddress}
+use Rattle.rules.specs.Layout.{Layout, inRange, historyBytes, mapBytes, savedAt, stateAt, creationAt, behaviourAt, transactorBytes, messageBytes, transactorAddress, messageAddress}
 use Rattle.rules.specs.Status.{unused, idle, annihilated}
-use Rattle.rules.specs.Pack.{vacantAt, waitingIn, unpack}
+use Rattle.rules.specs.Pack.{waitingIn, unpack}
 use Rattle.rules.specs.Form.{mapFormed, limitsZero}
 use Rattle.rules.specs.Calls.{wrongLength}
 use Rattle.image.specs.Internal.Addresses.{ownAt, mapAt}

@@ -1,13 +1,13 @@
 -- The code's rows are the definition's.
-use Prim.Native.Nat.{ℕ, _+_, _-_, _≤_, _<_}
+use Prim.Native.Nat.{ℕ, _-_, _≤_, _<_}
 use mathlib.Core.Bool.{true}
-use mathlib.Core.Path.{_≡_, refl, sym, ap, _∙_}
-use mathlib.Core.List.{List, [], _∷_, _++_}
+use mathlib.Core.Path.{_≡_, refl, ap, _∙_}
+use mathlib.Core.List.{List, [], _++_}
 use native.Mathlib.Omega.{arith}
 use borrow.Author.Tests.{leb-true, le-leb, lt-leb}
 use lib.Dec.{leb}
 use lib.ListN.{length, take, replicate, getD, List·getD-eq-default}
-use Rattle.octets.specs.Bytes.{_and_, every, part, pick}
+use Rattle.octets.specs.Bytes.{_and_, every, part}
 use Rattle.octets.proofs.Chunks.{sides}
 use Rattle.octets.proofs.Tests.{pick-view}
 use Rattle.octets.proofs.Zero.{both, every-at}
@@ -15,7 +15,7 @@ use Rattle.marks.specs.Incarnation.{sameList}
 use Rattle.marks.proofs.Tests.{sameList-test}
 use Rattle.lines.specs.declared.Line.{Line}
 use Rattle.lines.specs.Lines.{lineRoom, written, plus, Says, letters, rowIn}
-use Rattle.lines.proofs.Lining.{plus-none, says-short, written-empty}
+use Rattle.lines.proofs.Lining.{plus-none, says-short}
 use Rattle.refusal_words.specs.Words.{refusals, refusalWords}
 use mathlib.Core.Logic.{⊎-elim}
 

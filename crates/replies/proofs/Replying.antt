@@ -6,8 +6,8 @@ use mathlib.Core.List.{List, [], _∷_, _++_}
 use native.Mathlib.Omega.{arith}
 use borrow.Author.Tests.{leb-true, lt-ltb, le-ltb, le-leb, lt-leb, eq-eqb, ne-eqb}
 use lib.Dec.{eqb, ltb, leb}
-use lib.ListN.{length, take, drop, getD, length-append}
-use Rattle.octets.specs.Bytes.{pick, _and_, _or_, every, part}
+use lib.ListN.{length, take, drop, length-append}
+use Rattle.octets.specs.Bytes.{_and_, _or_, every, part}
 use Rattle.octets.proofs.Put.{part-def}
 use Rattle.octets.proofs.Tests.{pick-view}
 use Rattle.octets.proofs.Zero.{both, every-at}

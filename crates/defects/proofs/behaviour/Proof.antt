@@ -3,8 +3,8 @@ use Rattle.defects.specs.Defect.{behaviourDefect}
 use Rattle.octets.proofs.Tests.{passed, failed}
 use Rattle.rules.specs.Form.{mapFormed}
 use borrow.Author.Needs.{needs}
-use borrow.Author.Tests.{eq-eqb, ne-eqb, le-leb, lt-leb, lt-ltb, le-ltb}
-use mathlib.Core.Path.{sym, ap, _∙_}
+use borrow.Author.Tests.{eq-eqb, ne-eqb}
+use mathlib.Core.Path.{_∙_}
 use Rattle.defects.proofs.behaviour.Statement.{statement}
 use Rattle.defects.proofs.behaviour.Tie as tie
 

@@ -3,7 +3,7 @@ use Rattle.defects.specs.Defect.{liveDefect}
 use Rattle.octets.proofs.Tests.{passed, failed}
 use Rattle.rules.specs.Form.{mapFormed}
 use borrow.Author.Needs.{needs}
-use mathlib.Core.Path.{sym, ap, _∙_}
+use mathlib.Core.Path.{_∙_}
 use Rattle.defects.proofs.live.Statement.{statement}
 use Rattle.defects.proofs.live.Tie as tie
 

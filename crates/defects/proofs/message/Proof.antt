@@ -1,8 +1,8 @@
 -- Taken, or vacant.
 use Rattle.defects.specs.Defect.{messageDefect}
 use borrow.Author.Needs.{needs}
-use borrow.Author.Tests.{eq-eqb, ne-eqb, le-leb, lt-leb, lt-ltb, le-ltb}
-use mathlib.Core.Path.{sym, ap, _∙_}
+use borrow.Author.Tests.{le-leb, lt-leb, lt-ltb, le-ltb}
+use mathlib.Core.Path.{sym, _∙_}
 use Rattle.defects.proofs.message.Statement.{statement}
 use Rattle.defects.proofs.message.Tie as tie
 

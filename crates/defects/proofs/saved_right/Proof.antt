@@ -1,8 +1,8 @@
 -- Signed, or nothing saved.
 use Rattle.defects.specs.Defect.{savedRightAt}
 use borrow.Author.Needs.{needs}
-use borrow.Author.Tests.{eq-eqb, ne-eqb, le-leb, lt-leb, lt-ltb, le-ltb}
-use mathlib.Core.Path.{sym, ap, _∙_}
+use borrow.Author.Tests.{eq-eqb, ne-eqb}
+use mathlib.Core.Path.{sym}
 use Rattle.defects.proofs.saved_right.Statement.{statement}
 use Rattle.defects.proofs.saved_right.Tie as tie
 

@@ -2,8 +2,8 @@
 use Rattle.defects.specs.Defect.{transactorDefect}
 use Rattle.octets.proofs.Tests.{passed, failed}
 use borrow.Author.Needs.{needs}
-use borrow.Author.Tests.{eq-eqb, ne-eqb, le-leb, lt-leb, lt-ltb, le-ltb}
-use mathlib.Core.Path.{sym, ap, _∙_}
+use borrow.Author.Tests.{eq-eqb, ne-eqb, le-leb, lt-leb}
+use mathlib.Core.Path.{_∙_}
 use Rattle.defects.proofs.transactor.Statement.{statement}
 use Rattle.defects.proofs.transactor.Tie as tie
 

@@ -4,7 +4,7 @@ use Rattle.octets.proofs.Tests.{passed, failed}
 use Rattle.rules.specs.Form.{mapFormed}
 use borrow.Author.Needs.{needs}
 use borrow.Author.Tests.{eq-eqb, ne-eqb, le-leb, lt-leb, lt-ltb, le-ltb}
-use mathlib.Core.Path.{sym, ap, _∙_}
+use mathlib.Core.Path.{_∙_}
 use Rattle.defects.proofs.waits.Statement.{statement}
 use Rattle.defects.proofs.waits.Tie as tie
 

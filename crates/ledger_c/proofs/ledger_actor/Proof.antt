@@ -1,11 +1,10 @@
 -- The numbers of each answer. A transactor that a step acts for is below 16.
 use Prim.Native.Nat.{ℕ}
-use mathlib.Core.Path.{_≡_, sym, ap, _∙_}
+use mathlib.Core.Path.{sym, ap, _∙_}
 use native.Mathlib.Omega.{arith}
 use borrow.Author.Needs.{needs}
 use Rattle.rules.proofs.Bits.{shifted}
 use Rattle.actors.proofs.Members.{one-below}
-use Rattle.ledger_c.specs.declared.Acting.{Acting}
 use Rattle.ledger_c.specs.Interface.{actingFor}
 use Rattle.ledger_c.proofs.ledger_actor.Statement.{statement}
 use Rattle.ledger_c.proofs.ledger_actor.Tie as tie
