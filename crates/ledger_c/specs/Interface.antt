@@ -1,4 +1,4 @@
--- How the answers of offer, smallest group, all heard frozen, obstacle, impediment and show are put in numbers.
+-- How the answers of offer, smallest group, all heard frozen, obstacle, impediment, actor and show are put in numbers.
 use Prim.Native.Nat.{ℕ, _+_, _*_}
 use mathlib.Core.Bool.{Bool, true, false}
 use mathlib.Core.List.{List}
@@ -11,6 +11,9 @@ use Rattle.rules.specs.Pack.{unpack}
 use Rattle.rules.specs.Calls.{showRefusal}
 use Rattle.rules.specs.Obstacle.{ObstacleNumbers}
 use Rattle.rules.specs.Impediment.{ImpedimentNumbers}
+use Rattle.actors.specs.declared.Actor.{Actor}
+use Rattle.actors.specs.Actor.{actorNumbers}
+use Rattle.ledger_c.specs.declared.Acting.{Acting}
 use Rattle.ledger_c.specs.declared.Cause.{Cause}
 use Rattle.ledger_c.specs.declared.Part.{Part}
 use Rattle.ledger_c.specs.declared.Reason.{Reason}
@@ -53,6 +56,10 @@ reasonNumbers r = record { kind = r .kind; transactor = r .transactor; ground = 
 -- And those of impediment's answer.
 abbrev pub causeNumbers : Cause → ImpedimentNumbers
 causeNumbers r = record { kind = r .kind; transactor = r .transactor; ground = r .ground; next = r .next }
+
+-- The numbers that stand for an answer of actor.
+abbrev pub actingFor : Actor → Acting
+actingFor a = record { kind = actorNumbers a .kind; takes = actorNumbers a .takes }
 
 -- The bytes of the image that hold a waiting parcel's map: where they start, and how many. Refused: an empty part.
 unfoldable pub shownPart : Layout → List ℕ → ℕ → Part
