@@ -6,7 +6,7 @@ use crate::impediment::impediment;
 use crate::json::Json;
 use crate::sha256::hex_digest;
 use bench::ledger::Obstacle;
-use bench::{ledger, library, reading};
+use bench::{ledger, library, order, reading};
 use std::io::Write;
 use std::path::PathBuf;
 use std::process::{Command, Stdio};
@@ -86,6 +86,24 @@ impl Kit {
         let refusal = kept.err().unwrap_or(0);
         self.seen.call("thin", refusal);
         (refusal, kept.unwrap_or(0), x)
+    }
+
+    /// How many steps, and the room for them.
+    pub fn plan(&mut self, image: &[u8], take: usize, room: usize) -> Result<(usize, Vec<u8>), u8> {
+        let (mut x, mut y) = (vec![0xa5; room], vec![0xa5; room]);
+        let steps = agree("plan", library::plan(image, take, &mut x), ledger::plan(image, take, &mut y));
+        assert!(x == y, "plan: the steps differ");
+        assert!(steps.is_ok() || x.iter().all(|b| *b == 0xa5), "a refused plan writes something");
+        self.seen.call("plan", steps.err().unwrap_or(0));
+        Ok((steps?, x))
+    }
+
+    /// Whether two steps are independent.
+    pub fn independent(&mut self, image: &[u8], first: &[u8], second: &[u8]) -> Result<bool, u8> {
+        let (a, b) = (library::independent(image, first, second), order::independent(image, first, second));
+        let answer = agree("independent", a, b);
+        self.seen.call("independent", answer.err().unwrap_or(0));
+        answer
     }
 
     /// Forward, or back.

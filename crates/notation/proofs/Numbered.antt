@@ -11,16 +11,16 @@ use Rattle.octets.specs.Bytes.{pick, _or_, chunks, tabulate}
 use Rattle.octets.proofs.Chunks.{length-tabulate, getD-tabulate}
 use Rattle.octets.proofs.Tests.{pick-view}
 use Rattle.rules.specs.declared.Step.{Step}
-use Rattle.rules.specs.Step.{stepAt}
+use Rattle.rules.specs.Step.{stepAt, packStep}
 use Rattle.rules.specs.Calls.{stepsIn}
 use Rattle.rules.specs.Refusals.{named}
 use Rattle.rules.specs.Internal.Well.{StepOk}
 use Rattle.rules.proofs.Bits.{named-add}
-use Rattle.notation.specs.Notation.{packStep, lineText, stepText, text}
+use Rattle.notation.specs.Notation.{lineText, stepText, text}
 use Rattle.notation.specs.Reading.{Reader, notLF, next, reached, withMember, lineAt, startLine, linesOf, said, fault, read}
 use Rattle.notation.specs.Grammar.{Says, Lines, none, skip, step}
 use Rattle.notation.specs.Faults.{Stop, unsaid, filled}
-use Rattle.notation.proofs.Packing.{length-packStep}
+use Rattle.rules.proofs.Pack.Steps.{length-packStep}
 use Rattle.notation.proofs.Rows.{line-back, line-first}
 use Rattle.notation.proofs.Lines.{first-line}
 use Rattle.notation.proofs.Accepted.{accepted}
@@ -89,8 +89,7 @@ roomy : (most : ℕ) (l : List ℕ) (long at e : ℕ) → Stop most l long at e 
 roomy most l long at e (unsaid a b r c) h p d = b p d
 roomy most l long at e (filled q c k f g) h p d = omega arith
 
--- With eight bytes of room for each byte of the text, every fault is at a line that says no step: steps_said never answers for want of room
--- where the text is shorter than 2 ^ 61 bytes.
+-- With eight bytes of room for each byte of the text, every fault is at a line that says no step: parse never answers for want of room.
 pub roomy-fault : (most : ℕ) (t : List ℕ) (n c e : ℕ) → 8 * length t ≤ most → read most t ≡ fault n c e → (p : Step) → Says (said (getD (linesOf t) (n - 1) [])) p → ⊥
 roomy-fault most t n c e h f =
     let k = fault-first most t n c e f in
