@@ -7,7 +7,7 @@
 
 int refused(const char *name, unsigned number) {
     uint8_t said[NOTATION_LINE];
-    size_t n = notation_refusal_text(number, said, sizeof said).length;
+    size_t n = notation_refusal_text((uint8_t)number, said, sizeof said).length;
     fprintf(stderr, "take-ledger: %s: refused %u: %.*s\n", name, number, (int)n, (const char *)said);
     return NO;
 }
@@ -34,9 +34,10 @@ unsigned take_in(const char *word) {
 
 /* An image that is ill-formed says where. */
 static void tell_fault(const char *name, struct bytes image) {
-    size_t at, clause;
-    if (image.length != LEDGER_IMAGE || !ledger_fault(image.at, image.length, &at, &clause)) return;
-    fprintf(stderr, "take-ledger: %s: byte %zu, clause %zu of the form (docs/RULES.md, 8)\n", name, at, clause);
+    size_t at;
+    uint8_t clause;
+    if (ledger_fault(image.at, image.length, &at, &clause) != LEDGER_ILL_FORMED) return;
+    fprintf(stderr, "take-ledger: %s: byte %zu, clause %u of the form (docs/RULES.md, section 8)\n", name, at, clause);
 }
 
 struct bytes image_in(const char *name) {
@@ -121,7 +122,7 @@ int verb_who(int count, char **words) {
     (void)count;
     struct bytes image = image_in(words[0]);
     uint8_t refusal;
-    struct ledger_dependents_answer d = ledger_dependents(image.at, image.length, take_in(words[1]), &refusal);
+    struct ledger_resting d = ledger_dependents(image.at, image.length, take_in(words[1]), &refusal);
     if (refusal) return refused(words[0], refusal);
     if (options.json) {
         fputs("{\"resting\": ", stdout), json_volume(d.resting);
@@ -159,7 +160,7 @@ static int json_reason(const char *kind, unsigned take, unsigned ground) {
 static int why_none(const char *name, struct bytes image, unsigned take) {
     static const char *const KINDS[] = {"nothing", "hopeless", "exhausted", "not frozen"};
     uint8_t refusal;
-    struct ledger_impediment_answer o = ledger_impediment(image.at, image.length, take, &refusal);
+    struct ledger_cause o = ledger_impediment(image.at, image.length, take, &refusal);
     if (refusal) return refused(name, refusal);
     if (options.json) return json_reason(KINDS[o.kind], o.transactor, o.ground);
     if (o.kind == LEDGER_NO_IMPEDIMENT) {
@@ -167,7 +168,7 @@ static int why_none(const char *name, struct bytes image, unsigned take) {
         return DONE;
     }
     for (unsigned at = take; at != o.transactor;) {
-        struct ledger_impediment_answer on = ledger_impediment(image.at, image.length, at, &refusal);
+        struct ledger_cause on = ledger_impediment(image.at, image.length, at, &refusal);
         two_line(at, " rests on ", on.next, "");
         at = on.next;
     }
@@ -184,7 +185,7 @@ int verb_why(int count, char **words) {
     size_t group = 0;
     for (int i = 1; i < count; i++) group |= ledger_member(take_in(words[i]));
     uint8_t refusal;
-    struct ledger_obstacle_answer o = ledger_obstacle(image.at, image.length, group, &refusal);
+    struct ledger_reason o = ledger_obstacle(image.at, image.length, group, &refusal);
     if (refusal) return refused(words[0], refusal);
     if (options.json) return json_reason(KINDS[o.kind], o.transactor, o.ground);
     if (o.kind == LEDGER_NOTHING) return volume_line("can be signed", (unsigned)group), DONE;
@@ -217,7 +218,7 @@ int verb_plan(int count, char **words) {
     if (options.json) return json_steps(out, steps), steps ? DONE : NO;
     for (size_t i = 0; i < steps; i++) tell_step(out + LEDGER_STEP * i), putchar('\n');
     if (steps > 0) return DONE;
-    struct ledger_impediment_answer o = ledger_impediment(image.at, image.length, take, &refusal);
+    struct ledger_cause o = ledger_impediment(image.at, image.length, take, &refusal);
     if (o.kind == LEDGER_HOPELESS || o.kind == LEDGER_EXHAUSTED) return why_none(words[0], image, take);
     puts("no room for the letters that wake idle takes: receive or lose a parcel first");
     return NO;
@@ -257,11 +258,11 @@ int verb_decide(int count, char **words) {
     static const char *const SAYS[] = {"would be taken in", "", "would be dropped", "makes its receiver fall back", "makes its receiver vanish"};
     struct bytes image = image_in(words[0]);
     uint8_t refusal;
-    struct looking_decision_answer d = looking_decision(image.at, image.length, number_in(words[1], SIZE_MAX, "a parcel"), &refusal);
+    struct looking_verdict d = looking_decision(image.at, image.length, number_in(words[1], SIZE_MAX, "a parcel"), &refusal);
     if (refusal) return refused(words[0], refusal);
     if (options.json) return printf("{\"outcome\": %zu, \"take\": %zu}\n", d.outcome, d.transactor), DONE;
     printf("parcel %s %s", words[1], SAYS[d.outcome]);
-    if (d.outcome != LEDGER_DONE) fputs(", going by the marks of ", stdout), tell_take((unsigned)d.transactor);
+    if (d.outcome != LEDGER_OUTCOME_DONE) fputs(", going by the marks of ", stdout), tell_take((unsigned)d.transactor);
     putchar('\n');
     return DONE;
 }

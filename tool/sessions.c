@@ -51,7 +51,7 @@ static void tell_played(const uint8_t *step, const uint8_t *reply, struct bytes 
     unsigned outcome = ledger_reply_outcome(reply), kind = step[0] >> 4;
     printf("%.*s # %s%.*s%s", (int)n, (const char *)line, colour(outcome), (int)m, (const char *)words, plain());
     struct bytes name = name_in(step, comment);
-    if ((kind == LEDGER_ROOT || kind == LEDGER_NEW) && outcome == LEDGER_DONE && name.length > 0) {
+    if ((kind == LEDGER_ROOT || kind == LEDGER_NEW) && outcome == LEDGER_OUTCOME_DONE && name.length > 0) {
         fputs(" (", stdout);
         fwrite(name.at, 1, name.length, stdout);
         putchar(')');
@@ -69,7 +69,7 @@ static void json_played(size_t i, const uint8_t *step, const uint8_t *reply, str
            ledger_reply_message(reply), (unsigned long)ledger_reply_value(reply));
     json_string(told);
     struct bytes name = name_in(step, comment);
-    if ((kind == LEDGER_ROOT || kind == LEDGER_NEW) && outcome == LEDGER_DONE && name.length > 0) fputs(", \"name\": ", stdout), json_string(name);
+    if ((kind == LEDGER_ROOT || kind == LEDGER_NEW) && outcome == LEDGER_OUTCOME_DONE && name.length > 0) fputs(", \"name\": ", stdout), json_string(name);
     puts("}");
 }
 
@@ -97,7 +97,7 @@ int verb_run(int count, char **words) {
         const uint8_t *step = list.at + LEDGER_STEP * i, *reply = replies.at + LEDGER_STEP * i;
         if (options.json) json_played(i, step, reply, comments[i]);
         else tell_played(step, reply, comments[i]);
-        refusals |= ledger_reply_outcome(reply) > LEDGER_NOT_READY;
+        refusals |= ledger_reply_outcome(reply) > LEDGER_OUTCOME_NOT_READY;
         if (refusals && options.strict) return NO; /* nothing is written */
     }
     if (fflush(stdout) || ferror(stdout)) fail_errno("can't write", "the output"); /* before the image, which is not to replace one whose replies nobody saw */

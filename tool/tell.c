@@ -32,7 +32,7 @@ void note_names(struct bytes text, const uint8_t *image) {
         uint8_t reply[LEDGER_STEP];
         if (ledger_run(copy, sizeof copy, step, LEDGER_STEP, 0, LEDGER_STEP, reply, sizeof reply)) return;
         unsigned kind = step[0] >> 4;
-        if ((kind != LEDGER_ROOT && kind != LEDGER_NEW) || ledger_reply_outcome(reply) != LEDGER_DONE) continue;
+        if ((kind != LEDGER_ROOT && kind != LEDGER_NEW) || ledger_reply_outcome(reply) != LEDGER_OUTCOME_DONE) continue;
         take_names[ledger_reply_transactor(reply) % LEDGER_TRANSACTORS] = name_in(step, comments[i]);
     }
 }
@@ -96,7 +96,7 @@ static int coloured(void) {
 const char *colour(unsigned outcome) {
     static const char *const OF[] = {"", "\033[2m", "\033[33m", "\033[33m", "\033[33m", "\033[36m"};
     if (!coloured()) return "";
-    return outcome <= LEDGER_NOT_READY ? OF[outcome] : "\033[31m";
+    return outcome <= LEDGER_OUTCOME_NOT_READY ? OF[outcome] : "\033[31m";
 }
 
 const char *plain(void) { return coloured() ? "\033[0m" : ""; }

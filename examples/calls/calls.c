@@ -77,19 +77,19 @@ static void ledger_all_heard_stable_example(void) {
 
 static void ledger_dependents_example(void) {
     hearing();
-    struct ledger_dependents_answer reached = ledger_dependents(image, sizeof image, 0, &refusal);
+    struct ledger_resting reached = ledger_dependents(image, sizeof image, 0, &refusal);
     assert(reached.through == (ledger_member(0) | ledger_member(1)) && reached.carried == 1);
 }
 
 static void ledger_obstacle_example(void) {
     hearing();
-    struct ledger_obstacle_answer why = ledger_obstacle(image, sizeof image, ledger_member(1), &refusal);
+    struct ledger_reason why = ledger_obstacle(image, sizeof image, ledger_member(1), &refusal);
     assert(why.kind == LEDGER_OUTSIDE && why.transactor == 1 && why.ground == 0);
 }
 
 static void ledger_impediment_example(void) {
     hearing();
-    struct ledger_impediment_answer why = ledger_impediment(image, sizeof image, 1, &refusal);
+    struct ledger_cause why = ledger_impediment(image, sizeof image, 1, &refusal);
     assert(why.kind == LEDGER_NOT_STABLE && why.transactor == 0);
 }
 
@@ -107,6 +107,14 @@ static void ledger_plan_example(void) {
     size_t steps = ledger_plan(image, sizeof image, 1, plan, sizeof plan, &refusal); /* freeze 0, sign {0,1} */
     assert(steps == 2 && ledger_run(image, sizeof image, plan, sizeof plan, 0, LEDGER_STEP * steps, replies, LEDGER_STEP * steps) == 0);
     assert(ledger_reply_outcome(replies) == 0 && ledger_reply_outcome(replies + LEDGER_STEP) == 0);
+}
+
+static void ledger_fault_example(void) {
+    size_t at;
+    uint8_t clause;
+    hearing();
+    image[7] = 1;
+    assert(ledger_fault(image, sizeof image, &at, &clause) == 19 && at == 7 && clause == LEDGER_FRONT_ZEROS);
 }
 
 static void ledger_thin_example(void) {
@@ -147,7 +155,7 @@ static void engine_play_example(void) {
 static void looking_decision_example(void) {
     hearing();
     run("done 1\n"); /* only an idle take receives */
-    struct looking_decision_answer would = looking_decision(image, sizeof image, 2, &refusal);
+    struct looking_verdict would = looking_decision(image, sizeof image, 2, &refusal);
     assert(refusal == 0 && would.outcome == 0); /* it would be taken in */
 }
 
@@ -159,7 +167,7 @@ static void looking_compare_example(void) {
 }
 
 static void looking_field_example(void) {
-    struct looking_field_answer f = looking_field(9); /* in the text of take 0 */
+    struct looking_place f = looking_field(9); /* in the text of take 0 */
     assert(f.kind == LOOKING_FIELD_VALUE && f.holder == 0 && f.byte == 0);
 }
 

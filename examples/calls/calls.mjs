@@ -1,8 +1,8 @@
 // An example of each call in JavaScript; docs/CALLS.md shows them, tests/calls runs them.
 import assert from "node:assert/strict";
 import { loadFrom } from "../../bindings/js/node.mjs";
-import { Refusal, Session, back, compare, forward, play, worstWindow } from "../../bindings/js/ledger.mjs";
-import { imageText, refusalText, replyText, toSteps, toText } from "../../bindings/js/notation.mjs";
+import { Refusal, Session, back, compare, fault, forward, play, refusalText, worstWindow } from "../../bindings/js/ledger.mjs";
+import { imageText, replyText, toSteps, toText } from "../../bindings/js/notation.mjs";
 import { readReply } from "../../bindings/js/packed.mjs";
 
 await loadFrom();
@@ -74,7 +74,7 @@ export function ledger_impediment() {
 export function ledger_actor() {
   assert.equal(hearing().actor(one("write 1 text 3")).takes, 0b10);
   assert.equal(hearing().actor(one("receive 2")).takes, 0b10);
-  assert.equal(hearing().actor(one("root text 1")).kind, "house");
+  assert.equal(hearing().actor(one("root text 1")).kind, "the house");
 }
 
 export function ledger_plan() {
@@ -84,7 +84,7 @@ export function ledger_plan() {
 export function ledger_fault() {
   const damaged = hearing().image;
   damaged[7] = 1;
-  assert.throws(() => Session.fromImage(damaged), (e) => e instanceof Refusal && e.number === 19);
+  assert.deepEqual(fault(damaged), { at: 7, clause: 1 }); // byte 7, clause 1 of the form
 }
 
 export function ledger_thin() {

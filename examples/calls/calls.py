@@ -1,6 +1,6 @@
 """An example of each call in Python; docs/CALLS.md shows them, tests/calls runs them."""
 from take_ledger import (
-    Fault, Refused, Session, Step, back, compare, forward, parse, play, refusal_text, reply_text,
+    Fault, Refused, Session, Step, back, compare, fault, forward, parse, play, refusal_text, reply_text,
     text_of, version, worst_window,
 )
 
@@ -16,7 +16,7 @@ def hearing():
 
 
 def ledger_version():
-    assert version().split(".")[0] == "3"
+    assert version().split(".")[0] == "4"
 
 
 def ledger_begin():
@@ -90,10 +90,8 @@ def ledger_plan():
 def ledger_fault():
     damaged = bytearray(hearing().image)
     damaged[7] = 1
-    try:
-        Session.from_image(bytes(damaged))
-    except Refused as refused:
-        assert refused.number == 19
+    assert fault(bytes(damaged)) == (7, 1)  # byte 7, clause 1 of the form
+    assert fault(hearing().image) is None
 
 
 def ledger_thin():
@@ -145,8 +143,8 @@ def notation_parse():
     assert parse("root text 7  # names\n") == [Step.root(text=7)]
     try:
         parse("read 16\n")
-    except Fault as fault:
-        assert (fault.line, fault.column, fault.expected) == (1, 6, "a take, 0 to 15")
+    except Fault as found:
+        assert (found.line, found.column, found.expected) == (1, 6, "a take, 0 to 15")
 
 
 def notation_refusal_text():

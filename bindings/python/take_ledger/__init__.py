@@ -13,15 +13,15 @@ step is a Reply, and the list goes on.
 from .packed import KINDS, OUTCOMES, Reply, Step, packed, replies_of, takes_of, unpacked, volume
 from .session import (
     IMAGE, OLD_IMAGE, Actor, Decision, Dependents, Impediment, Obstacle, Session,
-    back, compare, forward, play, version, worst_window,
+    back, compare, fault, forward, play, version, worst_window,
 )
 from .text import Fault, Refused, image_text, parse, refusal_text, reply_text, text_of
 
-__version__ = "3.0.0"
+__version__ = "4.0.0"
 
 __all__ = [
     "IMAGE", "KINDS", "OLD_IMAGE", "OUTCOMES", "Actor", "Decision", "Dependents", "Fault",
-    "Impediment", "Obstacle", "Refused", "Reply", "Session", "Step", "back", "compare", "forward",
+    "Impediment", "Obstacle", "Refused", "Reply", "Session", "Step", "back", "compare", "fault", "forward",
     "image_text", "packed", "parse", "play", "refusal_text", "replies_of", "reply_text",
     "takes_of", "text_of", "unpacked", "version", "volume", "worst_window",
 ]

@@ -10,7 +10,7 @@ from pathlib import Path
 from typing import Any, Callable, Dict, List, Tuple
 
 NAME = "libtake-ledger.so"
-SYSTEM_NAME = "libtake-ledger.so.3"
+SYSTEM_NAME = "libtake-ledger.so.4"
 
 _size, _byte, _word = ctypes.c_size_t, ctypes.c_uint8, ctypes.c_uint16
 _buffer = ctypes.c_void_p
@@ -28,7 +28,7 @@ DEPENDENTS = _structure(resting=_word, through=_word, unfinished=_word, carried=
 OBSTACLE = _structure(kind=_byte, take=_byte, ground=_byte)
 IMPEDIMENT = _structure(kind=_byte, take=_byte, ground=_byte, next=_byte)
 ACTING = _structure(kind=_size, takes=_size)
-DECISION = _structure(kind=_size, take=_size)
+DECISION = _structure(outcome=_size, take=_size)
 COMPARISON = _structure(relation=_byte, newer=_byte)
 FIELD = _structure(kind=_byte, holder=_byte, map=_byte, ground=_byte, entry=_byte, byte=_byte)
 GIVEN = _structure(length=_size, refusal=_byte)
@@ -50,6 +50,7 @@ FUNCTIONS: Dict[str, Tuple[Any, List[Any]]] = {
     "ledger_impediment": (IMPEDIMENT, _ASKED),
     "ledger_plan": (_size, _BUFFER + [_size] + _BUFFER + [_lent_byte]),
     "ledger_actor": (ACTING, _BUFFER * 2 + [_lent_byte]),
+    "ledger_fault": (_byte, _BUFFER + [_lent_size, _lent_byte]),
     "ledger_thin": (_size, _BUFFER * 2 + [_size] * 2 + _BUFFER + [_lent_byte]),
     "ledger_forward": (_byte, _BUFFER * 2),
     "ledger_back": (_byte, _BUFFER * 2),
@@ -61,7 +62,7 @@ FUNCTIONS: Dict[str, Tuple[Any, List[Any]]] = {
     "looking_independent": (_byte, _BUFFER * 3 + [_lent_byte]),
     "notation_parse": (_size, _BUFFER * 2 + [_lent_size] * 2 + [_lent_byte]),
     "notation_expected_text": (GIVEN, [_byte] + _BUFFER),
-    "notation_refusal_text": (GIVEN, [_size] + _BUFFER),
+    "notation_refusal_text": (GIVEN, [_byte] + _BUFFER),
     "notation_length": (GIVEN, _BUFFER),
     "notation_print": (GIVEN, _BUFFER * 2),
     "notation_step": (GIVEN, _BUFFER + [_size] + _BUFFER),
@@ -86,7 +87,7 @@ def _load() -> ctypes.CDLL:
         except OSError as error:
             reasons.append(f"{path}: {error}")
     raise ImportError(
-        "the take ledger's library was not found. Install the package libtake-ledger3, or let "
+        "the take ledger's library was not found. Install the package libtake-ledger4, or let "
         "TAKE_LEDGER_LIBRARY name the file. Tried: " + "; ".join(reasons)
     )
 

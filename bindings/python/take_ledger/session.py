@@ -14,6 +14,7 @@ MARK = 33
 PLAN = 392
 LONGEST = 8192
 NO_PARCEL = 65535
+ILL_FORMED = 19
 
 OBSTACLES = ("nothing", "not frozen", "outside", "withdrawn")
 IMPEDIMENTS = ("nothing", "hopeless", "exhausted", "not frozen")
@@ -218,7 +219,7 @@ class Session:
     def decide(self, parcel: int) -> Decision:
         """What the receipt of the waiting parcel would do now; nothing is received."""
         d = self._ask("looking_decision", parcel)
-        return Decision(d.kind, d.take)
+        return Decision(d.outcome, d.take)
 
     def independent(self, first: Step, second: Step) -> bool:
         """Whether these two steps may change places here: same image, same reply to each."""
@@ -286,7 +287,20 @@ def compare(left: bytes, right: bytes) -> Tuple[str, str]:
     return RELATIONS[c.relation], ("left", "right")[c.newer]
 
 
+def fault(image: bytes) -> Optional[Tuple[int, int]]:
+    """Where an image fails the form: the byte, and the clause of docs/RULES.md, section 8; or None.
+
+    Refused with 16 where it has another length.
+    """
+    given, at, clause = bytes(image), ctypes.c_size_t(), _lent()
+    refusal = calls["ledger_fault"](given, len(given), at, clause)
+    if refusal == ILL_FORMED:
+        return at.value, clause.value
+    accepted(refusal)
+    return None
+
+
 def version() -> str:
-    """The version of the library, as 3.0.0."""
+    """The version of the library, as 4.0.0."""
     number = calls["ledger_version"]()
     return f"{number >> 16}.{number >> 8 & 255}.{number & 255}"

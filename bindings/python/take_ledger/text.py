@@ -47,7 +47,7 @@ def _given(name: str, *arguments: Any, room: int = LINE) -> str:
 
 def refusal_text(number: int) -> str:
     """The words of a refusal, 16 to 35; empty for another number."""
-    return _given("notation_refusal_text", number)
+    return _given("notation_refusal_text", number) if 0 <= number < 256 else ""
 
 
 def parse(text: str) -> List[Step]:
