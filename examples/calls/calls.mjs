@@ -130,7 +130,7 @@ export function looking_independent() {
 }
 
 export function notation_parse() {
-  assert.deepEqual(toSteps("read 16\n").fault, { line: 1, column: 6, expected: 1, words: "a take, 0 to 15" });
+  assert.deepEqual(toSteps("read 16\n").fault, { line: 1, column: 6, expected: "a take, 0 to 15" });
 }
 
 export function notation_refusal_text() {
