@@ -231,7 +231,8 @@ CREATE VIEW rests(take, name, ground, ground_name, direct) AS
 -- What can be signed: the smallest volume with each take, as its bits and as names.
 CREATE VIEW can_sign(take, name, volume, names) AS
   SELECT t.take, h.name, v.volume,
-    (SELECT group_concat(coalesce(m.name, m.take), ', ') FROM holder m WHERE v.volume >> m.take & 1)
+    (SELECT group_concat(named, ', ') FROM (
+      SELECT coalesce(m.name, m.take) AS named FROM holder m WHERE v.volume >> m.take & 1 ORDER BY m.take))
   FROM (SELECT take, ledger_smallest(now.image, take) AS volume FROM now, ledger_takes(now.image)) v
     JOIN ledger_takes((SELECT image FROM now)) t ON t.take = v.take LEFT JOIN holder h ON h.take = t.take
   WHERE v.volume IS NOT NULL;
