@@ -85,6 +85,19 @@ struct ledger_impediment {
     uint8_t next;       /* the next from the asked one to it: the asked one rests on its present incarnation; itself where it is in the way */
 };
 
+/* For whom a step acts. */
+enum ledger_actor_kind {
+    LEDGER_NOBODY = 0,          /* the step would be refused with 20, or it receives a message that does not wait */
+    LEDGER_HOUSE = 1,           /* root, letter, lose: no transactor's */
+    LEDGER_ONE_TRANSACTOR = 2,  /* kinds 3 to 10: the acting one; receive: the addressee of the message */
+    LEDGER_GROUP = 3            /* sign: the named ones */
+};
+
+struct ledger_acting {
+    size_t kind;
+    size_t takes; /* the transactors, as their bits: one for LEDGER_ONE_TRANSACTOR, the group for LEDGER_GROUP, else 0 */
+};
+
 /* LEDGER_VERSION of the library that is linked. */
 uint32_t ledger_version(void);
 
@@ -133,6 +146,11 @@ struct ledger_obstacle ledger_obstacle(const uint8_t *image, size_t image_length
  * transactor can be checkpointed as long as it keeps its present incarnation. Refused: *refusal is 16, 19, 21 or 22, and all
  * four numbers are 0. */
 struct ledger_impediment ledger_impediment(const uint8_t *image, size_t image_length, size_t transactor, uint8_t *refusal);
+
+/* For whom the step, LEDGER_STEP bytes, acts on this image: whoever gives people rights asks it before the step is run. Whether the step would be
+ * refused with more than 20 is not asked. A step changes no transactor that is opened before it and that it does not act for, refused or not.
+ * *refusal is 0. Refused: *refusal is 16, 17 (step not LEDGER_STEP bytes) or 19, and both numbers are 0. */
+struct ledger_acting ledger_actor(const uint8_t *image, size_t image_length, const uint8_t *step, size_t step_length, uint8_t *refusal);
 
 /* What is left to do so that the transactor can be checkpointed: the steps, eight bytes each, written to out (LEDGER_PLAN bytes) with zero bytes after
  * them; the answer is how many, *refusal is 0. Run from the same image, each is answered with outcome 0 and the last, a signing, checkpoints the

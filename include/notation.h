@@ -11,7 +11,7 @@
  *
  * Stack of each call in KiB, at most, beside that of memcpy, memmove and memset (tools/stack measures the compiled library):
  *
- *     notation_parse 1   notation_expected_text 2   notation_reply 3   notation_length 4   notation_step 4   notation_print 4   notation_image 6
+ *     notation_parse 1   notation_expected_text 2   notation_refusal_text 2   notation_reply 3   notation_length 4   notation_step 4   notation_print 4   notation_image 6
  */
 #ifndef NOTATION_H
 #define NOTATION_H
@@ -68,6 +68,9 @@ size_t notation_parse(const uint8_t *text, size_t text_length, uint8_t *out, siz
 
 /* Writes the words of what was expected, as `a take, 0 to 15`, without LF; nothing for a number that is not 1 to 12. 18. */
 struct notation_given notation_expected_text(uint8_t expected, uint8_t *out, size_t out_length);
+
+/* Writes the words of a refusal, as `image ill-formed`, without LF; nothing for a number that is not 16 to 35. 18. */
+struct notation_given notation_refusal_text(uint8_t number, uint8_t *out, size_t out_length);
 
 /* How long the text of a list is. 17. */
 struct notation_given notation_length(const uint8_t *list, size_t list_length);

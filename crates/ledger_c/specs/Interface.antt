@@ -1,4 +1,4 @@
--- How the answers of offer, smallest group, all heard frozen, obstacle, impediment and show are put in numbers.
+-- How the answers of offer, smallest group, all heard frozen, obstacle, impediment, actor and show are put in numbers.
 use Prim.Native.Nat.{ℕ, _+_, _*_}
 use mathlib.Core.Bool.{Bool, true, false}
 use mathlib.Core.List.{List}
@@ -13,6 +13,9 @@ use Rattle.rules.specs.declared.Obstacle.{Obstacle}
 use Rattle.rules.specs.Obstacle.{obstacleNumbers}
 use Rattle.rules.specs.declared.Impediment.{Impediment}
 use Rattle.rules.specs.Impediment.{impedimentNumbers}
+use Rattle.actors.specs.declared.Actor.{Actor}
+use Rattle.actors.specs.Actor.{actorNumbers}
+use Rattle.ledger_c.specs.declared.Acting.{Acting}
 use Rattle.ledger_c.specs.declared.Cause.{Cause}
 use Rattle.ledger_c.specs.declared.Part.{Part}
 use Rattle.ledger_c.specs.declared.Reason.{Reason}
@@ -55,6 +58,10 @@ reasonFor o = record { kind = obstacleNumbers o .kind; transactor = obstacleNumb
 -- The numbers that stand for an answer of impediment.
 abbrev pub causeFor : Impediment → Cause
 causeFor o = record { kind = impedimentNumbers o .kind; transactor = impedimentNumbers o .transactor; ground = impedimentNumbers o .ground; next = impedimentNumbers o .next }
+
+-- The numbers that stand for an answer of actor.
+abbrev pub actingFor : Actor → Acting
+actingFor a = record { kind = actorNumbers a .kind; takes = actorNumbers a .takes }
 
 -- The bytes of the image that hold a waiting parcel's map: where they start, and how many. Refused: an empty part.
 unfoldable pub shownPart : Layout → List ℕ → ℕ → Part

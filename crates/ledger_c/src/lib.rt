@@ -1,5 +1,6 @@
 // The ledger's calls for programs in other languages, as include/ledger.h declares them: a slice is a pointer and a length, a
-// lent number a pointer. None has a precondition, and each promises what the call of ledger, queries, thin, convert or window promises.
+// lent number a pointer. None has a precondition, and each promises what the call of ledger, queries, plans, actors, thin, convert or window promises.
+use actors::Actor;
 use rules::Dependents;
 use rules::Grouped;
 use rules::Impediment;
@@ -13,10 +14,11 @@ ghost use Rattle.rules.specs.Promises.{BeginPromise, RunPromise, OfferPromise, 
 ghost use Rattle.rules.specs.Heard.{heardAnswer};
 ghost use Rattle.rules.specs.Obstacle.{obstacleRefusal, obstacleAnswer};
 ghost use Rattle.rules.specs.Impediment.{impedimentAnswer};
+ghost use Rattle.actors.specs.Actor.{actorRefusal, actorAnswer};
 ghost use Rattle.thin.specs.Thin.{thinRefusal, thinOut, thinCount};
 ghost use Rattle.convert.specs.Convert.{forwardAnswer, forwardImage, backAnswer, backImage};
 ghost use Rattle.window.specs.Window.{windowRefusal, worstWindow};
-ghost use Rattle.ledger_c.specs.Interface.{version, offeredBy, groupOf, numberFor, reasonFor, causeFor, shownPart};
+ghost use Rattle.ledger_c.specs.Interface.{version, offeredBy, groupOf, numberFor, reasonFor, causeFor, actingFor, shownPart};
 
 // The number that stands for no message.
 pub const NONE: u16 = 65535;
@@ -30,6 +32,13 @@ const HOPELESS: u8 = 1;
 const EXHAUSTED: u8 = 2;
 
 const NOT_STABLE: u8 = 3;
+
+// The kinds of whom a step acts for.
+const HOUSE: usize = 1;
+
+const ONE: usize = 2;
+
+const GROUP: usize = 3;
 
 // A part of the image.
 #[repr(C)]
@@ -55,6 +64,13 @@ pub struct Cause {
     pub transactor: u8,
     pub ground: u8,
     pub next: u8,
+}
+
+// For whom a step acts, in numbers: the kind, 0 nobody, 1 the house, 2 one transactor, 3 a group; and the transactors, their bits.
+#[repr(C)]
+pub struct Acting {
+    pub kind: usize,
+    pub takes: usize,
 }
 
 // The version of this library.
@@ -206,6 +222,29 @@ pub extern "C" fn ledger_impediment(image: &[u8], transactor: usize, refusal: &m
             transactor: c,
             ground: 0,
             next: x,
+        },
+    }
+}
+
+// For whom the step acts on this image. The lent number takes the refusal, 16, 17 unless the step has eight bytes, 19, or 0; refused, both
+// numbers are 0.
+#[no_mangle]
+pub extern "C" fn ledger_actor(image: &[u8], step: &[u8], refusal: &mut u8) -> Acting
+    ensures { λ r. ⌜ (now (refusal .exit) ≡ actorRefusal base (now (image .entry)) (now (step .entry))) × (r ≡ actingFor (actorAnswer base (now (image .entry)) (now (step .entry)))) ⌝ }
+{
+    match actors::for_whom(image, step, refusal) {
+        Actor::Nobody => Acting { kind: 0, takes: 0 },
+        Actor::House => Acting {
+            kind: HOUSE,
+            takes: 0,
+        },
+        Actor::One(t) => Acting {
+            kind: ONE,
+            takes: 1usize << t,
+        },
+        Actor::Group(members) => Acting {
+            kind: GROUP,
+            takes: members as usize,
         },
     }
 }

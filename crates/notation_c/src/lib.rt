@@ -1,5 +1,6 @@
 // Lists, replies and images as text for programs in other languages, as include/notation.h declares them: a slice is a pointer and a
-// length. None has a precondition, and each promises what the function of crate parser, faults, printer, replies or inspection promises.
+// length. None has a precondition, and each promises what the function of crate parser, faults, printer, replies,
+// refusal_words or inspection promises.
 use lines::Line;
 use notation::Parsed;
 use printer::Printed;
@@ -16,6 +17,7 @@ ghost use Rattle.lines.specs.Lines.{written};
 ghost use Rattle.notation.specs.Reading.{read};
 ghost use Rattle.notation.specs.Parsing.{answerOf, writtenOf, expectedWords};
 ghost use Rattle.printer.specs.Printing.{lengthAnswer, printAnswer, printedOut};
+ghost use Rattle.refusal_words.specs.Words.{refusalWords};
 ghost use Rattle.replies.specs.Replies.{replyTextAt};
 ghost use Rattle.inspection.specs.Inspection.{inspected};
 ghost use Rattle.notation_c.specs.Interface.{givenBy, givenFor, givenOut, imageGiven, stepsFor, lineFor, columnFor, expectedFor};
@@ -152,4 +154,12 @@ pub extern "C" fn notation_expected_text(expected: u8, out: &mut [u8]) -> Given
     ensures { λ r. ⌜ (r ≡ givenFor (expectedWords expected) (now (out .entry))) × (now (out .exit) ≡ givenOut (expectedWords expected) (now (out .entry))) ⌝ }
 {
     give(faults::expected_line(expected), out)
+}
+
+// Writes the words of a refusal, by its number; nothing for a number that is none. 18 with no byte changed.
+#[no_mangle]
+pub extern "C" fn notation_refusal_text(number: u8, out: &mut [u8]) -> Given
+    ensures { λ r. ⌜ (r ≡ givenFor (refusalWords number) (now (out .entry))) × (now (out .exit) ≡ givenOut (refusalWords number) (now (out .entry))) ⌝ }
+{
+    give(refusal_words::refusal_line(number), out)
 }
