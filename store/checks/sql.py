@@ -93,11 +93,15 @@ class Counted:
     def __init__(self):
         self.passed = 0
 
-    def holds(self, what, so):
+    def must(self, what, so):
+        """Not counted: one of many of a kind, of which a run has now more and now fewer."""
         if not so:
             print(f"not so: {what}")
             print(f"{self.passed} passed, 1 failed")
             raise SystemExit(1)
+
+    def holds(self, what, so):
+        self.must(what, so)
         self.passed += 1
 
     def equal(self, what, got, expected):

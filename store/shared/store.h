@@ -26,7 +26,7 @@ struct store_bytes {
 
 /* Whose a step is, and what it opened. */
 struct store_played {
-    uint8_t kind;    /* as ledger_actor: 0 nobody's, 1 the house's, 2 a take's, 3 a volume's */
+    uint8_t kind;    /* enum ledger_actor_kind: nobody's, the house's, a take's, a volume's */
     uint8_t opened;  /* the take that the step opened, or STORE_NONE */
     uint16_t takes;  /* as their bits */
 };

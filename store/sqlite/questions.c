@@ -72,8 +72,8 @@ static void actor(sqlite3_context *context, int count, sqlite3_value **values) {
     int status = value_blob(values[0], "image", &image, &wrong);
     if (status == SQLITE_OK) status = value_blob(values[1], "step", &step, &wrong);
     if (status == SQLITE_OK) acting = ledger_actor(image.at, image.length, step.at, step.length, &refusal);
-    while (acting.kind == 2 && acting.takes >> take > 1) take++;
-    answer(context, status, refusal, wrong, acting.kind == 2, take);
+    while (acting.kind == LEDGER_ONE_TRANSACTOR && acting.takes >> take > 1) take++;
+    answer(context, status, refusal, wrong, acting.kind == LEDGER_ONE_TRANSACTOR, take);
 }
 
 static void independent(sqlite3_context *context, int count, sqlite3_value **values) {
