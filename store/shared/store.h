@@ -17,6 +17,8 @@ enum {
     STORE_NONE = 255      /* no take */
 };
 
+#pragma GCC visibility push(hidden) /* a database loads many libraries */
+
 struct store_bytes {
     const uint8_t *at;
     size_t length;
@@ -104,5 +106,7 @@ size_t store_width(size_t at);
 
 /* The number that a field holds. */
 uint32_t store_value(const uint8_t *image, size_t at, size_t width);
+
+#pragma GCC visibility pop
 
 #endif
