@@ -136,12 +136,12 @@ CREATE TRIGGER step_may BEFORE INSERT ON step BEGIN
   SELECT RAISE(ABORT, 'there is no hearing in this file') WHERE NOT EXISTS (SELECT 1 FROM hearing);
   SELECT RAISE(ABORT, 'takes no part in this hearing')
     WHERE new.who NOT IN (SELECT house FROM hearing UNION ALL SELECT owner FROM holder);
-  SELECT RAISE(ABORT, 'this step is the house''s')
-    FROM hearing, now, ledger_acting(now.image, new.step) WHERE acts = 'house' AND new.who <> house;
-  SELECT RAISE(ABORT, 'this step is not yours')
-    FROM hearing, now, ledger_acting(now.image, new.step) acting
-    WHERE (acts = 'take' OR acts = 'volume' AND new.who <> house)
-      AND acting.takes & ~(SELECT coalesce(sum(1 << take), 0) FROM holder WHERE owner = new.who) <> 0;
+  SELECT CASE
+      WHEN acts = 'house' AND new.who <> house THEN RAISE(ABORT, 'this step is the house''s')
+      WHEN (acts = 'take' OR acts = 'volume' AND new.who <> house)
+        AND acting.takes & ~(SELECT coalesce(sum(1 << take), 0) FROM holder WHERE owner = new.who) <> 0
+        THEN RAISE(ABORT, 'this step is not yours')
+    END FROM hearing, now, ledger_acting(now.image, new.step) acting;
 END;
 -- Plays it, and keeps the reply. Whoever opens a take owns it, until the house gives it to somebody.
 CREATE TRIGGER step_played AFTER INSERT ON step BEGIN

@@ -119,7 +119,7 @@ def attacks(done, cluster, people, root, h):
                  "ALTER FUNCTION hearings.play(integer, bytea, bigint, boolean) RESET search_path", "CREATE SCHEMA mine",
                  "SELECT hearings.open_hearing('x')", "COPY hearings.step TO PROGRAM 'id'", "CALL hearings.watch(0, 1)",
                  f"SELECT hearings.own({h}, 0, 'x', 'ben')", f"SELECT hearings.locked({h})",
-                 f"SELECT hearings.append({h}, 1, '\\x00', '\\x00', 1)", "DROP EXTENSION take_ledger CASCADE",
+                 f"SELECT hearings.append({h}, 1, NULL, 1)", f"SELECT hearings.image_of({h})", "DROP EXTENSION take_ledger CASCADE",
                  "CREATE TRIGGER t BEFORE INSERT ON hearings.step EXECUTE FUNCTION hearings.kept()"):
         done.wrong(text, "", lambda: eve.rows(text))
     cluster.psql("-c", "CREATE SCHEMA evil; GRANT ALL ON SCHEMA evil TO PUBLIC; GRANT TEMP ON DATABASE t TO PUBLIC")

@@ -94,25 +94,23 @@ CREATE TRIGGER kept_words BEFORE UPDATE OF id, title, house, takes, parcels, sig
 
 -- ---- the chain of sums: the lines of store/hearing.sql, byte for byte
 
-CREATE FUNCTION hex(t text) RETURNS text LANGUAGE sql IMMUTABLE PARALLEL SAFE SET search_path = pg_catalog AS $$
-  SELECT encode(convert_to(t, 'UTF8'), 'hex') $$;
-CREATE FUNCTION moment(at timestamptz) RETURNS text LANGUAGE sql IMMUTABLE PARALLEL SAFE SET search_path = pg_catalog AS $$
-  SELECT to_char(at AT TIME ZONE 'UTC', 'YYYY-MM-DD"T"HH24:MI:SS.MS"Z"') $$;
+-- Each is one expression, bound here and now, which the server puts in the place of its call.
+
+CREATE FUNCTION hex(t text) RETURNS text LANGUAGE sql IMMUTABLE PARALLEL SAFE
+  RETURN encode(convert_to(t, 'UTF8'), 'hex');
+CREATE FUNCTION moment(at timestamptz) RETURNS text LANGUAGE sql STABLE PARALLEL SAFE
+  RETURN to_char(at AT TIME ZONE 'UTC', 'YYYY-MM-DD"T"HH24:MI:SS.MS"Z"');
 CREATE FUNCTION total(before bytea, line text) RETURNS bytea LANGUAGE sql IMMUTABLE PARALLEL SAFE
-  SET search_path = pg_catalog AS $$
-  SELECT sha256(convert_to(coalesce(encode(before, 'hex') || ' ', '') || line, 'UTF8')) $$;
-CREATE FUNCTION hearing_line(h hearing) RETURNS text LANGUAGE sql STABLE SET search_path = pg_catalog AS $$
-  SELECT format('hearing %s %s %s %s %s %s', h.takes, h.parcels, h.signings, hearings.moment(h.at), hearings.hex(h.house),
-    hearings.hex(h.title)) $$;
-CREATE FUNCTION step_line(s step) RETURNS text LANGUAGE sql STABLE SET search_path = pg_catalog AS $$
-  SELECT format('step %s %s %s %s %s %s', s.number, encode(s.step, 'hex'), encode(s.reply, 'hex'), hearings.moment(s.at),
-    hearings.hex(s.who), coalesce(s.call::text, '-')) $$;
-CREATE FUNCTION take_line(t take) RETURNS text LANGUAGE sql STABLE SET search_path = pg_catalog AS $$
-  SELECT format('take %s %s %s %s %s', t.take, coalesce(hearings.hex(t.name), '-'), hearings.hex(t.owner),
-    hearings.moment(t.at), hearings.hex(t.who)) $$;
-CREATE FUNCTION words_line(w words) RETURNS text LANGUAGE sql STABLE SET search_path = pg_catalog AS $$
-  SELECT format('words %s %s %s %s %s', w.text, coalesce(hearings.hex(w.speaker), '-'), hearings.hex(w.words),
-    hearings.moment(w.at), hearings.hex(w.who)) $$;
+  RETURN sha256(convert_to(coalesce(encode(before, 'hex') || ' ', '') || line, 'UTF8'));
+CREATE FUNCTION hearing_line(h hearing) RETURNS text LANGUAGE sql STABLE PARALLEL SAFE
+  RETURN format('hearing %s %s %s %s %s %s', h.takes, h.parcels, h.signings, moment(h.at), hex(h.house), hex(h.title));
+CREATE FUNCTION step_line(s step) RETURNS text LANGUAGE sql STABLE PARALLEL SAFE
+  RETURN format('step %s %s %s %s %s %s', s.number, encode(s.step, 'hex'), encode(s.reply, 'hex'), moment(s.at), hex(s.who),
+    coalesce(s.call::text, '-'));
+CREATE FUNCTION take_line(t take) RETURNS text LANGUAGE sql STABLE PARALLEL SAFE
+  RETURN format('take %s %s %s %s %s', t.take, coalesce(hex(t.name), '-'), hex(t.owner), moment(t.at), hex(t.who));
+CREATE FUNCTION words_line(w words) RETURNS text LANGUAGE sql STABLE PARALLEL SAFE
+  RETURN format('words %s %s %s %s %s', w.text, coalesce(hex(w.speaker), '-'), hex(w.words), moment(w.at), hex(w.who));
 
 CREATE VIEW entry WITH (security_invoker = true) AS
   SELECT id AS hearing, 0::bigint AS entry, 'hearing' AS kind, hearing_line(h) AS line, sum FROM hearing h
@@ -153,15 +151,20 @@ GRANT SELECT ON hearing, step, take, words, entry, holder TO ledger_parties;
 -- ---- where a hearing stands
 
 -- The image after the last step: the snapshot, and the steps since. One statement's answer is of one moment.
-CREATE FUNCTION image_now(hearing integer, OUT steps bigint, OUT image bytea) LANGUAGE plpgsql STABLE SECURITY DEFINER
+CREATE FUNCTION image_of(hearing integer, OUT steps bigint, OUT image bytea) LANGUAGE plpgsql STABLE
   SET search_path = pg_catalog, pg_temp AS $$
 DECLARE since bytea; kept_at bigint;
 BEGIN
-  IF NOT hearings.takes_part($1) THEN RAISE EXCEPTION 'not your hearing' USING ERRCODE = 'insufficient_privilege'; END IF;
   SELECT h.image_at, h.image INTO kept_at, image FROM hearings.hearing h WHERE h.id = $1;
   SELECT string_agg(s.step, '' ORDER BY s.number), count(*) + kept_at INTO since, steps
     FROM hearings.step s WHERE s.hearing = $1 AND s.number > kept_at;
   IF since IS NOT NULL THEN image := ledger.ledger_run(image, since); END IF;
+END $$;
+CREATE FUNCTION image_now(hearing integer, OUT steps bigint, OUT image bytea) LANGUAGE plpgsql STABLE SECURITY DEFINER
+  SET search_path = pg_catalog, pg_temp AS $$
+BEGIN
+  IF NOT hearings.takes_part($1) THEN RAISE EXCEPTION 'not your hearing' USING ERRCODE = 'insufficient_privilege'; END IF;
+  SELECT i.steps, i.image INTO steps, image FROM hearings.image_of($1) i;
 END $$;
 
 -- ---- what is written
@@ -209,35 +212,38 @@ BEGIN
   INSERT INTO hearings.take SELECT t.*;
 END $$;
 
+-- What ledger_play says of a step, as far as it is needed below.
+CREATE TYPE played AS (place integer, packed bytea, packed_reply bytea, acts text, takes integer, opened integer);
+
 -- Whether this role may say all of these steps; the first that it may not is an ERROR. Whoever opens a take may act for it.
-CREATE FUNCTION may(h hearing, image bytea, steps bytea) RETURNS void LANGUAGE plpgsql SECURITY DEFINER
+CREATE FUNCTION may(h hearing, rows played[]) RETURNS void LANGUAGE plpgsql SECURITY DEFINER
   SET search_path = pg_catalog, pg_temp AS $$
-DECLARE mine integer; wrong record;
+DECLARE mine integer; p hearings.played;
 BEGIN
   SELECT coalesce(bit_or(1 << o.take), 0) INTO mine FROM (
     SELECT DISTINCT ON (t.take) t.take, t.owner FROM hearings.take t WHERE t.hearing = (h).id ORDER BY t.take, t.entry DESC) o
   WHERE o.owner = session_user;
-  SELECT mine | coalesce(bit_or(1 << p.opened), 0) INTO mine FROM ledger.ledger_play($2, $3) p;
-  SELECT p.place + 1 AS place, p.step INTO wrong FROM ledger.ledger_play($2, $3) p
-  WHERE NOT CASE p.acts
-      WHEN 'nobody' THEN true
-      WHEN 'house' THEN (h).house = session_user
-      ELSE p.acts = 'volume' AND (h).house = session_user OR p.takes & ~mine = 0
-    END
-  ORDER BY p.place LIMIT 1;
-  IF FOUND THEN
-    RAISE EXCEPTION 'step % is not yours: %', wrong.place, wrong.step USING ERRCODE = 'insufficient_privilege';
-  END IF;
+  FOREACH p IN ARRAY rows LOOP
+    IF NOT (CASE p.acts
+        WHEN 'nobody' THEN true
+        WHEN 'house' THEN (h).house = session_user
+        ELSE p.acts = 'volume' AND (h).house = session_user OR p.takes & ~mine = 0
+      END) THEN
+      RAISE EXCEPTION 'step % is not yours: %', p.place + 1, rtrim(ledger.ledger_text(p.packed), E'\n')
+        USING ERRCODE = 'insufficient_privilege';
+    END IF;
+    IF p.opened IS NOT NULL THEN mine := mine | (1 << p.opened); END IF; -- | and << bind alike
+  END LOOP;
 END $$;
 
 -- Appends what was played, each row with its sum, and the takes that were opened; who opened a take owns it.
-CREATE FUNCTION append(hearing integer, first bigint, image bytea, steps bytea, call bigint) RETURNS void
+CREATE FUNCTION append(hearing integer, first bigint, rows played[], call bigint) RETURNS void
 LANGUAGE plpgsql SECURITY DEFINER SET search_path = pg_catalog, pg_temp AS $$
-DECLARE s hearings.step; p record; last record;
+DECLARE s hearings.step; p hearings.played; last record;
 BEGIN
   SELECT * INTO last FROM hearings.last_entry($1);
-  s.hearing := $1; s.who := session_user; s.call := $5; s.at := clock_timestamp(); s.entry := last.entry; s.sum := last.sum;
-  FOR p IN SELECT l.place, l.packed, l.packed_reply, l.opened FROM ledger.ledger_play($3, $4) l ORDER BY l.place LOOP
+  s.hearing := $1; s.who := session_user; s.call := $4; s.at := clock_timestamp(); s.entry := last.entry; s.sum := last.sum;
+  FOREACH p IN ARRAY rows LOOP
     s.number := $2 + p.place; s.step := p.packed; s.reply := p.packed_reply; s.opened := p.opened; s.entry := s.entry + 1;
     s.sum := hearings.total(s.sum, hearings.step_line(s));
     INSERT INTO hearings.step SELECT s.*;
@@ -257,7 +263,7 @@ END $$;
 --          middle. What the client has set for synchronous_commit is not heeded.
 CREATE FUNCTION play(hearing integer, steps bytea, call bigint, sure boolean DEFAULT true, OUT first bigint, OUT replies bytea)
 LANGUAGE plpgsql SECURITY DEFINER SET search_path = pg_catalog, pg_temp AS $$
-DECLARE h hearings.hearing; was bytea; now record;
+DECLARE h hearings.hearing; was bytea; now record; rows hearings.played[];
 BEGIN
   IF $1 IS NULL OR $2 IS NULL OR $3 IS NULL OR $4 IS NULL THEN
     RAISE EXCEPTION 'hearing, steps, call and sure are needed' USING ERRCODE = 'null_value_not_allowed';
@@ -270,11 +276,12 @@ BEGIN
     INTO first, was, replies FROM hearings.step s WHERE s.hearing = $1 AND s.who = session_user AND s.call = $3;
   IF was = $2 THEN RETURN; END IF;
   IF was IS NOT NULL THEN RAISE EXCEPTION 'call % was other steps', $3 USING ERRCODE = 'unique_violation'; END IF;
-  SELECT * INTO now FROM hearings.image_now($1);
+  SELECT * INTO now FROM hearings.image_of($1);  -- a statement after the lock: it sees what was committed before it
+  SELECT array_agg((p.place, p.packed, p.packed_reply, p.acts, p.takes, p.opened)::hearings.played ORDER BY p.place),
+    string_agg(p.packed_reply, '' ORDER BY p.place) INTO rows, replies FROM ledger.ledger_play(now.image, $2) p;
   first := now.steps + 1;
-  replies := ledger.ledger_replies(now.image, $2);
-  PERFORM hearings.may(h, now.image, $2);
-  PERFORM hearings.append($1, first, now.image, $2, $3);
+  PERFORM hearings.may(h, rows);
+  PERFORM hearings.append($1, first, rows, $3);
   IF now.steps + length($2) / 8 - h.image_at >= h.every THEN
     UPDATE hearings.hearing SET image = ledger.ledger_run(now.image, $2), image_at = now.steps + length($2) / 8 WHERE id = $1;
   END IF;
