@@ -28,7 +28,7 @@ use Rattle.rules.specs.Internal.Well.{StepOk, WellFormed}
 use Rattle.rules.specs.Internal.Good.{Good}
 use Rattle.steps.specs.Internal.Stepped.{Stepped, Counted}
 use Rattle.rules.specs.Form.{wellFormed}
-use Rattle.rules.specs.Independent.{opens, takesAway, hasMark}
+use Rattle.rules.specs.Independent.{opens, takesAway, hasMark, independentRefusal}
 use Rattle.rules.proofs.Good.{good-pack}
 use Rattle.rules.proofs.Pack.RoundTrip.{unpack-pack}
 use Rattle.rules.proofs.Keep.Step.{fitting-base, applied-same, keeps}
@@ -36,7 +36,6 @@ use Rattle.rules.proofs.ByKind.Applied.{applies}
 use Rattle.rules.proofs.ByKind.Outcomes.{Judged, judged, apply-outcome}
 use Rattle.rules.proofs.Independent.Steps.{decided}
 use Rattle.rules.proofs.Pack.Loads.{held-at, read-state, read-creation, unpack-waiting}
-use Rattle.independence.specs.Call.{independentRefusal}
 use Rattle.independence.specs.Internal.Footprint.{receiverOf, touches, touchesIn, leaves, leavesBy, takesMeet, addresses, handles, handled, parcelsMeet, headsMeet, relisted, hasMarks, listsMeet, meets}
 
 -- ---- a test that fails at the first k

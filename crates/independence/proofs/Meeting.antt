@@ -28,7 +28,7 @@ use Rattle.rules.specs.Form.{wellFormed}
 use Rattle.rules.specs.Calls.{WaitsFor}
 use Rattle.rules.specs.Internal.Well.{StepOk, WellFormed}
 use Rattle.rules.specs.Internal.Good.{Good}
-use Rattle.rules.specs.Independent.{Cell, whole, there, signed, parcel, room, opens, takesAway, hasMark, signedIn, Sees, Changes, Unseen, Independent}
+use Rattle.rules.specs.Independent.{Cell, whole, there, signed, parcel, room, opens, takesAway, hasMark, signedIn, Sees, Changes, Unseen, Independent, independentRefusal, IndependentAnswer}
 use Rattle.rules.proofs.Bits.{named-past}
 use Rattle.rules.proofs.Places.{Place, place}
 use Rattle.rules.proofs.Pack.Messages.{numbers-rise}
@@ -38,7 +38,6 @@ use Rattle.rules.proofs.Keep.Run.{stepOk-unpack}
 use Rattle.rules.proofs.Keep.Step.{fitting-base, keeps}
 use Rattle.rules.proofs.Independent.Effects.{waits-for}
 use Rattle.rules.proofs.Independent.Steps.{whole-seen}
-use Rattle.independence.specs.Call.{independentRefusal, IndependentAnswer}
 use Rattle.independence.specs.Internal.Footprint.{receiverOf, touchesIn, leaves, takesMeet, addresses, handles, handled, parcelsMeet, isCrowded, headsMeet, relisted, hasMarks, listsMeet, meets}
 use Rattle.independence.proofs.Clauses.{touch-sign, touch-receive, touch-else, handled-sent, handled-other}
 use Rattle.independence.proofs.Signing.{same-signed, other-signed}
@@ -113,15 +112,15 @@ module _ {s : State} (w : WellFormed base s) where
       let r : Place f 0 (length (s .messages)) (placeOf s n) = place f 0 (length (s .messages)) in
       let at : f (v .place) ≡ true = eq-eqb (messageAt s (v .place) .number) n (v .number) in
       let high : placeOf s n ≤ v .place = ⊎-elim
-          (λ (h : v .place < placeOf s n). never (sym at ∙ r .before (v .place) (omega arith) h))
-          (λ (h : placeOf s n ≤ v .place). h)
-          (sides (v .place) (placeOf s n)) in
+      (λ (h : v .place < placeOf s n). never (sym at ∙ r .before (v .place) (omega arith) h))
+      (λ (h : placeOf s n ≤ v .place). h)
+      (sides (v .place) (placeOf s n)) in
       let below : placeOf s n < length (s .messages) = omega (arith, v .waits) in
       let same : messageAt s (placeOf s n) .number ≡ n = eqb-true (messageAt s (placeOf s n) .number) n (r .here (omega arith)) in
       let e : placeOf s n ≡ v .place = ⊎-elim
-          (λ (h : placeOf s n < v .place). absurd (omega (arith, numbers-rise w (placeOf s n) (v .place) h (v .waits), same, v .number)))
-          (λ (h : v .place ≤ placeOf s n). omega arith)
-          (sides (placeOf s n) (v .place)) in
+      (λ (h : placeOf s n < v .place). absurd (omega (arith, numbers-rise w (placeOf s n) (v .place) h (v .waits), same, v .number)))
+      (λ (h : v .place ≤ placeOf s n). omega arith)
+      (sides (placeOf s n) (v .place)) in
       ap (λ (c : Bool). pick c 16 (messageAt s (placeOf s n) .addressee)) (lt-leb (length (s .messages)) (placeOf s n) below)
       ∙ ap (λ (k : ℕ). messageAt s k .addressee) e ∙ v .addressee
 
@@ -270,10 +269,13 @@ module _ {s : State} (w : WellFormed base s) where
     relists : {t : ℕ} → Changes base s p (signed t) → (t < 16) × (relisted s (stepOf base s p .state) t ≡ true)
     unfolding relisted
     relists (Changes.signing t a d) = ⊎-elim
-        (λ (h : t < 16). (h, ⊎-elim
-        (λ (e : sameList (list t s) (list t (stepOf base s p .state)) ≡ true). absurd (d (same-signed w after t h (sameList-test _ _ .0 e) a)))
-        (λ (e : sameList (list t s) (list t (stepOf base s p .state)) ≡ false). ap not e)
-        (true-or-false (sameList (list t s) (list t (stepOf base s p .state))))))
+        (λ (h : t < 16). (
+          h,
+          ⊎-elim
+              (λ (e : sameList (list t s) (list t (stepOf base s p .state)) ≡ true). absurd (d (same-signed w after t h (sameList-test _ _ .0 e) a)))
+              (λ (e : sameList (list t s) (list t (stepOf base s p .state)) ≡ false). ap not e)
+              (true-or-false (sameList (list t s) (list t (stepOf base s p .state)))),
+        ))
         (λ (h : 16 ≤ t). absurd (d (past-same t h a)))
         (sides t 16)
 
@@ -461,7 +463,10 @@ module _ (img first second : List ℕ) (r : ℕ) (e : r ≡ independentRefusal b
         pub answer-second : false ≡ meets base (unpack base img) p q → (b : Bool) → b ≡ meets base (unpack base img) q p
             → (r ≡ independentRefusal base img first second) × IndependentAnswer base img first second (not b)
         answer-second m true n = (e, IndependentAnswer.dependent (sym e ∙ z) (λ i. seen-of (fine-good .well) q p fine-second fine-first (sym n) (steps i .back)))
-        answer-second m false n = (e, IndependentAnswer.independent (sym e ∙ z) (rw (sym is-first, sym is-second) (record {
-          forth = unseen-of (fine-good .well) p q fine-first fine-second (sym m);
-          back = unseen-of (fine-good .well) q p fine-second fine-first (sym n);
-        })))
+        answer-second m false n = (
+          e,
+          IndependentAnswer.independent (sym e ∙ z) (rw (sym is-first, sym is-second) (record {
+            forth = unseen-of (fine-good .well) p q fine-first fine-second (sym m);
+            back = unseen-of (fine-good .well) q p fine-second fine-first (sym n);
+          })),
+        )

@@ -5,11 +5,11 @@ use mathlib.Core.Path.{_≡_, refl, sym, ap, _∙_}
 use mathlib.Core.List.{List, [], _∷_, _++_}
 use mathlib.Core.Logic.{⊎-elim}
 use native.Mathlib.Omega.{arith}
-use lib.ListN.{length, take, length-append}
+use lib.ListN.{length, length-append}
 use Rattle.octets.specs.Bytes.{_and_}
-use Rattle.octets.proofs.Tests.{and-false, true-or-false, never}
+use Rattle.octets.proofs.Tests.{true-or-false, never}
 use Rattle.octets.proofs.Chunks.{sides}
-use Rattle.marks.specs.Incarnation.{Incarnation, sameList, beginsWith, checkpointedIn, Checkpointed, begins}
+use Rattle.marks.specs.Incarnation.{Incarnation, checkpointedIn, Checkpointed, begins}
 use Rattle.marks.specs.History.{incarnationOf, initialHistory}
 use Rattle.marks.specs.declared.History.{History}
 use Rattle.marks.proofs.Tests.{checkpointed-test}
@@ -19,28 +19,7 @@ use Rattle.rules.specs.State.{Transactor, State, transactorAt, ownHistory, live
 use Rattle.rules.specs.Internal.Well.{TransactorFormed, WellFormed}
 use Rattle.rules.specs.Independent.{signedIn}
 use Rattle.rules.proofs.Form.Transactor.{live-true}
-
--- TEMP
-take-none : (n : ℕ) → take {A = ℕ} n [] ≡ []
-take-none zero = refl
-take-none (suc n) = refl
-
-same-none : (xs : List ℕ) (n : ℕ) → sameList (xs ++ (n ∷ [])) [] ≡ false
-unfolding sameList
-same-none [] n = refl
-same-none (x ∷ xs) n = refl
-
-none-signed : (a : Incarnation) (h : History) → h .count ≡ 0 → checkpointedIn a (incarnationOf h) ≡ false
-unfolding checkpointedIn beginsWith
-none-signed a h e =
-    let xs : List ℕ = a .checkpoints ++ (a .number ∷ []) in
-    ap (λ (n : ℕ). sameList xs (take (length xs) (take n (h .checkpoints)))) e
-    ∙ ap (sameList xs) (take-none (length xs)) ∙ same-none (a .checkpoints) (a .number)
-
-list-signed : (a b c : Incarnation) → b .checkpoints ≡ c .checkpoints → checkpointedIn a b ≡ checkpointedIn a c
-unfolding checkpointedIn
-list-signed a b c e = ap (λ (l : List ℕ). beginsWith l (a .checkpoints ++ (a .number ∷ []))) e
--- TEMP end
+use Rattle.rules.proofs.Independent.Signed.{none-signed, list-signed}
 
 -- ---- lists
 

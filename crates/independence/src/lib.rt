@@ -27,10 +27,9 @@ ghost use Rattle.rules.specs.Layout.{base, imageBytes};
 ghost use Rattle.rules.specs.State.{transactorAt};
 ghost use Rattle.rules.specs.Refusals as kinds;
 ghost use Rattle.rules.specs.Independent as clauses;
-ghost use Rattle.independence.specs.Call as call;
 ghost use Rattle.rules.specs.Rules.{stepOf};
 ghost use Rattle.rules.specs.Pack.{pack, unpack};
-ghost use Rattle.independence.specs.Call.{IndependentPromise};
+ghost use Rattle.rules.specs.Promises.{IndependentPromise};
 ghost use Rattle.rules.specs.Internal.Well.{StepOk};
 ghost use Rattle.rules.specs.Internal.Good.{Good};
 ghost use Rattle.independence.specs.Internal.Footprint as footprint;
@@ -360,7 +359,7 @@ fn meets(image: &[u8], copy: &mut [u8], p: Step, q: Step) -> bool
 
 // 16, 17 for a step that has not eight bytes, 19, or 0.
 fn refused(image: &[u8], first: &[u8], second: &[u8]) -> u8
-    ensures { λ r. ⌜ r ≡ call.independentRefusal base (now (image .entry)) (now (first .entry)) (now (second .entry)) ⌝ }
+    ensures { λ r. ⌜ r ≡ clauses.independentRefusal base (now (image .entry)) (now (first .entry)) (now (second .entry)) ⌝ }
 {
     if image.len() != IMAGE {
         return numbers::WRONG_LENGTH;

@@ -13,7 +13,7 @@ ghost use Rattle.fields.specs.Field.{fieldOf};
 ghost use Rattle.decisive.specs.Compared.{ComparePromise};
 ghost use Rattle.decisive.specs.Decision.{decisionRefusal, decisionAnswer};
 ghost use Rattle.looking_c.specs.Interface.{verdictFor};
-ghost use Rattle.independence.specs.Call.{IndependentPromise};
+ghost use Rattle.rules.specs.Promises.{IndependentPromise};
 
 // The kinds of what a receipt would do.
 const ACCEPTED: usize = 1;
@@ -75,7 +75,12 @@ pub extern "C" fn looking_field(at: usize) -> Field
 // 1 exactly if the two packed steps are independent on the image, so that both orders leave the same image and give each step the same reply;
 // else 0. The lent number takes the refusal, 16, 17 where a step has not eight bytes, 19, or 0; refused, 0.
 #[no_mangle]
-pub extern "C" fn looking_independent(image: &[u8], first: &[u8], second: &[u8], refusal: &mut u8) -> u8
+pub extern "C" fn looking_independent(
+    image: &[u8],
+    first: &[u8],
+    second: &[u8],
+    refusal: &mut u8,
+) -> u8
     ensures { λ r. ⌜ (r ≤ 1) × IndependentPromise base (now (image .entry)) (now (first .entry)) (now (second .entry)) (now (refusal .exit)) (eqb r 1) ⌝ }
 {
     if independence::independent(image, first, second, refusal) {

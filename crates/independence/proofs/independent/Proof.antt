@@ -19,11 +19,12 @@ decode-requires-2 c κs = omega (arith, fine _ _ _ _ (c .before .before .refused
 meets-requires : tie.Need-meets-requires
 meets-requires c κs =
     let d = c .before in
-    let r = d .before .before in
-    (fine-good _ _ _ _ (r .before .refused .ensures) (r .if1 .left) (octets-of _ (r .before .before .before .before .shared-slice-known .given)),
-    search needs,
-    fine-first _ _ _ _ (r .before .refused .ensures) (r .if1 .left) (octets-of _ (r .before .before .before .before .shared-slice-known .given))
-    (octets-of _ (r .before .before .before .shared-slice-known2 .given)) (octets-of _ (r .before .before .shared-slice-known3 .given)) _ _ (d .before .decode .ensures) (d .decode2 .ensures))
+    let r = d .before .before in (
+      fine-good _ _ _ _ (r .before .refused .ensures) (r .if1 .left) (octets-of _ (r .before .before .before .before .shared-slice-known .given)),
+      search needs,
+      fine-first _ _ _ _ (r .before .refused .ensures) (r .if1 .left) (octets-of _ (r .before .before .before .before .shared-slice-known .given))
+          (octets-of _ (r .before .before .before .shared-slice-known2 .given)) (octets-of _ (r .before .before .shared-slice-known3 .given)) _ _ (d .before .decode .ensures) (d .decode2 .ensures),
+    )
 
 returns-2 : tie.Need-returns-2
 returns-2 c =
@@ -36,11 +37,12 @@ returns-2 c =
 meets-requires-2 : tie.Need-meets-requires-2
 meets-requires-2 c κs =
     let d = c .before .before .before .before .before in
-    let r = d .before .before in
-    (fine-good _ _ _ _ (r .before .refused .ensures) (r .if1 .left) (octets-of _ (r .before .before .before .before .shared-slice-known .given)),
-    search needs,
-    fine-second _ _ _ _ (r .before .refused .ensures) (r .if1 .left) (octets-of _ (r .before .before .before .before .shared-slice-known .given))
-    (octets-of _ (r .before .before .before .shared-slice-known2 .given)) (octets-of _ (r .before .before .shared-slice-known3 .given)) _ _ (d .before .decode .ensures) (d .decode2 .ensures))
+    let r = d .before .before in (
+      fine-good _ _ _ _ (r .before .refused .ensures) (r .if1 .left) (octets-of _ (r .before .before .before .before .shared-slice-known .given)),
+      search needs,
+      fine-second _ _ _ _ (r .before .refused .ensures) (r .if1 .left) (octets-of _ (r .before .before .before .before .shared-slice-known .given))
+          (octets-of _ (r .before .before .before .shared-slice-known2 .given)) (octets-of _ (r .before .before .shared-slice-known3 .given)) _ _ (d .before .decode .ensures) (d .decode2 .ensures),
+    )
 
 returns-3 : tie.Need-returns-3
 returns-3 c =
