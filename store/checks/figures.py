@@ -1,8 +1,10 @@
-"""Figures, each beside a table without the ledger in the same run: figures.py [SECONDS]. Steps a second by one and by sixteen
-clients, bytes a step, the time of hearing_check for 10,000 steps."""
+"""Figures, each beside a table without the ledger in the same run: figures.py [ROUNDS]. Steps a second by one and by sixteen
+clients, bytes a step, the time of hearing_check for 10,000 steps. The ways take turns of a second each, and the figure of a
+way is the median of its rounds: a disk that others use too is fast in one second and slow in the next."""
 import multiprocessing
 import os
 import re
+import statistics
 import subprocess
 import sys
 import tempfile
@@ -42,7 +44,16 @@ def rate_sqlite(path, text, clients, seconds):
     return total / seconds
 
 
-def sqlite(folder, seconds):
+def in_turns(ways, rounds):
+    """Each way once a round; the median of each."""
+    seen = [[] for _ in ways]
+    for _ in range(rounds):
+        for figures, way in zip(seen, ways):
+            figures.append(way())
+    return [statistics.median(figures) for figures in seen]
+
+
+def sqlite(folder, rounds):
     path = os.path.join(folder, "figures.db")
     connection = lite(path)
     sql.hearing(connection)
@@ -51,7 +62,7 @@ def sqlite(folder, seconds):
     for text in ("root text 1", "letter to 0 text 1", "receive 0"):
         connection.execute("INSERT INTO step(step, who) VALUES (ledger_pack(?), 'clerk')", (text,))
     for clients in (1, 16):
-        plain, hearing = rate_sqlite(path, TO_PLAIN, clients, seconds), rate_sqlite(path, TO_HEARING, clients, seconds)
+        plain, hearing = in_turns([lambda text=text: rate_sqlite(path, text, clients, 1) for text in (TO_PLAIN, TO_HEARING)], rounds)
         print(f"SQLite, {clients} clients: {hearing:.0f} steps/s, plain table {plain:.0f}, ratio {hearing / plain:.2f}", flush=True)
     connection.execute("BEGIN")
     begun = time.time()
@@ -94,7 +105,7 @@ def checked_sqlite(folder):
     print(f"SQLite, bytes a step in the file: {(sizes[1] - sizes[0]) / 10000:.0f}, plain table {(sizes[2] - sizes[1]) / 10000:.0f}")
 
 
-def pgbench(cluster, script, clients, seconds, settings=""):
+def pgbench(cluster, script, clients, seconds=1):
     file = os.path.join(os.path.dirname(cluster.folder), "script.sql")
     with open(file, "w", encoding="utf-8") as out:
         out.write("\\set r random(0, 4294967295)\n\\set call random(1, 9000000000000000000)\n" + script)
@@ -106,8 +117,11 @@ def pgbench(cluster, script, clients, seconds, settings=""):
     return float(re.search(r"tps = ([\d.]+)", run)[1]), bytes_ / n
 
 
-def postgres(folder, seconds):
-    with Cluster(folder) as cluster:
+def postgres(folder, rounds, **settings):
+    cluster = Cluster(folder)
+    cluster.do("init")
+    cluster.set(**settings)
+    with cluster:
         cluster.database()
         cluster.roles(["clerk"], [])
         cluster.psql("-c", "CREATE TABLE hearings.plain (LIKE hearings.step INCLUDING ALL); CREATE SEQUENCE hearings.plain_seq; GRANT ALL ON hearings.plain, hearings.plain_seq TO clerk")
@@ -118,17 +132,20 @@ def postgres(folder, seconds):
         write = "int8send(6917529027641081856 + :r)"  # write 0 text r
         plain = ("INSERT INTO hearings.plain(hearing, number, step, who, call, reply, at, entry, sum) VALUES (1, nextval('hearings.plain_seq'), int8send(:r), session_user,"
                  " :call, int8send(:r), clock_timestamp(), 1, sha256(int8send(:r)));\n")
-        ways = {"play, waiting": f"SELECT first FROM hearings.play(1, {write}, :call);\n",
+        said = "".join(f", {key} {value}" for key, value in settings.items())
+        ways = {"plain table": plain,
+                "play, waiting": f"SELECT first FROM hearings.play(1, {write}, :call);\n",
                 "play, then ledger_sure": f"SELECT first FROM hearings.play(1, {write}, :call, false);\nSELECT ledger.ledger_sure();\n",
                 "a hearing each, then ledger_sure": f"SELECT first FROM hearings.play(1 + :client_id, {write}, :call, false);\nSELECT ledger.ledger_sure();\n"}
         for clients in (1, 16):
-            base, base_bytes = pgbench(cluster, plain, clients, seconds)
-            print(f"PostgreSQL, {clients} clients, plain table: {base:.0f} steps/s, {base_bytes:.0f} bytes of WAL a step", flush=True)
-            for way, script in ways.items():
-                rate, wal = pgbench(cluster, script, clients, seconds)
-                print(f"PostgreSQL, {clients} clients, {way}: {rate:.0f} steps/s, ratio {rate / base:.2f}, {wal:.0f} bytes of WAL a step, ratio {wal / base_bytes:.2f}", flush=True)
+            wal = {}
+            rates = in_turns([lambda way=way, script=script: pgbench_rate(cluster, script, clients, wal, way) for way, script in ways.items()], rounds)
+            for way, rate in zip(ways, rates):
+                print(f"PostgreSQL{said}, {clients} clients, {way}: {rate:.0f} steps/s, ratio {rate / rates[0]:.2f}, {wal[way]:.0f} bytes of WAL a step", flush=True)
+        if settings:
+            return
         batch = f"SELECT first FROM hearings.play(1, (SELECT string_agg({write.replace(':r', 'i')}, '') FROM generate_series(1, 256) i), :call);\n"
-        rate, wal = pgbench(cluster, batch, 1, seconds)
+        rate, wal = pgbench(cluster, batch, 1, 2)
         print(f"PostgreSQL, 1 client, 256 steps a call: {rate * 256:.0f} steps/s, {wal / 256:.0f} bytes of WAL a step")
         h = clerk.one("SELECT hearings.open_hearing('check')")[0]
         clerk.do(h, "root text 1\nletter to 0 text 1\nreceive 0")
@@ -142,12 +159,18 @@ def postgres(folder, seconds):
         print("PostgreSQL, bytes a step kept, with index:", cluster.psql("-c", "SELECT pg_total_relation_size('hearings.step') / (SELECT count(*) FROM hearings.step)").strip())
 
 
+def pgbench_rate(cluster, script, clients, wal, way):
+    rate, wal[way] = pgbench(cluster, script, clients)
+    return rate
+
+
 def main():
-    seconds = float((sys.argv[1:] or ["3"])[0])
+    rounds = int((sys.argv[1:] or ["5"])[0])
     with tempfile.TemporaryDirectory() as folder:
-        sqlite(folder, seconds)
-    with room() as folder:
-        postgres(folder, max(int(seconds), 1))
+        sqlite(folder, rounds)
+    for settings in ({}, {"fsync": "off"}):
+        with room() as folder:
+            postgres(folder, rounds, **settings)
 
 
 if __name__ == "__main__":

@@ -119,33 +119,47 @@ CREATE VIEW entry WITH (security_invoker = true) AS
   UNION ALL SELECT hearing, entry, 'words', words_line(w), sum FROM words w;
 
 -- The last row of a hearing's log. Not max(entry): with statistics from before a hearing grew, the planner reads all of it.
-CREATE FUNCTION last_entry(hearing integer, OUT entry bigint, OUT sum bytea) LANGUAGE sql STABLE
-  SET search_path = pg_catalog AS $$
-  SELECT l.entry, l.sum FROM (
+-- In PL/pgSQL, as whatever is asked at each call: it plans a query once, a function of plain SQL each time.
+CREATE FUNCTION last_entry(hearing integer, OUT entry bigint, OUT sum bytea) LANGUAGE plpgsql STABLE
+  SET search_path = pg_catalog, pg_temp AS $$
+BEGIN
+  SELECT l.entry, l.sum INTO entry, sum FROM (
     (SELECT s.entry, s.sum FROM hearings.step s WHERE s.hearing = $1 ORDER BY s.number DESC LIMIT 1)
     UNION ALL (SELECT t.entry, t.sum FROM hearings.take t WHERE t.hearing = $1 ORDER BY t.entry DESC LIMIT 1)
     UNION ALL (SELECT w.entry, w.sum FROM hearings.words w WHERE w.hearing = $1 ORDER BY w.entry DESC LIMIT 1)
-    UNION ALL SELECT 0, h.sum FROM hearings.hearing h WHERE h.id = $1) l ORDER BY l.entry DESC LIMIT 1 $$;
+    UNION ALL SELECT 0, h.sum FROM hearings.hearing h WHERE h.id = $1) l ORDER BY l.entry DESC LIMIT 1;
+END $$;
 
 -- ---- who takes part, and who may read
 
 CREATE VIEW holder WITH (security_invoker = true) AS
   SELECT DISTINCT ON (hearing, take) hearing, take, name, owner FROM take ORDER BY hearing, take, entry DESC;
 
--- Definer's rights, so that the policies do not call each other.
-CREATE FUNCTION takes_part(hearing integer) RETURNS boolean LANGUAGE sql STABLE SECURITY DEFINER
+-- The takes that this role owns in a hearing, as their bits. Definer's rights, so that the policies do not call each other.
+CREATE FUNCTION owned(hearing integer) RETURNS integer LANGUAGE plpgsql STABLE SECURITY DEFINER
   SET search_path = pg_catalog, pg_temp AS $$
-  SELECT EXISTS (SELECT FROM hearings.hearing h WHERE h.id = $1 AND h.house = session_user)
-      OR EXISTS (SELECT FROM (SELECT DISTINCT ON (t.take) t.owner FROM hearings.take t WHERE t.hearing = $1
-                              ORDER BY t.take, t.entry DESC) o WHERE o.owner = session_user) $$;
+BEGIN
+  RETURN (SELECT coalesce(bit_or(1 << o.take), 0) FROM (SELECT DISTINCT ON (t.take) t.take, t.owner FROM hearings.take t
+    WHERE t.hearing = $1 ORDER BY t.take, t.entry DESC) o WHERE o.owner = session_user);
+END $$;
+CREATE FUNCTION takes_part(hearing integer) RETURNS boolean LANGUAGE plpgsql STABLE SECURITY DEFINER
+  SET search_path = pg_catalog, pg_temp AS $$
+BEGIN
+  RETURN EXISTS (SELECT FROM hearings.hearing h WHERE h.id = $1 AND h.house = session_user) OR hearings.owned($1) <> 0;
+END $$;
+CREATE FUNCTION mine() RETURNS integer[] LANGUAGE plpgsql STABLE SECURITY DEFINER SET search_path = pg_catalog, pg_temp AS $$
+BEGIN
+  RETURN ARRAY(SELECT h.id FROM hearings.hearing h WHERE hearings.takes_part(h.id));
+END $$;
 ALTER TABLE hearing ENABLE ROW LEVEL SECURITY;
 ALTER TABLE step ENABLE ROW LEVEL SECURITY;
 ALTER TABLE take ENABLE ROW LEVEL SECURITY;
 ALTER TABLE words ENABLE ROW LEVEL SECURITY;
-CREATE POLICY reading ON hearing FOR SELECT USING (takes_part(id));
-CREATE POLICY reading ON step FOR SELECT USING (takes_part(hearing));
-CREATE POLICY reading ON take FOR SELECT USING (takes_part(hearing));
-CREATE POLICY reading ON words FOR SELECT USING (takes_part(hearing));
+-- (SELECT mine()): asked once in a query, not once in a row
+CREATE POLICY reading ON hearing FOR SELECT USING (id = ANY ((SELECT mine())::integer[]));
+CREATE POLICY reading ON step FOR SELECT USING (hearing = ANY ((SELECT mine())::integer[]));
+CREATE POLICY reading ON take FOR SELECT USING (hearing = ANY ((SELECT mine())::integer[]));
+CREATE POLICY reading ON words FOR SELECT USING (hearing = ANY ((SELECT mine())::integer[]));
 GRANT SELECT ON hearing, step, take, words, entry, holder TO ledger_parties;
 
 -- ---- where a hearing stands
@@ -220,9 +234,7 @@ CREATE FUNCTION may(h hearing, rows played[]) RETURNS void LANGUAGE plpgsql SECU
   SET search_path = pg_catalog, pg_temp AS $$
 DECLARE mine integer; p hearings.played;
 BEGIN
-  SELECT coalesce(bit_or(1 << o.take), 0) INTO mine FROM (
-    SELECT DISTINCT ON (t.take) t.take, t.owner FROM hearings.take t WHERE t.hearing = (h).id ORDER BY t.take, t.entry DESC) o
-  WHERE o.owner = session_user;
+  mine := hearings.owned((h).id);
   FOREACH p IN ARRAY rows LOOP
     IF NOT (CASE p.acts
         WHEN 'nobody' THEN true
@@ -430,7 +442,7 @@ END $$;
 REVOKE ALL ON ALL FUNCTIONS IN SCHEMA hearings FROM PUBLIC;
 REVOKE ALL ON PROCEDURE watch(double precision, bigint) FROM PUBLIC;
 GRANT EXECUTE ON FUNCTION hex(text), moment(timestamptz), total(bytea, text), hearing_line(hearing), step_line(step),
-  take_line(take), words_line(words), takes_part(integer), image_now(integer), hearing_check(integer), hearing_fault(integer),
+  take_line(take), words_line(words), mine(), image_now(integer), hearing_check(integer), hearing_fault(integer),
   play(integer, bytea, bigint, boolean), give(integer, integer, text, text), say(integer, bigint, text, text) TO ledger_parties;
 GRANT EXECUTE ON FUNCTION open_hearing(text, integer, integer, integer, integer) TO ledger_houses;
 RESET ROLE;
