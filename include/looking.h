@@ -91,9 +91,10 @@ struct looking_decision looking_decision(const uint8_t *image, size_t image_leng
  * length, 19 where one is absent or ill-formed, and both numbers are 0. */
 struct looking_comparison looking_compare(const uint8_t *left, size_t left_length, const uint8_t *right, size_t right_length, uint8_t *refusal);
 
-/* 1 exactly if the two packed steps, 8 bytes each, are independent on this image: neither of them sees what the other changes. Then both orders
- * leave the same image and give each step the same reply, also where one of them is refused. Otherwise 0: then the order may show. *refusal is 0,
- * and the image is only read. Refused: the answer is 0, and *refusal is 16 (the image's length), 17 (a step that has not 8 bytes) or 19. */
+/* Whether two packed steps, 8 bytes each, may come in either order on this image. The answer is 1 exactly if they are
+ * independent: neither of them sees what the other changes. Then both orders leave the same image and give each step the
+ * same reply, also where one of them is refused. If the answer is 0, the order may show. *refusal is 0, and the image is
+ * only read. Refused: the answer is 0, and *refusal is 16 for the image's length, 17 if a step has not 8 bytes, or 19. */
 uint8_t looking_independent(const uint8_t *image, size_t image_length, const uint8_t *first, size_t first_length, const uint8_t *second,
     size_t second_length, uint8_t *refusal);
 
