@@ -175,8 +175,8 @@ static int export_to(int count, char **words) {
     if (strcmp(words[1], "names") == 0) print_csv("SELECT take, name, owner FROM holder ORDER BY take");
     else if (strcmp(words[1], "words") == 0) print_csv("SELECT text, speaker, words FROM words ORDER BY text");
     else if (strcmp(words[1], "text") == 0)
-        print_rows("SELECT step || coalesce(' # ' || (SELECT name FROM holder JOIN step USING (number) WHERE 0), '') FROM"
-                   " (SELECT number, step FROM log ORDER BY number)", 0, NULL);
+        print_rows("SELECT l.step || coalesce(' # ' || replace(h.name, char(10), ' '), '') FROM log l JOIN step s USING (number)"
+                   " LEFT JOIN holder h ON h.take = s.opened ORDER BY number", 0, NULL);
     else if (strcmp(words[1], "packed") == 0) {
         sqlite3_stmt *statement = asked("SELECT ledger_list(number, step) FROM step", 0, NULL);
         if (next_row(statement)) fwrite(sqlite3_column_blob(statement, 0), 1, (size_t)sqlite3_column_bytes(statement, 0), stdout);
@@ -197,11 +197,21 @@ static void import_words(const char *const *fields, const char *who) {
          " coalesce(?4, (SELECT house FROM hearing)))", 4, values);
 }
 
+/* The comment behind a step that opens a take is its name. */
+static void name_opened(const char *comment) {
+    done("INSERT INTO take(take, name, who) SELECT opened, ?1, who FROM step WHERE opened IS NOT NULL AND number ="
+         " (SELECT steps FROM played)", 1, &comment);
+}
+
 static void import_steps(FILE *file, const char *who) {
     char text[1 << 12];
     while (fgets(text, sizeof text, file)) {
-        text[strcspn(text, "#\r\n")] = 0;
-        if (text[strspn(text, " \t")]) insert_step(text, who);
+        text[strcspn(text, "\r\n")] = 0;
+        char *hash = strchr(text, '#'), *comment = hash ? hash + 1 + strspn(hash + 1, " \t") : NULL;
+        if (hash) *hash = 0;
+        if (text[strspn(text, " \t")] == 0) continue;
+        insert_step(text, who);
+        if (comment && *comment) name_opened(comment);
     }
 }
 
