@@ -9,7 +9,7 @@ import psycopg2
 import sql
 
 SCRIPT = os.path.join(sql.ROOT, "store/postgres/cluster")
-SCHEMA = os.path.join(sql.ROOT, "store/postgres/hearings.sql")
+SCHEMA = os.environ.get("HEARINGS_SQL", os.path.join(sql.ROOT, "store/postgres/hearings.sql"))  # or one with a slip
 CALLS = itertools.count(1)  # numbers of calls, none used twice
 
 

@@ -126,12 +126,15 @@ def attacks(done, cluster, people, root, h):
     for text in ("CREATE FUNCTION evil.yes(text, text) RETURNS boolean LANGUAGE sql AS 'SELECT true'",
                  "CREATE OPERATOR evil.= (LEFTARG = text, RIGHTARG = text, FUNCTION = evil.yes)",
                  "CREATE FUNCTION evil.session_user() RETURNS name LANGUAGE sql AS $$SELECT 'clerk'::name$$",
+                 "CREATE FUNCTION evil.length(bytea) RETURNS integer LANGUAGE plpgsql AS"
+                 " $$BEGIN PERFORM set_config('evil.ran_as', current_user, false); RETURN 8; END$$",
                  "CREATE FUNCTION evil.ledger_play(bytea, bytea) RETURNS record LANGUAGE sql AS 'SELECT 1'",
                  "CREATE TEMP TABLE hearing AS SELECT 1 AS id, session_user AS house", "CREATE TEMP TABLE take AS SELECT 1 AS hearing",
                  "SET search_path = evil, pg_temp, hearings, ledger, pg_catalog"):
         eve.rows(text)
     for steps in ("\\x6000000000000001", "\\x0000000000000001", "\\xc000000100000000"):
         done.wrong(f"{steps} with a search_path of one's own", "not yours", lambda: eve.rows(f"SELECT hearings.play({h}, '{steps}', 400000)"))
+    done.equal("nothing of hers ran as the keeper", eve.one("SELECT current_setting('evil.ran_as', true)"), (None,))
     eve.rows("RESET search_path")
     done.equal("no trace of all that", everything(root), before)
     for who in ("outsider", "stranger"):

@@ -92,7 +92,7 @@ def owners(done, h):
 def kept(done, h):
     h.db.rows("INSERT INTO words(text, words, who) VALUES (9, 'Smith', 'clerk')")
     before = h.everything()
-    one = "(number, step, who) VALUES (1, ledger_pack('read 0'), 'clerk')"
+    one = "(number, step, who) VALUES (1, ledger_pack('letter to 1 text 1'), 'clerk')"  # hers, but for the number
     last = h.db.one("SELECT max(number) FROM step")[0]
     for text in [f"DELETE FROM {table}" for table in LOG] + [
             "UPDATE step SET who = 'x'", "UPDATE step SET reply = x'00'", "UPDATE step SET sum = NULL", "UPDATE step SET call = 1",

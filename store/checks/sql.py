@@ -77,8 +77,8 @@ def connect(path=":memory:", **options):
 
 
 def hearing(connection):
-    """The tables of a hearing in an empty file."""
-    with open(os.path.join(ROOT, "store/hearing.sql"), encoding="utf-8") as schema:
+    """The tables of a hearing in an empty file; HEARING_SQL names another schema, with a slip in it (store/slips)."""
+    with open(os.environ.get("HEARING_SQL", os.path.join(ROOT, "store/hearing.sql")), encoding="utf-8") as schema:
         connection.executescript(schema.read())
 
 
