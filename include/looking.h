@@ -11,7 +11,7 @@
  *
  * Stack of each call in KiB, at most, beside that of memcpy, memmove and memset (tools/stack measures the compiled library):
  *
- *     looking_decision 2    looking_compare 1    looking_independent 50    looking_field 1
+ *     looking_decision 2    looking_compare 1    looking_independent 45    looking_field 1
  */
 #ifndef LOOKING_H
 #define LOOKING_H
