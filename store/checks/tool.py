@@ -5,7 +5,7 @@ import tempfile
 
 import sql
 
-TOOL = os.path.join(sql.ROOT, "target/store/ledger")
+TOOL = os.path.join(sql.ROOT, os.environ.get("TOOL", "target/store/ledger"))
 NAMES = 'take,name,owner\r\n0,names,anna\r\n1,page 12,ben\r\n2,"page 1, ""old""",ben\r\n'
 WORDS = "\ufefftext;speaker;words\n9;Mr Smith;I was there.\n10;;\"two\nlines; and \"\"quotes\"\"\"\n"
 
