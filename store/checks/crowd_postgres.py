@@ -42,10 +42,11 @@ def choose(rnd, laptop, hearing, n):
     if offer is not None and status == "idle":
         own = f"receive {offer}\n{own}"
     if rnd.random() < 0.05:
-        foreign = rnd.choice([f"write {other} text 6", f"fail {other}", f"sign {{{n},{other}}}", "root text 1", f"letter to {n} text 1", "lose 0"])
+        foreign = rnd.choice([f"write {other} text 6", f"fail {other}", f"fall {other}", f"sign {{{n},{other}}}", "root text 1",
+                              f"letter to {n} text 1"])
         waits = takes[other][1]
-        if foreign == "lose 0" or rnd.random() < 0.5 or waits is None:
-            return (f"{own}\n" if rnd.random() < 0.5 else "") + foreign.replace("lose 0", f"fall {other}"), False
+        if rnd.random() < 0.5 or waits is None:
+            return (f"{own}\n" if rnd.random() < 0.5 else "") + foreign, False
         return f"receive {waits}", None  # another's, unless it was received meanwhile: then nobody's
     return own, True
 
@@ -119,7 +120,8 @@ class Crowd:
     def start(self, cluster, n):
         self.generation += 1
         file = os.path.join(self.folder, f"{n:02}-{self.generation:04}.txt")
-        return subprocess.Popen([sys.executable, os.path.abspath(__file__), "client", cluster.folder, str(cluster.port), str(n), str(self.generation), file, self.stop])
+        words = ["client", cluster.folder, str(cluster.port), str(n), str(self.generation), file, self.stop]
+        return subprocess.Popen([sys.executable, os.path.abspath(__file__), *words])
 
     def play(self, cluster, steps, stops, kills, at_end):
         running = [self.start(cluster, n) for n in range(17)]
@@ -169,10 +171,12 @@ def judge(done, folder, cluster, before):
         rows = by_call.pop((h, name(n), call), [])
         played, replies = b"".join(r[1] for r in rows), b"".join(r[2] for r in rows)
         numbers = [r[0] for r in rows]
-        done.must(f"{file} {call}: played as asked, whole and once", not rows or played == steps and numbers == list(range(numbers[0], numbers[0] + len(rows))))
+        once = not rows or played == steps and numbers == list(range(numbers[0], numbers[0] + len(rows)))
+        done.must(f"{file} {call}: played as asked, whole and once", once)
         if came and came[0] == "A":
             counts["acknowledged"] += len(rows)
-            done.must(f"{file} {call}: answered and not in the log as answered", rows and numbers[0] == int(came[1]) and replies.hex() == came[2])
+            kept = rows and numbers[0] == int(came[1]) and replies.hex() == came[2]
+            done.must(f"{file} {call}: answered and not in the log as answered", kept)
             done.must(f"{file} {call}: in its client's order", numbers[0] > last.get((h, n), 0))
             last[h, n] = numbers[-1]
         elif came:
@@ -211,7 +215,8 @@ def unsure(done, cluster, standby):
     thread.join()
     done.holds(f"cancelled, it is an error: {said}", "not known to be on the standby" in str(said[0]))
     standby.do("start")
-    done.equal("asked again once the standby is there", house.one("SELECT replies FROM hearings.play(1, '\\x1000000000000000', 999999999, true)")[0][0], 0)
+    again = house.one("SELECT replies FROM hearings.play(1, '\\x1000000000000000', 999999999, true)")[0]
+    done.equal("asked again once the standby is there", again[0], 0)
 
 
 def follow(done, folder, crowd, cluster, before, steps):

@@ -32,7 +32,8 @@ def choose(rnd, connection, n):
         return rnd.choice([f"letter to {to} text {rnd.randrange(9)}"] * 8 + [f"lose {rnd.randrange(99)}", f"sign {{{to}}}"]), True
     other = (n + rnd.randrange(1, 16)) % 16
     if rnd.random() < 0.05:
-        return rnd.choice([f"write {other} text 1", f"fail {other}", f"sign {{{n},{other}}}", f"letter to {n} text 1", "root text 1"]), False
+        foreign = [f"write {other} text 1", f"fail {other}", f"sign {{{n},{other}}}", f"letter to {n} text 1", "root text 1"]
+        return rnd.choice(foreign), False
     if offer[0] is not None and offer[1] == "idle" and rnd.random() < 0.9:
         return f"receive {offer[0]}", True
     return rnd.choice([f"write {n} text {rnd.getrandbits(32)}", f"read {n}", f"send {n} to {other} text {rnd.getrandbits(16)}",
@@ -97,8 +98,12 @@ def prepare(path):
 def crowd(room, path, connection, steps):
     """Plays until so many steps stand in the log; how long it took, and how many were killed from outside."""
     stop = os.path.join(room, "stop")
-    start = lambda n, generation: subprocess.Popen(
-        [sys.executable, os.path.abspath(__file__), "laptop", path, str(n), str(generation), os.path.join(room, f"{n:02}-{generation:03}.txt"), stop])
+
+    def start(n, generation):
+        file = os.path.join(room, f"{n:02}-{generation:03}.txt")
+        words = ["laptop", path, str(n), str(generation), file, stop]
+        return subprocess.Popen([sys.executable, os.path.abspath(__file__), *words])
+
     running, generation, killed = [start(n, 0) for n in range(17)], 0, 0
     rnd, begun = random.Random(5), time.time()
     while connection.execute("SELECT max(number) FROM step").fetchone()[0] < steps:

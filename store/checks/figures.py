@@ -96,7 +96,8 @@ def checked_sqlite(folder):
     holds = connection.execute("SELECT holds FROM hearing_check").fetchone()[0]
     took, begun = time.time() - begun, time.time()
     connection.execute("SELECT count(*), sum(length(line)) FROM entry").fetchall()
-    print(f"SQLite, hearing_check of 10,003 steps: holds {holds}, {took * 1000:.0f} ms; reading the lines alone {(time.time() - begun) * 1000:.0f} ms")
+    read = time.time() - begun
+    print(f"SQLite, hearing_check of 10,003 steps: holds {holds}, {took * 1000:.0f} ms; its lines alone {read * 1000:.0f} ms")
     connection.execute("BEGIN")
     for _ in range(10000):
         connection.execute(TO_PLAIN)
@@ -110,8 +111,8 @@ def pgbench(cluster, script, clients, seconds=1):
     with open(file, "w", encoding="utf-8") as out:
         out.write("\\set r random(0, 4294967295)\n\\set call random(1, 9000000000000000000)\n" + script)
     before = cluster.psql("-c", "CHECKPOINT", "-c", "SELECT pg_current_wal_insert_lsn()").strip()
-    run = subprocess.run(["/usr/lib/postgresql/15/bin/pgbench", "-n", "-M", "prepared", "-h", cluster.folder, "-p", str(cluster.port), "-U", "clerk", "-c", str(clients),
-                          "-j", str(min(clients, 2)), "-T", str(seconds), "-f", file, "t"], capture_output=True, text=True, check=True).stdout
+    words = f"-n -M prepared -h {cluster.folder} -p {cluster.port} -U clerk -c {clients} -j {min(clients, 2)} -T {seconds} -f {file} t"
+    run = subprocess.run(["/usr/lib/postgresql/15/bin/pgbench", *words.split()], capture_output=True, text=True, check=True).stdout
     bytes_ = float(cluster.psql("-c", f"SELECT pg_wal_lsn_diff(pg_current_wal_insert_lsn(), '{before}')"))
     n = int(re.search(r"actually processed: (\d+)", run)[1])
     return float(re.search(r"tps = ([\d.]+)", run)[1]), bytes_ / n
@@ -124,27 +125,33 @@ def postgres(folder, rounds, **settings):
     with cluster:
         cluster.database()
         cluster.roles(["clerk"], [])
-        cluster.psql("-c", "CREATE TABLE hearings.plain (LIKE hearings.step INCLUDING ALL); CREATE SEQUENCE hearings.plain_seq; GRANT ALL ON hearings.plain, hearings.plain_seq TO clerk")
+        cluster.psql("-c", "CREATE TABLE hearings.plain (LIKE hearings.step INCLUDING ALL)", "-c", "CREATE SEQUENCE hearings.plain_seq",
+                     "-c", "GRANT ALL ON hearings.plain, hearings.plain_seq TO clerk")
         clerk = Laptop(cluster, "clerk")
         hearings = [clerk.one("SELECT hearings.open_hearing('figures')")[0] for _ in range(16)]
         for h in hearings:
             clerk.do(h, "root text 1\nletter to 0 text 1\nreceive 0")
         write = "int8send(6917529027641081856 + :r)"  # write 0 text r
-        plain = ("INSERT INTO hearings.plain(hearing, number, step, who, call, reply, at, entry, sum) VALUES (1, nextval('hearings.plain_seq'), int8send(:r), session_user,"
-                 " :call, int8send(:r), clock_timestamp(), 1, sha256(int8send(:r)));\n")
+        plain = ("INSERT INTO hearings.plain(hearing, number, step, who, call, reply, at, entry, sum) VALUES (1,"
+                 " nextval('hearings.plain_seq'), int8send(:r), session_user, :call, int8send(:r), clock_timestamp(), 1,"
+                 " sha256(int8send(:r)));\n")
+        sure = "SELECT ledger.ledger_sure();\n"
         said = "".join(f", {key} {value}" for key, value in settings.items())
         ways = {"plain table": plain,
                 "play, waiting": f"SELECT first FROM hearings.play(1, {write}, :call);\n",
-                "play, then ledger_sure": f"SELECT first FROM hearings.play(1, {write}, :call, false);\nSELECT ledger.ledger_sure();\n",
-                "a hearing each, then ledger_sure": f"SELECT first FROM hearings.play(1 + :client_id, {write}, :call, false);\nSELECT ledger.ledger_sure();\n"}
+                "play, then ledger_sure": f"SELECT first FROM hearings.play(1, {write}, :call, false);\n{sure}",
+                "a hearing each, then ledger_sure": f"SELECT first FROM hearings.play(1 + :client_id, {write}, :call, false);\n{sure}"}
         for clients in (1, 16):
             wal = {}
-            rates = in_turns([lambda way=way, script=script: pgbench_rate(cluster, script, clients, wal, way) for way, script in ways.items()], rounds)
+            turns = [lambda way=way: pgbench_rate(cluster, ways[way], clients, wal, way) for way in ways]
+            rates = in_turns(turns, rounds)
             for way, rate in zip(ways, rates):
-                print(f"PostgreSQL{said}, {clients} clients, {way}: {rate:.0f} steps/s, ratio {rate / rates[0]:.2f}, {wal[way]:.0f} bytes of WAL a step", flush=True)
+                print(f"PostgreSQL{said}, {clients} clients, {way}: {rate:.0f} steps/s, ratio {rate / rates[0]:.2f},"
+                      f" {wal[way]:.0f} bytes of WAL a step", flush=True)
         if settings:
             return
-        batch = f"SELECT first FROM hearings.play(1, (SELECT string_agg({write.replace(':r', 'i')}, '') FROM generate_series(1, 256) i), :call);\n"
+        many = f"(SELECT string_agg({write.replace(':r', 'i')}, '') FROM generate_series(1, 256) i)"
+        batch = f"SELECT first FROM hearings.play(1, {many}, :call);\n"
         rate, wal = pgbench(cluster, batch, 1, 2)
         print(f"PostgreSQL, 1 client, 256 steps a call: {rate * 256:.0f} steps/s, {wal / 256:.0f} bytes of WAL a step")
         h = clerk.one("SELECT hearings.open_hearing('check')")[0]
@@ -155,8 +162,10 @@ def postgres(folder, rounds, **settings):
         holds = clerk.one("SELECT holds FROM hearings.hearing_check(?)", h)[0]
         took, begun = time.time() - begun, time.time()
         clerk.one("SELECT count(*), sum(length(line)) FROM hearings.entry WHERE hearing = ?", h)
-        print(f"PostgreSQL, hearing_check of 10,003 steps: holds {holds}, {took * 1000:.0f} ms; reading the lines alone {(time.time() - begun) * 1000:.0f} ms")
-        print("PostgreSQL, bytes a step kept, with index:", cluster.psql("-c", "SELECT pg_total_relation_size('hearings.step') / (SELECT count(*) FROM hearings.step)").strip())
+        read = time.time() - begun
+        print(f"PostgreSQL, hearing_check of 10,003 steps: holds {holds}, {took * 1000:.0f} ms; its lines alone {read * 1000:.0f} ms")
+        kept = cluster.psql("-c", "SELECT pg_total_relation_size('hearings.step') / (SELECT count(*) FROM hearings.step)")
+        print("PostgreSQL, bytes a step kept, with index:", kept.strip())
 
 
 def pgbench_rate(cluster, script, clients, wal, way):

@@ -186,7 +186,8 @@ def snapshots(done, people, root):
     rows = clerk.one("SELECT steps, image FROM hearings.image_now(?)", h)
     steps = b"".join(r[0] for r in root.rows("SELECT step FROM hearings.step WHERE hearing = ? ORDER BY number", h))
     done.equal("the image now", rows, (1167, root.one("SELECT ledger.ledger_run(ledger.ledger_begin(), ?)", steps)[0]))
-    done.equal("packed by lz4", root.one("SELECT pg_column_compression(image), pg_column_size(image) < 2000 FROM hearings.hearing WHERE id = ?", h), ("lz4", True))
+    text = "SELECT pg_column_compression(image), pg_column_size(image) < 2000 FROM hearings.hearing WHERE id = ?"
+    done.equal("packed by lz4", root.one(text, h), ("lz4", True))
     done.equal("the check", check(clerk, h), (True, None))
     done.wrong("a snapshot every 10 steps", "check", lambda: clerk.one("SELECT hearings.open_hearing('x', every => 10)"))
     done.refused("limits out of range", 33, lambda: clerk.one("SELECT hearings.open_hearing('x', 17)"))
@@ -202,12 +203,14 @@ def views(done, people, h):
     done.equal("under way", of("under_way", "parcel, take, name, text, words"), [(2, 1, "page 1", 10, "I was there.")])
     ben.do(h, "receive 2\nsend 1 to 0 text 10"), eve.do(h, "receive 3\nwrite 0 text 2")
     done.equal("rests", of("rests", "take, name, ground, ground_name, direct"), [(0, "list of names", 1, "page 1", True)])
-    done.equal("left to do", [r[0] for r in clerk.rows("SELECT step FROM hearings.left_to_do WHERE hearing = ? AND take = 0 ORDER BY place", h)], ["freeze 0", "freeze 1", "sign {0,1}"])
+    rows = clerk.rows("SELECT step FROM hearings.left_to_do WHERE hearing = ? AND take = 0 ORDER BY place", h)
+    done.equal("left to do", [r[0] for r in rows], ["freeze 0", "freeze 1", "sign {0,1}"])
     done.equal("in the way", of("in_the_way", "take, reason, in_the_way_name"), [(0, "not frozen", "list of names"), (1, "not frozen", "page 1")])
     eve.do(h, "freeze 0"), ben.do(h, "freeze 1")
     done.equal("can be signed", of("can_sign", "take, volume, names"), [(0, 3, "list of names, page 1"), (1, 2, "page 1")])
     done.equal("a vanished take", clerk.rows("SELECT status, text FROM hearings.takes WHERE hearing = ? AND take = 2", h), [("vanished", None)])
-    done.holds("the log", clerk.rows("SELECT step, reply, who FROM hearings.log WHERE hearing = ? ORDER BY number", h)[0] == ("root text 7", "done take 0", "clerk"))
+    rows = clerk.rows("SELECT step, reply, who FROM hearings.log WHERE hearing = ? ORDER BY number", h)
+    done.equal("the log", rows[0], ("root text 7", "done take 0", "clerk"))
 
 
 def faults(done, people, root):
@@ -278,17 +281,19 @@ def moved(done, cluster, people, root):
         lite = sql.connect(path)
         sql.hearing(lite)
         lite.execute("INSERT INTO hearing(title, house, every) VALUES ('Anhörung', 'clerk', 8)")
-        do = lambda text, who: lite.execute("INSERT INTO step(step, who, call) VALUES (ledger_pack(?), ?, 5)" if who == "anna" else "INSERT INTO step(step, who) VALUES (ledger_pack(?), ?)", (text, who))
+        do = lambda text, who, call=None: lite.execute(
+            "INSERT INTO step(step, who, call) VALUES (ledger_pack(?), ?, ?)", (text, who, call))
         do("root text 7", "clerk")
         lite.execute("INSERT INTO take(take, name, owner, who) VALUES (0, 'Namen; \"x\", ''y''\n', 'anna', 'clerk')")
         lite.execute("INSERT INTO words(text, speaker, words, who) VALUES (7, NULL, 'Müller\n\\x', 'anna')")
         for i in range(20):
             do(f"letter to 0 text {i}", "clerk")
-        do("receive 0", "anna")
+        do("receive 0", "anna", 5)
         lite_sum = lite.execute("SELECT holds, sum FROM hearing_check").fetchone()
         lite.close()
         environment = dict(os.environ, PGHOST=cluster.folder, PGPORT=str(cluster.port), PGUSER="postgres", PGDATABASE="t")
-        h = int(subprocess.run([os.path.join(sql.ROOT, "store/postgres/move"), path], env=environment, check=True, capture_output=True, text=True).stdout)
+        move = [os.path.join(sql.ROOT, "store/postgres/move"), path]
+        h = int(subprocess.run(move, env=environment, check=True, capture_output=True, text=True).stdout)
     done.equal("the same sum as in the file", (1, clerk.one("SELECT sum FROM hearings.hearing_check(?)", h)[0]), lite_sum)
     done.equal("the check", check(clerk, h), (True, None))
     done.equal("its owner plays on", people["anna"].do(h, "write 0 text 9"), "done take 0")

@@ -7,7 +7,8 @@ from cluster import Cluster, room
 
 with room() as folder, Cluster(folder) as cluster:
     cluster.database()
-    where = dict(os.environ, PGHOST=cluster.folder, PGPORT=str(cluster.port), PGDATABASE="t", PGUSER="postgres", PGOPTIONS="-c search_path=ledger")
+    where = dict(os.environ, PGHOST=cluster.folder, PGPORT=str(cluster.port), PGDATABASE="t", PGUSER="postgres")
+    where["PGOPTIONS"] = "-c search_path=ledger"
     script = os.path.join(os.path.dirname(os.path.abspath(__file__)), sys.argv[1])
     status = subprocess.run([sys.executable, script, "postgres"], env=where).returncode
 sys.exit(status)
