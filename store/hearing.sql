@@ -268,7 +268,8 @@ CREATE VIEW replayed(number, reply, opened, acts, takes) AS
   FROM hearing h, ledger_play(ledger_begin(h.takes, h.parcels, h.signings),
     CASE WHEN (SELECT count(*) = max(number) FROM step) THEN (SELECT ledger_list(number, step) FROM step) END) p;
 
--- A row for each fault. An image, reply, sum or number that differs, and a step by somebody who might not, is one.
+-- A row for each fault. An image, reply, sum or number that differs, and a step, a name or an owner by somebody who might not,
+-- is one.
 CREATE VIEW hearing_fault(what, number) AS
   SELECT 'number', number FROM (SELECT number, row_number() OVER (ORDER BY number) AS place FROM step) WHERE number <> place
   UNION ALL
@@ -282,6 +283,11 @@ CREATE VIEW hearing_fault(what, number) AS
         SELECT coalesce(sum(1 << t.take), 0) FROM take t WHERE t.owner = s.who AND t.entry =
           (SELECT max(u.entry) FROM take u WHERE u.take = t.take AND u.entry < s.entry)) = 0
     END
+  UNION ALL
+  SELECT 'owner', t.entry FROM take t, hearing h
+  WHERE t.who <> h.house AND NOT (t.owner = t.who AND (
+    t.who IS (SELECT u.owner FROM take u WHERE u.take = t.take AND u.entry < t.entry ORDER BY u.entry DESC LIMIT 1)
+    OR EXISTS (SELECT 1 FROM step s WHERE s.opened = t.take AND s.entry = t.entry - 1 AND s.who = t.who)))
   UNION ALL
   SELECT 'sum', entry FROM (
     SELECT entry, sum, row_number() OVER (ORDER BY entry) - 1 AS place,

@@ -222,6 +222,7 @@ def faults(done, people, root):
              "when": ("UPDATE hearings.step SET at = at + '1 ms' WHERE hearing = {} AND number = 5", {"sum"}),
              "a step taken out": ("DELETE FROM hearings.step WHERE hearing = {} AND number = 5", None),
              "an owner": ("UPDATE hearings.take SET owner = 'ben' WHERE hearing = {}", {"rights", "sum"}),
+             "who gave a take away": ("UPDATE hearings.take SET who = 'ben' WHERE hearing = {} AND owner = 'anna'", {"owner", "sum"}),
              "words": ("UPDATE hearings.words SET words = 'x' WHERE hearing = {}", {"sum"}),
              "the title": ("UPDATE hearings.hearing SET title = 'x' WHERE id = {}", {"sum"}),
              "the limits": ("UPDATE hearings.hearing SET takes = 15 WHERE id = {}", {"sum", "image"}),

@@ -403,6 +403,12 @@ LANGUAGE sql STABLE SECURITY DEFINER SET search_path = pg_catalog, pg_temp AS $$
           WHERE t.hearing = h.id AND t.entry < l.entry ORDER BY t.take, t.entry DESC) o WHERE o.owner = l.who) = 0
     END
   UNION ALL
+  SELECT 'owner', t.entry FROM hearings.take t JOIN h ON h.id = t.hearing
+  WHERE t.who <> h.house AND NOT (t.owner = t.who AND (
+    t.who = (SELECT u.owner FROM hearings.take u WHERE u.hearing = h.id AND u.take = t.take AND u.entry < t.entry
+             ORDER BY u.entry DESC LIMIT 1)
+    OR EXISTS (SELECT FROM log l WHERE l.opened = t.take AND l.entry = t.entry - 1 AND l.who = t.who)))
+  UNION ALL
   SELECT 'sum', c.entry FROM chain c WHERE c.entry <> c.place OR c.sum <> c.made
   UNION ALL
   SELECT 'image', h.image_at FROM h, list WHERE h.image_at > length(list.steps) / 8 OR h.image <> ledger.ledger_run(
