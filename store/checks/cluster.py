@@ -25,19 +25,17 @@ def quoted(name):
 
 
 class Cluster:
-    def __init__(self, folder, name="a", port=5747):
-        self.folder, self.name, self.port = os.path.join(folder, name), name, port
+    def __init__(self, folder, name="a", port=5747, **settings):
+        self.folder, self.name, self.port, self.settings = os.path.join(folder, name), name, port, settings
 
     def do(self, what, *more):
         subprocess.run([SCRIPT, what, self.folder, str(self.port), *map(str, more)], check=True)
 
-    def set(self, **settings):
-        with open(os.path.join(self.folder, "data/postgresql.conf"), "a", encoding="utf-8") as file:
-            file.writelines(f"{key} = '{value}'\n" for key, value in settings.items())
-
     def __enter__(self):
         if not os.path.exists(os.path.join(self.folder, "data")):
             self.do("init")
+            with open(os.path.join(self.folder, "data/postgresql.conf"), "a", encoding="utf-8") as file:
+                file.writelines(f"{key} = '{value}'\n" for key, value in self.settings.items())
         self.do("start")
         return self
 

@@ -119,10 +119,7 @@ def pgbench(cluster, script, clients, seconds=1):
 
 
 def postgres(folder, rounds, **settings):
-    cluster = Cluster(folder)
-    cluster.do("init")
-    cluster.set(**settings)
-    with cluster:
+    with Cluster(folder, **settings) as cluster:
         cluster.database()
         cluster.roles(["clerk"], [])
         cluster.psql("-c", "CREATE TABLE hearings.plain (LIKE hearings.step INCLUDING ALL)", "-c", "CREATE SEQUENCE hearings.plain_seq",

@@ -254,7 +254,7 @@ def watched(done, cluster, people):
     time.sleep(0.2)
     listener.poll()
     done.equal("play does not notify", listener.notifies, [])
-    thread = threading.Thread(target=lambda: cluster.psql("-c", "CALL hearings.watch(0.05, 60)"))
+    thread = threading.Thread(target=lambda: cluster.psql("-c", "CALL hearings.watch(0.05, 20)"))
     thread.start()
     until = time.time() + 60
     while not listener.notifies and time.time() < until:
@@ -303,7 +303,7 @@ def moved(done, cluster, people, root):
 
 def main():
     done = sql.Counted()
-    with room() as folder, Cluster(folder) as cluster:
+    with room() as folder, Cluster(folder, fsync="off") as cluster:  # what a disk does is for crowd_postgres.py
         cluster.database()
         cluster.roles(["clerk"], ["anna", "ben", "eve", "outsider"])
         cluster.psql("-c", "CREATE ROLE stranger LOGIN")

@@ -5,7 +5,7 @@ import sys
 
 from cluster import Cluster, room
 
-with room() as folder, Cluster(folder) as cluster:
+with room() as folder, Cluster(folder, fsync="off") as cluster:
     cluster.database()
     where = dict(os.environ, PGHOST=cluster.folder, PGPORT=str(cluster.port), PGDATABASE="t", PGUSER="postgres")
     where["PGOPTIONS"] = "-c search_path=ledger"
