@@ -71,14 +71,11 @@ def client(folder, port, n, generation, file, stop):
             say("A", first, replies.hex())
             asked = None
         except sql.Wrong as error:
-            if laptop.connection.closed:
+            if error.code is None or error.code[:2] in ("08", "57"):  # no answer: ask again
                 laptop = None
                 time.sleep(0.1)
-            elif "not yours" in str(error):
-                say("E", "not yours")
-                asked = None
-            elif "terminat" not in str(error) and "starting up" not in str(error):
-                say("E", str(error))
+            else:
+                say("E", "not yours" if "not yours" in str(error) else str(error))
                 asked = None
         except psycopg2.Error:
             laptop = None
@@ -219,6 +216,14 @@ def unsure(done, cluster, standby):
     done.equal("asked again once the standby is there", again[0], 0)
 
 
+def synchronous(cluster):
+    """Whether the standby follows within two minutes."""
+    until = time.time() + 120
+    while (state := cluster.psql("-c", "SELECT sync_state FROM pg_stat_replication").strip()) != "sync" and time.time() < until:
+        time.sleep(0.2)
+    return state == "sync"
+
+
 def follow(done, folder, crowd, cluster, before, steps):
     """A synchronous standby; the primary dies; the standby is promoted: nothing acknowledged is lost, and the bytes are the same."""
     standby = Cluster(folder, "b", cluster.port + 1)
@@ -226,9 +231,8 @@ def follow(done, folder, crowd, cluster, before, steps):
     standby.do("start")
     try:
         cluster.psql("-c", "ALTER SYSTEM SET synchronous_standby_names = 'standby'", "-c", "SELECT pg_reload_conf()")
-        time.sleep(1)
+        done.holds("the standby follows", synchronous(cluster))
         cluster.psql("-c", "CREATE ROLE late")  # a commit waits for the standby from now on
-        done.equal("replication", cluster.psql("-c", "SELECT sync_state FROM pg_stat_replication").strip(), "sync")
         unsure(done, cluster, standby)
         print(crowd.play(cluster, steps, 0, 3, at_end=lambda: cluster.do("immediate")))
         standby.do("promote")

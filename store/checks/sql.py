@@ -17,12 +17,16 @@ class Refused(Exception):
 
 
 class Wrong(Exception):
-    """Any other error of SQL."""
+    """Any other error of SQL; of PostgreSQL with its code, which is None where the connection broke."""
+
+    def __init__(self, sentence, code=None):
+        super().__init__(sentence)
+        self.code = code
 
 
 def raised(error):
     found = re.search(r"refused (\d+): (.*)", str(error))
-    return Refused(int(found[1]), found[0]) if found else Wrong(str(error).split("\n")[0])
+    return Refused(int(found[1]), found[0]) if found else Wrong(str(error).split("\n")[0], getattr(error, "pgcode", None))
 
 
 class Sqlite:
