@@ -2,7 +2,7 @@
 import assert from "node:assert/strict";
 import { readFileSync, readdirSync } from "node:fs";
 
-const FOLDERS = ["page/", "page/src/", "page/checks/", "bindings/js/", "bindings/js/tests/"], LONGEST = 40;
+const FOLDERS = ["page/", ...["", "course/", "desk/", "compare/", "shared/"].map(f => `page/src/${f}`), "page/checks/", "bindings/js/", "bindings/js/tests/"], LONGEST = 40;
 const STARTS = /^(\s*)(?:export )?(?:static )?(?:async )?(?:function\b.*|(?:get |set )?[#\w$]+\(.*\)|const \w+ = .*=>|.*[(,=] ?(?:async )?(?:\([^()]*\)|\w+) =>) \{$/;
 
 /** The functions of a text over several lines: first line and how many. */

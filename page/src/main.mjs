@@ -1,12 +1,13 @@
 // Loads the library, and opens the view that the address asks for.
 import { load, GREATEST, Refusal } from "../../bindings/js/ledger.mjs";
-import { byId } from "./dom.mjs";
-import { Course } from "./course.mjs";
-import { Desk } from "./desk.mjs";
-import { Compare } from "./compare.mjs";
-import { readAddress, fromBase64 } from "./address.mjs";
+import { byId } from "./shared/dom.mjs";
+import { themeButton } from "./shared/theme.mjs";
+import { Course } from "./course/workbench.mjs";
+import { Desk } from "./desk/desk.mjs";
+import { Compare } from "./compare/compare.mjs";
+import { readAddress, fromBase64 } from "./shared/address.mjs";
 import { toText } from "../../bindings/js/notation.mjs";
-import { isolated } from "./names.mjs";
+import { isolated } from "./shared/names.mjs";
 
 const VIEWS = ["course", "desk", "compare", "words"];
 const views = {};
@@ -81,12 +82,11 @@ function troubles({ view, lesson, list, wrong, step, limits }, text, known, take
 export async function start(bundled) {
   const modules = Object.fromEntries(Object.entries(bundled.modules).map(([name, word]) => [name, fromBase64(word)]));
   await load(modules);
-  const sums = Object.entries(bundled.sums), short = sums.map(([name, sum]) => `${name} ${sum.slice(0, 12)}`).join(", ");
-  byId("library").textContent = `Every reply comes from the proved library, as WebAssembly (SHA-256 of ${short}).`;
-  byId("sums").textContent = sums.map(([name, sum]) => `${name} ${sum}`).join(", ");
+  byId("sums").textContent = Object.entries(bundled.sums).map(([name, sum]) => `${name} ${sum}`).join(", ");
   views.course = new Course(bundled.lessons);
   views.desk = new Desk();
   views.compare = new Compare(() => views.desk.hearing);
+  themeButton(byId("theme"));
   tabs();
   follow();
   window.addEventListener("hashchange", follow);
