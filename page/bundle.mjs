@@ -21,8 +21,8 @@ function data() {
     modules[name] = bytes.toString("base64");
     sums[name] = sha256(bytes, "hex");
   }
-  const files = readdirSync(join(here, "lessons")).filter(f => f.endsWith(".txt")).sort();
-  const lessons = files.map(f => ({ name: f.slice(0, -4), text: readFileSync(join(here, "lessons", f), "utf8") }));
+  const files = readdirSync(join(here, "lessons")).filter(f => /^\d.*\.json$/.test(f)).sort();
+  const lessons = files.map(f => ({ name: f.slice(0, -5), ...JSON.parse(readFileSync(join(here, "lessons", f), "utf8")) }));
   return JSON.stringify({ modules, sums, lessons }).replaceAll("<", "\\u003c");
 }
 

@@ -1,10 +1,10 @@
-// Under the course's choice of a lesson: limits, files, links.
+// The step view's bar: limits, files, links.
 import { el, byId, button } from "../shared/dom.mjs";
 import { GREATEST } from "../../../bindings/js/ledger.mjs";
 import { address, limitsWord, toBase64 } from "../shared/address.mjs";
 import { save, opener } from "../shared/files.mjs";
 
-export function moreOf(course) {
+export function barOf(course) {
   return el("details", {}, el("summary", {}, "limits, files, link"), limitFields(course), fileButtons(course), linkButtons(course));
 }
 
@@ -32,7 +32,7 @@ function linkButtons(course) {
 /** Shows a link to the list, and makes it the page's own address. */
 function share(course, body) {
   const link = byId("link"), limits = limitsWord(course.limits), own = limits === limitsWord(GREATEST) ? null : limits;
-  link.value = address({ view: "course", ...body, limits: own, step: course.rows.count });
+  link.value = address({ view: "steps", ...body, limits: own, step: course.rows.count });
   link.hidden = false;
   link.select();
   history.replaceState(null, "", link.value);

@@ -9,7 +9,7 @@ export class Editor {
   constructor(host, changed, asked) {
     const said = { "aria-label": "step list, one step a line", "aria-describedby": "fault" };
     this.area = el("textarea", { id: "text", spellcheck: "false", wrap: "off", ...said });
-    this.here = el("div", { class: "here", hidden: true });
+    this.here = el("div", { class: "here-line", hidden: true });
     this.wrong = el("div", { class: "wrong", hidden: true });
     this.fault = el("div", { id: "fault", class: "fault", role: "status" });
     const marks = el("div", { class: "marks", "aria-hidden": "true" }, this.here, this.wrong);

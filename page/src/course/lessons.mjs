@@ -1,44 +1,58 @@
-// Lessons: text files in the notation, in which comments of five kinds tell a story. `#=` the title, `#:` the story (an empty one starts
-// a paragraph), `#?` a question about the next step, `#- N words` a choice for it, right if the step's outcome is N, `#- (L; n)` one that is
-// right if this is then the mark of the take, `#!` a remark on the answer.
+// A lesson: data of page/lessons, and the records of its screens. Its steps are lines of the notation, or deeds, which become steps by
+// being tried on a copy of the session.
+import { Session } from "../../../bindings/js/ledger.mjs";
 import { toSteps } from "../../../bindings/js/notation.mjs";
+import { joined } from "../../../bindings/js/packed.mjs";
+import { DEEDS } from "../shared/deeds.mjs";
+import { Names } from "../shared/names.mjs";
+import { Record } from "../shared/record.mjs";
 
-const KINDS = { "#=": "title", "#:": "story", "#?": "question", "#-": "choice", "#!": "remark" };
+/** @typedef {string | [string, ...number[]]} Line a line of the notation, or a deed with its numbers */
 
-/** @returns {{name, title, story: string[], text: string, questions: {at, question, choices, remark}[]}} */
-export function readLesson({ name, text }) {
-  const lesson = { name, title: name, story: [""], text: "", questions: [] };
-  let next = null;
-  for (const line of text.split("\n")) {
-    const kind = KINDS[line.slice(0, 2)], words = line.slice(2).trim();
-    if (!kind) lesson.text += `${line}\n`;
-    else if (kind === "title") lesson.title = words;
-    else if (kind === "story") tell(lesson.story, words);
-    else next = asked(lesson, next, kind, words);
+/**
+ * The steps of some lines after a session, which they are run on.
+ * @param {Session} session
+ * @param {Line[]} lines
+ * @returns {Uint8Array}
+ */
+export function stepsOf(session, lines) {
+  return joined(lines.map(line => {
+    const steps = typeof line === "string" ? toSteps(line).steps : DEEDS[line[0]](session, ...line.slice(1));
+    if (!steps) throw new Error(`a lesson's line can't be played: ${JSON.stringify(line)}`);
+    session.run(steps);
+    return steps;
+  }));
+}
+
+export class Lesson {
+  /** @param {any} data a file of page/lessons */
+  constructor(data) {
+    this.data = data;
+    this.name = data.name;
+    this.title = data.title;
+    this.screens = data.screens;
+    this.names = new Names(data.takes, data.texts);
+    this.scenes = [];
   }
-  lesson.text = `${lesson.text.trim()}\n`;
-  return lesson;
-}
 
-function tell(story, words) {
-  if (words === "") story.push("");
-  else story[story.length - 1] = `${story.at(-1)} ${words}`.trim();
-}
+  /**
+   * The situation of a screen: the steps before it, after its own, and after its answer.
+   * @param {number} k
+   * @returns {{record: Record, start: number, count: number}} what it adds to the one before is from start to count
+   */
+  scene(k) {
+    if (this.scenes[k]) return this.scenes[k];
+    const screen = this.screens[k], before = screen.fresh || k === 0 ? { list: new Uint8Array(0), count: 0 } : this.after(k - 1);
+    const session = Session.begin();
+    session.runAll(before.list);
+    const own = stepsOf(session, screen.steps ?? []), now = joined([before.list, own]), then = stepsOf(session.copy(), screen.then ?? screen.solution ?? []);
+    const scene = { record: new Record(Session.begin(), joined([now, then])), start: before.list.length / 8, count: now.length / 8 };
+    this.scenes[k] = scene;
+    return scene;
+  }
 
-/** The question that a line of one belongs to: a `#?` after anything else starts one, about the step that comes next. */
-function asked(lesson, open, kind, words) {
-  const at = stepsIn(lesson.text) + 1, fresh = kind === "question" && (!open || open.at !== at);
-  const question = fresh ? { at, question: "", choices: [], remark: "" } : open;
-  if (fresh) lesson.questions.push(question);
-  if (kind === "choice") question.choices.push(choiceOf(words));
-  else question[kind] = `${question[kind]} ${words}`.trim();
-  return question;
-}
-
-function choiceOf(words) {
-  return words.startsWith("(") ? { mark: words, words } : { outcome: parseInt(words, 10), words: words.replace(/^\d+\s*/, "") };
-}
-
-function stepsIn(text) {
-  return (toSteps(text).steps?.length ?? 0) / 8;
+  /** The list after a screen's answer. */
+  after(k) {
+    return { list: this.scene(k).record.list };
+  }
 }

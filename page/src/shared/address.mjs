@@ -37,6 +37,7 @@ export function readAddress(hash) {
     list,
     limits,
     step: whole ? Number(step) : null,
+    screen: /^\d{1,3}$/.test(asked.get("screen") ?? "") ? Number(asked.get("screen")) : null,
     wrong: { ...wrong, limits: asked.has("limits") && !limits },
   };
 }

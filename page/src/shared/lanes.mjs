@@ -64,7 +64,7 @@ function crosses(line, top, bottom) {
 }
 
 function sheet(width, height, ...children) {
-  return svg("svg", { width, height, viewBox: `0 0 ${width} ${height}` }, children);
+  return svg("svg", { class: "drawn", width, height, viewBox: `0 0 ${width} ${height}` }, children);
 }
 
 /** The events of the steps after first up to last. */

@@ -111,7 +111,7 @@ function mapLine(name, map, old, names) {
 
 function chips(marks, names) {
   return marks.map(({ mark, u, changed }) => {
-    const classes = `mark${mark.frozen ? " frozen-mark" : ""}${changed ? " changed" : ""}`;
+    const classes = `life-chip${mark.frozen ? " frozen-mark" : ""}${changed ? " changed" : ""}`;
     return [el("span", { class: classes }, `${names.take(u)} ${markWords(mark)}`, changed && changedWord()), " "];
   });
 }

@@ -9,6 +9,17 @@ export function isolated(words) {
   return TURNING.test(words) ? `\u2068${words}\u2069` : words;
 }
 
+// A name like "van Dijk" or "iTunes log" is written as it is, also where a sentence starts with it.
+const AS_IT_IS = /^\p{Ll}.*\p{Lu}/su;
+// So many letters of a name are shown; the rest is for whoever asks for it.
+const LONGEST = 80;
+
+/** A name as it is said: its own direction, its own small letter, and not without end. */
+function called(name) {
+  const short = name.length > LONGEST ? `${name.slice(0, LONGEST)}\u2026` : name;
+  return AS_IT_IS.test(short) && !TURNING.test(short) ? `\u2068${short}\u2069` : isolated(short);
+}
+
 export class Names {
   /** takes: a name for each take, by number; texts: words for a text, by number. */
   constructor(takes = [], texts = {}) {
@@ -17,12 +28,12 @@ export class Names {
   }
 
   take(t) {
-    return this.takes[t] ? isolated(this.takes[t]) : `take ${t}`;
+    return this.takes[t] ? called(this.takes[t]) : `take ${t}`;
   }
 
   /** The number with the name, where both are wanted. */
   numbered(t) {
-    return this.takes[t] ? `${t} ${isolated(this.takes[t])}` : `take ${t}`;
+    return this.takes[t] ? `${t} ${called(this.takes[t])}` : `take ${t}`;
   }
 
   text(n) {
@@ -32,6 +43,11 @@ export class Names {
   /** A text where a column says that it is one. */
   bare(n) {
     return this.texts[n] ? `\u201c${isolated(this.texts[n])}\u201d` : String(n);
+  }
+
+  /** A text's words as they are, or its number. */
+  plain(n) {
+    return this.texts[n] ? isolated(this.texts[n]) : n === 0 ? "no text yet" : `text ${n}`;
   }
 
   volume(volume) {

@@ -44,7 +44,7 @@ const LEGEND = [
 
 /** What the shapes mean. */
 export function legend() {
-  const shape = draw => svg("svg", { width: 30, height: 24, "aria-hidden": "true" }, draw());
+  const shape = draw => svg("svg", { class: "drawn", width: 30, height: 24, "aria-hidden": "true" }, draw());
   const entry = ([words, draw]) => el("span", { class: "legend-entry" }, shape(draw), words);
   return el("details", { class: "legend", open: true }, el("summary", {}, "what the shapes mean"), LEGEND.map(entry));
 }

@@ -1,0 +1,146 @@
+// The picture: a card for each take, its ground below it, and lines from each to what it was set from. A card's outline is its state.
+// Where the cards stand is worked out from the lines; the lines are drawn from where the cards stand, so that they follow every layout.
+import { el, svg, replace } from "./dom.mjs";
+import { mark, badge } from "./marks.mjs";
+import { stateOf } from "./states.mjs";
+import { linesOf } from "./grounds.mjs";
+import { capital } from "./names.mjs";
+
+/** @typedef {import("./record.mjs").Record} Record */
+/** @typedef {import("./grounds.mjs").Line} Line */
+/** @typedef {{x: number, level: number}} Place */
+
+const SIZES = [1, 0.92, 0.85, 0.78, 0.72, 0.66, 0.6, 0.55, 0.5];
+
+/**
+ * How high each take stands: one above the highest that it was set from.
+ * @param {number} count of takes
+ * @param {Line[]} lines
+ * @returns {number[]}
+ */
+function levels(count, lines) {
+  const found = Array(count).fill(0);
+  for (let round = 0; round < count; round++) for (const { from, to } of lines) found[from] = Math.min(count, Math.max(found[from], from === to ? 0 : found[to] + 1));
+  return found;
+}
+
+/**
+ * Where each take stands, in columns and levels; ground is below. A page stands over what it was set from where there is room.
+ * @param {number} count
+ * @param {Line[]} lines
+ * @param {Record<number, number[]>} [fixed]
+ * @returns {Place[]}
+ */
+export function places(count, lines) {
+  const level = levels(count, lines), found = /** @type {Place[]} */ ([]), taken = new Set();
+  const order = Array.from({ length: count }, (_, t) => t).sort((a, b) => level[a] - level[b] || a - b);
+  const lowest = order.filter(t => level[t] === 0), weight = t => lines.filter(l => l.to === t).length;
+  for (const t of order) {
+    const below = lines.filter(l => l.from === t && found[l.to]).map(l => found[l.to].x);
+    const wish = level[t] === 0 ? lowest.indexOf(t) : Math.round(below.reduce((a, b) => a + b, 0) / Math.max(below.length, 1));
+    let x = wish;
+    for (let step = 1; taken.has(`${x},${level[t]}`); step++) x = wish + step;
+    taken.add(`${x},${level[t]}`);
+    found[t] = { x, level: level[t] };
+  }
+  const row = t => found.filter((p, u) => u !== t && p.level === found[t].level);
+  for (const t of order.filter(u => weight(u) > 1)) {
+    const above = lines.filter(l => l.to === t).map(l => found[l.from].x), middle = above.reduce((a, b) => a + b, 0) / above.length;
+    if (row(t).every(p => Math.abs(p.x - middle) >= 1)) found[t] = { ...found[t], x: Math.round(2 * middle) / 2 };
+  }
+  return found;
+}
+
+export class Picture {
+  /** @param {HTMLElement} host */
+  constructor(host) {
+    this.host = host;
+    this.drawing = svg("svg", { class: "lines", "aria-hidden": "true" });
+    this.cards = el("div", { class: "cards" });
+    replace(host, this.drawing, this.cards);
+    new ResizeObserver(() => this.fit()).observe(host);
+  }
+
+  /**
+   * @param {Record} record
+   * @param {number} count
+   * @param {import("./names.mjs").Names} names
+   * @param {{lit?: Line[], litTakes?: number[], picked?: number[], pick?: ((take: number) => void) | null, beside?: (take: number) => Node | null, fresh?: number[], shown?: number[] | null, layout?: Line[]}} [how]
+   * lit: lines that light up; beside: what stands beside a card; layout: lines that settle where the cards stand
+   */
+  show(record, count, names, how = {}) {
+    const session = record.at(count), heads = record.heads[count], shown = heads.map((_, t) => t).filter(t => how.shown?.includes(t) ?? true);
+    this.lines = linesOf(record, count).filter(l => shown.includes(l.from) && shown.includes(l.to));
+    this.lit = (how.lit ?? []).map(l => `${l.from},${l.to}`);
+    const at = places(heads.length, how.layout ?? this.lines), xs = shown.map(t => at[t].x), least = Math.min(...xs), top = Math.max(...shown.map(t => at[t].level), 0);
+    this.nodes = new Map();
+    const litTakes = new Set([...(how.litTakes ?? []), ...(how.lit ?? []).map(l => l.from)]);
+    replace(this.cards, shown.sort((a, b) => at[b].level - at[a].level || at[a].x - at[b].x).map(t => {
+      const node = this.node(t, { state: stateOf(session, t), head: heads[t], names, lit: litTakes.has(t), how });
+      node.style.gridColumn = `${2 * (at[t].x - least) + 1} / span 2`;
+      node.style.gridRow = String(top - at[t].level + 1);
+      return node;
+    }));
+    const columns = Math.max(...xs) - least + 1;
+    this.cards.style.gridTemplateColumns = `repeat(${Math.ceil(2 * columns)}, minmax(0, 1fr))`;
+    this.cards.style.gridTemplateRows = `repeat(${top + 1}, auto)`;
+    this.host.dataset.columns = String(Math.ceil(columns));
+    this.host.dataset.levels = String(top + 1);
+    this.fit();
+  }
+
+  /** As large as its room lets it be. */
+  fit() {
+    const { host, cards } = this;
+    if (!this.nodes || !host.clientHeight) return;
+    cards.style.height = "auto";
+    for (const size of SIZES) {
+      host.style.fontSize = `${size}em`;
+      if (cards.offsetHeight <= host.clientHeight && cards.scrollWidth <= host.clientWidth) break;
+    }
+    cards.style.height = "";
+    this.draw();
+  }
+
+  /** A take's card, and what stands beside it. */
+  node(t, { state, head, names, lit, how }) {
+    const { pick = null, picked = [], beside = () => null, fresh = [] } = how, chosen = picked.includes(t), sealed = (head.mark?.list.length ?? 0) > 0;
+    const trace = sealed && state !== "signed" ? el("span", { class: "trace" }, mark("signed", 16), el("span", {}, `signed: ${names.text(head.saved)}`)) : null;
+    const classes = `card s-${state}${lit ? " lit" : ""}${chosen ? " picked" : ""}${fresh.includes(t) ? " fresh" : ""}`;
+    const clicked = pick ? { type: "button", "aria-pressed": String(chosen), onclick: () => pick(t) } : {};
+    const card = el(pick ? "button" : "div", { class: classes, "data-take": t, "data-state": state, ...clicked },
+      chosen ? el("span", { class: "tab" }, "your pick") : null,
+      el("span", { class: "ttl" }, capital(names.take(t))),
+      el("span", { class: "txt" }, state === "vanished" ? "nothing is left" : names.plain(head.text)),
+      badge(state, 20), head.mark?.frozen && state === "gone" ? el("span", { class: "st s-frozen also" }, mark("frozen", 16), "still frozen") : null, trace,
+      sealed ? el("span", { class: `stamp${fresh.includes(t) ? " fresh" : ""}` }, mark("signed", 40)) : null);
+    this.nodes.set(t, card);
+    return el("div", { class: "node" }, card, beside(t));
+  }
+
+  /** Draws the lines anew, from where the cards stand now. */
+  draw() {
+    if (!this.nodes) return;
+    const box = this.host.getBoundingClientRect(), where = t => {
+      const r = this.nodes.get(t).getBoundingClientRect();
+      return { x: (r.left + r.right) / 2 - box.left, left: r.left - box.left, right: r.right - box.left, top: r.top - box.top, bottom: r.bottom - box.top };
+    };
+    for (const [name, value] of Object.entries({ width: box.width, height: box.height, viewBox: `0 0 ${box.width} ${box.height}` })) this.drawing.setAttribute(name, String(value));
+    const sorted = [...this.lines].sort((a, b) => Number(this.lit.includes(`${a.from},${a.to}`)) - Number(this.lit.includes(`${b.from},${b.to}`)));
+    replace(this.drawing, sorted.map(line => drawn(line, where(line.from), where(line.to), this.lit.includes(`${line.from},${line.to}`))));
+  }
+}
+
+const WORDS = { plain: "set from", withdrawn: "withdrawn", together: "signed together" };
+
+/** A line from a card down to its ground: plain, lit, broken where the ground was withdrawn, dotted where both were signed together. */
+function drawn({ kind }, a, b, lit) {
+  const lean = Math.max(-60, Math.min(60, (a.x - b.x) * 0.25)), x = b.x + lean, y1 = a.bottom + 1, y2 = b.top - 4, my = (y1 + y2) / 2, mx = (a.x + x) / 2;
+  const d = `M${a.x} ${y1}C${a.x} ${my} ${x} ${my} ${x} ${y2 - 6}`, slope = x - a.x, shift = slope > 40 ? -12 : slope < -40 ? 14 : 4;
+  return svg("g", { class: `line ${kind}${lit ? " lit-line" : ""}` },
+    lit ? svg("path", { class: "glow", d }) : null,
+    svg("path", { class: "body", d }),
+    kind === "withdrawn" ? [svg("circle", { class: "gap", cx: mx, cy: my, r: 11 }), svg("path", { class: "break", d: `M${mx - 9} ${my + 4}l4.5 -8 4.5 8 4.5 -8 4.5 8` })] : null,
+    kind === "together" ? null : svg("path", { class: "head", d: `M${x - 6} ${y2 - 10}L${x} ${y2}L${x + 6} ${y2 - 10}Z` }),
+    y2 - y1 > 30 ? svg("text", { class: "line-label", x: mx + 15, y: my + shift }, WORDS[kind]) : null);
+}
