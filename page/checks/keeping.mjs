@@ -58,7 +58,7 @@ async function full({ browser, check, url }) {
     await browser.eval(FILL);
     await desk.open("page 12", "b");
     assert.match(await browser.text("#desk-notice"), /The browser does not keep this, for its room is full: save it as a file\./);
-    await browser.go(`${url}#lesson=00-a-first-session`);
+    await browser.go(`${url}#view=steps`);
     await browser.fill("#text", `root text 7 # ${"x".repeat(99)}\n`);
     assert.match(await browser.text("#course-notice"), /The browser does not keep this, for its room is full: save it as a file\./);
   });

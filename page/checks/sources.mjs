@@ -21,10 +21,4 @@ export async function sourcesChecks({ check, root }) {
     assert.ok(found.length > 400, `${found.length} functions`);
     assert.deepEqual(found.filter(f => f.length > LONGEST), []);
   });
-  await check("every lesson has a story, and a question to answer before the reply is shown", async () => {
-    for (const file of readdirSync(`${root}page/lessons`)) {
-      const text = readFileSync(`${root}page/lessons/${file}`, "utf8");
-      for (const kind of ["#= ", "#: ", "#? "]) assert.ok(text.includes(`${kind}`), `${file} has no ${kind}`);
-    }
-  });
 }

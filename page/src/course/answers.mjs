@@ -48,7 +48,7 @@ const ANSWERS = {
   door: ({ session, screen }) => [session.decision(screen.parcel).kind],
   order: ({ screen }) => inOrder(screen.marks.map(([list, n]) => ({ list, n, frozen: false }))),
   reply: ({ session, screen }) => [readReply(session.copy().run(toSteps(screen.step).steps), 0).outcome],
-  same: ({ session, screen }) => [sameEnd(session, screen.one, screen.other) ? "same" : "other"],
+  same: ({ session, screen }) => [sameEnd(session, ...screen.orders) ? "same" : "other"],
 };
 
 /** Whether two orders of steps end in the same image. */

@@ -51,7 +51,7 @@ export class Course {
     const item = l => el("li", {}, button([el("span", { class: "no" }, done(l) ? mark("tick", 14) : l.number), el("span", { class: "tw" }, l.title)], () => this.to(l, 1), {
       class: `lesson-tab${done(l) ? " done" : ""}`, "aria-current": l === lesson ? "step" : null, "aria-label": `lesson ${l.number}: ${l.title}${done(l) ? ", finished" : ""}`,
     }));
-    const all = button("All lessons", () => this.go({}), { class: "btn bare", id: "all-lessons", hidden: !lesson });
+    const all = button([mark("back", 18), el("span", { class: "tw" }, "All lessons")], () => this.go({}), { class: "btn bare", id: "all-lessons", hidden: !lesson, "aria-label": "all lessons" });
     const dots = lesson ? lesson.screens.map((_, i) => el("i", { class: i < at ? "past" : i === at ? "here" : "" })) : [];
     const where = lesson && at < lesson.screens.length ? el("b", {}, `${at + 1} of ${lesson.screens.length}`) : null;
     replace(this.bar, all, el("ol", { class: "tabs", "aria-label": "lessons" }, shown.map(item)), el("div", { class: "progress" }, el("span", { "aria-hidden": "true" }, dots), where));

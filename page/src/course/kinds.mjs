@@ -166,7 +166,7 @@ const same = {
       const told = eventsOf(record, names, scene.count).map(e => el("li", {}, e.words));
       return el("section", { class: "order-column" }, el("h2", {}, title), el("ol", {}, told), solved ? el("div", { class: "ends" }, ended(record, names)) : null);
     };
-    return el("div", { class: "orders" }, column(screen.one, screen.titles[0]), el("span", { class: "orders-sign", "aria-hidden": "true" }, solved ? mark(player.right[0] === "same" ? "crossed" : "unequal", 40) : "?"), column(screen.other, screen.titles[1]));
+    return el("div", { class: "orders" }, column(screen.orders[0], screen.titles[0]), el("span", { class: "orders-sign", "aria-hidden": "true" }, solved ? mark(player.right[0] === "same" ? "crossed" : "unequal", 40) : "?"), column(screen.orders[1], screen.titles[1]));
   },
   tray: choices,
 };

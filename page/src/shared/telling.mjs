@@ -42,29 +42,29 @@ function giver(parcels, take, at) {
   return taken.at(-1)?.from ?? null;
 }
 
+/** Who does it is not known to the ledger: someone. */
 function sentence(record, i, names, parcels) {
   const { step, reply } = record.before(i), kind = kindOf(step), x = names.take(reply.take);
   if (reply.outcome >= REFUSED || kind === "lose") return effect(step, reply, names);
   if (kind === "sign") return signing(step, reply, names);
   if (reply.outcome === VANISHED || reply.outcome === FALLEN_BACK) return falling(kind, reply, names);
-  if (reply.outcome === 1) return `${x}: held, for it is frozen`;
-  const from = kind === "write" ? giver(parcels, reply.take, i) : null;
+  if (reply.outcome === 1) return `someone wants ${kind === "write" ? "to edit" : "to withdraw"} ${x}; frozen, it is held`;
+  const from = kind === "write" ? giver(parcels, reply.take, i) : null, text = names.text(step.text);
   const said = {
-    root: () => `${x} is opened`,
-    new: () => `${names.take(step.take)} opens ${x}`,
-    freeze: () => `${x}: frozen`,
-    write: () => (from === null ? `${x} gets a new text: ${names.text(step.text)}` : `${x} is set from ${names.take(from)}: ${names.text(step.text)}`),
+    root: () => `someone opens ${x}`,
+    new: () => `${names.take(step.take)} opened ${x}`,
+    freeze: () => `someone freezes ${x}`,
+    write: () => (from === null ? `someone writes into ${x}: ${text}` : `someone sets ${x} from ${names.take(from)}: ${text}`),
   };
   return said[kind]?.() ?? effect(step, reply, names);
 }
 
 function signing(step, reply, names) {
-  const several = takesOf(step.parcel).length > 1;
-  if (reply.outcome === NOT_READY) return `${names.volume(step.parcel)}: not ready, nothing is signed`;
-  return `${listed(takesOf(step.parcel).map(t => names.take(t)))}: signed${several ? " together" : ""}`;
+  const takes = listed(takesOf(step.parcel).map(t => names.take(t))), together = takesOf(step.parcel).length > 1 ? " together" : "";
+  return reply.outcome === NOT_READY ? `someone wants to sign ${takes}: not ready, and nothing changes` : `someone signs ${takes}${together}`;
 }
 
 function falling(kind, reply, names) {
-  const x = names.take(reply.take), why = kind === "receive" ? "a note shows that its ground is gone" : "withdrawn";
-  return reply.outcome === VANISHED ? `${x}: ${why}; never signed, it vanishes` : `${x}: ${why}; it falls back to its signed text`;
+  const x = names.take(reply.take), end = reply.outcome === VANISHED ? "never signed, nothing is left" : "back to the signed text";
+  return kind === "receive" ? `a note shows ${x} that the ground is gone: ${end}` : `someone withdraws ${x}: ${end}`;
 }

@@ -1,4 +1,4 @@
-// The course: each lesson's replies and sentences, questions, faults at their places, keys and mouse, links, buttons.
+// The step view: replies and sentences of lists, faults at their places, keys and mouse, links, buttons, the story of a lesson.
 import assert from "node:assert/strict";
 import { readFileSync } from "node:fs";
 
@@ -21,14 +21,11 @@ const SENTENCES = [
   ["20-what-a-withdrawal-reaches", 20, "What would help: open another take for these pages."],
   ["20-what-a-withdrawal-reaches", 18, "If it falls, page 12 and page 40 can't be signed, and must stay frozen: a ground that vanished"],
   ["20-what-a-withdrawal-reaches", 21, "Page 12 rests on the names, withdrawn at step 19."],
-  ["30-the-count-restarts", 18, "The ledger says: done, and the mark is (0,2; 0)."],
   ["30-the-count-restarts", 27, "The mark of the names decided: the parcel carries (0; 1), page 12 has (0,2; 0) in its state map."],
   ["30-the-count-restarts", 27, "The parcel's life is the withdrawn one."],
   ["50-not-mended-by-a-signing", 19, "Page 12 rests on the names, withdrawn at step 14."],
   ["60-frozen-takes-fall-too", 18, "vanished. Page 12 vanished: parcel 4 shows that the ground was withdrawn"],
   ["80-grounds-that-are-only-frozen", 11, "{0,1}, the names and page 12, is the smallest volume with page 12 that can be signed now."],
-  ["92-edits-in-either-order", 10, "The ledger says: vanished. The two steps are about different takes."],
-  ["94-a-bad-hour", 22, "The ledger says: fallen back, and the mark is (0; 5)."],
   ["98-a-house", 22, "Appraisal, offer and mortgage rest on it directly."],
   ["98-a-house", 24, "Offer rests on description, withdrawn at step 23."],
 ];
@@ -45,9 +42,14 @@ const FAULTS = [
 ];
 const LETTER = 7.83, LINE = 20, PAD = 6;
 
-export async function courseChecks(context) {
-  await lessons(context);
-  await questions(context);
+/** The address of a list of checks/lists. */
+export function listed(name, step = null) {
+  const text = readFileSync(new URL(`lists/${name}.steps`, import.meta.url), "utf8");
+  return `text=${encodeURIComponent(text)}${step === null ? "" : `&step=${step}`}`;
+}
+
+export async function stepsChecks(context) {
+  await lists(context);
   await editing(context);
   await choosing(context);
   await links(context);
@@ -55,63 +57,26 @@ export async function courseChecks(context) {
   await honest(context);
 }
 
-async function lessons({ browser, check, url, shots }) {
+async function lists({ browser, check, url, shots }) {
   const outcomes = JSON.parse(readFileSync(new URL("outcomes.json", import.meta.url), "utf8"));
   for (const [name, expected] of Object.entries(outcomes)) {
-    await check(`lesson ${name}: replies`, async () => {
-      await browser.go(`${url}#lesson=${name}&step=${expected.length}`);
+    await check(`list ${name}: replies`, async () => {
+      await browser.go(`${url}#${listed(name)}`);
       assert.deepEqual(await browser.all("#course-rows .reply"), expected.map(n => WORDS[n]));
       await browser.shot(`${shots}${name}.png`);
     });
     for (const [, step, words] of SENTENCES.filter(s => s[0] === name)) {
-      await check(`lesson ${name}, step ${step}: ${words}`, async () => {
-        await browser.eval(`location.hash = "#lesson=${name}&step=${step}"`);
-        await browser.until(`document.querySelector("#course-moment h2")?.textContent === "After step ${step}"`);
+      await check(`list ${name}, step ${step}: ${words}`, async () => {
+        await browser.click(`#course-rows li[data-i='${step}']`);
         assert.ok((await browser.text("#course-moment")).includes(words), await browser.text("#course-moment"));
       });
     }
   }
-  await check("every lesson has its outcomes, and every sentence its lesson", async () => {
-    const names = await browser.eval(`[...document.querySelectorAll("#lesson option:not([hidden])")].map(o => o.value).filter(Boolean)`);
-    assert.deepEqual(names, Object.keys(outcomes));
-    assert.ok(SENTENCES.every(s => s[0] in outcomes));
-  });
-}
-
-async function questions({ browser, check, url, shots }) {
-  await check("a question hides the reply until it is answered; the ledger's reply decides", async () => {
-    await browser.go(`${url}#lesson=20-what-a-withdrawal-reaches`);
-    assert.match(await browser.text(".question"), /Before step 19/);
-    const replies = () => browser.all("#course-rows .reply");
-    assert.equal((await replies())[18], "?");
-    await browser.click("#course-rows li[data-i='21']");
-    assert.match(await browser.text("#course-notice"), /Answer the question before step 19 first\./);
-    await browser.press(".question", "show the ledger's reply");
-    assert.match(await browser.text(".answered"), /The ledger says: vanished\./);
-    assert.match(await browser.text(".question:not(.answered)"), /Page 40 never saw the names/);
-    assert.equal((await replies())[19], "?");
-    await browser.shot(`${shots}question.png`);
-    await browser.click(`.question [data-outcome="0"]`);
-    assert.match(await browser.text(".answered"), /Not so\. The ledger says: not ready\. It rests on page 12/);
-    assert.deepEqual((await replies()).slice(19, 21), ["not ready", "?"]);
-    assert.match(await browser.text("#course-moment"), /Why not ready[^]*withdrawn at step 19\.\s+Before step 21/);
-  });
-  await check("the next question is asked at the step before it, and a right answer is told so", async () => {
-    assert.match(await browser.text(".question:not(.answered)"), /Would it help/);
-    await browser.click(`.question [data-outcome="5"]`);
-    assert.match(await browser.text(".answered"), /Right\. The ledger says: not ready\./);
-    assert.match(await browser.text(".answered .next"), /Next question: before step 25\./);
-    assert.match(await browser.eval(`document.activeElement.className`), /answered/);
-    await browser.press(".answered", "go to it");
-    assert.match(await browser.text(".question:not(.answered)"), /Before step 25/);
-    assert.equal(await browser.eval(`document.activeElement.className`), "question");
-    await browser.click("#reveal");
-    assert.ok(!(await browser.all("#course-rows .reply")).includes("?"));
-  });
+  await check("every sentence has its list", async () => assert.ok(SENTENCES.every(s => s[0] in outcomes)));
 }
 
 async function editing({ browser, check, url, shots }) {
-  await browser.go(url);
+  await browser.go(`${url}#view=steps`);
   for (const [text, line, column, words] of FAULTS) {
     await check(`fault at line ${line}, column ${column}: ${words}`, async () => {
       await browser.fill("#text", text);
@@ -149,7 +114,7 @@ async function editing({ browser, check, url, shots }) {
 async function choosing({ browser, check, url }) {
   const chosen = () => browser.eval(`Number(document.querySelector("#course-rows [aria-selected=true]")?.dataset.i ?? 0)`);
   await check("keys choose a step", async () => {
-    await browser.go(`${url}#lesson=10-frozen-is-not-signed&step=5`);
+    await browser.go(`${url}#${listed("10-frozen-is-not-signed", 5)}`);
     await browser.eval(`document.querySelector("#course-rows .rows").focus()`);
     await browser.key("ArrowDown");
     assert.equal(await chosen(), 6);
@@ -171,15 +136,14 @@ async function choosing({ browser, check, url }) {
     assert.equal(await chosen(), 8);
   });
   await check("what the step changed is marked", async () => {
-    await browser.eval(`location.hash = "#lesson=10-frozen-is-not-signed&step=16"`);
-    await browser.until(`document.querySelector("#course-moment h2")?.textContent === "After step 16"`);
+    await browser.click("#course-rows li[data-i='16']");
     assert.deepEqual(await browser.all("#course-moment .changed"), ["201 (changed)", "the names (0; 0) (changed)"]);
   });
 }
 
 async function links({ browser, check, url }) {
   const same = async button => {
-    await browser.go(`${url}#lesson=30-the-count-restarts&step=12`);
+    await browser.go(`${url}#${listed("30-the-count-restarts", 12)}`);
     await browser.click("#course-bar details summary");
     await browser.press("#course-bar", button);
     const link = await browser.eval(`document.querySelector("#link").value`), replies = await browser.all("#course-rows .reply");
@@ -201,48 +165,54 @@ async function links({ browser, check, url }) {
 
 // Addresses that ask for what there is not, and what is said.
 const NO_SUCH = [
-  ["lesson=nosuch&step=3", /There is no lesson called “nosuch”\./],
-  ["list=AAAA", /The address holds no whole list of steps\./],
-  ["list=!", /The address holds no whole list of steps\./],
-  ["step=abc", /The address names no step\./],
-  ["list=&lesson=00-a-first-session", /The address holds no steps\./, 0],
-  ["view=nosuch", /There is no view called “nosuch”\./],
-  ["limits=1,2&text=root%20text%201", /The address's limits are none that a session can have\./],
-  ["lesson=00-a-first-session&step=NaN", /The address names no step\./],
-  ["lesson=00-a-first-session&step=999", /There is no step 999\./],
-  ["text=root%20text%201&limits=99,1,1", /The address's limits are none that a session can have\./],
+  ["lesson=nosuch&step=3", "#course-trouble", /There is no lesson called “nosuch”\./],
+  ["list=AAAA", "#course-notice", /The address holds no whole list of steps\./],
+  ["list=!", "#course-notice", /The address holds no whole list of steps\./],
+  ["view=steps&step=abc", "#course-notice", /The address names no step\./],
+  ["list=", "#course-notice", /The address holds no steps\./],
+  ["view=nosuch", "#course-trouble", /There is no view called “nosuch”\./],
+  ["limits=1,2&text=root%20text%201", "#course-notice", /The address's limits are none that a session can have\./],
+  ["text=root%20text%201&step=999", "#course-notice", /There is no step 999\./],
+  ["text=root%20text%201&limits=99,1,1", "#course-notice", /The address's limits are none that a session can have\./],
 ];
 
 async function own({ browser, check, url }) {
-  for (const [asked, words, least = 1] of NO_SUCH) {
+  for (const [asked, host, words] of NO_SUCH) {
     await check(`an address that asks for nothing: ${asked}`, async () => {
       await browser.go(`${url}#${asked}`);
-      assert.match(await browser.text("#course-notice"), words);
-      assert.ok(await browser.eval(`document.querySelectorAll("#course-rows li").length`) >= least);
+      assert.match(await browser.text(host), words);
     });
   }
-  await check("a list of one's own is kept while a lesson is looked at, and after a reload", async () => {
+  await check("a list of one's own is kept, and the one before it", async () => {
     const text = "root text 7 # mine\n", value = () => browser.eval(`document.querySelector("#text").value`);
-    await browser.go(`${url}#lesson=20-what-a-withdrawal-reaches`);
+    await browser.go(`${url}#${listed("20-what-a-withdrawal-reaches")}`);
+    await browser.eval(`localStorage.clear()`);
     await browser.fill("#text", text);
-    await browser.fill("#lesson", "00-a-first-session");
-    assert.notEqual(await value(), text);
-    await browser.fill("#lesson", "");
+    await browser.go(`${url}#view=steps`);
     assert.equal(await value(), text);
-    await browser.go(url);
-    await browser.fill("#lesson", "");
-    assert.equal(await value(), text);
-    await browser.fill("#lesson", "00-a-first-session");
+    await browser.go(`${url}#${listed("00-a-first-session")}`);
     await browser.fill("#text", "root text 8\n");
     for (const list of [text, "root text 8\n"]) {
-      await browser.fill("#lesson", "earlier");
+      await browser.go(`${url}#view=steps`);
+      await browser.click("#earlier");
       assert.equal(await value(), list);
     }
   });
-  await check("after a fault the lesson's question is gone", async () => {
-    await browser.go(`${url}#lesson=20-what-a-withdrawal-reaches`);
-    await browser.fill("#text", "rot\n");
-    assert.equal(await browser.text(".question"), null);
+  await check("a lesson's list that is edited keeps its story, and comes back", async () => {
+    await browser.go(`${url}#lesson=02-what-a-withdrawal-reaches&screen=2`);
+    await browser.click(`[data-focus="details"]`);
+    await browser.click(`[data-focus="steps"]`);
+    await browser.until(`!document.querySelector("#steps").hidden`);
+    const lesson = await browser.eval(`document.querySelector("#text").value`);
+    assert.match(await browser.text("#story"), /The names have a mistake and are taken back/);
+    assert.match(await browser.content("#course-moment"), /page 40/);
+    await browser.fill("#text", lesson.replace("text 1", "text 9"));
+    assert.match(await browser.text("#story"), /The names have a mistake and are taken back[^]*yours now; the lesson keeps its own/);
+    await browser.click("#lesson-list");
+    assert.equal(await browser.eval(`document.querySelector("#text").value`), lesson);
+    await browser.click("#back-to-lesson");
+    await browser.until(`document.querySelector(".screen")?.dataset.screen === "2"`);
+    assert.match(await browser.text(".ask h1"), /Which pages does that reach/);
   });
   await check("a reply in a comment is no name, but what stands in brackets behind it is", async () => {
     const text = "\ufeffroot text 7 # done take 0\nroot text 8 # page 12\nroot text 9 # done take 0 (speaker names)\n";
@@ -251,29 +221,21 @@ async function own({ browser, check, url }) {
   });
 }
 
-/** Nothing gives a question's answer away or answers for another session than the one in view. */
 async function honest({ browser, check, url }) {
-  await check("a lesson and a link have their own limits, a list of one's own gets its back", async () => {
+  await check("a link has its own limits", async () => {
     const takes = () => browser.eval(`document.querySelector("#limit-takes").value`);
     await browser.go(`${url}#text=${encodeURIComponent("root text 1\nroot text 2\n")}&limits=1,2,3`);
     assert.deepEqual(await browser.all("#course-rows .reply"), ["done", "25 all opened"]);
-    await browser.fill("#lesson", "00-a-first-session");
-    assert.deepEqual([await takes(), (await browser.all("#course-rows .reply"))[1]], ["16", "done"]);
-    await browser.fill("#lesson", "");
-    assert.deepEqual([await takes(), (await browser.all("#course-rows .reply"))[1]], ["1", "25 all opened"]);
     await browser.eval(`location.hash = "#text=${encodeURIComponent("root text 1\nroot text 3\n")}"`);
     await browser.until(`document.querySelector("#text").value.includes("text 3")`);
     assert.equal(await takes(), "16");
   });
-  await check("what a withdrawal reaches is folded away while a question is open, and says who is frozen", async () => {
-    await browser.go(`${url}#lesson=20-what-a-withdrawal-reaches`);
-    assert.equal(await browser.eval(`document.querySelector("#course-moment .cost").checkVisibility()`), false);
-    await browser.click("#reveal");
-    assert.equal(await browser.eval(`document.querySelector("#course-moment .cost").checkVisibility()`), true);
+  await check("what a withdrawal reaches says who is frozen", async () => {
+    await browser.go(`${url}#${listed("20-what-a-withdrawal-reaches", 18)}`);
     assert.match(await browser.text("#course-moment .cost"), /1 page 12\s+It is frozen, and does not fall of itself\. Page 40 rests on it directly\./);
   });
   await check("a window is so many whole replies wide", async () => {
-    await browser.go(`${url}#lesson=94-a-bad-hour&step=26`);
+    await browser.go(`${url}#${listed("94-a-bad-hour", 26)}`);
     await browser.fill("#course-falls input", "2.5");
     assert.match(await browser.text("#course-falls"), /Most falls within 2 replies: 2, in steps 18 to 19\./);
     await browser.fill("#course-falls input", "");
