@@ -171,9 +171,11 @@ const same = {
   tray: choices,
 };
 
-/** Each take at the end, with its state. */
+/** Each take at the end, as its card. */
 function ended(record, names) {
-  return record.heads.at(-1).map((head, t) => el("span", { class: `chip s-${stateOf(record.end, t)}` }, badge(stateOf(record.end, t), 16), el("span", {}, capital(names.take(t)), head.status === "vanished" ? "" : `: ${names.plain(head.text)}`)));
+  const card = (head, t, state) => el("div", { class: `card s-${state}`, "data-state": state },
+    el("span", { class: "ttl" }, capital(names.take(t))), el("span", { class: "txt" }, state === "vanished" ? "nothing is left" : names.plain(head.text)), badge(state, 18));
+  return record.heads.at(-1).map((head, t) => card(head, t, stateOf(record.end, t)));
 }
 
 export const KINDS = { takes, future, sets, next, lives, door, order, goal, reply, same };

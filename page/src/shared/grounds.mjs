@@ -7,7 +7,7 @@ import { kindOf } from "./words.mjs";
 
 /** @typedef {import("../../../bindings/js/ledger.mjs").Session} Session */
 /** @typedef {import("./record.mjs").Record} Record */
-/** @typedef {{from: number, to: number, kind: "plain" | "withdrawn" | "together"}} Line */
+/** @typedef {{from: number, to: number, kind: "plain" | "withdrawn" | "together", word?: string}} Line word: what is said of it, where it is not its kind's */
 
 /**
  * The takes that rest on the present life of one, through others too, without itself.
@@ -44,15 +44,26 @@ export function unsignedGrounds(image, take) {
 }
 
 /**
+ * Which take opened which, up to a moment.
+ * @param {Record} record
+ * @param {number} count
+ * @returns {Map<number, number>}
+ */
+function openers(record, count) {
+  const opens = (/** @type {number} */ i) => kindOf(record.steps[i]) === "new" && record.replies[i].outcome === 0;
+  return new Map(record.steps.slice(0, count).flatMap((step, i) => (opens(i) ? [[record.replies[i].take, step.take]] : [])));
+}
+
+/**
  * Who gave a take something to work with up to a moment: the senders of the parcels that it took in, and its opener.
  * @param {Record} record
  * @param {number} count
+ * @param {Map<number, number>} opened
  * @returns {Map<number, Set<number>>}
  */
-function givers(record, count) {
-  const found = new Map(), add = (/** @type {number} */ to, /** @type {number} */ from) => found.set(to, (found.get(to) ?? new Set()).add(from));
-  for (const p of fates(record)) if (p.from !== null && p.how === "taken" && p.ended <= count) add(p.to, p.from);
-  record.steps.slice(0, count).forEach((step, i) => kindOf(step) === "new" && record.replies[i].outcome === 0 && add(record.replies[i].take, step.take));
+function givers(record, count, opened) {
+  const found = new Map([...opened].map(([child, opener]) => [child, new Set([opener])]));
+  for (const p of fates(record)) if (p.from !== null && p.how === "taken" && p.ended <= count) found.set(p.to, (found.get(p.to) ?? new Set()).add(p.from));
   return found;
 }
 
@@ -74,13 +85,16 @@ export function linesOf(record, count) {
  * @returns {Line[]}
  */
 function openLines(record, count) {
-  const { image } = record.at(count), givenBy = givers(record, count), heads = record.heads[count];
+  const { image } = record.at(count), opened = openers(record, count), givenBy = givers(record, count, opened), heads = record.heads[count];
   /** @type {Line[]} */
   const lines = [];
   heads.forEach((head, from) => {
     if (head.status === "vanished") return;
     const grounds = unsignedGrounds(image, from), known = givenBy.get(from) ?? new Set(), direct = grounds.filter(g => known.has(g.take));
-    for (const g of direct.length ? direct : grounds) if (!lines.some(l => l.from === from && l.to === g.take)) lines.push({ from, to: g.take, kind: g.withdrawn ? "withdrawn" : "plain" });
+    for (const g of direct.length ? direct : grounds) {
+      const born = !g.withdrawn && opened.get(from) === g.take ? { word: "opened by" } : {};
+      if (!lines.some(l => l.from === from && l.to === g.take)) lines.push({ from, to: g.take, kind: g.withdrawn ? "withdrawn" : "plain", ...born });
+    }
   });
   return lines;
 }

@@ -1,20 +1,21 @@
 // The picture of a record: takes as lanes, steps as rows, parcels as arrows from send to receipt.
 import { el, svg } from "./dom.mjs";
 import { life } from "../../../bindings/js/image.mjs";
-import { SHAPES, cross, stretch } from "./shapes.mjs";
+import { SHAPES, cross, dead, hatch, kept, stretch } from "./shapes.mjs";
 import { fates } from "./parcels.mjs";
+import { goneLater, goneSpans } from "./gone.mjs";
 import { kindOf, takesIn, tone, FALLEN_BACK } from "./words.mjs";
 
 export const ROW = 26;
-const LEFT = 60, RIGHT = 10, BAND = 64, LONGEST_LABEL = 15, SHORTEST_LABEL = 6, LETTER = 6, ARRIVED = ["taken", "dropped", "fell"];
+const LEFT = 60, RIGHT = 10, BAND = 64, LONGEST_LABEL = 15, SHORTEST_LABEL = 6, LETTER = 6, AT_ONCE = 120, ARRIVED = ["taken", "dropped", "fell"];
 
 // Pictures are numbered, so that each has arrowheads of its own.
 let pictures = 0;
 
 /** How wide the lanes of so many takes are: narrower where there are many, so that they fit the room; a phone's is scrolled sideways. */
 export function laneWidth(count, room) {
-  const most = count < 4 ? 122 : 104;
-  return room < 300 ? most : Math.max(40, Math.min(most, Math.floor((room - LEFT - RIGHT) / count)));
+  const most = count < 4 ? 180 : 150;
+  return room < 300 ? 122 : Math.max(40, Math.min(most, Math.floor((room - LEFT - RIGHT) / count)));
 }
 
 /** Where lanes so wide stand. */
@@ -35,21 +36,31 @@ const rowY = i => ROW * (i - 0.5);
 export function picture(record, names, shown, wide) {
   const lanes = record.heads[shown].length, x = lanesOf(wide), width = pictureWidth(lanes, wide), own = `picture${++pictures}`;
   const ground = sheet(width, ROW * Math.max(record.length, 1), arrowheads(own));
+  const hatching = svg("g", {}), hatched = spans => hatching.append(...spans.map(s => hatchOf(s, shown, x)));
   for (let t = 0; t < lanes; t++) ground.append(...stretches(record, t, shown, x(t)));
+  ground.append(hatching);
   for (const parcel of fates(record)) if (parcel.made <= shown) ground.append(arrow(parcel, shown, own, x));
   const bands = [];
   for (let first = 0; first < shown; first += BAND) bands.push(band(record, first, Math.min(first + BAND, shown), names, x, width));
+  if (record.length > AT_ONCE) goneLater(record, shown, () => ground.isConnected, hatched);
+  else hatched(goneSpans(record, shown));
   return el("div", { class: "picture", "aria-hidden": "true" }, ground, bands);
+}
+
+/** A stretch of a lane whose ground is gone. */
+function hatchOf({ take, from, to }, shown, x) {
+  return hatch(x(take), rowY(from), to === null ? rowY(shown) + ROW / 2 : rowY(to));
 }
 
 /** The same in sheets of so many rows, of which each has what is drawn between its first and last row. */
 export function bands(record, names, shown, wide, size) {
   const lanes = record.heads[shown].length, x = lanesOf(wide), width = pictureWidth(lanes, wide), own = `picture${++pictures}`, found = [];
   const parcels = fates(record).filter(p => p.made <= shown), lines = Array.from({ length: lanes }, (_, t) => stretches(record, t, shown, x(t))).flat();
+  lines.push(...goneSpans(record, shown).map(s => hatchOf(s, shown, x)));
   for (let first = 0; first < record.length; first += size) {
     const last = Math.min(first + size, record.length), drawn = sheet(width, ROW * (last - first), first ? null : arrowheads(own));
     drawn.setAttribute("viewBox", `0 ${ROW * first} ${width} ${ROW * (last - first)}`);
-    drawn.append(...lines.filter(line => crosses(line, ROW * first, ROW * last)).map(line => line.cloneNode()));
+    drawn.append(...lines.filter(line => crosses(line, ROW * first, ROW * last)).map(line => line.cloneNode(true)));
     drawn.append(...parcels.filter(p => p.made <= last && (p.ended ?? shown) > first).map(p => arrow(p, shown, own, x)));
     for (let i = first + 1; i <= Math.min(last, shown); i++) drawn.append(...events(record, i, names, x, rowY(i)));
     found.push(drawn);
@@ -95,7 +106,9 @@ function stretches(record, t, shown, x) {
     else found.push({ style, start: i, end: i });
   }
   const top = s => (s.start === 0 ? 0 : rowY(s.start)), bottom = s => (s.end === shown ? rowY(s.end) + ROW / 2 : rowY(s.end + 1));
-  return found.filter(s => s.style).map(s => stretch(s.style, x, top(s), bottom(s)));
+  const lines = found.filter(s => s.style).map(s => stretch(s.style, x, top(s), bottom(s))), end = rowY(shown) + ROW / 2;
+  const signed = record.heads.findIndex((heads, i) => i <= shown && heads[t]?.mark?.list.length), gone = record.heads.findIndex((heads, i) => i <= shown && heads[t]?.status === "vanished");
+  return [signed < 0 ? null : kept(x, signed ? rowY(signed) : 0, end), ...lines, gone < 0 ? null : dead(x, gone ? rowY(gone) : 0, end)].filter(Boolean);
 }
 
 /** Where a parcel's arrow starts and ends. One from outside starts beside its addressee's lane. */

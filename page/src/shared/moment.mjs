@@ -98,7 +98,7 @@ function textCells(take, old, names) {
 function markCell(take, old) {
   const frozen = take.mark.frozen && el("span", { class: "frozen-word" }, " frozen");
   const title = "L: the life numbers at which it was signed; n: its falls since. How often it has fallen in all: add them up.";
-  return cell([el("span", { class: "life", title }, life(take.mark)), frozen], differs(take.mark, old?.mark), { "data-label": "mark" });
+  return cell([el("span", { class: "life-word", title }, life(take.mark)), frozen], differs(take.mark, old?.mark), { "data-label": "mark" });
 }
 
 /** A map's marks; those that this step brought or changed are marked. */

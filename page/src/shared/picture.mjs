@@ -10,7 +10,7 @@ import { capital } from "./names.mjs";
 /** @typedef {import("./grounds.mjs").Line} Line */
 /** @typedef {{x: number, level: number}} Place */
 
-const SIZES = [1, 0.92, 0.85, 0.78, 0.72, 0.66, 0.6, 0.55, 0.5];
+const SIZES = [1.24, 1.16, 1.08, 1, 0.92, 0.85, 0.78, 0.72, 0.66, 0.6, 0.55, 0.5];
 
 /**
  * How high each take stands: one above the highest that it was set from.
@@ -25,28 +25,27 @@ function levels(count, lines) {
 }
 
 /**
- * Where each take stands, in columns and levels; ground is below. A page stands over what it was set from where there is room.
+ * Where each take stands, in columns and levels; ground is below. A page stands over the middle of what it was set from where there is
+ * room, and a ground under the middle of what stands on it.
  * @param {number} count
  * @param {Line[]} lines
- * @param {Record<number, number[]>} [fixed]
  * @returns {Place[]}
  */
 export function places(count, lines) {
-  const level = levels(count, lines), found = /** @type {Place[]} */ ([]), taken = new Set();
-  const order = Array.from({ length: count }, (_, t) => t).sort((a, b) => level[a] - level[b] || a - b);
-  const lowest = order.filter(t => level[t] === 0), weight = t => lines.filter(l => l.to === t).length;
+  const level = levels(count, lines), order = Array.from({ length: count }, (_, t) => t).sort((a, b) => level[a] - level[b] || a - b);
+  /** @type {Place[]} */
+  const found = [];
+  const free = (/** @type {number} */ t, /** @type {number} */ x) => found.every((p, u) => u === t || !p || p.level !== level[t] || Math.abs(p.x - x) >= 1);
+  const middle = (/** @type {number[]} */ xs) => Math.round(xs.reduce((a, b) => a + b, 0) / xs.length * 2) / 2;
   for (const t of order) {
-    const below = lines.filter(l => l.from === t && found[l.to]).map(l => found[l.to].x);
-    const wish = level[t] === 0 ? lowest.indexOf(t) : Math.round(below.reduce((a, b) => a + b, 0) / Math.max(below.length, 1));
-    let x = wish;
-    for (let step = 1; taken.has(`${x},${level[t]}`); step++) x = wish + step;
-    taken.add(`${x},${level[t]}`);
+    const below = lines.filter(l => l.from === t && l.to !== t && found[l.to]).map(l => found[l.to].x);
+    let x = below.length ? middle(below) : 0;
+    while (!free(t, x)) x += below.length ? 0.5 : 1;
     found[t] = { x, level: level[t] };
   }
-  const row = t => found.filter((p, u) => u !== t && p.level === found[t].level);
-  for (const t of order.filter(u => weight(u) > 1)) {
-    const above = lines.filter(l => l.to === t).map(l => found[l.from].x), middle = above.reduce((a, b) => a + b, 0) / above.length;
-    if (row(t).every(p => Math.abs(p.x - middle) >= 1)) found[t] = { ...found[t], x: Math.round(2 * middle) / 2 };
+  for (const t of [...order].reverse()) {
+    const above = lines.filter(l => l.to === t && l.from !== t).map(l => found[l.from].x), x = above.length ? middle(above) : found[t].x;
+    if (free(t, x)) found[t] = { ...found[t], x };
   }
   return found;
 }
@@ -134,7 +133,7 @@ export class Picture {
 const WORDS = { plain: "set from", withdrawn: "withdrawn", together: "signed together" };
 
 /** A line from a card down to its ground: plain, lit, broken where the ground was withdrawn, dotted where both were signed together. */
-function drawn({ kind }, a, b, lit) {
+function drawn({ kind, word = WORDS[kind] }, a, b, lit) {
   const lean = Math.max(-60, Math.min(60, (a.x - b.x) * 0.25)), x = b.x + lean, y1 = a.bottom + 1, y2 = b.top - 4, my = (y1 + y2) / 2, mx = (a.x + x) / 2;
   const d = `M${a.x} ${y1}C${a.x} ${my} ${x} ${my} ${x} ${y2 - 6}`, slope = x - a.x, shift = slope > 40 ? -12 : slope < -40 ? 14 : 4;
   return svg("g", { class: `line ${kind}${lit ? " lit-line" : ""}` },
@@ -142,5 +141,5 @@ function drawn({ kind }, a, b, lit) {
     svg("path", { class: "body", d }),
     kind === "withdrawn" ? [svg("circle", { class: "gap", cx: mx, cy: my, r: 11 }), svg("path", { class: "break", d: `M${mx - 9} ${my + 4}l4.5 -8 4.5 8 4.5 -8 4.5 8` })] : null,
     kind === "together" ? null : svg("path", { class: "head", d: `M${x - 6} ${y2 - 10}L${x} ${y2}L${x + 6} ${y2 - 10}Z` }),
-    y2 - y1 > 30 ? svg("text", { class: "line-label", x: mx + 15, y: my + shift }, WORDS[kind]) : null);
+    y2 - y1 > 30 ? svg("text", { class: "line-label", x: mx + 15, y: my + shift }, word) : null);
 }

@@ -45,12 +45,13 @@ function giver(parcels, take, at) {
 /** Who does it is not known to the ledger: someone. */
 function sentence(record, i, names, parcels) {
   const { step, reply } = record.before(i), kind = kindOf(step), x = names.take(reply.take);
-  if (reply.outcome >= REFUSED || kind === "lose") return effect(step, reply, names);
+  if (reply.outcome >= REFUSED) return `refused: ${effect(step, reply, names)}`;
   if (kind === "sign") return signing(step, reply, names);
   if (reply.outcome === VANISHED || reply.outcome === FALLEN_BACK) return falling(kind, reply, names);
   if (reply.outcome === 1) return `someone wants ${kind === "write" ? "to edit" : "to withdraw"} ${x}; frozen, it is held`;
   const from = kind === "write" ? giver(parcels, reply.take, i) : null, text = names.text(step.text);
   const said = {
+    lose: () => effect(step, reply, names),
     root: () => `someone opens ${x}`,
     new: () => `${names.take(step.take)} opened ${x}`,
     freeze: () => `someone freezes ${x}`,
