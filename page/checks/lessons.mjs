@@ -166,6 +166,12 @@ async function manners(context) {
     await hands.pick({ kind: "takes" }, [1, 2]);
     assert.match((await hands.said())[1], /^Right\./);
   });
+  await kept(context, hands);
+  await pictures(context, hands);
+}
+
+async function kept({ browser, check, url }, hands) {
+  const two = "02-what-a-withdrawal-reaches";
   await check("where the reader was is kept, and what was foreseen at the first try", async () => {
     await browser.go(url);
     assert.match(await browser.text("#go-on"), /Go on: lesson 2, screen 2/);
@@ -184,7 +190,6 @@ async function manners(context) {
     await hands.press(`[data-focus="hint"]`);
     assert.match((await hands.said())[1], /What does page.12 stand on/);
   });
-  await pictures(context, hands);
 }
 
 async function pictures({ browser, check, url }, hands) {

@@ -15,7 +15,7 @@ const SENTENCES = [
   ["10-frozen-is-not-signed", 25, "What would help: receive parcel 5."],
   ["10-frozen-is-not-signed", 33, "{0,1}, the names and page 12, is the smallest volume with page 12 that can be signed now."],
   ["10-frozen-is-not-signed", 26, "The mark of the names decided: the parcel carries (0; 1), page 12 has (0; 0) in its state map."],
-  ["20-what-a-withdrawal-reaches", 18, "Page 12 rests on it directly. Page 40 rests on it through others."],
+  ["20-what-a-withdrawal-reaches", 18, "Page 12 rests on it, and knows of it. Page 40 rests on it through others, without knowing of it."],
   ["20-what-a-withdrawal-reaches", 20, "Page 40 rests on page 12, which rests on the names, withdrawn at step 19."],
   ["20-what-a-withdrawal-reaches", 20, "Page 12 and page 40 can't be signed, and must stay frozen: a ground that vanished sends no parcel by which they would fall."],
   ["20-what-a-withdrawal-reaches", 20, "What would help: open another take for these pages."],
@@ -26,7 +26,7 @@ const SENTENCES = [
   ["50-not-mended-by-a-signing", 19, "Page 12 rests on the names, withdrawn at step 14."],
   ["60-frozen-takes-fall-too", 18, "vanished. Page 12 vanished: parcel 4 shows that the ground was withdrawn"],
   ["80-grounds-that-are-only-frozen", 11, "{0,1}, the names and page 12, is the smallest volume with page 12 that can be signed now."],
-  ["98-a-house", 22, "Appraisal, offer and mortgage rest on it directly."],
+  ["98-a-house", 22, "Appraisal, offer and mortgage rest on it, and know of it."],
   ["98-a-house", 24, "Offer rests on description, withdrawn at step 23."],
 ];
 
@@ -232,7 +232,7 @@ async function honest({ browser, check, url }) {
   });
   await check("what a withdrawal reaches says who is frozen", async () => {
     await browser.go(`${url}#${listed("20-what-a-withdrawal-reaches", 18)}`);
-    assert.match(await browser.text("#course-moment .cost"), /1 page 12\s+It is frozen, and does not fall of itself\. Page 40 rests on it directly\./);
+    assert.match(await browser.text("#course-moment .cost"), /1 page 12\s+It is frozen, and does not fall of itself\. Page 40 rests on it, and knows of it\./);
   });
   await check("a window is so many whole replies wide", async () => {
     await browser.go(`${url}#${listed("94-a-bad-hour", 26)}`);

@@ -84,7 +84,7 @@ export class Player {
       picked: this.kind.picksTakes ? this.picked : [],
       pick: this.kind.picksTakes && !this.solved ? t => this.kind.pick(this, t) : null,
       beside: t => this.kind.beside?.(this, t) ?? null,
-      lit: this.lit, litTakes: this.litTakes, fresh: this.fresh, layout, shown: screen.shown ?? null,
+      lit: this.lit, litTakes: this.litTakes, fresh: this.fresh, layout, shown: screen.shown ?? null, trace: this.solved || !this.kind.picksTakes,
     });
     const beside = this.kind.side?.(this);
     return el("div", { class: `board${beside ? " with-side" : ""}` }, host, el("div", { class: "floor", "aria-hidden": "true" }), beside ?? null);

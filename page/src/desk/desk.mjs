@@ -178,7 +178,11 @@ export class Desk {
 
   rename(take, name) {
     this.hearing.takes[take] = name.trim();
-    unpressed(() => this.refresh(this.rows.count));
+    unpressed(() => {
+      const focused = focusIn(byId("desk"));
+      this.refresh(this.rows.count);
+      focused(this.words);
+    });
   }
 
   /** The list without refused steps and unused reads, part by part; the image stays. */

@@ -8,7 +8,7 @@ function filled(element, attributes, children) {
     else if (value === true) element.setAttribute(name, "");
     else if (value !== false && value !== null && value !== undefined) element.setAttribute(name, value);
   }
-  const given = children.flat(3).filter(c => c !== null && c !== undefined && c !== false);
+  const given = children.flat(Infinity).filter(c => c !== null && c !== undefined && c !== false);
   element.append(...given.map(c => (c instanceof Node ? c : String(c))));
   return element;
 }

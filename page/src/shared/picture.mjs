@@ -3,14 +3,14 @@
 import { el, svg, replace } from "./dom.mjs";
 import { mark, badge } from "./marks.mjs";
 import { stateOf } from "./states.mjs";
-import { linesOf } from "./grounds.mjs";
+import { linesBelow, linesOf } from "./grounds.mjs";
 import { capital } from "./names.mjs";
 
 /** @typedef {import("./record.mjs").Record} Record */
 /** @typedef {import("./grounds.mjs").Line} Line */
 /** @typedef {{x: number, level: number}} Place */
 
-const SIZES = [1.24, 1.16, 1.08, 1, 0.92, 0.85, 0.78, 0.72, 0.66, 0.6, 0.55, 0.5];
+const SIZES = [1.24, 1.16, 1.08, 1, 0.92, 0.85, 0.78, 0.72, 0.66, 0.6, 0.55, 0.5, 0.45, 0.4];
 
 /**
  * How high each take stands: one above the highest that it was set from.
@@ -58,20 +58,24 @@ export class Picture {
     this.cards = el("div", { class: "cards" });
     replace(host, this.drawing, this.cards);
     new ResizeObserver(() => this.fit()).observe(host);
+    for (const [event, on] of [["pointerover", true], ["focusin", true], ["pointerout", false], ["focusout", false]]) this.cards.addEventListener(event, e => this.choose(on ? e.target.closest("[data-take]") : null));
   }
 
   /**
    * @param {Record} record
    * @param {number} count
    * @param {import("./names.mjs").Names} names
-   * @param {{lit?: Line[], litTakes?: number[], picked?: number[], pick?: ((take: number) => void) | null, beside?: (take: number) => Node | null, fresh?: number[], shown?: number[] | null, layout?: Line[]}} [how]
-   * lit: lines that light up; beside: what stands beside a card; layout: lines that settle where the cards stand
+   * @param {{lit?: Line[], litTakes?: number[], picked?: number[], pick?: ((take: number) => void) | null, beside?: (take: number) => Node | null, fresh?: number[], shown?: number[] | null, layout?: Line[], trace?: boolean}} [how]
+   * lit: lines that light up; trace: those of a chosen take light up too; beside: what stands beside a card; layout: lines that settle where the cards stand
    */
   show(record, count, names, how = {}) {
     const session = record.at(count), heads = record.heads[count], shown = heads.map((_, t) => t).filter(t => how.shown?.includes(t) ?? true);
     this.lines = linesOf(record, count).filter(l => shown.includes(l.from) && shown.includes(l.to));
     this.lit = (how.lit ?? []).map(l => `${l.from},${l.to}`);
-    const at = places(heads.length, how.layout ?? this.lines), xs = shown.map(t => at[t].x), least = Math.min(...xs), top = Math.max(...shown.map(t => at[t].level), 0);
+    this.trace = how.trace ?? false;
+    this.chosen = [];
+    const layout = how.layout ?? this.lines, all = Math.max(heads.length, ...layout.flatMap(l => [l.from + 1, l.to + 1]));
+    const at = places(all, layout), xs = shown.map(t => at[t].x), least = Math.min(...xs), top = Math.max(...shown.map(t => at[t].level), 0);
     this.nodes = new Map();
     const litTakes = new Set([...(how.litTakes ?? []), ...(how.lit ?? []).map(l => l.from)]);
     replace(this.cards, shown.sort((a, b) => at[b].level - at[a].level || at[a].x - at[b].x).map(t => {
@@ -101,12 +105,20 @@ export class Picture {
     this.draw();
   }
 
+  /** Lights up what the chosen take rests on, through others too. */
+  choose(card) {
+    const lit = card && this.trace ? linesBelow(this.lines, Number(card.dataset.take)).map(l => `${l.from},${l.to}`) : [];
+    if (lit.join() === (this.chosen ?? []).join()) return;
+    this.chosen = lit;
+    this.draw();
+  }
+
   /** A take's card, and what stands beside it. */
   node(t, { state, head, names, lit, how }) {
     const { pick = null, picked = [], beside = () => null, fresh = [] } = how, chosen = picked.includes(t), sealed = (head.mark?.list.length ?? 0) > 0;
     const trace = sealed && state !== "signed" ? el("span", { class: "trace" }, mark("signed", 16), el("span", {}, `signed: ${names.text(head.saved)}`)) : null;
     const classes = `card s-${state}${lit ? " lit" : ""}${chosen ? " picked" : ""}${fresh.includes(t) ? " fresh" : ""}`;
-    const clicked = pick ? { type: "button", "aria-pressed": String(chosen), onclick: () => pick(t) } : {};
+    const clicked = pick ? { type: "button", "aria-pressed": String(chosen), onclick: () => pick(t) } : this.trace ? { tabindex: 0 } : {};
     const card = el(pick ? "button" : "div", { class: classes, "data-take": t, "data-state": state, ...clicked },
       chosen ? el("span", { class: "tab" }, "your pick") : null,
       el("span", { class: "ttl" }, capital(names.take(t))),
@@ -125,8 +137,8 @@ export class Picture {
       return { x: (r.left + r.right) / 2 - box.left, left: r.left - box.left, right: r.right - box.left, top: r.top - box.top, bottom: r.bottom - box.top };
     };
     for (const [name, value] of Object.entries({ width: box.width, height: box.height, viewBox: `0 0 ${box.width} ${box.height}` })) this.drawing.setAttribute(name, String(value));
-    const sorted = [...this.lines].sort((a, b) => Number(this.lit.includes(`${a.from},${a.to}`)) - Number(this.lit.includes(`${b.from},${b.to}`)));
-    replace(this.drawing, sorted.map(line => drawn(line, where(line.from), where(line.to), this.lit.includes(`${line.from},${line.to}`))));
+    const lit = ({ from, to }) => [...this.lit, ...this.chosen].includes(`${from},${to}`), sorted = [...this.lines].sort((a, b) => Number(lit(a)) - Number(lit(b)));
+    replace(this.drawing, sorted.map(line => drawn(line, where(line.from), where(line.to), lit(line))));
   }
 }
 

@@ -23,8 +23,8 @@ function carriers(image, take) {
 export function costWords(session, take, names) {
   const { direct, indirect, busy, parcels } = cost(session, take), say = takes => listed(takes.map(t => names.take(t)));
   const words = [], one = (list, single, several) => (list.length === 1 ? single : several);
-  if (direct.length) words.push(`${say(direct)} ${one(direct, "rests", "rest")} on it directly.`);
-  if (indirect.length) words.push(`${say(indirect)} ${one(indirect, "rests", "rest")} on it through others.`);
+  if (direct.length) words.push(`${say(direct)} ${one(direct, "rests on it, and knows", "rest on it, and know")} of it.`);
+  if (indirect.length) words.push(`${say(indirect)} ${one(indirect, "rests", "rest")} on it through others, without knowing of it.`);
   if (busy.length) words.push(`${say(busy)} ${one(busy, "has it in its", "have it in their")} unfinished work.`);
   const numbers = listed(parcels.map(String)), sent = one(parcels, "was", "were");
   if (parcels.length) words.push(`${one(parcels, "parcel", "parcels")} ${numbers}, still waiting, ${sent} sent on the ground of this life.`);
