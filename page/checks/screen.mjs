@@ -12,6 +12,7 @@ export async function screenChecks(context) {
   await firstScreen(context);
   await themes(context);
   await faults(context);
+  await deskFaults(context);
   await missing(context);
 }
 
@@ -142,6 +143,9 @@ async function faults({ browser, check, url }) {
     await browser.eval(`history.back()`);
     await browser.until(`!document.querySelector("#course").hidden && document.querySelector(".screen")?.dataset.screen === "2"`);
   });
+}
+
+async function deskFaults({ browser, check, url }) {
   await check("a name of 100,000 letters makes no endless page", async () => {
     await desk(browser, url, deskFile(["W".repeat(100000), "page 12"]));
     assert.ok(await browser.eval(`Math.max(...[...document.querySelectorAll("#desk section")].map(s => s.scrollHeight))`) < 30000);

@@ -54,6 +54,7 @@ export async function stepsChecks(context) {
   await choosing(context);
   await links(context);
   await own(context);
+  await origin(context);
   await honest(context);
 }
 
@@ -198,6 +199,9 @@ async function own({ browser, check, url }) {
       assert.equal(await value(), list);
     }
   });
+}
+
+async function origin({ browser, check, url }) {
   await check("a lesson's list that is edited keeps its story, and comes back", async () => {
     await browser.go(`${url}#lesson=02-what-a-withdrawal-reaches&screen=2`);
     await browser.click(`[data-focus="details"]`);

@@ -34,7 +34,7 @@ function go(parts) {
 
 function tabs() {
   for (const view of TABS) byId(`tab-${view}`).addEventListener("click", () => go(view === "course" ? {} : { view }));
-  document.querySelector("[role=tablist]").addEventListener("keydown", e => {
+  document.querySelector("[role=tablist]").addEventListener("keydown", (/** @type {any} */ e) => {
     const by = { ArrowRight: 1, ArrowLeft: -1 }[e.key];
     if (!by) return;
     const next = TABS[(TABS.findIndex(v => e.target.id === `tab-${v}`) + by + TABS.length) % TABS.length];
@@ -45,7 +45,7 @@ function tabs() {
 
 /** What the address after # asks for. */
 function follow() {
-  const asked = readAddress(location.hash), { course, steps } = views, text = asked.text ?? listText(asked.list);
+  const asked = { ...readAddress(location.hash), taken: null }, { course, steps } = views, text = asked.text ?? listText(asked.list);
   const known = course.lessons.some(l => l.name === asked.lesson);
   const listed = text !== null || asked.view === "steps" || asked.wrong.list || asked.wrong.limits || asked.list !== null;
   const view = listed ? "steps" : VIEWS.includes(asked.view) ? asked.view : "course";

@@ -22,7 +22,7 @@ function takes(a, b) {
 }
 
 function texts(a, b) {
-  const numbers = [...new Set([...Object.keys(a.texts), ...Object.keys(b.texts)])].sort((x, y) => x - y);
+  const numbers = [...new Set([...Object.keys(a.texts), ...Object.keys(b.texts)])].sort((x, y) => Number(x) - Number(y));
   return numbers.filter(n => (a.texts[n] || "") !== (b.texts[n] || "")).map(n => both(`Text ${n}`, "is", a.texts[n], b.texts[n]));
 }
 

@@ -131,7 +131,7 @@ export class Compare {
 
   /** To the first run that differs. */
   jump() {
-    const run = byId("compare-part").querySelector(".run.other");
+    const run = /** @type {HTMLElement} */ (byId("compare-part").querySelector(".run.other"));
     run.scrollIntoView({ block: "center" });
     run.focus({ preventScroll: true });
   }

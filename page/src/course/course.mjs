@@ -8,10 +8,17 @@ import { Progress } from "./progress.mjs";
 const FIRST = 3;
 
 export class Course {
+  /** @type {Player | null} */ player = null;
+  /** @type {Lesson | null} */ lesson = null;
+  at = 0;
+
   /** steps(text, step): opens the step view; go(parts): to an address */
   constructor(lessons, { steps, go }) {
     this.lessons = lessons.map((data, i) => Object.assign(new Lesson(data), { number: i + 1 }));
-    Object.assign(this, { steps, go, host: byId("course-screen"), bar: byId("course-lessons") });
+    this.steps = steps;
+    this.go = go;
+    this.host = byId("course-screen");
+    this.bar = byId("course-lessons");
     this.progress = new Progress();
   }
 

@@ -124,7 +124,7 @@ function acts(player, t) {
   const made = {
     freeze: () => press("Freeze", "freeze", DEEDS.freeze(session, t)),
     withdraw: () => press("Withdraw", "withdraw", DEEDS.withdraw(session, t)),
-    set: () => from[t] && press("Set again", "set", DEEDS.set(session, t, ...from[t])),
+    set: () => from[t] && press("Set again", "set", DEEDS.set(session, t, from[t][0], from[t][1])),
     volume: () => button((volume >> t) & 1 ? "In the volume" : "To the volume", () => join(player, t), { class: "btn sm", "aria-pressed": String(Boolean((volume >> t) & 1)), "data-deed": `volume ${t}`, "data-focus": `volume ${t}` }),
   };
   return el("div", { class: "acts" }, offers.map(name => made[name]() ?? null));

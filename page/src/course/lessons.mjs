@@ -25,6 +25,9 @@ export function stepsOf(session, lines) {
 }
 
 export class Lesson {
+  // Its place in the course, from 1.
+  number = 0;
+
   /** @param {any} data a file of page/lessons */
   constructor(data) {
     this.data = data;

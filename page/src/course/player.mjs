@@ -17,9 +17,28 @@ const TITLES = { yes: "Right.", no: "Not quite.", hint: "A hint.", shown: "So it
 const tied = words => words.replace(/\b([Pp]ages?|[Ll]ives|[Ll]ife|[Ss]tep) (?=\d)/g, "$1\u00a0");
 
 export class Player {
+  solved = false;
+  /** @type {any[]} */ picked = [];
+  /** @type {[string, string] | null} */ said = null;
+  hinted = 0;
+  /** @type {Uint8Array[]} */ own = [];
+  volume = 0;
+  /** @type {number[]} */ fresh = [];
+  /** @type {(number | string)[]} */ order = [];
+  /** @type {import("../shared/grounds.mjs").Line[]} */ lit = [];
+  /** @type {any[]} */ litTakes = [];
+  /** @type {Playing | null} */ playing = null;
+  details = false;
+
   /** told: {back(), next(), answered(foreseen), steps(list, count)}; last: whether the lesson ends after this screen */
   constructor(host, lesson, k, told, last) {
-    Object.assign(this, { host, lesson, k, told, last, screen: lesson.screens[k], names: lesson.names });
+    this.host = host;
+    this.lesson = lesson;
+    this.k = k;
+    this.told = told;
+    this.last = last;
+    this.screen = lesson.screens[k];
+    this.names = lesson.names;
     this.kind = KINDS[this.screen.kind];
     this.scene = lesson.scene(k);
     this.right = rightOf(this.screen, this.scene);
@@ -46,7 +65,7 @@ export class Player {
   /** From the start of this screen. */
   reset() {
     this.playing?.stop();
-    Object.assign(this, { solved: false, picked: [], said: null, hints: 0, own: [], volume: this.screen.volume ? volumeOf(this.screen.volume) : 0, fresh: [], order: [], lit: [], litTakes: [] });
+    Object.assign(this, { solved: false, picked: [], said: null, hinted: 0, own: [], volume: this.screen.volume ? volumeOf(this.screen.volume) : 0, fresh: [], order: [], lit: [], litTakes: [] });
     this.record = this.scene.record;
     this.count = this.scene.count;
     this.draw();
@@ -57,7 +76,7 @@ export class Player {
   }
 
   draw(focus = null) {
-    const marked = document.activeElement?.closest?.("[data-focus]")?.dataset.focus;
+    const marked = /** @type {HTMLElement | null} */ (document.activeElement?.closest("[data-focus]"))?.dataset.focus;
     this.drawStage();
     replace(this.tray, this.kind.tray?.(this) ?? null);
     this.drawSay();
@@ -125,8 +144,8 @@ export class Player {
   }
 
   hint() {
-    this.tell("hint", this.screen.hints[Math.min(this.hints++, this.screen.hints.length - 1)]);
-    if (this.hints > 1) this.tries = Math.max(this.tries, 2);
+    this.tell("hint", this.screen.hints[Math.min(this.hinted++, this.screen.hints.length - 1)]);
+    if (this.hinted > 1) this.tries = Math.max(this.tries, 2);
     this.draw();
   }
 

@@ -8,7 +8,9 @@ const PAUSE = 1500;
 
 export class Playing {
   constructor(player, events) {
-    Object.assign(this, { player, events, at: 0 });
+    this.player = player;
+    this.events = events;
+    this.at = 0;
     this.host = el("div", { class: "picture-host" });
     this.caption = el("p", { class: "caption", role: "status" });
     const stop = button(["Stop", mark("stop", 14)], () => this.stop(), { class: "btn bare sm", "data-focus": "play" });

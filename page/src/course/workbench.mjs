@@ -123,6 +123,10 @@ export class Workbench {
     return true;
   }
 
+  /**
+   * @param {Session} start
+   * @param {any} read
+   */
   play(start, { places, steps, comments }) {
     this.places = places;
     this.record = new Record(start, steps);

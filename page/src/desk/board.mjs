@@ -39,7 +39,7 @@ function ready(session, smallest, names, add) {
 /** Whether nothing of the take is to be signed: tried on a copy, it falls back to the same text, resting on the same. */
 function settled(session, take) {
   const copy = session.copy(), reply = readReply(copy.run(packStep("fail", { take })), 0);
-  const rests = image => (({ text, state }) => JSON.stringify([text, state.toSpliced(take, 1)]))(readTake(image, take));
+  const rests = image => (({ text, state }) => JSON.stringify([text, state.filter((_, u) => u !== take)]))(readTake(image, take));
   return reply.outcome === FALLEN_BACK && rests(session.image) === rests(copy.image);
 }
 

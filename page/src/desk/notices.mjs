@@ -26,7 +26,7 @@ function dialog(label, leave) {
 
 /** A question at the desk's steps: yes does it; leaving it puts the cursor back where it was. */
 function ask(label, paragraphs, yes, go, id) {
-  const host = byId("desk-confirm"), from = document.activeElement;
+  const host = byId("desk-confirm"), from = /** @type {HTMLElement} */ (document.activeElement);
   const leave = button("leave it", () => {
     replace(host);
     from?.focus();
@@ -103,7 +103,7 @@ function taken(desk, hearing, name) {
 /** Before another hearing takes this one's place. */
 export function confirmOpening(desk, hearing, name, { question = `Open ${name} in place of the present hearing?`, yes = "open" } = {}) {
   if (!desk.hearing.list.length && !desk.hearing.image) return taken(desk, hearing, name);
-  const host = byId("desk-notice"), from = document.activeElement, leave = button("leave it", () => {
+  const host = byId("desk-notice"), from = /** @type {HTMLElement} */ (document.activeElement), leave = button("leave it", () => {
     replace(host);
     from?.focus();
   });

@@ -27,7 +27,7 @@ function parsed(text) {
   try {
     return JSON.parse(text);
   } catch (e) {
-    throw new Unreadable(`it is no whole file of this desk (${e.message})`);
+    throw new Unreadable(`it is no whole file of this desk (${/** @type {Error} */ (e).message})`);
   }
 }
 

@@ -27,7 +27,9 @@ function resting(path, names) {
   return `${chain(path.map(t => names.take(t)))}: `;
 }
 
-function chain([first, ...grounds]) {
+/** @param {string[]} words */
+function chain(words) {
+  const [first, ...grounds] = words;
   return [first, grounds.map(g => `rests on ${g}`).join(", which ")].filter(Boolean).join(" ");
 }
 
@@ -37,7 +39,7 @@ function notFrozen(session, path, volume, names, alone) {
   return `${resting(path, names)}${path.length === 1 ? "not frozen" : within ? "in this volume, but not frozen" : `${since}${lacks}`}.`;
 }
 
-function withdrawn(record, count, { path, ground }, names) {
+function withdrawn(record, count, { path, ground = null }, names) {
   const at = fallOf(record, count, ground, path.at(-1)), when = at === null ? "withdrawn" : `withdrawn at step ${at}`;
   const why = [`${chain([...path, ground].map(t => names.take(t)))}, ${when}.`];
   const falls = fallsOf(record.at(count), ground, [...path].reverse(), names);
@@ -81,7 +83,7 @@ function outside(session, volume, names) {
 /** The take whose marks decided a receipt, with both sides' marks of it. */
 function deciding(record, count) {
   const { step, reply } = record.before(count), session = record.at(count - 1), { take } = session.decision(step.parcel);
-  const { state, creation } = readTake(session.image, reply.take), held = [["state", state[take]], ["creation", creation[take]]];
+  const { state, creation } = readTake(session.image, reply.take), held = /** @type {[string, any][]} */ ([["state", state[take]], ["creation", creation[take]]]);
   return { take, carried: readMap(session.show(step.parcel))[take], held: held.filter(([, mark]) => mark) };
 }
 

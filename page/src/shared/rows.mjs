@@ -21,7 +21,8 @@ export function called(t, names, lane) {
 export class Rows {
   /** host: an empty element; chosen(count) is told which moment was chosen, closed() that somebody asked for one that is not shown yet. */
   constructor(host, chosen, closed = () => {}) {
-    Object.assign(this, { chosen, closed });
+    this.chosen = chosen;
+    this.closed = closed;
     this.count = 0;
     this.names = el("div", { class: "lane-names", "aria-hidden": "true" });
     const said = { role: "listbox", tabindex: "0", "aria-label": "steps with their replies" };
@@ -34,7 +35,9 @@ export class Rows {
 
   /** Draws a record; lines: each step's text; shown: how many replies are shown. */
   show(record, lines, names, shown) {
-    Object.assign(this, { record, shown, naming: names });
+    this.record = record;
+    this.shown = shown;
+    this.naming = names;
     replace(this.list, lines.map((line, i) => this.row(line, i + 1)));
     const count = record.heads[shown].length, wide = laneWidth(count, this.scroller.clientWidth - this.list.offsetWidth);
     this.showNames(count, names, wide);

@@ -52,7 +52,7 @@ export function canSign(session, volume) {
  * @param {Session} session
  * @param {number} volume
  * @param {import("./names.mjs").Names} names
- * @param {{pick?: ((member: Member) => void) | null, hidden?: boolean}} [how] pick: told which life was clicked; hidden: who has a partner is not shown yet
+ * @param {{pick?: ((member: Member) => void) | null, hidden?: boolean}} how pick: told which life was clicked; hidden: who has a partner is not shown yet
  */
 export function twoSets(session, volume, names, { pick = null, hidden = false } = {}) {
   const left = leftSet(session, volume), ready = canSign(session, volume);

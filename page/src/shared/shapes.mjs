@@ -48,6 +48,7 @@ export function dead(x, top, bottom) {
 
 const line = (name, end) => [svg("path", { class: `arrow ${name}`, d: "M2 12L20 12" }), end];
 
+/** @type {[string, () => any][]} */
 const LEGEND = [
   ["idle", () => stretch("idle", 14, 2, 22)], ["at work", () => stretch("work", 14, 2, 22)], ["frozen", () => stretch("frozen", 14, 2, 22)],
   ["frozen, at work", () => stretch("work frozen", 14, 2, 22)], ["signed once: kept", () => kept(14, 2, 22)], ["ground gone", () => hatch(14, 2, 22)], ["vanished", () => dead(14, 2, 22)],

@@ -11,7 +11,13 @@ export class Stepper {
    * confirm(kind, fields, go): asked before a step is made, where given, and goes on by go(); labels: words for kinds of step.
    */
   constructor(host, { textField, textOf, add, confirm = (kind, fields, go) => go(), labels = {} }) {
-    Object.assign(this, { host, textField, textOf, add, confirm, labels });
+    this.host = host;
+    this.textField = textField;
+    this.textOf = textOf;
+    this.add = add;
+    this.confirm = confirm;
+    /** @type {Record<string, string>} */
+    this.labels = labels;
     this.lastTo = new Map();
   }
 

@@ -36,7 +36,7 @@ function store(key, text) {
     localStorage.setItem(key, text);
     return null;
   } catch (e) {
-    return e.name === QUOTA ? FULL : DENIED;
+    return /** @type {Error} */ (e).name === QUOTA ? FULL : DENIED;
   }
 }
 
