@@ -7,31 +7,31 @@ import { whyNot, receiptReason } from "./reasons.mjs";
 import { packStep } from "../../../bindings/js/packed.mjs";
 import { trial } from "./offered.mjs";
 import { costWords } from "./withdrawal.mjs";
+import { twoSets } from "./sets.mjs";
+import { looks } from "./looking.mjs";
 
 const WORDS = { class: "words" };
 const differs = (a, b) => JSON.stringify(a) !== JSON.stringify(b);
 
 /**
- * Fills host with the moment after count steps, of which shown can be looked at; go(by) goes so many on. told stands before the reasons,
- * and asking, an open question, after them.
+ * Fills host with the moment after count steps, of which shown can be looked at; go(by) goes so many on.
  */
-export function showMoment(host, record, count, line, names, { go, shown, told = null, asking = null }) {
+export function showMoment(host, record, count, line, names, { go, shown }) {
   const session = record.at(count), now = readImage(session.image), before = count ? readImage(record.at(count - 1).image) : now;
-  const focused = focusIn(host), costs = costTable(session, now, names);
+  const focused = focusIn(host);
   replace(
     host,
     heading(count ? `After step ${count}` : "Before the first step", 2),
     pager(count, shown, go),
     count ? saidOf(record, count, line, names) : el("p", {}, "A fresh session, or the one that was opened."),
-    told,
-    whyPart(record, count, names, !asking),
-    asking,
+    whyPart(record, count, names),
+    looks(record, count, names),
     heading("Takes"),
     takesTable(now, before, names),
     heading("Parcels waiting"),
     parcelsTable(now, before, names),
     heading("What if this take is withdrawn now?"),
-    asking ? el("details", {}, el("summary", {}, "show it before the question is answered"), costs) : costs,
+    costTable(session, now, names),
   );
   focused(host.querySelector(".pager button:enabled") ?? host);
 }
@@ -48,13 +48,14 @@ function saidOf(record, count, line, names) {
   return el("p", { class: "said" }, el("code", {}, line), " ", el("strong", { class: `verdict ${tone(reply)}` }, verdict(reply)), ".", sentence);
 }
 
-/** Why the ledger replied so; what would help is kept back (helped) while a question is open. */
-function whyPart(record, count, names, helped) {
+/** Why the ledger replied so; at a signing with the two sets that it compares. */
+function whyPart(record, count, names) {
   if (!count) return null;
-  const { step, reply } = record.before(count), kind = kindOf(step);
+  const { step, reply } = record.before(count), kind = kindOf(step), sets = () => twoSets(record.at(count - 1), step.parcel, names, {});
+  if (kind === "sign" && reply.outcome === 0) return [heading("What was compared"), sets()];
   if (kind === "sign" && reply.outcome === NOT_READY) {
     const { why, help } = whyNot(record, count, step.parcel, names);
-    return [heading("Why not ready"), el("ul", { class: "why" }, [...why, ...(helped ? help : [])].map(s => el("li", {}, s)))];
+    return [heading("Why not ready"), el("ul", { class: "why" }, [...why, ...help].map(s => el("li", {}, s))), sets()];
   }
   if (kind !== "receive" || reply.outcome >= REFUSED) return null;
   const said = receiptReason(record, count, names);

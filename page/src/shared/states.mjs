@@ -49,6 +49,9 @@ export function fateOf(mark, now) {
   return relation === "same life" ? "present" : relation === "left signed" ? "signed" : "withdrawn";
 }
 
+/** Whether nothing has changed in a mark but its flag, so that nobody need be asked. */
+const alike = (/** @type {Mark} */ a, /** @type {Mark | null} */ b) => b !== null && a.n === b.n && a.list.length === b.list.length && a.list.every((x, i) => x === b.list[i]);
+
 /** @typedef {{mark: Mark, end: "present" | "signed" | "withdrawn", from: number, text: number}} Life */
 
 /**
@@ -64,7 +67,7 @@ export function livesOf(record, take, count) {
   for (let i = 0; i <= count; i++) {
     const head = record.heads[i][take], last = lives.at(-1);
     if (!head) continue;
-    if (last?.end === "present") last.end = fateOf(last.mark, head.mark);
+    if (last?.end === "present" && !alike(last.mark, head.mark)) last.end = fateOf(last.mark, head.mark);
     if (head.mark && last?.end !== "present") lives.push({ mark: head.mark, end: "present", from: i, text: head.text });
     else if (head.mark) Object.assign(lives[lives.length - 1], { mark: head.mark, text: head.text });
   }
