@@ -205,10 +205,10 @@ async function pictures({ browser, check, url }, hands) {
     await browser.until(`document.querySelector('[data-focus="play"]')?.textContent.startsWith("Play")`);
   });
   await check("words are explained on focus, and details show the steps in words and in the notation", async () => {
-    const shown = () => browser.eval(`getComputedStyle(document.querySelector(".term .tip")).visibility`);
-    assert.equal(await shown(), "hidden");
+    const shown = () => browser.eval(`getComputedStyle(document.querySelector(".term .tip")).display`);
+    assert.equal(await shown(), "none");
     await browser.eval(`document.querySelector(".term").focus()`);
-    assert.equal(await shown(), "visible");
+    assert.equal(await shown(), "block");
     assert.equal(await hands.on(".told"), false);
     await hands.press(`[data-focus="details"]`);
     assert.match(await browser.text(".told"), /Someone sets page 12 from the names/);

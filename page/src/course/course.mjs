@@ -5,7 +5,7 @@ import { Lesson } from "./lessons.mjs";
 import { Player } from "./player.mjs";
 import { Progress } from "./progress.mjs";
 
-const FIRST = 3;
+const FIRST = 3, TITLE = document.title;
 
 export class Course {
   /** @type {Player | null} */ player = null;
@@ -32,6 +32,7 @@ export class Course {
     else if (this.at === this.lesson.screens.length) this.end();
     else this.play();
     this.drawBar();
+    document.title = this.lesson ? `${this.lesson.title}, ${this.at + 1}: the take ledger` : TITLE;
     this.host.querySelector("h1")?.focus({ preventScroll: true });
     window.scrollTo(0, 0);
   }

@@ -158,6 +158,7 @@ export class Player {
     this.tries++;
     this.tell("no", words);
     this.draw();
+    announce(`${TITLES.no} ${words}`);
   }
 
   /** Judges what was picked: each one too many, or missing, has its own sentence. */

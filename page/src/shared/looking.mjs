@@ -6,6 +6,8 @@ import { strip } from "./strip.mjs";
 
 /** @typedef {import("./record.mjs").Record} Record */
 
+// Room for a card.
+const TALL = 110, WIDE = 110;
 // What is unfolded stays so from step to step.
 const open = new Set();
 
@@ -36,10 +38,11 @@ export function looks(record, count, names) {
     const room = el("div", { class: "picture-host" });
     host.append(room);
     new Picture(room).show(record, count, names, { trace: true });
+    Object.assign(room.style, { height: `${TALL * Number(room.dataset.levels) + TALL}px`, minWidth: `${WIDE * Number(room.dataset.columns)}px` });
   };
   const lives = (/** @type {HTMLElement} */ host) => {
-    const all = record.heads[count].map((_, t) => ({ t, lives: livesOf(record, t, count) })).filter(l => l.lives.length);
-    replace(host, all.map(l => strip(l.lives, names.take(l.t), { codes: true })));
+    const all = record.heads[count].map((_, t) => ({ t, lives: livesOf(record, t, count) })).filter(l => l.lives.length > 1);
+    replace(host, all.length ? all.map(l => strip(l.lives, names.take(l.t), { codes: true })) : el("p", { class: "soft" }, "Every take is in its first life."));
   };
   return [folded("cards-look", "The takes as cards", cards), folded("lives-look", "Their lives, in the order of time", lives)];
 }

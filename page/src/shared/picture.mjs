@@ -74,8 +74,7 @@ export class Picture {
     this.lit = (how.lit ?? []).map(l => `${l.from},${l.to}`);
     this.trace = how.trace ?? false;
     this.chosen = [];
-    const layout = how.layout ?? this.lines, all = Math.max(heads.length, ...layout.flatMap(l => [l.from + 1, l.to + 1]));
-    const at = places(all, layout), xs = shown.map(t => at[t].x), least = Math.min(...xs), top = Math.max(...shown.map(t => at[t].level), 0);
+    const at = this.placesOf(shown, how.layout ?? this.lines, how.shown ?? null), xs = shown.map(t => at[t].x), least = Math.min(...xs), top = Math.max(...shown.map(t => at[t].level), 0);
     this.nodes = new Map();
     const litTakes = new Set([...(how.litTakes ?? []), ...(how.lit ?? []).map(l => l.from)]);
     replace(this.cards, shown.sort((a, b) => at[b].level - at[a].level || at[a].x - at[b].x).map(t => {
@@ -90,6 +89,13 @@ export class Picture {
     this.host.dataset.columns = String(Math.ceil(columns));
     this.host.dataset.levels = String(top + 1);
     this.fit();
+  }
+
+  /** Where the takes that are shown, or will be, stand: those that are not take no room. */
+  placesOf(shown, layout, only) {
+    const takes = [...new Set([...shown, ...layout.flatMap(l => [l.from, l.to])])].filter(t => only?.includes(t) ?? true).sort((a, b) => a - b), place = new Map(takes.map((t, i) => [t, i]));
+    const lines = layout.filter(l => place.has(l.from) && place.has(l.to)).map(l => ({ ...l, from: place.get(l.from), to: place.get(l.to) })), found = places(takes.length, lines);
+    return Object.fromEntries(takes.map((t, i) => [t, found[i]]));
   }
 
   /** As large as its room lets it be. */
