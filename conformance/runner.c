@@ -1,7 +1,8 @@
-/* Runs the kit on a library with the functions of include/ledger.h, or, compiled with -DENGINE, on one with that of include/engine.h: an
- * engine has no images, so it is asked for the replies to whole lists from a fresh session alone, and the other tests are skipped.
+/* Runs the kit on a library with the functions of include/ledger.h and looking_independent of include/looking.h, or, compiled with -DENGINE, on
+ * one with that of include/engine.h: an engine has no images, so it is asked for the replies to whole lists from a fresh session alone, and
+ * the other tests are skipped.
  *
- *     cc -I include -o runner conformance/runner.c target/staticlib/libledger_c.a && ./runner FILE ..
+ *     cc -I include -o runner conformance/runner.c target/staticlib/libledger_c.a target/staticlib/liblooking_c.a && ./runner FILE ..
  */
 #include <stdio.h>
 #include <stdlib.h>
@@ -10,6 +11,7 @@
 #include "engine.h"
 #else
 #include "ledger.h"
+#include "looking.h"
 #endif
 
 enum { IMAGE = 42616, OLD = 22132, BLANK = 0xa5 };
@@ -276,6 +278,27 @@ static int convert(const struct node *file, const struct node *test) {
     return refusal ? blank(target) ? 0 : changed("target") : image_differs(test, target);
 }
 
+static int plan(const struct node *file, const struct node *test) {
+    struct bytes image = image_of(file, test, IMAGE), before = copy(image), out = filled(number(test, "room", LEDGER_PLAN), BLANK);
+    uint8_t refusal = BLANK;
+    size_t steps = ledger_plan(image.at, image.length, number(test, "take", 0), out.at, out.length, &refusal);
+    if (differs("refusal", refusal, number(test, "refusal", 0)) || differs("answer", steps, number(test, "answer", 0))) return 1;
+    if (!same(image, before)) return changed("image");
+    if (refusal) return blank(out) ? 0 : changed("out");
+    return same(out, words(get(test, "out"), out.length)) ? 0 : snprintf(told, sizeof told, "another plan");
+}
+
+static int independent(const struct node *file, const struct node *test) {
+    struct bytes image = image_of(file, test, IMAGE), before = copy(image), list = words(get(test, "list"), -1), first = filled(16, 0), second = filled(16, 0);
+    const struct node *lengths = get(test, "lengths");
+    uint8_t refusal = BLANK;
+    memcpy(first.at, list.at, 8), memcpy(second.at, list.at + 8, 8);
+    first.length = lengths ? lengths->child->number : 8, second.length = lengths ? lengths->child->next->number : 8;
+    uint8_t free = looking_independent(image.at, image.length, first.at, first.length, second.at, second.length, &refusal);
+    if (differs("refusal", refusal, number(test, "refusal", 0)) || differs("answer", free, number(test, "answer", 0))) return 1;
+    return same(image, before) ? 0 : changed("image");
+}
+
 /* The numbers of an answer against those of a list. */
 static int numbers_differ(const struct node *list, const uint64_t *got) {
     for (const struct node *n = list->child; n; n = n->next)
@@ -337,6 +360,8 @@ static int check(const struct node *file, const struct node *test) {
     if (whole) return -1;
     if (!strcmp(call, "run") || !strcmp(call, "thin")) return run_or_thin(file, test);
     if (!strcmp(call, "begin")) return begin(file, test);
+    if (!strcmp(call, "plan")) return plan(file, test);
+    if (!strcmp(call, "independent")) return independent(file, test);
     if (!strcmp(call, "forward") || !strcmp(call, "back")) return convert(file, test);
     return query(file, test);
 #endif

@@ -1,5 +1,6 @@
 #!/usr/bin/env python3
-"""Runs the kit on a shared object that has the functions of include/ledger.h, or with --engine that of include/engine.h.
+"""Runs the kit on a shared object that has the functions of include/ledger.h and looking_independent of include/looking.h, or with
+--engine that of include/engine.h.
 
     runner.py [--engine] [--first] LIBRARY FILE ..
 
@@ -11,7 +12,7 @@ import hashlib
 import json
 import sys
 
-IMAGE, OLD, BLANK = 42616, 22132, 0xA5
+IMAGE, OLD, PLAN, BLANK = 42616, 22132, 392, 0xA5
 KINDS = "root letter receive new send read write freeze done fall fail lose sign 13 14 15".split()
 
 
@@ -31,6 +32,8 @@ CALLS = {  # by the documents' names: the function, what it gives, its arguments
     "dependents": ("ledger_dependents", structure(word, "resting", "through", "unfinished", "carried"), BUFFER + [size, place]),
     "obstacle": ("ledger_obstacle", structure(byte, "kind", "take", "ground"), BUFFER + [size, place]),
     "impediment": ("ledger_impediment", structure(byte, "kind", "take", "ground", "next"), BUFFER + [size, place]),
+    "plan": ("ledger_plan", size, BUFFER + [size] + BUFFER + [place]),
+    "independent": ("looking_independent", byte, BUFFER * 3 + [place]),
     "show": ("ledger_show", structure(size, "offset", "length"), BUFFER + [size, place]),
     "thin": ("ledger_thin", size, BUFFER * 2 + [size] * 2 + BUFFER + [place]),
     "forward": ("ledger_forward", byte, BUFFER * 2),
@@ -192,6 +195,26 @@ def check_query(library, file, test):
     return found + untouched("image", image, before)
 
 
+def check_plan(library, file, test):
+    image, lent = image_of(file, test), [BLANK]
+    before, out = bytearray(image), bytearray([BLANK] * test.get("room", PLAN))
+    blank = bytearray(out)
+    answer = library("plan", image, test["take"], out, lent)
+    found = differs_answer("refusal", lent[0], test["refusal"]) + differs_answer("answer", answer, test["answer"]) + untouched("image", image, before)
+    if found or lent[0]:
+        return found + untouched("out", out, blank)
+    return differs_answer("the plan", out.hex(), words(test["out"], len(out)).hex())
+
+
+def check_independent(library, file, test):
+    image, lent, steps = image_of(file, test), [BLANK], words(test["list"])
+    before = bytearray(image)
+    first, second = ((steps[at : at + 8] + bytes(8))[:length] for at, length in zip((0, 8), test.get("lengths", [8, 8])))
+    answer = library("independent", image, first, second, lent)
+    found = differs_answer("refusal", lent[0], test["refusal"]) + differs_answer("answer", answer, int(test["answer"]))
+    return found + untouched("image", image, before)
+
+
 def check_thin(library, file, test):
     image = image_of(file, test)
     before, steps, lent = bytearray(image), words(test["list"], test.get("list_length")), [BLANK]
@@ -230,7 +253,7 @@ def check_play(library, file, test):
     return found + (untouched("replies", replies, blank) if refusal else differs_replies(steps, replies, words(test["replies"])))
 
 
-CHECKS = {"begin": check_begin, "run": check_run, "thin": check_thin, "forward": check_convert, "back": check_convert, "worst_window": check_window}
+CHECKS = {"begin": check_begin, "run": check_run, "plan": check_plan, "independent": check_independent, "thin": check_thin, "forward": check_convert, "back": check_convert, "worst_window": check_window}
 
 
 def check(library, engine, file, test):

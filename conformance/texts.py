@@ -1,5 +1,5 @@
 #!/usr/bin/env python3
-"""texts.py ASSEMBLE FILE ..: whether the program that reads step lists as text makes of each test's text its list."""
+"""texts.py ASSEMBLE FILE ..: whether the program that reads step lists as text makes of each test's text its list, or its plan."""
 import json
 import subprocess
 import sys
@@ -13,7 +13,7 @@ def main(program, *names):
         for test in (test for test in tests if "text" in test):
             text = "".join(line + "\n" for line in test["text"])
             made = subprocess.run([program], input=text.encode(), capture_output=True).stdout
-            same = made == b"".join(bytes.fromhex(word.ljust(16, "0")) for word in test["list"].split())
+            same = made == b"".join(bytes.fromhex(word.ljust(16, "0")) for word in test.get("list", test.get("out", "")).split())
             passed, failed = passed + same, failed + (not same)
             if not same:
                 print(f"{name} {test['number']}: the text says another list")

@@ -1,4 +1,5 @@
-/* For a program that looks on and must not know a rule: what a receipt would do, two histories compared, what a byte of an image belongs to.
+/* For a program that looks on and must not know a rule: what a receipt would do, two histories compared, whether
+ * two steps may come in either order, what a byte of an image belongs to.
  *
  * The library is built by `rt staticlib looking_c` as target/staticlib/liblooking_c.a, for x86-64 Linux, and can be linked alone or beside
  * the ledger's. It keeps nothing between calls, allocates nothing and needs only memcpy, memmove and memset.
@@ -10,7 +11,7 @@
  *
  * Stack of each call in KiB, at most, beside that of memcpy, memmove and memset (tools/stack measures the compiled library):
  *
- *     looking_decision 2    looking_compare 1    looking_field 1
+ *     looking_decision 2    looking_compare 1    looking_independent 50    looking_field 1
  */
 #ifndef LOOKING_H
 #define LOOKING_H
@@ -89,6 +90,12 @@ struct looking_decision looking_decision(const uint8_t *image, size_t image_leng
 /* Two packed histories of one transactor, 33 bytes each, compared; *refusal is 0. Refused: *refusal is 16 where one has another
  * length, 19 where one is absent or ill-formed, and both numbers are 0. */
 struct looking_comparison looking_compare(const uint8_t *left, size_t left_length, const uint8_t *right, size_t right_length, uint8_t *refusal);
+
+/* 1 exactly if the two packed steps, 8 bytes each, are independent on this image: neither of them sees what the other changes. Then both orders
+ * leave the same image and give each step the same reply, also where one of them is refused. Otherwise 0: then the order may show. *refusal is 0,
+ * and the image is only read. Refused: the answer is 0, and *refusal is 16 (the image's length), 17 (a step that has not 8 bytes) or 19. */
+uint8_t looking_independent(const uint8_t *image, size_t image_length, const uint8_t *first, size_t first_length, const uint8_t *second,
+    size_t second_length, uint8_t *refusal);
 
 /* What byte at of an image belongs to; past the image all numbers are 0. Each byte of an image has an answer of its own. */
 struct looking_field looking_field(size_t at);

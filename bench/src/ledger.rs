@@ -1,6 +1,10 @@
 //! A ledger written from documents 01 and 02 alone, for speed: the yardstick of the differential test and of the benchmark.
 //! Names are document 01's. It works in place on the caller's bytes.
 
+#[path = "plan.rs"]
+mod plan;
+pub use plan::{plan, PLAN};
+
 pub const IMAGE: usize = 42_616;
 pub const TAKES: usize = 16;
 pub const PARCELS: usize = 32;

@@ -5,4 +5,5 @@ pub mod engine;
 pub mod generate;
 pub mod ledger;
 pub mod library;
+pub mod order;
 pub mod reading;

@@ -1,4 +1,4 @@
-//! The proved library, as include/ledger.h and include/engine.h declare it, behind safe functions. No call of it has a precondition besides
+//! The proved library, as include/ledger.h, include/engine.h and include/looking.h declare it, behind safe functions. No call of it has a precondition besides
 //! valid slices, so nothing is tested here before a call.
 
 use crate::ledger::{Dependents, Impediment, Obstacle};
@@ -51,6 +51,14 @@ extern "C" {
     fn ledger_dependents(image: *const u8, image_length: usize, take: usize, refusal: *mut u8) -> Dependents;
     fn ledger_obstacle(image: *const u8, image_length: usize, volume: usize, refusal: *mut u8) -> Reason;
     fn ledger_impediment(image: *const u8, image_length: usize, take: usize, refusal: *mut u8) -> Cause;
+    fn ledger_plan(
+        image: *const u8,
+        image_length: usize,
+        take: usize,
+        out: *mut u8,
+        out_length: usize,
+        refusal: *mut u8,
+    ) -> usize;
     fn ledger_ready_count(image: *const u8, image_length: usize, size: usize, refusal: *mut u8) -> usize;
     fn ledger_thin(
         image: *const u8,
@@ -79,6 +87,19 @@ extern "C" {
         takes: usize,
         parcels: usize,
         signings: usize,
+    ) -> u8;
+}
+
+#[cfg(feature = "looking")]
+extern "C" {
+    fn looking_independent(
+        image: *const u8,
+        image_length: usize,
+        first: *const u8,
+        first_length: usize,
+        second: *const u8,
+        second_length: usize,
+        refusal: *mut u8,
     ) -> u8;
 }
 
@@ -166,6 +187,17 @@ pub fn impediment(image: &[u8], take: usize) -> Result<Impediment, u8> {
     }
 }
 
+pub fn plan(image: &[u8], take: usize, out: &mut [u8]) -> Result<usize, u8> {
+    let mut refusal = 255;
+    let (o, m) = (out.as_mut_ptr(), out.len());
+    let steps = unsafe { ledger_plan(image.as_ptr(), image.len(), take, o, m, &mut refusal) };
+    if refusal != 0 {
+        assert_eq!(steps, 0, "a refused query gives steps");
+        return Err(refusal);
+    }
+    Ok(steps)
+}
+
 pub fn ready_count(image: &[u8], size: usize) -> Result<usize, u8> {
     let mut refusal = 255;
     let count = unsafe { ledger_ready_count(image.as_ptr(), image.len(), size, &mut refusal) };
@@ -220,4 +252,17 @@ pub fn worst_window(replies: &[u8], width: usize) -> Result<(usize, usize), u8> 
 pub fn play(list: &[u8], takes: usize, parcels: usize, signings: usize, replies: &mut [u8]) -> u8 {
     let (r, m) = (replies.as_mut_ptr(), replies.len());
     unsafe { engine_play(list.as_ptr(), list.len(), r, m, takes, parcels, signings) }
+}
+
+#[cfg(feature = "looking")]
+pub fn independent(image: &[u8], first: &[u8], second: &[u8]) -> Result<bool, u8> {
+    let mut refusal = 255;
+    let (f, n, s, m) = (first.as_ptr(), first.len(), second.as_ptr(), second.len());
+    let yes = unsafe { looking_independent(image.as_ptr(), image.len(), f, n, s, m, &mut refusal) };
+    assert!(yes <= 1, "a query says {yes}");
+    if refusal != 0 {
+        assert_eq!(yes, 0, "a refused query says yes");
+        return Err(refusal);
+    }
+    Ok(yes == 1)
 }

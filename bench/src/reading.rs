@@ -1,4 +1,4 @@
-//! The three queries read as they stand, from the bytes of a well-formed image: lives as lists, takes as sets, nothing left out for speed. Shares with
+//! Four queries read as they stand, from the bytes of a well-formed image: lives as lists, takes as sets, nothing left out for speed. Shares with
 //! the Rust ledger only the answers' types.
 
 use crate::generate::{self, parcel_at, take_at, MAP, MARK, PARCEL, STATE};
@@ -132,4 +132,29 @@ pub fn impediment(image: &[u8], t: usize) -> Impediment {
         Some(c) => Impediment::NotFrozen(c as u8, next(c)),
         None => Impediment::Nothing,
     }
+}
+
+/// Of a live take, docs/RULES.md, 9.10, to the letter: the steps.
+pub fn plan(image: &[u8], t: usize) -> Vec<u64> {
+    if matches!(impediment(image, t), Impediment::Hopeless(..) | Impediment::Exhausted(..)) {
+        return Vec::new();
+    }
+    let g: BTreeSet<usize> =
+        (0..TAKES).filter(|c| live(image, *c) && dependents(image, *c).through >> t & 1 == 1).collect();
+    let mut next = u16::from_be_bytes([image[1], image[2]]) as usize;
+    let mut steps = Vec::new();
+    for c in g.iter().copied().filter(|c| !generate::frozen(image, *c)) {
+        if generate::status(image, c) == 1 {
+            let full = generate::waiting(image) >= image[5] as usize;
+            if full || next >= 65_535 {
+                return Vec::new();
+            }
+            steps.push(generate::packed(1, c, 0, 0, 0));
+            steps.push(generate::packed(2, 0, 0, next, 0));
+            next += 1;
+        }
+        steps.push(generate::packed(7, c, 0, 0, 0));
+    }
+    steps.push(generate::packed(12, 0, 0, volume(&g) as usize, 0));
+    steps
 }

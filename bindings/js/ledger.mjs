@@ -10,6 +10,7 @@ export const IMAGE = 42616;
 export const OLD_IMAGE = 22132;
 export const STEP = 8;
 export const LONGEST = 8192;
+export const PLAN = 392;
 const NO_PARCEL = 65535;
 const OBSTACLES = ["nothing", "not frozen", "outside", "withdrawn"];
 const DECISIONS = ["nothing", "taken in", "dropped", "falls"];
@@ -200,6 +201,35 @@ export class Session {
     const packed = query(this.#image, (c, at, length, refusal) => c.ledger_impediment(at, length, wide(take), refusal));
     const kind = /** @type {Impediment["kind"]} */ (IMPEDIMENTS[packed & 255]);
     return { kind, take: (packed >> 8) & 255, ground: (packed >> 16) & 255, next: (packed >> 24) & 255 };
+  }
+
+  /**
+   * What is left to do so that the take is signed: the steps, packed. Run on this session each is answered with outcome 0, and the last
+   * signs the take with all that it rests on. No steps: impediment says "withdrawn" or "all signed", and then it can't be signed any more in
+   * the life that it has; where it says anything else, there is no place or no number for a letter that is needed.
+   * @param {number} take
+   * @param {number} [room] for the steps, in bytes
+   * @returns {Uint8Array}
+   */
+  plan(take, room = PLAN) {
+    return query(this.#image, (c, at, length, refusal, m) => {
+      const out = m.room(room);
+      const steps = Number(c.ledger_plan(at, length, wide(take), out, wide(room), refusal));
+      return m.copy(out, STEP * steps);
+    });
+  }
+
+  /**
+   * Whether two packed steps are independent here: then both orders leave the same image, and give each step the same reply.
+   * @param {Uint8Array} first
+   * @param {Uint8Array} second
+   * @returns {boolean}
+   */
+  independent(first, second) {
+    return query(this.#image, (c, at, length, refusal, m) => {
+      const p = m.lend(first), q = m.lend(second);
+      return (c.looking_independent(at, length, p, wide(first.length), q, wide(second.length), refusal) & 255) === 1;
+    }, "looking");
   }
 
   /**

@@ -1,13 +1,18 @@
-//! The C interface of include/ledger.h and include/engine.h over the Rust ledger of bench/, so that the kit's runners can be run on it. The
-//! folder that has ledger.rs, convert.rs and engine.rs is beside this file, as `source`; so is impediment.rs.
+//! The C interface of include/ledger.h and include/engine.h, and looking_independent of include/looking.h, over the Rust ledger of bench/, so
+//! that the kit's runners can be run on it. The folder that has ledger.rs, plan.rs, order.rs, generate.rs, convert.rs and engine.rs is beside
+//! this file, as `source`; so is impediment.rs.
 
 #[path = "source/convert.rs"]
 mod convert;
 #[path = "source/engine.rs"]
 mod engine;
 mod impediment;
+#[path = "source/generate.rs"]
+mod generate;
 #[path = "source/ledger.rs"]
 mod ledger;
+#[path = "source/order.rs"]
+mod order;
 
 use ledger::{Dependents, Obstacle};
 use std::slice::{from_raw_parts, from_raw_parts_mut};
@@ -88,6 +93,28 @@ pub struct Way([u8; 4]);
 unsafe extern "C" fn ledger_impediment(i: Bytes, n: usize, take: usize, refusal: Room) -> Way {
     let image = lent(i, n);
     Way(answered(ledger::offer(image, take).map(|_| impediment::impediment(image, take)), [0; 4], refusal))
+}
+
+#[no_mangle]
+unsafe extern "C" fn ledger_plan(i: Bytes, n: usize, take: usize, o: Room, k: usize, refusal: Room) -> usize {
+    answered(ledger::plan(lent(i, n), take, room(o, k)), 0, refusal)
+}
+
+/// The steps are read as the call's words say: 16, then 17 unless both have 8 bytes, then 19.
+fn independent(image: &[u8], first: &[u8], second: &[u8]) -> Result<bool, u8> {
+    if image.len() != ledger::IMAGE {
+        return Err(16);
+    }
+    let (Ok(p), Ok(q)) = (first.try_into(), second.try_into()) else { return Err(17) };
+    if !ledger::formed(image) {
+        return Err(19);
+    }
+    Ok(order::meetings(image, u64::from_be_bytes(p), u64::from_be_bytes(q)).is_empty())
+}
+
+#[no_mangle]
+unsafe extern "C" fn looking_independent(i: Bytes, n: usize, p: Bytes, k: usize, q: Bytes, m: usize, refusal: Room) -> u8 {
+    answered(independent(lent(i, n), lent(p, k), lent(q, m)), false, refusal) as u8
 }
 
 #[no_mangle]

@@ -8,6 +8,11 @@
  *     ledger show IMAGE          an image as text
  *     ledger why IMAGE TAKE..    why the volume of these takes can't be signed; of one take, why no volume with it can
  *     ledger who IMAGE TAKE      who rests on a take, itself among them
+ *     ledger plan IMAGE TAKE [TEXT]
+ *                                what is left to do so that the take is signed: the steps, as text; with the session's own TEXT, the
+ *                                names that it gives to the takes stand behind them
+ *     ledger same TEXT TEXT      whether two lists of the same steps, from a fresh session, are the same up to order: where their order
+ *                                differs, no step sees what another changes; else where they differ first
  *     ledger diff IMAGE IMAGE    the first line in which two images differ, as text
  *
  * Exit status: 0 done, yes, or the same; 1 the file or the question was turned back, no, or a difference; 2 wrong use, a file or the output
@@ -23,6 +28,7 @@
 #include <unistd.h>
 
 #include "ledger.h"
+#include "looking.h"
 #include "notation.h"
 
 enum { MOST = 1 << 20 };
@@ -249,6 +255,53 @@ static void tell_name(const uint8_t *step, const uint8_t *reply, struct bytes co
     putchar(')');
 }
 
+/* The name of each take, where a comment gives one. */
+struct names {
+    struct bytes of[LEDGER_TRANSACTORS];
+};
+
+static void fresh(uint8_t *image) { ledger_begin(image, LEDGER_IMAGE, LEDGER_TRANSACTORS, LEDGER_MESSAGES, LEDGER_CHECKPOINTS); }
+
+/* The step is played; a take that it opens has the name that the comment gives. */
+static void name_take(uint8_t *image, const uint8_t *step, struct bytes comment, struct names *names) {
+    uint8_t reply[LEDGER_STEP];
+    unsigned kind = step[0] >> 4;
+    ledger_run(image, LEDGER_IMAGE, step, LEDGER_STEP, 0, LEDGER_STEP, reply, sizeof reply);
+    if ((kind == LEDGER_ROOT || kind == LEDGER_NEW) && ledger_reply_outcome(reply) == 0)
+        names->of[ledger_reply_transactor(reply)] = name_in(step, comment);
+}
+
+/* The names that a session's text gives. */
+static void names_in(const char *name, struct names *names) {
+    static uint8_t image[LEDGER_IMAGE];
+    struct bytes text = load(name), list = steps_of(name, text), *comments = comments_of(text, list.length / LEDGER_STEP);
+    fresh(image);
+    for (size_t i = 0; i < list.length / LEDGER_STEP; i++) name_take(image, list.at + LEDGER_STEP * i, comments[i], names);
+}
+
+/* The takes that stand in a step's fields. */
+static unsigned takes_in(const uint8_t *step) {
+    unsigned kind = step[0] >> 4, take = 1u << (step[0] & 15);
+    if (kind == LEDGER_SIGN) return (unsigned)step[2] << 8 | step[3];
+    if (kind == LEDGER_SEND) return take | 1u << (step[1] >> 4);
+    return kind == LEDGER_LETTER || (kind >= LEDGER_NEW && kind <= LEDGER_FAIL) ? take : 0;
+}
+
+/* A step as text, without its LF, and the names of its takes between open and close. */
+static void tell_step(const uint8_t *step, const struct names *names, const char *open, const char *close) {
+    uint8_t line[NOTATION_LINE];
+    size_t n = notation_step(step, LEDGER_STEP, 0, line, sizeof line).length;
+    fwrite(line, 1, n - 1, stdout);
+    const char *before = open;
+    for (unsigned t = 0; t < LEDGER_TRANSACTORS; t++) {
+        if (!(takes_in(step) >> t & 1) || names->of[t].length == 0) continue;
+        fputs(before, stdout);
+        fwrite(names->of[t].at, 1, names->of[t].length, stdout);
+        before = ", ";
+    }
+    if (before != open) fputs(close, stdout);
+}
+
 /* ---- sessions */
 
 static void tell(const uint8_t *part, const uint8_t *replies, size_t steps, const struct bytes *comments) {
@@ -265,7 +318,7 @@ static void tell(const uint8_t *part, const uint8_t *replies, size_t steps, cons
 static int play(const char *name, const char *to) {
     static uint8_t image[LEDGER_IMAGE], replies[LEDGER_LONGEST];
     struct bytes text = load(name), list = steps_of(name, text), *comments = comments_of(text, list.length / LEDGER_STEP);
-    ledger_begin(image, sizeof image, LEDGER_TRANSACTORS, LEDGER_MESSAGES, LEDGER_CHECKPOINTS);
+    fresh(image);
     for (size_t start = 0; start < list.length; start += LEDGER_LONGEST) {
         size_t end = list.length < start + LEDGER_LONGEST ? list.length : start + LEDGER_LONGEST;
         ledger_run(image, sizeof image, list.at, list.length, start, end, replies, end - start);
@@ -376,8 +429,100 @@ static int why(const char *name, int count, char **words) {
     return 1;
 }
 
+/* No steps: the library says whether something is in the way that lasts; else room is missing for a letter. */
+static int no_plan(const char *name, struct bytes image, unsigned take) {
+    uint8_t refusal;
+    unsigned kind = ledger_impediment(image.at, image.length, take, &refusal).kind;
+    if (kind == LEDGER_HOPELESS || kind == LEDGER_EXHAUSTED) return why_none(name, image, take);
+    puts("a letter is needed, and there is no place or no number for it");
+    return 1;
+}
+
+static int plan(const char *name, const char *word, const char *text) {
+    uint8_t list[LEDGER_PLAN], refusal;
+    struct bytes image = load(name);
+    struct names names = {0};
+    unsigned take = take_of(word);
+    size_t steps = ledger_plan(image.at, image.length, take, list, sizeof list, &refusal);
+    if (refusal) return refused(name, refusal);
+    if (text) names_in(text, &names);
+    for (size_t i = 0; i < steps; i++) {
+        tell_step(list + LEDGER_STEP * i, &names, " # ", "");
+        putchar('\n');
+    }
+    return steps ? 0 : no_plan(name, image, take);
+}
+
+/* ---- the same up to order */
+
+/* Where the step stands in the list from place i on; the list's end if nowhere. */
+static size_t place_of(struct bytes list, size_t i, const uint8_t *step) {
+    while (LEDGER_STEP * i < list.length && memcmp(list.at + LEDGER_STEP * i, step, LEDGER_STEP) != 0) i++;
+    return i;
+}
+
+/* The first step from place i on, before which the image is this, that step j can't change places with; j if there is none. */
+static size_t met_by(const uint8_t *image, struct bytes list, size_t i, size_t j) {
+    static uint8_t at[LEDGER_IMAGE];
+    memcpy(at, image, sizeof at);
+    for (size_t k = i; k < j; k++) {
+        uint8_t *step = list.at + LEDGER_STEP * k, refusal, reply[LEDGER_STEP];
+        if (!looking_independent(at, sizeof at, step, LEDGER_STEP, list.at + LEDGER_STEP * j, LEDGER_STEP, &refusal)) return k;
+        ledger_run(at, sizeof at, step, LEDGER_STEP, 0, LEDGER_STEP, reply, sizeof reply);
+    }
+    return j;
+}
+
+/* Step j is brought to place i, past those between; was says where each step stood at first. */
+static void bring(struct bytes list, size_t *was, size_t i, size_t j) {
+    uint8_t step[LEDGER_STEP];
+    size_t place = was[j];
+    memcpy(step, list.at + LEDGER_STEP * j, LEDGER_STEP);
+    memmove(list.at + LEDGER_STEP * (i + 1), list.at + LEDGER_STEP * i, LEDGER_STEP * (j - i));
+    memmove(was + i + 1, was + i, sizeof *was * (j - i));
+    memcpy(list.at + LEDGER_STEP * i, step, LEDGER_STEP);
+    was[i] = place;
+}
+
+static int told_step(const char *what, size_t i, const char *name, const uint8_t *step, const struct names *names) {
+    printf("%s %zu of %s: ", what, i + 1, name);
+    tell_step(step, names, " (", ")");
+    putchar('\n');
+    return 1;
+}
+
+/* For each step of the second list in turn: it is found among those left of the first, and brought forward past all before it. */
+static int same(const char *first, const char *second) {
+    static uint8_t image[LEDGER_IMAGE];
+    struct bytes a = steps_of(first, load(first)), b = steps_of(second, load(second));
+    size_t count = a.length / LEDGER_STEP, exchanges = 0, *was = (size_t *)(void *)room(sizeof *was * count).at;
+    struct names names = {0};
+    names_in(first, &names);
+    names_in(second, &names);
+    fresh(image);
+    for (size_t i = 0; i < count; i++) was[i] = i;
+    for (size_t i = 0; i < b.length / LEDGER_STEP; i++) {
+        uint8_t *step = b.at + LEDGER_STEP * i, reply[LEDGER_STEP];
+        size_t j = place_of(a, i, step), k = j < count ? met_by(image, a, i, j) : j;
+        if (j == count || k < j) told_step("they differ first at step", i, second, step, &names);
+        if (j == count) return printf("%s has no such step, or no more of them\n", first), 1;
+        if (k < j) return told_step("it can't come before step", was[k], first, a.at + LEDGER_STEP * k, &names);
+        bring(a, was, i, j);
+        exchanges += j - i;
+        ledger_run(image, sizeof image, step, LEDGER_STEP, 0, LEDGER_STEP, reply, sizeof reply);
+    }
+    if (b.length < a.length) {
+        told_step("they differ first at step", was[b.length / LEDGER_STEP], first, a.at + b.length, &names);
+        return printf("%s has no such step, or no more of them\n", second), 1;
+    }
+    if (exchanges == 0) puts("the same");
+    else printf("the same up to order: %zu exchanges of neighbours\n", exchanges);
+    return 0;
+}
+
 static const char *const USAGE =
-    "usage: ledger fmt TEXT | pack TEXT STEPS | unpack STEPS TEXT | run TEXT [IMAGE] | show IMAGE | why IMAGE TAKE.. | who IMAGE TAKE | diff IMAGE IMAGE\n"
+    "usage: ledger fmt TEXT | pack TEXT STEPS | unpack STEPS TEXT | run TEXT [IMAGE] | show IMAGE | why IMAGE TAKE.. | who IMAGE TAKE |\n"
+    "    plan IMAGE TAKE [TEXT] | same TEXT TEXT | diff IMAGE IMAGE\n"
     "status: 0 done, yes, the same; 1 turned back, no, different; 2 wrong use, a file or the output not read or written, diff of what is no image\n";
 
 static int act(int count, char **words) {
@@ -389,6 +534,8 @@ static int act(int count, char **words) {
     if (strcmp(verb, "show") == 0 && count == 3) return show(words[2]);
     if (strcmp(verb, "why") == 0 && count > 3) return why(words[2], count - 3, words + 3);
     if (strcmp(verb, "who") == 0 && count == 4) return who(words[2], words[3]);
+    if (strcmp(verb, "plan") == 0 && (count == 4 || count == 5)) return plan(words[2], words[3], count == 5 ? words[4] : NULL);
+    if (strcmp(verb, "same") == 0 && count == 4) return same(words[2], words[3]);
     if (strcmp(verb, "diff") == 0 && count == 4) return diff(words[2], words[3]);
     fputs(USAGE, stderr);
     return 2;

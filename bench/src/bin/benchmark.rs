@@ -8,7 +8,7 @@
 
 use bench::convert::{self, OLD_IMAGE};
 use bench::generate::{self, packed, Random, MAP, MARK, STATE};
-use bench::ledger::{self, Dependents, Impediment, Obstacle, IMAGE, PARCELS, SIGNINGS, STEP, TAKES};
+use bench::ledger::{self, Dependents, Impediment, Obstacle, IMAGE, PARCELS, PLAN, SIGNINGS, STEP, TAKES};
 use bench::library;
 use std::hint::black_box;
 use std::time::{Duration, Instant};
@@ -24,6 +24,7 @@ struct Calls {
     dependents: fn(&[u8], usize) -> Result<Dependents, u8>,
     obstacle: fn(&[u8], usize) -> Result<Obstacle, u8>,
     impediment: fn(&[u8], usize) -> Result<Impediment, u8>,
+    plan: fn(&[u8], usize, &mut [u8]) -> Result<usize, u8>,
     thin: fn(&[u8], &[u8], usize, usize, &mut [u8]) -> Result<usize, u8>,
     show: for<'a> fn(&'a [u8], u16) -> Result<&'a [u8], u8>,
     forward: fn(&[u8], &mut [u8]) -> u8,
@@ -42,6 +43,7 @@ const LIBRARY: Calls = Calls {
     dependents: library::dependents,
     obstacle: library::obstacle,
     impediment: library::impediment,
+    plan: library::plan,
     thin: library::thin,
     show: library::show,
     forward: library::forward,
@@ -59,6 +61,7 @@ const RUST: Calls = Calls {
     dependents: ledger::dependents,
     obstacle: ledger::obstacle,
     impediment: ledger::impediment,
+    plan: ledger::plan,
     thin: ledger::thin,
     show: ledger::show,
     forward: convert::forward,
@@ -79,6 +82,8 @@ enum Call {
     Dependents(usize),
     Obstacle(usize),
     Impediment(usize),
+    /// The plan for a take, written to the replies.
+    Plan(usize),
     Show(u16),
     /// Conversions: the image is the source, the replies are the destination.
     Forward,
@@ -136,6 +141,7 @@ impl Work {
                         (c ^ x) as u64
                     }
                 },
+                Call::Plan(t) => (by.plan)(image, *t, replies).unwrap() as u64,
                 Call::Show(n) => (by.show)(image, *n).unwrap()[0] as u64,
                 Call::Forward => (by.forward)(image, replies) as u64,
                 Call::Back => (by.back)(image, replies) as u64,
@@ -161,6 +167,7 @@ impl Work {
     fn replies(&self) -> Vec<u8> {
         match &self.call {
             Call::Run(list, _) | Call::Thin(list) => vec![0; list.len()],
+            Call::Plan(_) => vec![0; PLAN],
             Call::Forward => vec![0; IMAGE],
             Call::Back => vec![0; OLD_IMAGE],
             _ => Vec::new(),
@@ -369,6 +376,17 @@ fn chain() -> Vec<u8> {
     image
 }
 
+/// The same chain before it is frozen, with every take idle: the longest plan.
+fn idle_chain() -> Vec<u8> {
+    let mut image = chain();
+    for t in 0..16 {
+        image[generate::take_at(t)] = 1 << 6;
+        image[generate::take_at(t) + STATE + MARK * t] &= !0x40;
+    }
+    assert_eq!(ledger::plan(&image, 15, &mut [0; PLAN]), Ok(49));
+    image
+}
+
 /// A full image in which every volume is ready: each take is frozen, and every mark but the own ones is of a signed life.
 fn alone() -> Vec<u8> {
     let mut image = generate::full_image(&mut Random(2));
@@ -505,6 +523,10 @@ fn rows() -> Vec<Row> {
         row("impediment, full image, nothing", "call", many(&alone(), Call::Impediment(15))),
         row("impediment, full image, all on each other", "call", many(&bound(), Call::Impediment(15))),
         row("impediment, 16 takes in a chain", "call", many(&spoilt(&chain(), 0), Call::Impediment(15))),
+        row("plan, session, two steps", "call", many(&session, Call::Plan(first_live))),
+        row("plan, full image, the signing alone", "call", many(&alone(), Call::Plan(15))),
+        row("plan, 16 idle takes in a chain, 49 steps", "call", many(&idle_chain(), Call::Plan(15))),
+        row("plan, 16 takes in a chain, none: hopeless", "call", many(&spoilt(&chain(), 0), Call::Plan(15))),
         row("forward, session", "call", many(&session_old, Call::Forward)),
         row("forward, full image", "call", many(&old, Call::Forward)),
         row("back, session", "call", many(&session, Call::Back)),

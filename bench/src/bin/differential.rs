@@ -7,7 +7,7 @@
 //! Each round has a seed of its own; with ROUND that one alone is run.
 
 use bench::generate::{self, Random};
-use bench::ledger::{self, Dependents, Impediment, Obstacle, IMAGE, LONGEST, PARCELS, SIGNINGS, STEP, TAKES};
+use bench::ledger::{self, Dependents, Impediment, Obstacle, IMAGE, LONGEST, PARCELS, PLAN, SIGNINGS, STEP, TAKES};
 use bench::{library, reading};
 use std::process::exit;
 
@@ -18,7 +18,7 @@ struct Test {
     /// The image as the Rust ledger leaves it, and as the library does: the same before and after each call.
     ours: Vec<u8>,
     theirs: Vec<u8>,
-    calls: [[u64; 36]; 12], // those of CALLS, by answer
+    calls: [[u64; 36]; 13], // those of CALLS, by answer
     steps: [[u64; 32]; 16], // by kind and outcome or refusal
     offered: u64,
     named: [u64; 17], // smallest volumes by size, 0 for none
@@ -32,7 +32,8 @@ struct Test {
     hindered: [u64; 4],  // obstacles: nothing, not frozen, outside, withdrawn
     impeded: [u64; 4],   // impediments: nothing, hopeless, exhausted, not frozen
     chained: [u64; 3],   // of these, with the take in the way asked about, next to it, behind others
-    read: [u64; 3],      // of the three, held to the plain reading
+    read: [u64; 4],      // of dependents, obstacles, impediments and plans, held to the plain reading
+    planned: [u64; 5],   // plans that are run, their steps, letters; no steps: for what lasts, for room
     exchanged: [u64; 4], // pairs by how many of the two steps are refused; refused calls
     left_out: [u64; 16], // by the kind that empties the map of a read; 0 for refused steps, 5 for reads that are kept
     damaged: u64,
@@ -43,7 +44,7 @@ struct Test {
     long: [[u64; 2]; 2],
 }
 
-const CALLS: [&str; 12] = [
+const CALLS: [&str; 13] = [
     "begin",
     "run",
     "offer",
@@ -56,6 +57,7 @@ const CALLS: [&str; 12] = [
     "dependents",
     "obstacle",
     "impediment",
+    "plan",
 ];
 
 impl Test {
@@ -256,11 +258,13 @@ impl Test {
     fn grounds(&mut self, take: usize) {
         self.dependents(take);
         self.impediment(take);
+        self.plan(take);
         for _ in 0..4 {
             let other = self.r.below(TAKES) % self.ours.first().map_or(16, |n| (*n as usize).clamp(1, TAKES));
             self.dependents(other);
             self.obstacle();
             self.impediment(other);
+            self.plan(other);
         }
     }
 
@@ -408,6 +412,67 @@ impl Test {
             (at, here) = (next, there);
         }
         self.fail(&format!("the chain from {take} has no end: {i:?}"));
+    }
+
+    /// What is left to do; every plan is run.
+    fn plan(&mut self, take: usize) {
+        let mut blank = vec![0; if self.r.one_in(16) { self.r.below(2 * PLAN) } else { PLAN }];
+        self.r.fill(&mut blank);
+        let (mut mine, mut other) = (blank.clone(), blank.clone());
+        let before = self.ours.clone();
+        let a = library::plan(&self.theirs, take, &mut other);
+        let b = ledger::plan(&self.ours, take, &mut mine);
+        self.expect(a == b, &format!("plan for {take}: {a:?}, and {b:?} in the Rust ledger"));
+        self.expect(mine == other, &format!("the plan for {take} has other bytes than in the Rust ledger"));
+        self.calls[12][a.err().unwrap_or(0) as usize] += 1;
+        self.expect(self.theirs == before, "a query changed the image");
+        match a {
+            Err(_) => return self.expect(other == blank, "a refused query changed the buffer"),
+            Ok(0) => self.unplanned(take),
+            Ok(n) => self.run_plan(take, &other[..STEP * n]),
+        }
+        if self.r.one_in(20) {
+            self.read[3] += 1;
+            let mut plain: Vec<u8> = reading::plan(&self.ours, take).iter().flat_map(|s| s.to_be_bytes()).collect();
+            plain.resize(PLAN, 0);
+            self.expect(other == plain, &format!("the plan for {take} is not that of the plain reading"));
+        }
+    }
+
+    /// No steps: the impediment lasts; else a letter is needed, and there is no place or no number for it.
+    fn unplanned(&mut self, take: usize) {
+        let lasts =
+            matches!(library::impediment(&self.theirs, take), Ok(Impediment::Hopeless(..) | Impediment::Exhausted(..)));
+        self.planned[if lasts { 3 } else { 4 }] += 1;
+        let next = u16::from_be_bytes([self.ours[1], self.ours[2]]) as usize;
+        let room = generate::waiting(&self.ours) < generate::limits(&self.ours)[1] && next + TAKES <= 65_535;
+        self.expect(lasts || !room, &format!("no plan for {take}, though nothing lasts and there is room"));
+    }
+
+    /// On a copy: every step is answered with 0, the last signs the take, no text changes, nor anything of other takes and of parcels.
+    fn run_plan(&mut self, take: usize, steps: &[u8]) {
+        let (mut image, mut replies) = (self.theirs.clone(), vec![255; steps.len()]);
+        let answer = library::run(&mut image, steps, 0, steps.len(), &mut replies);
+        self.expect(answer == 0, &format!("the run of the plan for {take} answers {answer}"));
+        let zeros = replies.chunks(STEP).all(|r| r[0] == 0);
+        self.expect(zeros, &format!("a step of the plan for {take} is not answered with 0: {replies:?}"));
+        let last = &steps[steps.len() - STEP..];
+        let volume = u16::from_be_bytes([last[2], last[3]]);
+        self.expect(last[0] >> 4 == 12 && volume >> take & 1 == 1, &format!("the plan for {take} does not sign it"));
+        for u in 0..TAKES {
+            let at = generate::take_at(u);
+            let part = |of: &[u8], n: usize| of[at..at + n].to_vec();
+            let texts = image[at + 1..at + 5] == self.theirs[at + 1..at + 5];
+            self.expect(texts, &format!("the plan for {take} changes the text of {u}"));
+            let same = volume >> u & 1 == 1 || part(&image, generate::TAKE) == part(&self.theirs, generate::TAKE);
+            self.expect(same, &format!("the plan for {take} changes take {u}, which it does not sign"));
+        }
+        let parcels = image[generate::FIRST_PARCEL..] == self.theirs[generate::FIRST_PARCEL..];
+        self.expect(parcels, &format!("the plan for {take} changes the parcels"));
+        let letters = steps.chunks(STEP).filter(|s| s[0] >> 4 == 1).count();
+        for (i, n) in [1, steps.len() / STEP, letters].into_iter().enumerate() {
+            self.planned[i] += n as u64;
+        }
     }
 
     /// The image, or a fresh one where it is ill-formed or of another length: what steps are drawn for.
@@ -828,6 +893,7 @@ impl Test {
         );
         self.expect(self.hindered.iter().all(|n| *n > 0), "no obstacle was of some sort");
         self.expect(self.impeded.iter().chain(&self.chained).all(|n| *n > 0), "no impediment was of some sort");
+        self.expect(self.planned.iter().all(|n| *n > 0), "no plan was of some sort");
         self.expect(self.exchanged.iter().all(|n| *n > 0), "no two edits of some sort were exchanged");
         self.thin_covered();
         let outcome = |n: usize| self.steps.iter().map(|kind| kind[n]).sum::<u64>();
@@ -839,7 +905,7 @@ impl Test {
         }
         let query: &[usize] = &[0, 16, 19, 21, 22];
         let run: &[usize] = &[0, 16, 17, 18, 19];
-        let answers: [&[usize]; 12] = [
+        let answers: [&[usize]; 13] = [
             &[0, 16, 33],
             run,
             query,
@@ -852,6 +918,7 @@ impl Test {
             query,
             &[0, 16, 19, 21, 22, 29, 30],
             query,
+            &[0, 16, 18, 19, 21, 22],
         ];
         for (call, wanted) in answers.iter().enumerate() {
             for n in *wanted {
@@ -881,13 +948,17 @@ impl Test {
         let [others, through, working, parcels] = self.rested;
         println!("dependents: others resting {others}, more through others {through}, at work {working}, in parcels {parcels}");
         println!(
-            "dependents read plainly {}, takes withdrawn {}; obstacles read plainly {}, impediments {}",
-            self.read[0], self.withdrawn, self.read[1], self.read[2]
+            "dependents read plainly {}, takes withdrawn {}; obstacles read plainly {}, impediments {}, plans {}",
+            self.read[0], self.withdrawn, self.read[1], self.read[2], self.read[3]
         );
         let [nothing, unfrozen, outside, withdrawn] = self.hindered;
         println!("obstacles: nothing {nothing}, not frozen {unfrozen}, outside {outside}, withdrawn {withdrawn}");
         let ([nothing, hopeless, exhausted, unfrozen], [own, next, behind]) = (self.impeded, self.chained);
         println!("impediments: nothing {nothing}, hopeless {hopeless}, exhausted {exhausted}, not frozen {unfrozen}; in the way itself {own}, the next {next}, others between {behind}");
+        let [plans, steps, letters, lasting, room] = self.planned;
+        println!(
+            "plans run {plans}, of {steps} steps, {letters} letters; none for what lasts {lasting}, for room {room}"
+        );
         let [none, one, both, calls] = self.exchanged;
         println!("edits exchanged: none refused {none}, one {one}, both {both}; in refused calls {calls}");
         println!(
@@ -918,7 +989,7 @@ fn main() {
         r: Random(0),
         ours: Vec::new(),
         theirs: Vec::new(),
-        calls: [[0; 36]; 12],
+        calls: [[0; 36]; 13],
         steps: [[0; 32]; 16],
         offered: 0,
         named: [0; 17],
@@ -932,7 +1003,8 @@ fn main() {
         hindered: [0; 4],
         impeded: [0; 4],
         chained: [0; 3],
-        read: [0; 3],
+        read: [0; 4],
+        planned: [0; 5],
         exchanged: [0; 4],
         left_out: [0; 16],
         damaged: 0,

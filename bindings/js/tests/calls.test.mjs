@@ -3,7 +3,7 @@ import { test } from "node:test";
 import assert from "node:assert/strict";
 import { loadFrom } from "../node.mjs";
 import { Session, forward, back, worstWindow, field, compare, IMAGE, OLD_IMAGE } from "../ledger.mjs";
-import { packStep, joined } from "../packed.mjs";
+import { packStep, joined, readReply } from "../packed.mjs";
 import { readImage, readMap, fieldAt, firstDifference, packMark, life } from "../image.mjs";
 import { toSteps, toText, replyText, imageText } from "../notation.mjs";
 
@@ -71,6 +71,39 @@ test("why no volume exists: what is in the way, and the chain to it", () => {
   fallen.run(steps("fail 0\n"));
   assert.deepEqual(fallen.impediment(2), { kind: "withdrawn", take: 1, ground: 0, next: 1 });
   assert.deepEqual(fallen.impediment(1), { kind: "withdrawn", take: 1, ground: 0, next: 1 });
+});
+
+test("what is left to do: the steps, run on a copy, sign the take", () => {
+  const session = grounds();
+  assert.equal(toText(session.plan(2)), "freeze 0\nsign {0,1,2}\n");
+  const replies = session.copy().run(session.plan(2));
+  assert.deepEqual([0, 1].map(i => readReply(replies, i).outcome), [0, 0]);
+  session.run(steps("done 0\n"));
+  assert.equal(toText(session.plan(1)), "letter to 0 text 0\nreceive 4\nfreeze 0\nsign {0,1}\n");
+  session.run(steps("fail 0\n"));
+  assert.equal(session.plan(1).length, 0);
+  assert.equal(session.impediment(1).kind, "withdrawn");
+});
+
+test("a plan without steps for lack of room: impediment tells it apart", () => {
+  const session = Session.begin({ parcels: 1 });
+  session.run(steps("root text 1\nroot text 2\nletter to 1 text 3\n"));
+  assert.equal(session.plan(0).length, 0);
+  assert.equal(session.impediment(0).kind, "not frozen");
+  session.run(steps("lose 0\n"));
+  assert.equal(toText(session.plan(0)), "letter to 0 text 0\nreceive 1\nfreeze 0\nsign {0}\n");
+});
+
+test("independent steps leave the same image in either order", () => {
+  const session = Session.begin();
+  session.run(steps("root text 1\nroot text 2\nletter to 0 text 3\nreceive 0\nletter to 1 text 4\nreceive 1\n"));
+  const [a, b, c] = ["write 0 text 5\n", "write 1 text 6\n", "read 0\n"].map(steps);
+  assert.equal(session.independent(a, b), true);
+  const [one, other] = [session.copy(), session.copy()];
+  one.run(a), one.run(b), other.run(b), other.run(a);
+  assert.deepEqual(one.image, other.image);
+  assert.equal(session.independent(a, c), false);
+  assert.equal(session.independent(steps("letter to 0 text 1\n"), steps("letter to 1 text 2\n")), false);
 });
 
 test("all signings used up", () => {

@@ -79,12 +79,22 @@ const QUERIES = {
   obstacle: (s, t) => numbers(OBSTACLES, s.obstacle(t.volume)),
   impediment: (s, t) => numbers(IMPEDIMENTS, s.impediment(t.take)),
   show: (s, t) => s.show(t.parcel),
+  plan: (s, t) => s.plan(t.take, t.room),
+  independent: (s, t) => s.independent(...stepsOf(t)),
 };
+
+/** The two steps of a test, of their lengths. */
+function stepsOf(t) {
+  const list = words(t.list), [first, second] = t.lengths ?? [8, 8];
+  const part = (at, length) => Uint8Array.from({ length }, (_, i) => (i < 8 ? list[at + i] : 0));
+  return [part(0, first), part(8, second)];
+}
 
 function checkQuery(file, t) {
   const image = imageOf(file, t), { refusal, value } = answered(() => QUERIES[t.call](new Session(image), t));
   assert.equal(refusal, t.refusal);
   if (refusal) return undefined;
+  if (t.call === "plan") return assert.deepEqual([value.length / 8, value], [t.answer, words(t.out)]);
   if (t.call === "show") return assert.deepEqual(value, image.slice(t.answer[0], t.answer[0] + t.answer[1]));
   return assert.deepEqual(value, t.answer);
 }

@@ -25,6 +25,7 @@ test("calls: 16 to 19, 32 to 35", () => {
   refused(17, () => session.thin(new Uint8Array(8200)));
   refused(17, () => play(new Uint8Array(8200)));
   refused(17, () => worstWindow(new Uint8Array(9), 3));
+  for (const [p, q] of [[step, step.slice(1)], [new Uint8Array(9), step]]) refused(17, () => session.independent(p, q));
   refused(19, () => Session.fromImage(new Uint8Array(IMAGE)));
   refused(19, () => forward(new Uint8Array(OLD_IMAGE).fill(255)));
   refused(32, () => back(Session.begin({ takes: 4 }).image));
@@ -34,13 +35,14 @@ test("calls: 16 to 19, 32 to 35", () => {
   for (const width of [0, 257]) refused(35, () => worstWindow(step, width));
 });
 
-const OF_A_TAKE = ["offer", "smallestVolume", "allHeardFrozen", "dependents", "impediment"];
+const OF_A_TAKE = ["offer", "smallestVolume", "allHeardFrozen", "dependents", "impediment", "plan"];
 
 test("queries: 21, 22, 24, 29, 30", () => {
   const session = Session.begin({ signings: 1 });
   for (const ask of OF_A_TAKE) refused(21, () => session[ask](0));
   session.run(joined([packStep("root"), packStep("root"), packStep("fail")]));
   for (const ask of OF_A_TAKE) refused(22, () => session[ask](0));
+  for (const room of [0, 391, 400]) refused(18, () => session.plan(1, room));
   for (const number of [0, 65536, 2 ** 40]) refused(24, () => session.show(number));
   refused(29, () => session.obstacle(0));
   for (const volume of [4, 65536, 65537, 2 ** 40]) refused(21, () => session.obstacle(volume));

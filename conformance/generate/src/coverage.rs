@@ -50,7 +50,7 @@ const FIELDS: [(&str, u64, &[u8]); 5] = [
 ];
 
 /// The refusals of each call; 0 is an answer.
-const REFUSALS: [(&str, &[u8]); 15] = [
+const REFUSALS: [(&str, &[u8]); 17] = [
     ("begin", &[0, 16, 33]),
     ("run", &[0, 16, 17, 18, 19]),
     ("offer", &[0, 16, 19, 21, 22]),
@@ -61,6 +61,8 @@ const REFUSALS: [(&str, &[u8]); 15] = [
     ("dependents", &[0, 16, 19, 21, 22]),
     ("obstacle", &[0, 16, 19, 21, 22, 29, 30]),
     ("impediment", &[0, 16, 19, 21, 22]),
+    ("plan", &[0, 16, 18, 19, 21, 22]),
+    ("independent", &[0, 16, 17, 19]),
     ("thin", &[0, 16, 17, 18, 19]),
     ("forward", &[0, 16, 19]),
     ("back", &[0, 16, 19, 32]),

@@ -88,6 +88,29 @@ impl Kit {
         (refusal, kept.unwrap_or(0), x)
     }
 
+    /// How many steps, and the room for them.
+    pub fn plan(&mut self, image: &[u8], take: usize, room: usize) -> Result<(usize, Vec<u8>), u8> {
+        let (mut x, mut y) = (vec![0xa5; room], vec![0xa5; room]);
+        let steps = agree("plan", library::plan(image, take, &mut x), ledger::plan(image, take, &mut y));
+        assert!(x == y, "plan: the steps differ");
+        assert!(steps.is_ok() || x.iter().all(|b| *b == 0xa5), "a refused plan writes something");
+        self.seen.call("plan", steps.err().unwrap_or(0));
+        Ok((steps?, x))
+    }
+
+    /// Whether two steps are independent, by the library: refused where the Rust ledger refuses a query, or 17.
+    pub fn independent(&mut self, image: &[u8], first: &[u8], second: &[u8]) -> Result<bool, u8> {
+        let answer = library::independent(image, first, second);
+        let wanted = match (image.len() == ledger::IMAGE, first.len() == 8 && second.len() == 8) {
+            (false, _) => 16,
+            (_, false) => 17,
+            _ => 19 * !ledger::formed(image) as u8,
+        };
+        agree("independent", answer.err().unwrap_or(0), wanted);
+        self.seen.call("independent", wanted);
+        answer
+    }
+
     /// Forward, or back.
     pub fn convert(&mut self, forward: bool, source: &[u8], length: usize) -> (u8, Vec<u8>) {
         let (mut a, mut b) = (vec![0xa5; length], vec![0xa5; length]);

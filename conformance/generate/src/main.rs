@@ -17,7 +17,9 @@ mod json;
 mod kit;
 mod marks;
 mod notation;
+mod order;
 mod passes;
+mod plan;
 mod queries;
 mod runs;
 mod sha256;
@@ -41,6 +43,8 @@ fn suites(kit: &mut Kit, folder: &Path) -> Vec<Suite> {
         images::suite(kit),
         calls::suite(kit),
         queries::suite(kit),
+        plan::suite(kit),
+        order::suite(kit),
         passes::thin(kit),
         passes::window(kit),
         passes::convert(kit),

@@ -1,5 +1,5 @@
 -- The words put together bit by bit, and the answer put together.
-use Prim.Native.Nat.{ℕ, _+_, _^_, _≤_, _<_}
+use Prim.Native.Nat.{ℕ, _+_, _≤_, _<_}
 use native.Mathlib.Omega.{arith}
 use mathlib.Core.Bool.{Bool}
 use mathlib.Core.Path.{_≡_, sym, ap, _∙_, subst}
@@ -11,17 +11,11 @@ use Rattle.octets.proofs.Chunks.{sides}
 use Rattle.rules.specs.declared.Dependents.{Dependents}
 use Rattle.rules.specs.Layout.{Layout}
 use Rattle.rules.specs.State.{State}
-use Rattle.rules.specs.Refusals.{groupBits}
 use Rattle.rules.specs.Pack.{waitingIn, unpack}
 use Rattle.rules.specs.ReadyGroups.{howMany}
 use Rattle.rules.specs.Dependents.{restsAt, worksAt, carriesAt, groupOf, throughAt, dependentsOf}
-use Rattle.rules.specs.Internal.Closure.{Names}
 use Rattle.rules.specs.Internal.Held.{Listed}
-use Rattle.rules.proofs.Bits.{names-fits}
 use Rattle.rules.proofs.Pack.Loads.{unpack-waiting}
-
-pub word-fits : {f : ℕ → Bool} {t v : ℕ} → Names f t v → t < groupBits → (b : ℕ) → b ≡ 2 ^ t → v + b < 2 ^ groupBits
-word-fits {f} {t} {v} k h b e = subst (λ (x : ℕ). v + x < 2 ^ groupBits) (sym e) (names-fits k groupBits h)
 
 pub dependents-is : (y : Layout) (img : List ℕ) (t : ℕ) {a b c d n : ℕ} → n ≡ waitingIn y img
     → a ≡ groupOf (y .transactors) (restsAt (unpack y img) t) → d ≡ groupOf (y .transactors) (throughAt (unpack y img) (y .transactors) t) → b ≡ groupOf (y .transactors) (worksAt (unpack y img) t) → c ≡ howMany n (carriesAt (unpack y img) t)

@@ -107,12 +107,11 @@ fn lowest(image: &[u8], reach: Reach, kind: u8, t: usize) -> usize
     c
 }
 
-// What is in the way of every group with transactor t, or nothing exactly if one could be checkpointed.
-pub fn impediment_of(image: &[u8], t: usize) -> Impediment
-    requires { ⌜ Good (now image) × (t < base .transactors) ⌝ }
+// What is in the way of every group with transactor t, or nothing exactly if one could be checkpointed. Who rests on each is handed in.
+pub fn impediment_in(image: &[u8], reach: Reach, t: usize) -> Impediment
+    requires { ⌜ Good (now image) × (t < base .transactors) × Reached base (unpack base (now image)) (base .transactors) t (reach .through) (reach .next) ⌝ }
     ensures { λ r. ⌜ r ≡ impedimentOf base (unpack base (now (image .entry))) t ⌝ }
 {
-    let reach = reach_of(image, t);
     let hopeless = lowest(image, reach, HOPELESS, t);
     if hopeless < TRANSACTORS {
         let ground = lost_ground(image, hopeless);
@@ -127,4 +126,13 @@ pub fn impediment_of(image: &[u8], t: usize) -> Impediment
         return Impediment::Unstable(unstable as u8, reach.next[unstable]);
     }
     Impediment::Nothing
+}
+
+// The same; who rests on each is worked out.
+pub fn impediment_of(image: &[u8], t: usize) -> Impediment
+    requires { ⌜ Good (now image) × (t < base .transactors) ⌝ }
+    ensures { λ r. ⌜ r ≡ impedimentOf base (unpack base (now (image .entry))) t ⌝ }
+{
+    let reach = reach_of(image, t);
+    impediment_in(image, reach, t)
 }

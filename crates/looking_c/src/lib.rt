@@ -6,11 +6,14 @@ use decisive::Decision;
 use decisive::receipt;
 use fields::Field;
 ghost use mathlib.Core.Path.{_≡_};
+ghost use Prim.Native.Nat.{_≤_};
+ghost use lib.Dec.{eqb};
 ghost use Rattle.rules.specs.Layout.{base};
 ghost use Rattle.fields.specs.Field.{fieldOf};
 ghost use Rattle.decisive.specs.Compared.{ComparePromise};
 ghost use Rattle.decisive.specs.Decision.{decisionRefusal, decisionAnswer};
 ghost use Rattle.looking_c.specs.Interface.{verdictFor};
+ghost use Rattle.rules.specs.Promises.{IndependentPromise};
 
 // The kinds of what a receipt would do.
 const ACCEPTED: usize = 1;
@@ -67,4 +70,21 @@ pub extern "C" fn looking_field(at: usize) -> Field
     ensures { λ r. ⌜ r ≡ fieldOf base at ⌝ }
 {
     fields::field_at(at)
+}
+
+// 1 exactly if the two packed steps are independent on the image, so that both orders leave the same image and give each step the same reply;
+// else 0. The lent number takes the refusal, 16, 17 where a step has not eight bytes, 19, or 0; refused, 0.
+#[no_mangle]
+pub extern "C" fn looking_independent(
+    image: &[u8],
+    first: &[u8],
+    second: &[u8],
+    refusal: &mut u8,
+) -> u8
+    ensures { λ r. ⌜ (r ≤ 1) × IndependentPromise base (now (image .entry)) (now (first .entry)) (now (second .entry)) (now (refusal .exit)) (eqb r 1) ⌝ }
+{
+    if independence::independent(image, first, second, refusal) {
+        return 1;
+    }
+    0
 }

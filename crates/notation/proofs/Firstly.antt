@@ -1,17 +1,16 @@
 -- A text has one line at which reading stops.
 use Prim.Native.Nat.{ℕ, zero, suc, _+_, _-_, _≤_, _<_}
 use mathlib.Core.Path.{_≡_, refl, sym, ap, _∙_, subst}
-use mathlib.Core.List.{List, [], _∷_, _++_}
+use mathlib.Core.List.{List, [], _++_}
 use native.Mathlib.Omega.{arith}
 use lib.ListN.{length, take, getD, length-append, length-take}
 use lib.Seq.{take-take, getD-take}
 use Rattle.rules.specs.declared.Step.{Step}
-use Rattle.rules.specs.Step.{stepBytes}
-use Rattle.notation.specs.Notation.{packStep}
+use Rattle.rules.specs.Step.{stepBytes, packStep}
 use Rattle.notation.specs.Reading.{linesOf, said}
 use Rattle.notation.specs.Grammar.{Blanks, Says, Lines, none, skip, step}
 use Rattle.notation.specs.Faults.{Stop, unsaid, filled, First}
-use Rattle.notation.proofs.Packing.{length-packStep}
+use Rattle.rules.proofs.Pack.Steps.{length-packStep}
 use Rattle.notation.proofs.Accepted.{accepted}
 use Rattle.notation.proofs.Texts.{blank-end}
 use Rattle.notation.proofs.Numbered.{says-one}

@@ -1,7 +1,6 @@
 pub mod Examples
 mod Words
 pub mod Numerals
-pub mod Packing
 pub mod Groups
 mod Items
 pub mod Rows

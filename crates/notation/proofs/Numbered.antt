@@ -11,16 +11,16 @@ use Rattle.octets.specs.Bytes.{pick, _or_, chunks, tabulate}
 use Rattle.octets.proofs.Chunks.{length-tabulate, getD-tabulate}
 use Rattle.octets.proofs.Tests.{pick-view}
 use Rattle.rules.specs.declared.Step.{Step}
-use Rattle.rules.specs.Step.{stepAt}
+use Rattle.rules.specs.Step.{stepAt, packStep}
 use Rattle.rules.specs.Calls.{stepsIn}
 use Rattle.rules.specs.Refusals.{named}
 use Rattle.rules.specs.Internal.Well.{StepOk}
 use Rattle.rules.proofs.Bits.{named-add}
-use Rattle.notation.specs.Notation.{packStep, lineText, stepText, text}
+use Rattle.notation.specs.Notation.{lineText, stepText, text}
 use Rattle.notation.specs.Reading.{Reader, notLF, next, reached, withMember, lineAt, startLine, linesOf, said, fault, read}
 use Rattle.notation.specs.Grammar.{Says, Lines, none, skip, step}
 use Rattle.notation.specs.Faults.{Stop, unsaid, filled}
-use Rattle.notation.proofs.Packing.{length-packStep}
+use Rattle.rules.proofs.Pack.Steps.{length-packStep}
 use Rattle.notation.proofs.Rows.{line-back, line-first}
 use Rattle.notation.proofs.Lines.{first-line}
 use Rattle.notation.proofs.Accepted.{accepted}

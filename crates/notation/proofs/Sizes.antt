@@ -13,14 +13,14 @@ use Rattle.octets.specs.Numbers.{bound}
 use Rattle.octets.proofs.Chunks.{sides}
 use Rattle.octets.proofs.Zero.{both, every-at}
 use Rattle.rules.specs.declared.Step.{Step}
-use Rattle.rules.specs.Step.{stepAt}
+use Rattle.rules.specs.Step.{stepAt, packStep}
 use Rattle.rules.specs.Calls.{stepsIn}
 use Rattle.rules.specs.Refusals.{named, groupBits, malformed}
 use Rattle.rules.specs.Internal.Well.{StepOk}
-use Rattle.notation.specs.Notation.{decimal, places, members, groupText, packStep, nameOf, templateOf, itemText, itemsText, rowOf, lineText, stepText, text, longestLine, shortestLine, Whole}
+use Rattle.notation.specs.Notation.{decimal, places, members, groupText, nameOf, templateOf, itemText, itemsText, rowOf, lineText, stepText, text, longestLine, shortestLine, Whole}
 use Rattle.notation.specs.Reading.{all}
 use Rattle.notation.proofs.Numerals.{decimal-some, length-decimal, length-hex}
-use Rattle.notation.proofs.Packing.{length-packStep}
+use Rattle.rules.proofs.Pack.Steps.{length-packStep}
 use Rattle.notation.proofs.Items.{Item, isTransactor, isOther, isMessage, isValue, isGroup, isWordTo, isWordText, isWhole, isItem, item-view}
 use Rattle.notation.proofs.Rows.{row, row-known}
 use Rattle.notation.proofs.RoundTrip.{step-ok}

@@ -12,14 +12,13 @@ use lib.ListN.{length, take, getD, length-append}
 use Rattle.octets.specs.Bytes.{pick}
 use Rattle.octets.proofs.Tests.{pick-view}
 use Rattle.rules.specs.declared.Step.{Step}
-use Rattle.rules.specs.Step.{stepBytes}
-use Rattle.notation.specs.Notation.{packStep}
+use Rattle.rules.specs.Step.{stepBytes, packStep}
 use Rattle.notation.specs.Reading.{blank, run, next, nothing, room, good, lineAt, linesOf, said, Progress, withStep, lineRead, linesRead, start, progress, steps, fault, outcome, read}
 use Rattle.notation.specs.Grammar.{Blanks, Says, Lines, none, skip, step}
 use Rattle.notation.specs.Faults.{Next, Lacking, FirstByte, Stop, unsaid, filled, First}
 use Rattle.notation.proofs.Words.{stops, run-append}
 use Rattle.notation.proofs.Within.{line-within}
-use Rattle.notation.proofs.Packing.{length-packStep}
+use Rattle.rules.proofs.Pack.Steps.{length-packStep}
 use Rattle.notation.proofs.Lines.{reading}
 use Rattle.notation.proofs.Faults.{stays, goes-on}
 use Rattle.notation.proofs.Accepted.{accepted}

@@ -6,8 +6,8 @@ use mathlib.Core.Path.{_≡_}
 use mathlib.Core.List.{List, [], _∷_, _++_}
 use lib.ListN.{length}
 use Rattle.rules.specs.declared.Step.{Step}
-use Rattle.rules.specs.Step.{unpackStep}
-use Rattle.notation.specs.Notation.{bytes, messageField, valueField, groupField, wordTo, wordText, wholeStep, nameOf, templateOf, packStep}
+use Rattle.rules.specs.Step.{unpackStep, packStep}
+use Rattle.notation.specs.Notation.{bytes, messageField, valueField, groupField, wordTo, wordText, wholeStep, nameOf, templateOf}
 use Rattle.notation.specs.Reading.{blank, all, isDigit, isHex, ofDecimal, ofHex, mostOf, withField, withMember, emptyStep, said}
 
 -- spaces, tabs and CRs, as many as one likes

@@ -16,8 +16,7 @@ use Rattle.octets.proofs.Chunks.{sides}
 use Rattle.octets.proofs.Put.{put-nil, put-append}
 use Rattle.octets.proofs.Tests.{pick-view, never}
 use Rattle.rules.specs.declared.Step.{Step}
-use Rattle.rules.specs.Step.{stepBytes}
-use Rattle.notation.specs.Notation.{packStep}
+use Rattle.rules.specs.Step.{stepBytes, packStep}
 use Rattle.notation.specs.declared.Reader.{Reader}
 use Rattle.notation.specs.Reading.{notLF, notHash, run, next, good, nothing, room, lineAt, emptyStep, linesOf, said, Progress, withStep, lineRead, linesRead, progress, outcome, read}
 use Rattle.notation.specs.declared.Parsed.{Parsed}
@@ -25,7 +24,7 @@ use Rattle.notation.specs.declared.Expected.{Expected}
 use Rattle.notation.specs.declared.Parsed.the-variants.{Steps, Fault}
 use Rattle.notation.specs.Parsing.{expectedOf, answerOf, writtenOf}
 use Rattle.parser.specs.Internal.Parsing.{Line, Lines, otherThan, lineOf, bytesOf, Stored, Gone}
-use Rattle.notation.proofs.Packing.{length-packStep}
+use Rattle.rules.proofs.Pack.Steps.{length-packStep}
 use Rattle.notation.proofs.Within.{run-most, line-within}
 use Rattle.notation.proofs.Lines.{reading}
 use Rattle.parser.proofs.Cutting.{lines-cut, lines-none}

@@ -3,7 +3,7 @@ ghost use mathlib.Core.Path.{_≡_};
 ghost use Prim.Native.Nat.{_+_, _≤_};
 ghost use lib.ListN.{length, drop};
 ghost use Rattle.octets.specs.Bytes.{pick, put};
-ghost use Rattle.notation.specs.Notation.{packStep};
+ghost use Rattle.rules.specs.Step.{packStep};
 ghost use Rattle.notation.specs.Reading.{run, said, progress, read};
 ghost use Rattle.notation.specs.Parsing.{answerOf, writtenOf, longest};
 ghost use Rattle.parser.specs.Internal.Parsing.{otherThan, lineOf, bytesOf, Stored, Gone};

@@ -1,23 +1,23 @@
 -- A plan as the code writes it: what is to be done with each take, its steps one behind the other, zeros after them.
-use Prim.Native.Nat.{ℕ, zero, suc, _+_, _*_, _-_, _/_, _%_, _^_, _≤_, _<_}
-use mathlib.Core.Bool.{Bool, true, false, not, false≢true}
+use Prim.Native.Nat.{ℕ, zero, suc, _+_, _*_, _-_, _/_, _%_, _≤_, _<_}
+use mathlib.Core.Bool.{Bool, true, false}
 use mathlib.Core.Path.{_≡_, refl, sym, ap, _∙_, subst}
 use mathlib.Core.List.{List, [], _∷_, _++_}
 use native.Mathlib.Numerals.{add-one}
 use native.Mathlib.Omega.{arith}
-use lib.Dec.{eqb, ltb, leb}
+use lib.Dec.{eqb, leb}
 use lib.ListN.{length, getD, take, drop, length-append, length-drop}
-use borrow.Author.Tests.{eq-eqb, ne-eqb, eqb-true, lt-ltb, le-ltb}
+use borrow.Author.Tests.{eq-eqb, ne-eqb, lt-ltb, le-ltb}
 use Rattle.octets.specs.Bytes.{pick, _and_, _or_, put, chunks, zeros}
 use Rattle.octets.specs.Numbers.{be}
-use Rattle.octets.proofs.Put.{put-def, put-append, put-nil, put-whole, length-put}
+use Rattle.octets.proofs.Put.{put-def, put-append, put-nil, put-whole}
 use Rattle.octets.proofs.Zero.{length-zeros, zeros-is, allZero-drop, allZero-zeros}
 use Rattle.octets.proofs.Tests.{pick-view}
-use Rattle.rules.specs.Layout.{Layout, base, lastNumber}
+use Rattle.rules.specs.Layout.{base, lastNumber}
 use Rattle.rules.specs.Status.{idle}
 use Rattle.rules.specs.State.{State, transactorAt, ownHistory}
-use Rattle.rules.specs.Refusals.{named, groupBits}
-use Rattle.rules.specs.Step.{stepBytes}
+use Rattle.rules.specs.Refusals.{named}
+use Rattle.rules.specs.Step.{packStep}
 use Rattle.rules.specs.Pack.{unpack}
 use Rattle.rules.specs.Calls.{stepsIn, queryRefusal}
 use Rattle.rules.specs.Dependents.{throughAt}
@@ -26,12 +26,11 @@ use Rattle.rules.specs.Promises.{PlanPromise}
 use Rattle.rules.specs.Internal.Closure.{Names}
 use Rattle.rules.specs.Groups.{signing}
 use Rattle.rules.specs.ReadyGroups.{howMany}
-use Rattle.rules.specs.Plan.{packStep, waking, receipt, freezing, toFreeze, toWake, stepsFor, letters, lettersFit, restingVolume, mendable, stepsToSign, planOf, planBytes, planRefusal, planAnswer, planOut}
+use Rattle.rules.specs.Plan.{waking, receipt, freezing, toFreeze, toWake, stepsFor, letters, lettersFit, restingVolume, mendable, stepsToSign, planOf, planBytes, planRefusal, planAnswer, planOut}
 use Rattle.impediments.specs.Internal.Ways.{Reached}
-use Rattle.rules.proofs.Bits.{names-fits}
 use Rattle.rules.proofs.Groups.Dependents.{in-group, names-end}
-use Rattle.rules.proofs.Groups.Planned.{length-packStep}
-use Rattle.plans.specs.Internal.Written.{taskOf, tasked, nextNumber, Written, Planned}
+use Rattle.rules.proofs.Pack.Steps.{length-packStep}
+use Rattle.plans.specs.Internal.Written.{rowNames, taskOf, tasked, nextNumber, Written, Planned}
 
 -- ---- one take
 
@@ -256,16 +255,19 @@ module _ (s : State) (g n : ℕ) (is : n ≡ letters base s g) where
 
 -- ---- the volume
 
-pub row-names : (s : State) (t : ℕ) {rows nexts : List ℕ} → Reached base s (base .transactors) t rows nexts → (c : ℕ) → c < base .transactors → t < base .transactors → (row : ℕ) → row ≡ getD rows c 0
-    → named row t ≡ throughAt s (base .transactors) c t
-row-names s t r c h l row e = ap (λ (x : ℕ). named x t) (e ∙ r .through .is c h) ∙ in-group (base .transactors) (throughAt s (base .transactors) c) t l
+pub row-is : (rows : List ℕ) (t c row : ℕ) → row ≡ getD rows c 0 → named row t ≡ rowNames rows t c
+unfolding rowNames
+row-is rows t c row e = ap (λ (x : ℕ). named x t) e
 
-pub volume-end : (s : State) (t u v : ℕ) → Names (λ c. throughAt s (base .transactors) c t) u v → u ≤ base .transactors → base .transactors ≤ u → v ≡ restingVolume base s t
-unfolding restingVolume
-volume-end s t u v k h l = names-end k h l
+-- all rows are looked at
+pub rows-end : {f : ℕ → Bool} {n u v : ℕ} → Names f u v → u ≤ n → n ≤ u → Names f n v
+rows-end {f} {n} {u} {v} k h l = let e : u ≡ n = omega arith in subst (λ (i : ℕ). Names f i v) e k
 
-pub word-fits : {f : ℕ → Bool} {t v : ℕ} → Names f t v → t < groupBits → (b : ℕ) → b ≡ 2 ^ t → v + b < 2 ^ groupBits
-word-fits {f} {t} {v} k h b e = subst (λ (x : ℕ). v + x < 2 ^ groupBits) (sym e) (names-fits k groupBits h)
+-- and they are the rows of who rests on each
+pub volume-is : (s : State) (t : ℕ) {rows nexts : List ℕ} → Reached base s (base .transactors) t rows nexts → t < base .transactors → (v : ℕ) → Names (rowNames rows t) (base .transactors) v
+    → v ≡ restingVolume base s t
+unfolding restingVolume rowNames
+volume-is s t r l v k = names-end (record { bits = k .bits; exactly = λ c h. k .exactly c h ∙ ap (λ (x : ℕ). named x t) (r .through .is c h) ∙ in-group (base .transactors) (throughAt s (base .transactors) c) t l }) (omega arith) (omega arith)
 
 -- ---- the call's returns
 

@@ -1,10 +1,13 @@
-// What is left to do so that a transactor can be checkpointed (document 01: a take can be signed): the steps.
+// What is left to do so that a transactor is checkpointed (document 01: a take is signed). The call writes a
+// list of steps. For each transactor of the group that has to be signed together, and that is not frozen
+// yet, there is a task: freeze it, or wake it by a letter and then freeze it. The signing comes last.
 use group::own;
 use image::head;
 use image::layout::TRANSACTORS;
 use image::limits;
 use image::messages;
-use impediments::impediment_of;
+use impediments::impediment_in;
+use impediments::ways::Reach;
 use impediments::ways::reach_of;
 use lists::STEP;
 use lists::groups::is_named;
@@ -16,20 +19,24 @@ ghost use lib.ListN.{length};
 ghost use Rattle.octets.specs.Bytes.{put, chunks, zeros};
 ghost use Rattle.rules.specs.Layout.{base};
 ghost use Rattle.rules.specs.Pack.{unpack};
-ghost use Rattle.rules.specs.Plan.{packStep, letters, lettersFit, stepsFor, stepsToSign, restingVolume, mendable, planBytes};
+ghost use Rattle.rules.specs.Step.{packStep};
+ghost use Rattle.rules.specs.Plan.{letters, lettersFit, stepsFor, stepsToSign, mendable, planBytes};
 ghost use Rattle.rules.specs.Promises.{PlanPromise};
+ghost use Rattle.rules.specs.Internal.Closure.{Names};
 ghost use Rattle.rules.specs.Internal.Good.{Good};
-ghost use Rattle.plans.specs.Internal.Written.{taskOf, tasked, nextNumber, Written, Planned};
+ghost use Rattle.plans.specs.Internal.Written.{rowNames, taskOf, tasked, nextNumber, Written, Planned};
 
 // Bytes of a plan: three steps for each transactor, and the signing.
 pub const PLAN: usize = 392;
 
-// What is to be done with a transactor.
+// The tasks; 0 is none. The first: the transactor is at work, and a freeze is enough.
 const FREEZE: u8 = 1;
 
+// The second: the transactor is idle. A letter and its receipt put it to work, and then it is frozen.
 const WAKE: u8 = 2;
 
-// Whether nothing is in the way that lasts.
+// Whether what is in the way, if anything is, can be mended by further steps: a withdrawn life in some map
+// (hopeless) and a transactor that has all its signings (exhausted) can't.
 fn is_mendable(o: Impediment) -> bool
     ensures { λ r. ⌜ r ≡ mendable o ⌝ }
 {
@@ -41,12 +48,12 @@ fn is_mendable(o: Impediment) -> bool
     }
 }
 
-// All that transactor t rests on, itself among them.
-fn volume(image: &[u8], t: usize) -> u16
-    requires { ⌜ Good (now image) × (t < base .transactors) ⌝ }
-    ensures { λ r. ⌜ r ≡ restingVolume base (unpack base (now (image .entry))) t ⌝ }
+// The group that is to be signed: all that transactor t rests on through present incarnations (document 01:
+// lives), itself among them. These are the ones whose rows name t.
+fn volume(reach: Reach, t: usize) -> u16
+    requires { ⌜ t < base .transactors ⌝ }
+    ensures { λ r. ⌜ Names (rowNames (reach .through) t) (base .transactors) r ⌝ }
 {
-    let reach = reach_of(image, t);
     let mut group: u16 = 0;
     let mut c: usize = 0;
     while c < TRANSACTORS {
@@ -59,7 +66,7 @@ fn volume(image: &[u8], t: usize) -> u16
     group
 }
 
-// What is to be done with transactor c of the group: nothing, freeze it, or wake it first.
+// The task for transactor c: none if it is not in the group, or frozen already.
 fn task(image: &[u8], group: u16, c: usize) -> u8
     requires { ⌜ Good (now image) × (c < base .transactors) ⌝ }
     ensures { λ r. ⌜ r ≡ taskOf (unpack base (now (image .entry))) group c ⌝ }
@@ -78,7 +85,7 @@ fn task(image: &[u8], group: u16, c: usize) -> u8
     FREEZE
 }
 
-// How many have to be woken.
+// How many of the group have to be woken, by a letter each.
 fn count_letters(image: &[u8], group: u16) -> u16
     requires { ⌜ Good (now image) ⌝ }
     ensures { λ r. ⌜ (r ≡ letters base (unpack base (now (image .entry))) group) × (r ≤ base .transactors) ⌝ }
@@ -95,10 +102,11 @@ fn count_letters(image: &[u8], group: u16) -> u16
     n
 }
 
-// The number past all that messages can have.
+// One more than the largest number of a message: no number is left when it is the next.
 const LAST_NUMBER: u32 = 65535;
 
-// Whether there is room for the letters.
+// Whether there is room for the letters: one place among those that wait, since each letter is received
+// before the next one is sent, and a number for each.
 fn letters_fit(image: &[u8], group: u16) -> bool
     requires { ⌜ Good (now image) ⌝ }
     ensures { λ r. ⌜ r ≡ lettersFit base (unpack base (now (image .entry))) group ⌝ }
@@ -116,7 +124,7 @@ fn letters_fit(image: &[u8], group: u16) -> bool
     next + n as u32 <= LAST_NUMBER
 }
 
-// A step with these fields, and zeros.
+// Writes the step with these fields at byte `at`; its other fields are zero.
 fn store(out: &mut [u8], at: usize, kind: u8, transactor: u8, message: u32)
     requires { ⌜ at + 8 ≤ length (now out) ⌝ }
     ensures { λ _. ⌜ now (out .exit) ≡ put at (packStep (record { kind = kind; transactor = transactor; other = 0; zero = 0; message = message; value = 0 })) (now (out .entry)) ⌝ }
@@ -135,7 +143,8 @@ fn store(out: &mut [u8], at: usize, kind: u8, transactor: u8, message: u32)
     octets::write(out, at, &b);
 }
 
-// The steps for transactor c, with what is to be done; where they end. A letter has this number.
+// Writes the steps of task k for transactor c from byte `at` on, and says where they end. If a letter is
+// among them, `number` is the one that it will have.
 fn store_task(out: &mut [u8], at: usize, k: u8, c: usize, number: u32) -> usize
     requires { ⌜ (at + 24 ≤ length (now out)) × (c < base .transactors) ⌝ }
     ensures { λ r. ⌜ Written (tasked k c number) at (now (out .entry)) (now (out .exit)) r × (r ≤ at + 24) ⌝ }
@@ -154,7 +163,7 @@ fn store_task(out: &mut [u8], at: usize, k: u8, c: usize, number: u32) -> usize
     at + 3 * STEP
 }
 
-// The number that is next after it.
+// The number that the next letter will have, after task k: only waking sends one.
 fn number_after(k: u8, number: u32) -> u32
     requires { ⌜ number < 70000 ⌝ }
     ensures { λ r. ⌜ (r ≡ nextNumber k number) × (r ≤ number + 1) ⌝ }
@@ -165,7 +174,7 @@ fn number_after(k: u8, number: u32) -> u32
     number
 }
 
-// The steps for all transactors of the group; where they end.
+// Writes the steps of the tasks for all transactors of the group, the lowest first, and says where they end.
 fn store_tasks(image: &[u8], group: u16, out: &mut [u8]) -> usize
     requires { ⌜ Good (now image) × (length (now out) ≡ planBytes base) ⌝ }
     ensures { λ r. ⌜ Written (chunks (base .transactors) (stepsFor (unpack base (now (image .entry))) group)) 0 (now (out .entry)) (now (out .exit)) r × (r ≤ 384) ⌝ }
@@ -182,7 +191,8 @@ fn store_tasks(image: &[u8], group: u16, out: &mut [u8]) -> usize
     at
 }
 
-// The steps that sign the group, if there is room for the letters; how many.
+// Writes the whole plan for the group, the signing behind the tasks, and says how many steps it has; none
+// if there is no room for a letter that it needs.
 fn store_plan(image: &[u8], group: u16, out: &mut [u8]) -> usize
     requires { ⌜ Good (now image) × (now out ≡ zeros (planBytes base)) ⌝ }
     ensures { λ r. ⌜ Planned (stepsToSign base (unpack base (now (image .entry))) group) (now (out .exit)) r ⌝ }
@@ -195,9 +205,10 @@ fn store_plan(image: &[u8], group: u16, out: &mut [u8]) -> usize
     at / STEP + 1
 }
 
-// Writes the steps after which the transactor is checkpointed with all that it rests on, and zeros after them: how many steps; 0 exactly if
-// something is in the way that lasts, or if there is no room for a letter that is needed. The lent number takes the refusal, 16, 19, 21, 22 or
-// 18, or 0; refused, no byte of out is changed and the answer is 0.
+// Writes the steps after which the transactor is checkpointed with all that it rests on, and zeros after
+// them; the answer is how many steps. It is 0 exactly if `impediment` on the same image says hopeless or
+// exhausted, or, where it says anything else, if there is no room for a letter that is needed. The lent number
+// takes the refusal, 16, 19, 21, 22 or 18, or 0; refused, no byte of out is changed and the answer is 0.
 pub fn plan(image: &[u8], transactor: usize, out: &mut [u8], refusal: &mut u8) -> usize
     ensures { λ r. ⌜ PlanPromise base (now (image .entry)) transactor (now (out .entry)) (now (refusal .exit)) (now (out .exit)) r ⌝ }
 {
@@ -212,10 +223,11 @@ pub fn plan(image: &[u8], transactor: usize, out: &mut [u8], refusal: &mut u8) -
     }
     *refusal = 0;
     octets::clear(out, 0, PLAN);
-    let o = impediment_of(image, transactor);
+    let reach = reach_of(image, transactor);
+    let o = impediment_in(image, reach, transactor);
     if !is_mendable(o) {
         return 0;
     }
-    let group = volume(image, transactor);
+    let group = volume(reach, transactor);
     store_plan(image, group, out)
 }

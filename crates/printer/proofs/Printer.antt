@@ -16,19 +16,19 @@ use Rattle.octets.proofs.Put.{part-def, length-part, octets-part, put-nil, put-
 use Rattle.lists.proofs.Parts.{right-part}
 use Rattle.octets.proofs.Chunks.{sides, chunks-suc, chunks-add}
 use Rattle.rules.specs.declared.Step.{Step}
-use Rattle.rules.specs.Step.{stepBytes, stepAt, unpackStep}
+use Rattle.rules.specs.Step.{stepBytes, stepAt, unpackStep, packStep}
 use Rattle.rules.specs.Calls.{stepsIn, longest}
 use Rattle.rules.specs.Refusals.{malformed}
 use Rattle.rules.specs.Internal.Well.{StepOk}
 use Rattle.rules.proofs.Keep.Run.{stepOk-unpack}
-use Rattle.notation.specs.Notation.{bytes, decimal, places, hex, groupText, raw, packStep, nameOf, templateOf, itemText, itemsText, rowOf, lineText, stepText, text, longestLine}
+use Rattle.notation.specs.Notation.{bytes, decimal, places, hex, groupText, raw, nameOf, templateOf, itemText, itemsText, rowOf, lineText, stepText, text, longestLine}
 use Rattle.printer.specs.Internal.Fields.{fieldOf}
 use Rattle.printer.specs.Printing.{wrongList, lengthAnswer, noRoom, printAnswer, printedOut}
 use Rattle.printer.specs.declared.Printed.the-variants.{Length, Refused}
 use Rattle.lines.specs.declared.Line.{Line}
 use Rattle.lines.specs.Lines.{lineRoom, written, plus, Says}
 use Rattle.lines.proofs.Lining.{plus-plus, plus-empty, said-length, written-empty}
-use Rattle.notation.proofs.Packing.{pack-unpack}
+use Rattle.rules.proofs.Pack.Steps.{pack-unpack}
 use Rattle.notation.proofs.Rows.{row-known}
 use Rattle.notation.proofs.Sizes.{step-most, chunks-most}
 

@@ -187,6 +187,10 @@ module _ {f : ℕ → Bool} {t v : ℕ} (names : Names f t v) where
   pub names-fits : (n : ℕ) → t < n → v + 2 ^ t < 2 ^ n
   names-fits n h = add-fits v t n (omega (arith, names .bits, one-fits t n h)) h past
 
+  -- in a volume's word
+  pub word-fits : t < groupBits → (b : ℕ) → b ≡ 2 ^ t → v + b < 2 ^ groupBits
+  word-fits h b e = subst (λ (x : ℕ). v + x < 2 ^ groupBits) (sym e) (names-fits groupBits h)
+
   pub names-on : (b : ℕ) → b ≡ 2 ^ t → f t ≡ true → Names f (t + 1) (v + b)
   names-on b bit e = rw bit (reach (v + 2 ^ t) (names-fits (t + 1) (omega arith))
       (λ u h. named-add v t u past ∙ rw (ne-eqb t u (omega arith), or-none))

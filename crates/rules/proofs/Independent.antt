@@ -1,9 +1,11 @@
+pub mod Calls
 pub mod Effects
 pub mod Late
 pub mod Lists
 pub mod Orders
 pub mod Runs
 pub mod Seen
+pub mod Shown
 pub mod Signed
 pub mod Special
 pub mod Steps

@@ -14,7 +14,8 @@ use Rattle.rules.specs.Dependents.{dependentsOf}
 use Rattle.rules.specs.Obstacle.{obstacleOf}
 use Rattle.rules.specs.Groups.{signing}
 use Rattle.rules.specs.Impediment.{impedimentOf}
-use Rattle.rules.specs.Plan.{packStep, waking, receipt, freezing, planOf}
+use Rattle.rules.specs.Step.{packStep}
+use Rattle.rules.specs.Plan.{waking, receipt, freezing, planOf}
 
 abbrev pub three : Layout
 three = record { width = 1; places = 1; transactors = 3; messages = 2; limited = true }
@@ -69,9 +70,9 @@ pub record Computed : Type 0 where
   -- why there is no volume with page 2: the names are not frozen, and the chain goes by page 1; when they vanish, page 1 rests on a withdrawn life
   pub sixth : impedimentOf three frozen 2 ≡ impediment.Unstable 0 1
   pub seventh : impedimentOf three withdrawn 2 ≡ Hopeless 1 0 1
+  -- asked about the next, page 1: it is in the way itself
+  pub eighth : impedimentOf three withdrawn 1 ≡ Hopeless 1 0 1
   -- what is left to do for page 2: freeze the names, sign all three; if the names are idle, wake them first; when they vanished, nothing helps
   pub plan : planOf three frozen 2 ≡ packStep (freezing 0) ++ packStep (signing 7)
   pub woken : planOf three rested 2 ≡ packStep (waking 0) ++ packStep (receipt 4) ++ packStep (freezing 0) ++ packStep (signing 7)
   pub lost : planOf three withdrawn 2 ≡ []
-  -- asked about the next, page 1: it is in the way itself
-  pub eighth : impedimentOf three withdrawn 1 ≡ Hopeless 1 0 1

@@ -48,3 +48,21 @@ pub record RunExchanged (y : Layout) (img list : List ℕ) (start end : ℕ) (bu
   pub image : runImage y img (exchangedAt (start + stepBytes * i) list) start end buffer ≡ runImage y img list start end buffer
   pub replies : runReplies y img (exchangedAt (start + stepBytes * i) list) start end buffer
       ≡ pick (eqb (runAnswer y img list start end buffer) 0) (exchangedAt (stepBytes * i) (runReplies y img list start end buffer)) buffer
+
+-- Two steps in two runs, each a call of its own with its own list, place in it and buffer for the reply: one call and then the other, in both
+-- orders, from the same image. Both calls get the same answers in both orders and give the same replies, and the image at the end is the same.
+-- A call may be refused in one of them or in both: it then leaves image and buffer as they were.
+pub record CallsExchanged (y : Layout) (img list : List ℕ) (start : ℕ) (buffer list' : List ℕ) (start' : ℕ) (buffer' : List ℕ) : Type 0 where
+  -- the first call alone, and after the second
+  pub answer : runAnswer y (runImage y img list' start' (start' + stepBytes) buffer') list start (start + stepBytes) buffer
+      ≡ runAnswer y img list start (start + stepBytes) buffer
+  pub reply : runReplies y (runImage y img list' start' (start' + stepBytes) buffer') list start (start + stepBytes) buffer
+      ≡ runReplies y img list start (start + stepBytes) buffer
+  -- the second call alone, and after the first
+  pub answer' : runAnswer y (runImage y img list start (start + stepBytes) buffer) list' start' (start' + stepBytes) buffer'
+      ≡ runAnswer y img list' start' (start' + stepBytes) buffer'
+  pub reply' : runReplies y (runImage y img list start (start + stepBytes) buffer) list' start' (start' + stepBytes) buffer'
+      ≡ runReplies y img list' start' (start' + stepBytes) buffer'
+  -- the second after the first, and the first after the second
+  pub image : runImage y (runImage y img list start (start + stepBytes) buffer) list' start' (start' + stepBytes) buffer'
+      ≡ runImage y (runImage y img list' start' (start' + stepBytes) buffer') list start (start + stepBytes) buffer

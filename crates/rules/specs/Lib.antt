@@ -13,6 +13,7 @@ pub mod News
 pub mod Obstacle
 pub mod Pack
 pub mod Examples
+pub mod OrderShows
 pub mod Plan
 pub mod Promises
 pub mod ReadyGroups

@@ -1,19 +1,21 @@
--- What is left to do so that a take can be signed. `smallest_group` says what can be signed now, `impediment` what is in the way; this says how: the
--- steps after which the take is signed with all that it rests on, each answered with outcome 0.
-use Prim.Native.Nat.{ℕ, _+_, _*_, _-_, _/_, _<_}
+-- What is left to do so that a take is signed. `smallest_group` says what can be signed now, `impediment`
+-- what is in the way; `plan` gives the steps after which the take is signed with all that it rests on, each of
+-- them answered with outcome 0. For an example: take 1 is at work and rests on take 0, which is idle; neither is
+-- frozen, and the next parcel number is 5. The plan for take 1 is: letter to 0, receive 5, freeze 0, freeze 1,
+-- sign {0,1}.
+use Prim.Native.Nat.{ℕ, _+_, _*_, _-_, _<_}
 use mathlib.Core.Bool.{Bool, true, false, not}
 use mathlib.Core.Path.{_≡_}
 use mathlib.Core.List.{List, [], _++_}
 use lib.ListN.{length, getD}
 use lib.Dec.{eqb, ltb, leb}
 use Rattle.octets.specs.Bytes.{pick, _and_, _or_, part, chunks, zeros}
-use Rattle.octets.specs.Numbers.{be}
 use Rattle.rules.specs.declared.Impediment.{Impediment}
 use Rattle.rules.specs.declared.Impediment.the-variants.{Nothing, Hopeless, Exhausted, Unstable}
 use Rattle.rules.specs.Layout.{Layout, lastNumber}
 use Rattle.rules.specs.Status.{idle}
 use Rattle.rules.specs.State.{State, transactorAt, ownHistory}
-use Rattle.rules.specs.Step.{Step, stepBytes, stepAt, letter, receive, freeze, done}
+use Rattle.rules.specs.Step.{Step, stepBytes, packStep, stepAt, letter, receive, freeze, done}
 use Rattle.rules.specs.Refusals.{named}
 use Rattle.rules.specs.Rules.{stepOf}
 use Rattle.rules.specs.Pack.{transactorPart, messagePart, unpack}
@@ -23,13 +25,9 @@ use Rattle.rules.specs.ReadyGroups.{howMany}
 use Rattle.rules.specs.Dependents.{throughAt, groupOf}
 use Rattle.rules.specs.Impediment.{impedimentOf}
 
--- ---- the steps of a plan, packed
+-- ---- the steps of a plan
 
--- the other way round from unpackStep
-unfoldable pub packStep : Step → List ℕ
-packStep p = be 1 (16 * p .kind + p .transactor) ++ be 1 (16 * p .other + p .zero) ++ be 2 (p .message) ++ be 4 (p .value)
-
--- an empty letter to take c: its map is empty, so whoever receives it is at work and else as before
+-- a letter to take c: its map is empty, so the receipt leaves the take at work and changes nothing else in it
 abbrev pub waking : ℕ → Step
 waking c = record { kind = letter; transactor = c; other = 0; zero = 0; message = 0; value = 0 }
 
@@ -42,15 +40,15 @@ freezing c = record { kind = freeze; transactor = c; other = 0; zero = 0; messag
 
 -- ---- what is to be done with the takes of volume g
 
--- take c is one of them, and not frozen
+-- take c is one of them and not frozen yet: it has to be frozen
 unfoldable pub toFreeze : State → ℕ → ℕ → Bool
 toFreeze s g c = named g c and not (ownHistory c (transactorAt s c) .stable)
 
--- and it is idle: a letter has to wake it first
+-- besides, it is idle, and only a take at work can be frozen: a letter has to wake it first
 unfoldable pub toWake : State → ℕ → ℕ → Bool
 toWake s g c = toFreeze s g c and eqb (transactorAt s c .status) idle
 
--- for take c; a letter has the number that is next once the takes below c have had theirs
+-- the steps for take c, packed; its letter has the number that is next once the takes below c had theirs
 unfoldable pub stepsFor : State → ℕ → ℕ → List ℕ
 stepsFor s g c =
     pick (toFreeze s g c)
@@ -59,11 +57,12 @@ stepsFor s g c =
     (packStep (freezing c)))
     []
 
--- how many letters
+-- how many letters the volume needs
 unfoldable pub letters : Layout → State → ℕ → ℕ
 letters y s g = howMany (y .transactors) (toWake s g)
 
--- there is room for them: one place at a time, and a number each
+-- There is room for them: none is needed; or one more parcel may wait (each letter is received before the next
+-- is sent), and there is a number for each.
 unfoldable pub lettersFit : Layout → State → ℕ → Bool
 lettersFit y s g = eqb (letters y s g) 0 or (ltb (length (s .messages)) (s .limits .messages) and leb (s .next + letters y s g) lastNumber)
 
@@ -73,7 +72,7 @@ lettersFit y s g = eqb (letters y s g) 0 or (ltb (length (s .messages)) (s .limi
 unfoldable pub restingVolume : Layout → State → ℕ → ℕ
 restingVolume y s t = groupOf (y .transactors) (λ c. throughAt s (y .transactors) c t)
 
--- nothing is in the way that lasts: neither hopeless nor exhausted
+-- what is in the way, if anything is, can be mended by further steps: it is neither hopeless nor exhausted
 abbrev pub mendable : Impediment → Bool
 mendable Nothing = true
 mendable (Hopeless c u x) = false
@@ -84,7 +83,7 @@ mendable (Unstable c x) = true
 unfoldable pub stepsToSign : Layout → State → ℕ → List ℕ
 stepsToSign y s g = pick (lettersFit y s g) (chunks (y .transactors) (stepsFor s g) ++ packStep (signing g)) []
 
--- those that sign take t with all that it rests on; none if something is in the way that lasts
+-- those that sign take t with all that it rests on; none if what is in the way can't be mended
 unfoldable pub planOf : Layout → State → ℕ → List ℕ
 planOf y s t = pick (mendable (impedimentOf y s t)) (stepsToSign y s (restingVolume y s t)) []
 

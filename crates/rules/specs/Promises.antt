@@ -17,6 +17,7 @@ use Rattle.rules.specs.Dependents.{dependentsAnswer}
 use Rattle.rules.specs.Obstacle.{obstacleRefusal, obstacleAnswer}
 use Rattle.rules.specs.Impediment.{impedimentAnswer}
 use Rattle.rules.specs.Plan.{planRefusal, planAnswer, planOut}
+use Rattle.rules.specs.Independent.{independentRefusal, IndependentAnswer}
 
 abbrev pub BeginPromise : Layout → Limits → (img : List ℕ) (r : ℕ) (after : List ℕ) → Type 0
 BeginPromise y m img r after = (r ≡ beginAnswer y m img) × (after ≡ beginImage y m img)
@@ -53,6 +54,10 @@ ImpedimentPromise y img t r o = (r ≡ queryRefusal y img t) × (o ≡ impedimen
 -- lent, given: the bytes for the steps at entry and exit; n: how many steps
 abbrev pub PlanPromise : Layout → (img : List ℕ) (t : ℕ) (lent : List ℕ) (r : ℕ) (given : List ℕ) (n : ℕ) → Type 0
 PlanPromise y img t lent r given n = (r ≡ planRefusal y img t lent) × (given ≡ planOut y img t lent) × (n ≡ planAnswer y img t lent)
+
+-- first, second: the bytes of the two steps
+abbrev pub IndependentPromise : Layout → (img first second : List ℕ) (r : ℕ) → Bool → Type 0
+IndependentPromise y img first second r answer = (r ≡ independentRefusal y img first second) × IndependentAnswer y img first second answer
 
 abbrev pub ShowPromise : Layout → (img : List ℕ) (n r : ℕ) (bytes : List ℕ) → Type 0
 ShowPromise y img n r bytes = (bytes ≡ shown y img n) × (r ≡ showRefusal y img n)

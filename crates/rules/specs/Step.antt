@@ -1,5 +1,5 @@
 -- Document 01, "Packed forms": steps and replies.
-use Prim.Native.Nat.{ℕ, _*_, _/_, _%_}
+use Prim.Native.Nat.{ℕ, _+_, _*_, _/_, _%_}
 use mathlib.Core.List.{List, _++_}
 use mathlib.Core.Bool.{Bool}
 use lib.Dec.{leb}
@@ -22,6 +22,10 @@ unpackStep b = record {
   message = ofBe 2 (part 2 2 b);
   value = ofBe 4 (part 4 4 b);
 }
+
+-- the other way round
+unfoldable pub packStep : Step → List ℕ
+packStep p = be 1 (16 * p .kind + p .transactor) ++ be 1 (16 * p .other + p .zero) ++ be 2 (p .message) ++ be 4 (p .value)
 
 abbrev pub stepBytes : ℕ
 stepBytes = 8

@@ -3,7 +3,7 @@ use Prim.Native.Nat.{ℕ, zero, suc, _+_, _≤_, _<_}
 use mathlib.Core.Bool.{Bool, true, false, false≢true}
 use mathlib.Core.Path.{_≡_, refl, ap, sym, _∙_, subst}
 use mathlib.Core.List.{List}
-use mathlib.Core.Logic.{_⊎_, inl, inr, ⊎-elim, _↔_}
+use mathlib.Core.Logic.{_⊎_, inl, inr, ⊎-elim}
 use native.Mathlib.Omega.{arith}
 use lib.ListN.{length}
 use lib.Dec.{eqb, ltb, leb}
@@ -13,36 +13,33 @@ use Rattle.octets.specs.Numbers.{bound}
 use Rattle.octets.proofs.Chunks.{sides}
 use Rattle.octets.proofs.Tests.{or-of, and-of}
 use Rattle.marks.specs.Incarnation.{Incarnation}
-use Rattle.marks.specs.History.{HistoryView, incarnationOf}
 use Rattle.rules.specs.declared.Impediment.{Impediment}
-use Rattle.rules.specs.declared.Impediment.the-variants.{Nothing, Hopeless, Exhausted, Unstable}
+use Rattle.rules.specs.declared.Impediment.the-variants.{Exhausted}
 use Rattle.rules.specs.Layout.{Layout, Limits, lastNumber, Fitting, base}
 use Rattle.rules.specs.State.{State, transactorAt, ownHistory, live}
 use Rattle.rules.specs.Step.{stepAt, done}
-use Rattle.rules.specs.Refusals.{named, groupBits}
+use Rattle.rules.specs.Refusals.{groupBits}
 use Rattle.rules.specs.Rules.{stepOf}
 use Rattle.rules.specs.Pack.{unpack}
 use Rattle.rules.specs.Calls.{stateAfter}
 use Rattle.rules.specs.Groups.{signing}
-use Rattle.rules.specs.ReadyGroups.{readyGroup, Ready}
-use Rattle.rules.specs.Dependents.{throughAt}
+use Rattle.rules.specs.ReadyGroups.{readyGroup}
 use Rattle.rules.specs.Impediment.{impedimentOf}
-use Rattle.rules.specs.Plan.{mendable, letters, lettersFit, restingVolume, planRefusal, planAnswer}
+use Rattle.rules.specs.Plan.{mendable, letters, lettersFit, restingVolume, planOf, planRefusal, planAnswer}
 use Rattle.rules.specs.Internal.Well.{WellFormed}
 use Rattle.rules.proofs.Keep.Step.{fitting-base}
 use Rattle.rules.proofs.Bits.{named-past}
 use Rattle.rules.proofs.Groups.Signable.{ready-exactly}
 use Rattle.rules.proofs.Groups.Impediments.{live-low, none-in-way, mendable-low, exhausted-is}
 use Rattle.rules.proofs.Groups.Planned.{limits-same}
-use Rattle.rules.proofs.Groups.Plans.{Readied, readied, plan-attains}
+use Rattle.rules.proofs.Groups.Plans.{readied, plan-attains}
 use Rattle.rules.proofs.Calls.Planning.{plan-query, answer-is, plan-runs}
 use Rattle.rules.proofs.Pack.Sizes.{octets-pack}
 use Rattle.session.specs.Provenance.{Live, Provenance}
 use Rattle.session.specs.Fed.{ProvenanceOf}
 use Rattle.session.specs.Trace.{Trace, callsOf}
 use Rattle.session.specs.Point.{Point, at-end}
-use Rattle.session.specs.Waiting.{ReadyGroup}
-use Rattle.session.specs.Withdrawal.{Further, here, step, SameIncarnation, RestsThrough, itself, via, Spoilt, on-withdrawn, on-spoilt, Doomed}
+use Rattle.session.specs.Withdrawal.{Further, here, step, RestsThrough, itself, via, Spoilt, on-withdrawn, on-spoilt, Doomed}
 use Rattle.session.specs.Meanings.{ImpedimentMeans, means-nothing, means-hopeless, means-exhausted, means-unstable}
 use Rattle.session.specs.Grounds.{neither}
 use Rattle.session.specs.Attainable.{Attainable, ExhaustedBelow, LettersFit, none-needed, room, AttainableExactly, PlanMeans}
@@ -52,7 +49,7 @@ use Rattle.session.proofs.ViewSeen.{seen-checkpoints}
 use Rattle.session.proofs.Resting.{live-below, through-of}
 use Rattle.session.proofs.Reached.{related, well}
 use Rattle.session.proofs.Obstacles.{life-is, live-of}
-use Rattle.session.proofs.Withdrawal.{Reaches, reach, withdrawn-unready, unready-doomed, doomed-through, query-live}
+use Rattle.session.proofs.Withdrawal.{reach, withdrawn-unready, unready-doomed, doomed-through, query-live}
 use Rattle.session.proofs.Points.{held}
 use Rattle.session.proofs.Impediments.{hopeless-spoilt, spoilt-hopeless, hopeless-doomed, impediment-means}
 
@@ -214,18 +211,18 @@ module _ {y : Layout} (z : Fitting y) {img : List ℕ} (τ : Trace y img) {b : P
       let p = plan-attains z (well z k) t (live-low (well z k) t a) a m l in
       omega (arith, p .some, answer-is y img t out r)
 
-  -- Between two calls, and not refused: some steps, which sign the take; or none, and then it is doomed, or there is no room for the letters.
+  no-plan : mendable (impedimentOf y (unpack y img) t) ≡ false → planAnswer y img t out ≡ 0
+  unfolding planOf
+  no-plan e = answer-is y img t out r ∙ rw e
+
+  -- Between two calls, and not refused: some steps, which sign the take; or none, and `impediment` tells whether it
+  -- is doomed, or whether there is no room for the letters.
   pub plan-answered : PlanMeans y img t out
   plan-answered = record {
     steps = λ some lent long. plan-runs z img t out lent image-octets r some long;
-    none = λ e. go e (mendable (impedimentOf y (unpack y img) t)) refl (lettersFit y (unpack y img) (restingVolume y (unpack y img) t)) refl;
+    lasting = λ e. (no-plan e, attainable-exactly z (at-end {τ = τ} f) t asked .doomed e);
+    unfit = λ m e l. no-steps e m (fits-test y (unpack y img) (restingVolume y (unpack y img) t) l);
   }
-    where
-      go : planAnswer y img t out ≡ 0 → (c : Bool) → mendable (impedimentOf y (unpack y img) t) ≡ c → (d : Bool) → lettersFit y (unpack y img) (restingVolume y (unpack y img) t) ≡ d
-          → Doomed y (unpack y img) t ⊎ (LettersFit y (unpack y img) (restingVolume y (unpack y img) t) → ⊥)
-      go e false p d q = inl (attainable-exactly z (at-end {τ = τ} f) t asked .doomed p)
-      go e true p false q = inr (λ l. false≢true (sym q ∙ fits-test y (unpack y img) (restingVolume y (unpack y img) t) l))
-      go e true p true q = absurd (no-steps e p q)
 
 pub plan-answered-base : {img : List ℕ} (τ : Trace base img) {b : Provenance} → ProvenanceOf base (callsOf τ) b → (t : ℕ) (out : List ℕ) → planRefusal base img t out ≡ 0 → PlanMeans base img t out
 plan-answered-base τ f t out r = plan-answered fitting-base τ f t out r

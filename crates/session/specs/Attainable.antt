@@ -3,7 +3,7 @@ use Prim.Native.Nat.{ℕ, _+_, _*_, _≤_, _<_}
 use mathlib.Core.Bool.{true, false}
 use mathlib.Core.Path.{_≡_}
 use mathlib.Core.List.{List}
-use mathlib.Core.Logic.{_⊎_, _↔_}
+use mathlib.Core.Logic.{_↔_}
 use lib.ListN.{length}
 use Rattle.rules.specs.Layout.{Layout, lastNumber}
 use Rattle.rules.specs.State.{State}
@@ -52,5 +52,9 @@ pub record AttainableExactly (y : Layout) (s : State) (b : Provenance) (t : ℕ)
 pub record PlanMeans (y : Layout) (img : List ℕ) (t : ℕ) (out : List ℕ) : Type 0 where
   -- some steps: run on that image, they sign the take
   pub steps : 0 < planAnswer y img t out → (lent : List ℕ) → length lent ≡ stepBytes * planAnswer y img t out → PlanRuns y img t out lent
-  -- none: the take can't be signed any more in the life that it has, whatever comes; or a letter is needed for which there is no room
-  pub none : planAnswer y img t out ≡ 0 → Doomed y (unpack y img) t ⊎ (LettersFit y (unpack y img) (restingVolume y (unpack y img) t) → ⊥)
+  -- if `impediment` says hopeless or exhausted of the same image: none, and the take can't be signed any more
+  -- in the life that it has, whatever comes
+  pub lasting : mendable (impedimentOf y (unpack y img) t) ≡ false → (planAnswer y img t out ≡ 0) × Doomed y (unpack y img) t
+  -- none, where `impediment` says anything else: a letter is needed for which there is no room
+  pub unfit : mendable (impedimentOf y (unpack y img) t) ≡ true → planAnswer y img t out ≡ 0
+      → LettersFit y (unpack y img) (restingVolume y (unpack y img) t) → ⊥

@@ -9,9 +9,8 @@ use Rattle.rules.specs.Refusals.{groupBits}
 use Rattle.rules.specs.Pack.{unpack}
 use Rattle.rules.specs.Dependents.{worksAt}
 use Rattle.rules.specs.Internal.Closure.{Names}
-use Rattle.rules.proofs.Bits.{shifted, names-none, names-on, names-off}
+use Rattle.rules.proofs.Bits.{shifted, names-none, word-fits, names-on, names-off}
 use Rattle.rules.proofs.Groups.Dependents.{names-end}
-use Rattle.grounds.proofs.Words.{word-fits}
 use Rattle.grounds.proofs.unfinished.Statement.{statement}
 use Rattle.grounds.proofs.unfinished.Tie as tie
 

@@ -6,7 +6,7 @@ use mathlib.Core.List.{List, []}
 use lib.Dec.{eqb, ltb}
 use lib.ListN.{length}
 use Rattle.octets.specs.Bytes.{pick, put}
-use Rattle.notation.specs.Notation.{packStep}
+use Rattle.rules.specs.Step.{packStep}
 use Rattle.notation.specs.Reading.{next, good, nothing, room, lineAt, emptyStep, Progress}
 pub use Rattle.parser.specs.declared.Line.{Line}
 pub use Rattle.parser.specs.declared.Lines.{Lines}

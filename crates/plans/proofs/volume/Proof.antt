@@ -1,4 +1,4 @@
--- After c turns those below c that it rests on are named.
+-- After c turns those below c whose rows name it are named.
 use Prim.Native.Nat.{_-_, _≤_}
 use mathlib.Core.Logic.{⊎-elim}
 use mathlib.Core.Path.{refl, sym, _∙_, subst}
@@ -6,19 +6,18 @@ use native.Mathlib.Omega.{arith}
 use borrow.Author.Needs.{needs}
 use Rattle.rules.specs.Layout.{base}
 use Rattle.rules.specs.Refusals.{groupBits}
-use Rattle.rules.specs.Pack.{unpack}
-use Rattle.rules.specs.Dependents.{throughAt}
 use Rattle.rules.specs.Internal.Closure.{Names}
-use Rattle.rules.proofs.Bits.{shifted, names-none, names-on, names-off}
-use Rattle.plans.proofs.Writing.{row-names, volume-end, word-fits}
+use Rattle.rules.proofs.Bits.{shifted, names-none, word-fits, names-on, names-off}
+use Rattle.plans.specs.Internal.Written.{rowNames}
+use Rattle.plans.proofs.Writing.{row-is, rows-end}
 use Rattle.plans.proofs.volume.Statement.{statement}
 use Rattle.plans.proofs.volume.Tie as tie
 
 abbrev Inv-loop : tie.InvT-loop
-Inv-loop image t reach group₀ c₀ group c = Names (λ c. throughAt (unpack base image) (base .transactors) c t) c group × (c ≤ base .transactors)
+Inv-loop t reach group₀ c₀ group c = Names (rowNames (reach .through) t) c group × (c ≤ base .transactors)
 
 abbrev μ-loop : tie.MeasureT-loop
-μ-loop image t reach group₀ c₀ group c = base .transactors - c
+μ-loop t reach group₀ c₀ group c = base .transactors - c
 
 add-group : tie.Need-add-group Inv-loop μ-loop
 add-group c =
@@ -27,13 +26,11 @@ add-group c =
 
 loop-again : tie.Need-loop-again Inv-loop μ-loop
 loop-again c =
-    let m = c .before .before .before .before in
-    let b = m .loop in
-    let p = m .before .before .before .pre in
-    let n = sym (row-names _ _ (m .before .reach-of .ensures) _ (search needs) (p .1) _ refl) ∙ sym (c .before .is-named .ensures) in
+    let b = c .before .before .before .before .loop in
+    let n = sym (row-is _ _ _ _ refl) ∙ sym (c .before .is-named .ensures) in
     ⊎-elim
-    (λ w. (subst (Names (λ x. throughAt (unpack base _) (base .transactors) x _) _) (sym (w .1)) (names-on (b .inv .0) _ (shifted _ groupBits (search needs)) (n ∙ w .0 .taken)), search needs))
-    (λ w. (subst (Names (λ x. throughAt (unpack base _) (base .transactors) x _) _) (sym (w .1)) (names-off (b .inv .0) (n ∙ w .0 .left)), search needs))
+    (λ w. (subst (Names (rowNames _ _) _) (sym (w .1)) (names-on (b .inv .0) _ (shifted _ groupBits (search needs)) (n ∙ w .0 .taken)), search needs))
+    (λ w. (subst (Names (rowNames _ _) _) (sym (w .1)) (names-off (b .inv .0) (n ∙ w .0 .left)), search needs))
     (c .if1 .came)
 
 pub volume-spec : {M : Type 1} → statement M
@@ -42,7 +39,6 @@ volume-spec =
     (tie.spec
     Inv-loop
     μ-loop
-    (λ c κs. search needs)
     (λ c. (names-none _, search needs))
     (λ c. search needs)
     (λ c. search needs)
@@ -53,4 +49,4 @@ volume-spec =
     (λ c. search needs)
     (λ c. search needs)
     loop-again
-    (λ c. volume-end _ _ _ _ (c .before .loop .inv .0) (c .before .loop .inv .1) (search needs)))
+    (λ c. rows-end (c .before .loop .inv .0) (c .before .loop .inv .1) (search needs)))

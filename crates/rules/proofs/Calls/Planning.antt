@@ -1,6 +1,6 @@
 -- What the call for a plan wrote, run on the image that it was asked about.
-use Prim.Native.Nat.{ℕ, zero, suc, _+_, _*_, _-_, _/_, _%_, _≤_, _<_}
-use mathlib.Core.Bool.{Bool, true, false, not}
+use Prim.Native.Nat.{ℕ, zero, suc, _+_, _*_, _-_, _%_, _≤_, _<_}
+use mathlib.Core.Bool.{Bool, true, false}
 use mathlib.Core.Path.{_≡_, refl, sym, ap, _∙_, subst}
 use mathlib.Core.List.{List, [], _++_}
 use native.Mathlib.Decide.{ℕ-discrete}
@@ -10,19 +10,17 @@ use lib.ListN.{length, getD, length-append}
 use borrow.Author.Tests.{eq-eqb, ne-eqb, eqb-true}
 use Rattle.octets.specs.Bytes.{pick, part, chunks, zeros, Octets}
 use Rattle.octets.proofs.Put.{part-left, part-whole, getD-part, octets-append, octets-nil}
-use Rattle.octets.proofs.Zero.{length-zeros}
 use Rattle.octets.proofs.Chunks.{part-chunks, octets-chunks}
-use Rattle.octets.proofs.Tests.{pick-view, pick-zero}
+use Rattle.octets.proofs.Tests.{pick-view}
 use Rattle.rules.specs.Layout.{Layout, base, messageBytes, Fitting}
 use Rattle.rules.specs.State.{Message, State, noMessage, transactorAt, messageAt, live}
-use Rattle.rules.specs.Step.{stepBytes, stepAt, packReply, done}
-use Rattle.rules.specs.Refusals.{named, groupBits}
+use Rattle.rules.specs.Step.{stepBytes, stepAt, done, packStep}
+use Rattle.rules.specs.Refusals.{named}
 use Rattle.rules.specs.Rules.{stepOf}
 use Rattle.rules.specs.Pack.{transactorPart, messagePart, packTransactor, packMessage, packTransactorAt, packMessageAt, pack, unpack}
-use Rattle.rules.specs.Form.{wellFormed}
 use Rattle.rules.specs.Calls.{longest, stateAfter, replyAt, stepsIn, runAnswer, ranImage, ranReplies, runImage, runReplies, queryRefusal}
 use Rattle.rules.specs.Groups.{signing}
-use Rattle.rules.specs.Plan.{packStep, waking, receipt, freezing, toFreeze, toWake, stepsFor, lettersFit, restingVolume, mendable, stepsToSign, planOf, planBytes, planRefusal, planAnswer, planOut, Attains, PlanRuns}
+use Rattle.rules.specs.Plan.{waking, receipt, freezing, toFreeze, toWake, stepsFor, lettersFit, restingVolume, mendable, stepsToSign, planOf, planBytes, planRefusal, planAnswer, planOut, Attains, PlanRuns}
 use Rattle.rules.specs.Impediment.{impedimentOf}
 use Rattle.rules.specs.ReadyGroups.{howMany}
 use Rattle.rules.specs.Internal.Well.{WellFormed}
@@ -34,7 +32,7 @@ use Rattle.rules.proofs.Calls.Begin.{right-length}
 use Rattle.rules.proofs.Calls.Query.{Accepted, query-accepted}
 use Rattle.rules.proofs.Calls.Run.{part-fine}
 use Rattle.rules.proofs.Groups.Impediments.{asked-live}
-use Rattle.rules.proofs.Groups.Planned.{length-packStep, octets-packStep}
+use Rattle.rules.proofs.Pack.Steps.{length-packStep, octets-packStep}
 use Rattle.rules.proofs.Groups.Plans.{some-attains}
 
 -- ---- a plan fits the bytes that are lent for it

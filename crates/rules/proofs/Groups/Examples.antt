@@ -16,7 +16,8 @@ use Rattle.rules.specs.ReadyGroups.{howMany}
 use Rattle.rules.specs.Dependents.{holdsPresent, restsAt, worksAt, carriesAt, groupOf, throughAt, dependentsOf}
 use Rattle.rules.specs.Obstacle.{firstOf, unstableAt, blocksIn, isPresent, groundOf, entryObstacle, mapObstacle, obstacleOf}
 use Rattle.rules.specs.Impediment.{isWithdrawn, withdrawnIn, withdrawnBy, lostGround, impedesAt, lowestFor, nextAt, impedimentOf}
-use Rattle.rules.specs.Plan.{packStep, toFreeze, toWake, stepsFor, letters, lettersFit, restingVolume, stepsToSign, planOf}
+use Rattle.rules.specs.Step.{packStep}
+use Rattle.rules.specs.Plan.{toFreeze, toWake, stepsFor, letters, lettersFit, restingVolume, stepsToSign, planOf}
 use Rattle.rules.specs.Examples.{after, Computed}
 
 pub computed : Computed

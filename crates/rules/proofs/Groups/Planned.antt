@@ -1,40 +1,38 @@
 -- The steps of a plan, one by one: a letter, its receipt, a freeze, a signing; and lists of steps that are all answered with 0.
-use Prim.Native.Nat.{ℕ, zero, suc, _+_, _*_, _-_, _/_, _%_, _≤_, _<_}
-use mathlib.Core.Bool.{Bool, true, false, not}
+use Prim.Native.Nat.{ℕ, zero, _+_, _*_, _-_, _≤_, _<_}
+use mathlib.Core.Bool.{false, not}
 use mathlib.Core.Path.{_≡_, refl, sym, ap, _∙_, subst}
 use mathlib.Core.List.{List, [], _∷_, _++_, append-nil}
 use mathlib.Core.Logic.{⊎-elim}
-use mathlib.Core.Option.{Option, none}
 use native.Mathlib.Omega.{arith}
-use lib.Dec.{eqb, leb}
-use lib.ListN.{length, getD, set, take, drop, length-append, List·getD-append}
-use lib.Seq.{take-append-seam, drop-append-add, getD-at, getD-set-same, set-set}
+use lib.Dec.{eqb}
+use lib.ListN.{length, set, take, drop, length-append, List·getD-append}
+use lib.Seq.{take-append-seam, drop-append-add, getD-at}
 use borrow.Author.Tests.{eq-eqb, eqb-true, ne-eqb, lt-leb, not-false}
-use Rattle.octets.specs.Bytes.{pick, _and_, _or_, part, any, Octets}
-use Rattle.octets.specs.Numbers.{be, ofBe, bound}
+use Rattle.octets.specs.Bytes.{_and_, _or_, Octets}
 use Rattle.octets.proofs.Chunks.{sides}
 use Rattle.octets.proofs.Put.{part-whole, octets-append, octets-nil}
-use Rattle.octets.proofs.Numbers.{length-be, octets-be}
 use Rattle.octets.proofs.Tests.{and-false, or-off, pick-view}
 use Rattle.octets.proofs.Zero.{any-off}
 use Rattle.maps.specs.declared.DependenceMap.{DependenceMap}
-use Rattle.maps.specs.Map.{Sized, heldAt, historyAt, emptyMap, withEntry, firstSuperseded, anyUnrelated, supersededEntry, supersededAt, unrelatedEntry, unrelatedAt}
+use Rattle.maps.specs.Map.{Sized, heldAt, withEntry, anyUnrelated, supersededEntry, supersededAt, unrelatedEntry, unrelatedAt}
 use Rattle.maps.specs.News.{informedOf}
 use Rattle.maps.proofs.Map.{held-empty}
 use Rattle.maps.proofs.News.{informed-apart}
 use Rattle.maps.proofs.Superseded.{superseded-none}
 use Rattle.marks.specs.History.{stabilized}
 use Rattle.rules.specs.Layout.{Layout, lastNumber}
-use Rattle.rules.specs.Status.{idle, busy, annihilated}
+use Rattle.rules.specs.Status.{idle, busy}
 use Rattle.rules.specs.State.{Transactor, Message, State, noMessage, transactorAt, messageAt, ownHistory, withStatus, withState, withTransactor, withOpened, withMessage, withoutMessage, placeOf, numbered}
-use Rattle.rules.specs.Step.{Step, stepBytes, unpackStep, stepAt, done, root, letter, receive, new, send, freeze, lose, sign}
+use Rattle.rules.specs.Step.{Step, stepBytes, unpackStep, packStep, stepAt, done, root, letter, receive, new, send, freeze, lose, sign}
 use Rattle.rules.specs.Refusals.{malformed}
-use Rattle.rules.specs.Rules.{Effect, Result, noDependences, known, taken, messageSuperseded, receiverSuperseded, messageUnrelated, receiveBy, freezeBy, localBy, receiptRollsBack, receiptUnrelated, groupReady, checkpointGroup, refusal, answer, opened, applyRoot, applyLetter, applyReceive, applyNew, applySend, applyLocal, applyLose, applySign, apply, stepOf}
+use Rattle.rules.specs.Rules.{Result, noDependences, known, taken, messageSuperseded, receiverSuperseded, messageUnrelated, receiveBy, freezeBy, localBy, receiptRollsBack, receiptUnrelated, groupReady, checkpointGroup, refusal, answer, opened, applyRoot, applyLetter, applyReceive, applyNew, applySend, applyLocal, applyLose, applySign, apply, stepOf}
 use Rattle.rules.specs.Calls.{stateAfter}
 use Rattle.rules.specs.Groups.{signing}
-use Rattle.rules.specs.Plan.{packStep, waking, receipt, freezing}
+use Rattle.rules.specs.Plan.{waking, receipt, freezing}
 use Rattle.rules.specs.Internal.Well.{StepOk}
-use Rattle.rules.specs.Internal.Guards.{roomRefusal, isLastIncarnation}
+use Rattle.rules.specs.Internal.Guards.{roomRefusal}
+use Rattle.rules.proofs.Pack.Steps.{length-packStep, octets-packStep, unpack-pack}
 use Rattle.rules.proofs.Places.{placeFrom-is}
 use Rattle.rules.proofs.Keep.Run.{after-zero, after-suc, at-left, at-right, after-left, after-append}
 use Rattle.rules.proofs.Keep.Step.{applied-same}
@@ -42,36 +40,6 @@ use Rattle.rules.proofs.ByKind.Refused.{refuses}
 use Rattle.rules.proofs.ByKind.Applied.{applies}
 
 -- ---- a step packed
-
-pub length-packStep : (p : Step) → length (packStep p) ≡ stepBytes
-unfolding packStep
-length-packStep p = simp (length-append, length-be)
-
-pub octets-packStep : (p : Step) → Octets (packStep p)
-unfolding packStep
-octets-packStep p =
-    octets-append (be 1 (16 * p .kind + p .transactor) ++ be 1 (16 * p .other + p .zero) ++ be 2 (p .message)) (be 4 (p .value))
-    (octets-append (be 1 (16 * p .kind + p .transactor) ++ be 1 (16 * p .other + p .zero)) (be 2 (p .message))
-    (octets-append (be 1 (16 * p .kind + p .transactor)) (be 1 (16 * p .other + p .zero)) (octets-be 1 (16 * p .kind + p .transactor)) (octets-be 1 (16 * p .other + p .zero)))
-    (octets-be 2 (p .message)))
-    (octets-be 4 (p .value))
-
-pub unpack-pack : (p : Step) → StepOk p → unpackStep (packStep p) ≡ p
-unfolding packStep unpackStep be ofBe part bound
-unpack-pack p h =
-    let a : p .kind < 16 = h .kind in
-    let b : p .transactor < 16 = h .transactor in
-    let c : p .other < 16 = h .other in
-    let d : p .zero < 16 = h .zero in
-    let m : p .message < 65536 = h .message in
-    let v : p .value < 4294967296 = h .value in
-    let k : (16 * p .kind + p .transactor) % 256 / 16 ≡ p .kind = omega arith in
-    let t : (16 * p .kind + p .transactor) % 256 % 16 ≡ p .transactor = omega arith in
-    let o : (16 * p .other + p .zero) % 256 / 16 ≡ p .other = omega arith in
-    let z : (16 * p .other + p .zero) % 256 % 16 ≡ p .zero = omega arith in
-    let w : (0 * 256 + p .message / 256 % 256) * 256 + p .message % 256 ≡ p .message = omega arith in
-    let x : (((0 * 256 + p .value / 256 / 256 / 256 % 256) * 256 + p .value / 256 / 256 % 256) * 256 + p .value / 256 % 256) * 256 + p .value % 256 ≡ p .value = omega arith in
-    λ i. record { kind = k i; transactor = t i; other = o i; zero = z i; message = w i; value = x i }
 
 pub step-one : (p : Step) → StepOk p → stepAt (packStep p) 0 ≡ p
 unfolding stepAt

@@ -1,5 +1,5 @@
 -- A plan attains what it is for: run from any well-formed state, every step is answered with 0, and the last signs the take with all that it rests on.
-use Prim.Native.Nat.{ℕ, zero, suc, _+_, _*_, _-_, _/_, _^_, _≤_, _<_}
+use Prim.Native.Nat.{ℕ, zero, suc, _+_, _*_, _-_, _≤_, _<_}
 use mathlib.Core.Bool.{Bool, true, false, not, false≢true}
 use mathlib.Core.Path.{_≡_, refl, sym, ap, _∙_, subst}
 use mathlib.Core.List.{List, [], _++_}
@@ -11,39 +11,38 @@ use lib.ListN.{length, length-append, length-set, List·getD-eq-default}
 use borrow.Author.Tests.{eq-eqb, ne-eqb, eqb-true, eqb-false, lt-ltb, ltb-true, le-leb, leb-true, leb-false}
 use Rattle.octets.specs.Bytes.{pick, _and_, _or_, tabulate, chunks, Octets}
 use Rattle.octets.specs.Numbers.{bound}
-use Rattle.octets.proofs.Chunks.{sides, cases, chunks-suc, getD-tabulate, length-tabulate}
+use Rattle.octets.proofs.Chunks.{sides, getD-tabulate, length-tabulate}
 use Rattle.octets.proofs.Tests.{pick-view, pick-zero, or-of, and-of, otherwise}
 use Rattle.octets.proofs.Zero.{both}
 use Rattle.marks.specs.declared.History.{History}
-use Rattle.marks.specs.Incarnation.{Incarnation, checkpointedIn, sameIncarnation}
 use Rattle.marks.specs.History.{incarnationOf, stabilized}
 use Rattle.maps.specs.declared.DependenceMap.{DependenceMap}
-use Rattle.maps.specs.Map.{Sized, heldAt, historyAt, emptyMap, withEntry}
+use Rattle.maps.specs.Map.{Sized, heldAt, historyAt, emptyMap}
 use Rattle.maps.proofs.Map.{held-withEntry, history-withEntry, held-withEntry-other, history-withEntry-other}
 use Rattle.rules.specs.Layout.{Layout, Limits, Fitting, lastNumber}
 use Rattle.rules.specs.Status.{idle, busy}
-use Rattle.rules.specs.State.{Transactor, Message, State, noTransactor, transactorAt, messageAt, ownHistory, live, withTransactor, withMessage, placeFrom}
-use Rattle.rules.specs.Step.{Step, stepBytes, stepAt, done}
+use Rattle.rules.specs.State.{Transactor, Message, State, noTransactor, transactorAt, ownHistory, live, withTransactor, withMessage, placeFrom}
+use Rattle.rules.specs.Step.{Step, stepBytes, stepAt, done, packStep}
 use Rattle.rules.specs.Refusals.{named, groupBits, malformed}
-use Rattle.rules.specs.Rules.{Result, noDependences, groupReady, checkpointBy, checkpointAt, checkpointGroup, answer, applySign, refusal, stepOf}
+use Rattle.rules.specs.Rules.{Result, noDependences, groupReady, checkpointBy, checkpointAt, checkpointGroup, applySign, refusal, stepOf}
 use Rattle.rules.specs.Calls.{stateAfter, stepsIn}
 use Rattle.rules.specs.Groups.{signing, Checkpointable}
 use Rattle.rules.specs.ReadyGroups.{howMany}
 use Rattle.rules.specs.Dependents.{holdsPresent, restsAt, throughAt, groupOf}
-use Rattle.rules.specs.Impediment.{isWithdrawn, withdrawnIn, withdrawnBy, lostGround, impedesAt, lowestFor, impedimentOf}
-use Rattle.rules.specs.Plan.{packStep, waking, receipt, freezing, toFreeze, toWake, stepsFor, restingVolume, letters, lettersFit, mendable, stepsToSign, planOf, Attains}
+use Rattle.rules.specs.Impediment.{isWithdrawn, withdrawnIn, withdrawnBy, lostGround, impedesAt, impedimentOf}
+use Rattle.rules.specs.Plan.{waking, receipt, freezing, toFreeze, toWake, stepsFor, restingVolume, letters, lettersFit, mendable, stepsToSign, planOf, Attains}
 use Rattle.rules.specs.Internal.Guards.{roomRefusal, groupIn}
-use Rattle.rules.specs.Internal.Well.{StepOk, Live, is-idle, is-busy, TransactorFormed, not-opened, gone, alive, Alive, TransactorOk, WellFormed}
+use Rattle.rules.specs.Internal.Well.{StepOk, Live, is-idle, is-busy, TransactorFormed, not-opened, gone, alive, TransactorOk, WellFormed}
 use Rattle.rules.proofs.Keep.Run.{after-zero, at-left, at-right, after-left, after-append}
 use Rattle.rules.proofs.Keep.Step.{keeps-after, refused-same, applied-same}
 use Rattle.rules.proofs.Pack.Stores.{withTransactor-here, withTransactor-other}
 use Rattle.rules.proofs.ByKind.Refused.{refuses}
 use Rattle.rules.proofs.ByKind.Applied.{applies}
-use Rattle.rules.proofs.Groups.Dependents.{group-names, in-group}
+use Rattle.rules.proofs.Groups.Dependents.{in-group}
 use Rattle.rules.proofs.Groups.Signable.{signing-done}
-use Rattle.rules.proofs.Groups.Through.{through-self}
 use Rattle.rules.proofs.Groups.Impediments.{Clear, clear-could, hopeless-is, exhausted-is, unstable-is, none-in-way, mendable-low, through-live}
-use Rattle.rules.proofs.Groups.Planned.{octets-packStep, length-packStep, step-one, Runs, runs-none, runs-one, runs-append, letter-done, receipt-done, freeze-done, woken, frozenBy, numberedOn}
+use Rattle.rules.proofs.Pack.Steps.{length-packStep}
+use Rattle.rules.proofs.Groups.Planned.{step-one, Runs, runs-none, runs-one, runs-append, letter-done, receipt-done, freeze-done, woken, frozenBy, numberedOn}
 
 -- ---- counting
 

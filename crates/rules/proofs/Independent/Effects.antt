@@ -55,7 +55,7 @@ act d s = record {
   messages = adding (d .made) (dropping (d .lost) (s .messages));
 }
 
--- nothing new
+-- the table of a step that leaves everything as it was
 abbrev pub nothing : Delta
 nothing = record { opens = false; takes = λ t. none; made = none; lost = none }
 
@@ -99,7 +99,7 @@ kind-of p formed =
     from-high k fail h11 is-lose λ h10.
     is-local h5 h10
 
--- of parcel m by its addressee x
+-- the receipt of parcel m by its addressee, which is x
 abbrev pub receiveDoing : Layout → Step → Message → Transactor → Doing
 receiveDoing y p m x =
     let r : Effect = receiveBy y (m .addressee) x m in
@@ -108,7 +108,7 @@ receiveDoing y p m x =
       delta = record { opens = false; takes = single (m .addressee) (r .transactor); made = none; lost = some (p .message) };
     }
 
--- take o is opened by x
+-- the opening of take o by the acting take, which is x
 abbrev pub newDoing : Layout → Step → ℕ → Transactor → Doing
 newDoing y p o x =
     let t : ℕ = p .transactor in
@@ -160,7 +160,7 @@ chosen true x z = refl
 chosen false x z = refl
 
 module _ (y : Layout) (s : State) (p : Step) where
-  -- the kinds one by one
+  -- each kind does what its table says
   root-does : (e : p .kind ≡ root) → applyRoot y s p ≡ result (doing y s p (is-root e)) s
   unfolding applyRoot opened withOpened withTransactor doing act
   root-does e =

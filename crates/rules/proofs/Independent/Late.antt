@@ -35,7 +35,7 @@ module _ (b : List ℕ) (i : ℕ) (h : stepBytes * (i + 2) ≤ length b) where
   unfolding stepAt
   step-before j l = ap unpackStep (ap (part (stepBytes * j) stepBytes) (exchanged-def k b) ∙ part-put-before k pair b (omega (arith, pair-long)) (stepBytes * j) stepBytes (omega arith))
 
-  -- the pair by itself
+  -- the two steps that change places
   inside : (j : ℕ) → j + stepBytes ≤ stepBytes + stepBytes → part (k + j) stepBytes (exchangedAt k b) ≡ part j stepBytes pair
   inside j l =
       ap (part (k + j) stepBytes) (exchanged-def k b)
@@ -65,7 +65,7 @@ module _ (b : List ℕ) (i : ℕ) (h : stepBytes * (i + 2) ≤ length b) where
   unfolding stepAt
   step-next = ap unpackStep (ap (λ (n : ℕ). part n stepBytes (exchangedAt k b)) (omega arith) ∙ second-is)
 
-  -- exchanged twice
+  -- exchanged twice, they are back in their places
   pub exchanged-twice : exchangedAt k (exchangedAt k b) ≡ b
   exchanged-twice =
       let back : List ℕ = part k stepBytes b ++ part (k + stepBytes) stepBytes b in
@@ -85,7 +85,7 @@ module _ (b : List ℕ) (i : ℕ) (h : stepBytes * (i + 2) ≤ length b) where
       let f : stepAt (exchangedAt k b) j ≡ stepAt b j = step-before j l in
       λ t. stepOf y (e t) (f t) .state
 
--- step i + m of b to place i
+-- step i + m of b may be brought to place i, past m steps of which it is independent, each in the state before that step
 pub brought : (y : Layout) (s : State) (i m : ℕ) (b : List ℕ) → i + m < stepsIn b
     → ((j : ℕ) → i ≤ j → j < i + m → Independent y (stateAfter y s b j) (stepAt b j) (stepAt b (i + m))) → Reorders y s (broughtTo i m) b
 unfolding broughtTo

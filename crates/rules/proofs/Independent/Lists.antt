@@ -22,7 +22,7 @@ unfoldable pub over : Option Transactor → Transactor → Transactor
 over none x = x
 over (some z) x = z
 
--- takes of which f tells what is new
+-- the takes after a change, of which f tells which are new
 unfoldable pub overlay : (ℕ → Option Transactor) → List Transactor → List Transactor
 overlay f [] = []
 overlay f (x ∷ xs) = over (f 0) x ∷ overlay (λ t. f (suc t)) xs
@@ -38,27 +38,27 @@ getD-overlay f [] t d h = absurd (omega arith)
 getD-overlay f (x ∷ xs) zero d h = refl
 getD-overlay f (x ∷ xs) (suc t) d h = getD-overlay (λ t. f (suc t)) xs t d (omega arith)
 
--- a take of which nothing is new
+-- a take that is not new stays as it was
 pub overlay-none : (f : ℕ → Option Transactor) (l : List Transactor) (t : ℕ) (d : Transactor) → f t ≡ none → getD (overlay f l) t d ≡ getD l t d
 unfolding overlay over
 overlay-none f [] t d e = refl
 overlay-none f (x ∷ xs) zero d e = rw e
 overlay-none f (x ∷ xs) (suc t) d e = overlay-none (λ t. f (suc t)) xs t d e
 
--- a take that is new, if it is in the list
+-- a take that is new is found in the list, unless its number is past the list's end
 pub overlay-some : (f : ℕ → Option Transactor) (l : List Transactor) (t : ℕ) (d x : Transactor) → f t ≡ some x → (getD (overlay f l) t d ≡ x) ⊎ (getD (overlay f l) t d ≡ getD l t d)
 unfolding overlay over
 overlay-some f [] t d x e = inr refl
 overlay-some f (z ∷ zs) zero d x e = inl (rw e)
 overlay-some f (z ∷ zs) (suc t) d x e = overlay-some (λ t. f (suc t)) zs t d x e
 
--- nothing new at all
+-- if no take is new, the list stays as it was
 pub overlay-nothing : (l : List Transactor) → overlay (λ t. none) l ≡ l
 unfolding overlay over
 overlay-nothing [] = refl
 overlay-nothing (x ∷ xs) = ap {B = List Transactor} (λ r. x ∷ r) (overlay-nothing xs)
 
--- no take is new twice
+-- two changes in which no take is new twice may change places
 pub overlay-comm : (f g : ℕ → Option Transactor) (l : List Transactor) → ((t : ℕ) → (f t ≡ none) ⊎ (g t ≡ none)) → overlay f (overlay g l) ≡ overlay g (overlay f l)
 unfolding overlay over
 overlay-comm f g [] h = refl
@@ -67,7 +67,7 @@ overlay-comm f g (x ∷ xs) h =
     let r : overlay (λ t. f (suc t)) (overlay (λ t. g (suc t)) xs) ≡ overlay (λ t. g (suc t)) (overlay (λ t. f (suc t)) xs) = overlay-comm (λ t. f (suc t)) (λ t. g (suc t)) xs (λ t. h (suc t)) in
     λ i. e i ∷ r i
 
--- what is new a second time is new
+-- of a take that is new twice the later one counts
 pub overlay-picked : (c : ℕ → Bool) (x : Transactor) (g : ℕ → Option Transactor) (l : List Transactor) → overlay (λ u. pick (c u) (some x) none) (overlay g l) ≡ overlay (λ u. pick (c u) (some x) (g u)) l
 unfolding overlay over
 overlay-picked c x g [] = refl
@@ -79,7 +79,7 @@ overlay-picked c x g (z ∷ zs) =
     go true = refl
     go false = refl
 
--- one take new
+-- a change in which one take is new
 abbrev pub single : ℕ → Transactor → ℕ → Option Transactor
 single t x u = pick (eqb u t) (some x) none
 
@@ -95,7 +95,7 @@ set-overlay (z ∷ zs) (suc t) x =
     let r : set zs t x ≡ overlay (λ u. single (suc t) x (suc u)) zs = set-overlay zs t x ∙ ap (λ f. overlay f zs) (sym e) in
     λ i. over (sym z0 i) z ∷ r i
 
--- all takes told anew
+-- a list of all takes, made anew
 pub tabulate-overlay : (f : ℕ → Option Transactor) (g : ℕ → Transactor) (l : List Transactor) (n : ℕ) → length l ≡ n → ((t : ℕ) → g t ≡ over (f t) (getD l t noTransactor)) → tabulate n g ≡ overlay f l
 tabulate-overlay f g l n e h =
     tabulate-same n g (λ t. getD (overlay f l) t noTransactor) (λ t p. h t ∙ sym (getD-overlay f l t noTransactor (omega arith)))
@@ -103,7 +103,7 @@ tabulate-overlay f g l n e h =
 
 -- ---- parcels
 
--- without the first that has number n
+-- the parcels without the first that has number n
 unfoldable pub without : ℕ → List Message → List Message
 without n [] = []
 without n (m ∷ ms) = pick (eqb (m .number) n) ms (m ∷ without n ms)
@@ -117,7 +117,7 @@ unfoldable pub absent : ℕ → List Message → Bool
 absent n [] = true
 absent n (m ∷ ms) = pick (eqb (m .number) n) false (absent n ms)
 
--- where it stands
+-- the place where it stands
 abbrev place : ℕ → List Message → ℕ
 place n ms = placeFrom (λ k. eqb (getD ms k noMessage .number) n) 0 (length ms)
 

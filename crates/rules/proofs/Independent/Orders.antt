@@ -27,7 +27,7 @@ module _ {y : Layout} {s : State} where
   reorders-then {more = more} (as-is b) r = subst (Reorders y s more) (rearranged-none 0 b) r
   reorders-then {more = more} (exchange i rest b h x q) r = exchange i (rest ++ more) b h x (reorders-then q (subst (Reorders y s more) (rearranged-first i rest b) r))
 
-  -- one exchange, taken back
+  -- one exchange may be taken back
   one-back : (i : ℕ) (b : List ℕ) → i + 2 ≤ stepsIn b → Independent y (stateAfter y s b i) (stepAt b i) (stepAt b (i + 1)) → Reorders y s (i ∷ []) (exchangedAt (stepBytes * i) b)
   one-back i b h x =
       let long : stepBytes * (i + 2) ≤ length b = omega arith in

@@ -51,7 +51,7 @@ rearranged-more : (k i : ℕ) (places b : List ℕ) → rearranged k (i ∷ plac
 unfolding rearranged
 rearranged-more k i places b = refl
 
--- from the list's first byte
+-- places counted from the list's first byte
 pub rearranged-first : (i : ℕ) (places b : List ℕ) → rearranged 0 (i ∷ places) b ≡ rearranged 0 places (exchangedAt (stepBytes * i) b)
 rearranged-first i places b = rearranged-more 0 i places b ∙ ap (λ (n : ℕ). rearranged 0 places (exchangedAt n b)) (zero-add (stepBytes * i))
 
@@ -59,7 +59,7 @@ pub length-rearranged : (k : ℕ) (places b : List ℕ) → length (rearranged k
 length-rearranged k [] b = ap length (rearranged-none k b)
 length-rearranged k (i ∷ places) b = ap length (rearranged-more k i places b) ∙ length-rearranged k places (exchangedAt (k + stepBytes * i) b) ∙ length-exchanged (k + stepBytes * i) b
 
--- a list and what it makes of the state, each counted by its own steps
+-- a list and its rearrangement: the same state at the end of each, and the replies rearranged likewise
 record Ran (y : Layout) (s : State) (b places : List ℕ) : Type 0 where
   state : stateAfter y s (rearranged 0 places b) (stepsIn (rearranged 0 places b)) ≡ stateAfter y s b (stepsIn b)
   replies : chunks (stepsIn (rearranged 0 places b)) (replyAt y s (rearranged 0 places b)) ≡ rearranged 0 places (chunks (stepsIn b) (replyAt y s b))

@@ -47,7 +47,7 @@ named-same g f h e = any-same (λ t. named g t and f t) (λ t. named g t and h t
     go t true n = e t n
     go t false n = refl
 
--- of a receipt: whether the parcel is missing, the parcel, its addressee
+-- what a receipt sees: whether its parcel is missing, the parcel, and the parcel's addressee
 abbrev receiptRefusal : Layout → Bool → Message → Transactor → ℕ
 receiptRefusal y miss m x =
     pick miss 24
@@ -61,7 +61,7 @@ receipt-refusal : (y : Layout) (s : State) (p : Step) → malformed p ≡ false 
 unfolding receiptUnrelated receiptRollsBack
 receipt-refusal y s p formed e = refuses y s p formed .receive e
 
--- a mark of a take that is not named
+-- a mark of a take that the volume does not name is ready exactly if its life is signed
 entry-unnamed : (s : State) (v u : ℕ) (h : History) → named v u ≡ false → entryReady s v u h ≡ signedIn s u (incarnationOf h)
 unfolding entryReady
 entry-unnamed s v u h n = rw (n, or-none)

@@ -49,15 +49,15 @@ same-none [] n = refl
 same-none (x ∷ xs) n = refl
 
 -- a take never signed has no signed life
-none-signed : (a : Incarnation) (h : History) → h .count ≡ 0 → checkpointedIn a (incarnationOf h) ≡ false
+pub none-signed : (a : Incarnation) (h : History) → h .count ≡ 0 → checkpointedIn a (incarnationOf h) ≡ false
 unfolding checkpointedIn beginsWith
 none-signed a h e =
     let xs : List ℕ = a .checkpoints ++ (a .number ∷ []) in
     ap (λ (n : ℕ). sameList xs (take (length xs) (take n (h .checkpoints)))) e
     ∙ ap (sameList xs) (take-none (length xs)) ∙ same-none (a .checkpoints) (a .number)
 
--- the list alone counts
-list-signed : (a b c : Incarnation) → b .checkpoints ≡ c .checkpoints → checkpointedIn a b ≡ checkpointedIn a c
+-- whether a life is signed depends on the list of the present mark alone
+pub list-signed : (a b c : Incarnation) → b .checkpoints ≡ c .checkpoints → checkpointedIn a b ≡ checkpointedIn a c
 unfolding checkpointedIn
 list-signed a b c e = ap (λ (l : List ℕ). beginsWith l (a .checkpoints ++ (a .number ∷ []))) e
 
@@ -111,7 +111,7 @@ alive-live (TransactorFormed.not-opened h) i n = absurd (omega arith)
 alive-live (TransactorFormed.gone h) i n = absurd (n refl)
 alive-live (TransactorFormed.alive h a) i n = live-true (a .status)
 
--- the take that is opened next
+-- the take that is opened next is not live
 unopened-dead : {y : Layout} {c o : ℕ} {x : Transactor} → TransactorFormed y c o o x → live x ≡ false
 unopened-dead (TransactorFormed.not-opened h) = refl
 unopened-dead (TransactorFormed.gone h) = absurd (omega arith)
@@ -125,7 +125,7 @@ module _ (y : Layout) (s : State) (p : Step) (w : WellFormed y s) (z : refusal y
   within-layout : (t : ℕ) → t < s .opened → t < y .transactors
   within-layout t h = omega (arith, w .opened, w .limits .transactors-high)
 
-  -- root, new
+  -- of the take that a root or a new opens
   opened-signs : opens (p .kind) ≡ true → (v : ℕ) (m : DependenceMap) (a : Incarnation) → signedBy (s .opened) (opening y (s .opened) v m) a ≡ signedBy (s .opened) (transactorAt s (s .opened)) a
   unfolding seen
   opened-signs k v m a =
@@ -134,7 +134,7 @@ module _ (y : Layout) (s : State) (p : Step) (w : WellFormed y s) (z : refusal y
       ∙ none-signed a (initialHistory (y .places)) refl
       ∙ sym (ap (λ (c : Bool). c and checkpointedIn a (incarnationOf (ownHistory (s .opened) (transactorAt s (s .opened))))) (unopened-dead (w .transactors (s .opened) below)))
 
-  -- 3 to 10
+  -- the acting take of kinds 3 to 10 is live
   acting-live : acts (p .kind) ≡ true → (p .transactor < s .opened) × (live (transactorAt s (p .transactor)) ≡ true)
   unfolding seen
   acting-live k =

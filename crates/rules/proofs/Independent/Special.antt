@@ -24,7 +24,7 @@ use Rattle.rules.proofs.Independent.Steps.{whole-seen}
 
 -- ---- two edits
 
--- what they are not
+-- kinds that open no take, make no parcel and take none away
 record Apart (k : ℕ) : Type 0 where
   opening : opens k ≡ false
   making : sends k ≡ false
@@ -65,7 +65,7 @@ edits-independent y s p q w = record {
 
 -- ---- a signing
 
--- what it is not
+-- a signing is of none of these kinds
 sign-apart : (k : ℕ) → k ≡ sign → Apart k
 sign-apart k e = record { opening = rw e; making = rw e; taking = rw e }
 
@@ -114,7 +114,7 @@ module _ (y : Layout) (s : State) (p q : Step) (w : WellFormed y s) (e : p .kind
 
 -- ---- receipts
 
--- what a receipt is not
+-- a receipt opens no take, makes no parcel, and has no acting take
 receive-apart : (k : ℕ) → k ≡ receive → (opens k ≡ false) × (sends k ≡ false) × (acts k ≡ false)
 receive-apart k e = (rw e, rw e, rw e)
 
@@ -158,7 +158,7 @@ receipts-independent y s p q e f n w = record {
 
 -- ---- a parcel made, and one received by another take than its sender
 
--- what a letter or a send is not
+-- a letter or a send opens no take and takes no parcel away; it is no receipt and no signing
 sends-apart : (k : ℕ) → sends k ≡ true → (opens k ≡ false) × (takesAway k ≡ false) × (k ≡ receive → ⊥) × (k ≡ sign → ⊥)
 sends-apart k e = ⊎-elim (λ f. go letter (eqb-true k letter f) refl refl (λ g. omega arith) (λ g. omega arith)) (λ f. go send (eqb-true k send f) refl refl (λ g. omega arith) (λ g. omega arith)) (or-to (eqb k letter) (eqb k send) e)
   where

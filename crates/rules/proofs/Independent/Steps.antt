@@ -35,7 +35,7 @@ whole-seen (Changes.naming t e r n) = Sees.naming t e n
 
 -- ---- p after a change that it does not see
 
--- one more opened, but not take t
+-- if one more take is opened, and it is not take t, then t is opened after it exactly if it was before
 leb-more : (o t : ℕ) → (t ≡ o → ⊥) → leb (o + 1) t ≡ leb o t
 leb-more o t n = ⊎-elim
     (λ (h : t < o). lt-leb (o + 1) t (omega arith) ∙ sym (lt-leb o t h))
@@ -175,7 +175,7 @@ module _ (y : Layout) (s : State) (p q : Step) (forth : (c : Cell) → Changes y
 
 -- ---- the steps
 
--- all takes of the layout are there
+-- the state has all takes of its layout
 abbrev pub Full : Layout → State → Type 0
 Full y s = length (s .transactors) ≡ y .transactors
 
@@ -185,7 +185,7 @@ formed-accepted y s p z = ⊎-elim (λ (e : malformed p ≡ true). absurd (twent
     twenty : _≡_ {A = ℕ} 0 20 → ⊥
     twenty e = omega arith
 
--- refused or not
+-- a step is refused, or it is not
 pub decided : (y : Layout) (s : State) (p : Step) → (refusal y s p ≡ 0) ⊎ (refusal y s p ≡ 0 → ⊥)
 decided y s p = ⊎-elim (λ e. inl (eqb-true (refusal y s p) 0 e)) (λ e. inr (eqb-false (refusal y s p) 0 e)) (true-or-false (eqb (refusal y s p) 0))
 
@@ -240,7 +240,7 @@ module _ (y : Layout) (s : State) (p q : Step) (full : Full y s) (formed : malfo
       ∙ sym (refused-reply y s p full n))
       (decided y s p)
 
-  -- refused before, refused after
+  -- p, which is refused before q, is refused after it too and changes nothing
   undisturbed-refused : (refusal y s p ≡ 0 → ⊥) → stepOf y (stepOf y s q .state) p .state ≡ stepOf y s q .state
   undisturbed-refused n = refused-state y (stepOf y s q .state) p (full-after y s q full) (λ (z : refusal y (stepOf y s q .state) p ≡ 0). n (sym (undisturbed .refuses) ∙ z))
 

@@ -1,0 +1,3 @@
+mod Clauses
+mod Meeting
+mod Signing

@@ -1,0 +1,2 @@
+-- For internal functions alone.
+pub mod Footprint
