@@ -190,6 +190,11 @@ async function kept({ browser, check, url }, hands) {
     await hands.press(`[data-focus="hint"]`);
     assert.match((await hands.said())[1], /What does page.12 stand on/);
   });
+  await check("after the last hint the ledger's plan says what is left to do", async () => {
+    await browser.go(`${url}#lesson=01-frozen-and-signed&screen=5`);
+    for (let i = 0; i < 3; i++) await hands.press(`[data-focus="hint"]`);
+    assert.match((await hands.said())[1], /The ledger.s own plan: Someone freezes the names; Someone signs the names and page.12 together\./);
+  });
 }
 
 async function pictures({ browser, check, url }, hands) {

@@ -65,15 +65,14 @@ function permuted(a, b) {
  * @param {number} at
  * @param {string[]} from
  * @param {string[]} to
- * @param {(session: any, first: Uint8Array, second: Uint8Array) => boolean} independent
  */
-function exchanged(left, at, from, to, independent) {
+function exchanged(left, at, from, to) {
   const order = from.map((key, k) => ({ key, step: left.list.subarray(8 * (at + k), 8 * (at + k) + 8) })), start = left.at(at);
   for (let p = 0; p < to.length; p++) {
     for (let q = order.findIndex((s, k) => k >= p && s.key === to[p]); q > p; q--) {
       const session = start.copy();
       for (const { step } of order.slice(0, q - 1)) session.run(step);
-      if (!independent(session, order[q - 1].step, order[q].step)) return false;
+      if (!session.independent(order[q - 1].step, order[q].step)) return false;
       [order[q - 1], order[q]] = [order[q], order[q - 1]];
     }
   }
@@ -83,10 +82,9 @@ function exchanged(left, at, from, to, independent) {
 /**
  * @param {Record} left
  * @param {Record} right
- * @param {(session: any, first: Uint8Array, second: Uint8Array) => boolean} independent
  * @returns {Run[]}
  */
-export function align(left, right, independent) {
+export function align(left, right) {
   const a = keysOf(left), b = keysOf(right), runs = /** @type {Run[]} */ ([]);
   const add = (/** @type {Run["kind"]} */ kind, /** @type {number[]} */ is, /** @type {number[]} */ js) => {
     const last = runs.at(-1);
@@ -99,7 +97,7 @@ export function align(left, right, independent) {
   while (i < a.length || j < b.length) {
     const size = a[i] === b[j] ? 0 : permuted(a.slice(i), b.slice(j)), places = (/** @type {number} */ from) => Array.from({ length: size }, (_, k) => from + k);
     if (a[i] === b[j] && i < a.length) add("same", [i++], [j++]);
-    else if (size && exchanged(left, i, a.slice(i, i + size), b.slice(j, j + size), independent)) (add("order", places(i), places(j)), i += size, j += size);
+    else if (size && exchanged(left, i, a.slice(i, i + size), b.slice(j, j + size))) (add("order", places(i), places(j)), i += size, j += size);
     else if (j >= b.length || (i < a.length && lcs(i + 1 - p, j - q) >= lcs(i - p, j + 1 - q))) add("other", [i++], []);
     else add("other", [], [j++]);
   }

@@ -48,7 +48,8 @@ export class Lesson {
     const screen = this.screens[k], before = screen.fresh || k === 0 ? { list: new Uint8Array(0), count: 0 } : this.after(k - 1);
     const session = Session.begin();
     session.runAll(before.list);
-    const own = stepsOf(session, screen.steps ?? []), now = joined([before.list, own]), then = stepsOf(session.copy(), screen.then ?? screen.solution ?? []);
+    const now = joined([before.list, stepsOf(session, screen.steps ?? [])]);
+    const then = stepsOf(session.copy(), screen.then ?? screen.solution ?? []);
     const scene = { record: new Record(Session.begin(), joined([now, then])), start: before.list.length / 8, count: now.length / 8 };
     this.scenes[k] = scene;
     return scene;

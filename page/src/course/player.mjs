@@ -57,15 +57,17 @@ export class Player {
     this.more = el("section", { class: "more", "aria-label": "details" });
     this.title = el("h1", { tabindex: -1 }, tied(screen.question));
     const story = screen.story.split("\n").map(p => el("p", { class: "prose" }, explained(tied(p), seen)));
-    const ask = el("section", { class: "ask", "aria-label": "question" }, el("p", { class: "eyebrow" }, `Lesson ${lesson.number}, ${lesson.title}`), this.title, story);
-    replace(this.host, el("div", { class: "screen", "data-kind": screen.kind, "data-screen": k + 1 }, ask, this.stage, this.tray, this.say, this.more));
+    const eyebrow = el("p", { class: "eyebrow" }, `Lesson ${lesson.number}, ${lesson.title}`);
+    const ask = el("section", { class: "ask", "aria-label": "question" }, eyebrow, this.title, story);
+    replace(this.host, el("div", { class: "screen", "data-kind": screen.kind, "data-screen": k + 1 }, ask, this.stage, this.tray, this.say), this.more);
     this.seen = seen;
   }
 
   /** From the start of this screen. */
   reset() {
     this.playing?.stop();
-    Object.assign(this, { solved: false, picked: [], said: null, hinted: 0, own: [], volume: this.screen.volume ? volumeOf(this.screen.volume) : 0, fresh: [], order: [], lit: [], litTakes: [] });
+    const volume = volumeOf(this.screen.volume ?? []);
+    Object.assign(this, { solved: false, picked: [], said: null, hinted: 0, own: [], volume, fresh: [], order: [], lit: [], litTakes: [] });
     this.record = this.scene.record;
     this.count = this.scene.count;
     this.draw();
@@ -87,10 +89,9 @@ export class Player {
   }
 
   drawStage() {
-    const tools = el("div", { class: "tools noprint" }, this.playButton(), button("Details", () => this.toggle(), { class: "btn bare sm", "aria-expanded": String(Boolean(this.details)), "data-focus": "details" }));
-    const own = this.kind.stage(this), caption = el("p", { class: "caption", role: "status" });
-    replace(this.stage, own ?? this.board(), tools, caption);
-    this.caption = caption;
+    const details = { class: "btn bare sm", "aria-expanded": String(this.details), "data-focus": "details" };
+    const tools = el("div", { class: "tools noprint" }, this.playButton(), button("Details", () => this.toggle(), details));
+    replace(this.stage, this.kind.stage(this) ?? this.board(), tools);
     this.picture?.draw();
   }
 
@@ -98,7 +99,7 @@ export class Player {
   board() {
     const { names, screen } = this, host = el("div", { class: "picture-host" });
     this.picture = new Picture(host);
-    const layout = [...linesOf(this.scene.record, this.scene.count), ...linesOf(this.scene.record, this.scene.record.length), ...linesOf(this.record, this.count)];
+    const { record, count } = this.scene, layout = [linesOf(record, count), linesOf(record, record.length), linesOf(this.record, this.count)].flat();
     this.picture.show(this.record, this.count, names, {
       picked: this.kind.picksTakes ? this.picked : [],
       pick: this.kind.picksTakes && !this.solved ? t => this.kind.pick(this, t) : null,
@@ -113,7 +114,8 @@ export class Player {
     const { start, count, record } = this.scene, from = start < count ? start : 0;
     if (!this.kind.plays || !count || this.own.length) return null;
     const events = eventsOf(record, this.names, from, count);
-    return button(["Play", mark("play", 14)], () => this.play(events), { class: "btn bare sm", "data-focus": "play", "aria-label": "play how it came to this" });
+    const said = { class: "btn bare sm", "data-focus": "play", "aria-label": "play how it came to this" };
+    return button(["Play", mark("play", 14)], () => this.play(events), said);
   }
 
   play(events) {
@@ -128,7 +130,8 @@ export class Player {
 
   drawSay() {
     const { said, screen, solved } = this;
-    const answer = el("div", { class: `answer ${said?.[0] ?? ""}`, role: "status" }, said ? [el("b", {}, TITLES[said[0]]), " ", explained(tied(said[1]), this.seen)] : null);
+    const words = said && [el("b", {}, TITLES[said[0]]), " ", explained(tied(said[1]), this.seen)];
+    const answer = el("div", { class: `answer ${said?.[0] ?? ""}`, role: "status" }, words);
     replace(this.say, el("p", { class: "hintline" }, solved ? null : screen.do), answer, this.foot());
   }
 
@@ -140,11 +143,16 @@ export class Player {
     const help = solved ? button("Try again", () => this.reset(), { class: "btn bare", "data-focus": "again" })
       : screen.hints ? button("Hint", () => this.hint(), { class: "btn bare", "data-focus": "hint" }) : null;
     const show = !solved && this.tries > 1 ? button("Show me", () => this.show(), { class: "btn bare", "data-focus": "show" }) : null;
-    return el("div", { class: "foot noprint" }, button("Back", () => this.told.back(), { class: "btn bare", "data-focus": "back" }), help, show, main);
+    const back = button("Back", () => this.told.back(), { class: "btn bare", "data-focus": "back" });
+    return el("div", { class: "foot noprint" }, back, help, show, main);
   }
 
+  /** One hint after the other; after the last, what the ledger says is left to do. */
   hint() {
-    this.tell("hint", this.screen.hints[Math.min(this.hinted++, this.screen.hints.length - 1)]);
+    const { hints, wants } = this.screen, list = wants?.signed === undefined ? new Uint8Array(0) : this.session.plan(wants.signed);
+    const left = this.hinted >= hints.length ? eventsOf(new Record(this.session, list), this.names) : [], plan = left.map(e => e.words).join("; ");
+    this.tell("hint", plan ? `The ledger\u2019s own plan: ${plan}.` : hints[Math.min(this.hinted, hints.length - 1)]);
+    this.hinted++;
     if (this.hinted > 1) this.tries = Math.max(this.tries, 2);
     this.draw();
   }

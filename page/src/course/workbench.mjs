@@ -19,7 +19,11 @@ import { keepList, keptList } from "../shared/store.mjs";
 import { effect, verdict } from "../shared/words.mjs";
 
 const LARGEST = 4294967295;
-const EXAMPLE = "root text 7          # the names\nroot text 8          # page 12\nletter to 0 text 5\nreceive 0\nwrite 0 text 9\nsend 0 to 1 text 9\nreceive 1\nwrite 1 text 10\nfreeze 1\nsign {1}\nfreeze 0\nsign {0,1}\nfail 0\n";
+// Document 01's session, with names.
+const EXAMPLE = [
+  "root text 7          # the names", "root text 8          # page 12", "letter to 0 text 5", "receive 0", "write 0 text 9", "send 0 to 1 text 9",
+  "receive 1", "write 1 text 10", "freeze 1", "sign {1}", "freeze 0", "sign {0,1}", "fail 0", "",
+].join("\n");
 
 export class Workbench {
   /** back(lesson): to a screen of a lesson */
@@ -68,8 +72,10 @@ export class Workbench {
 
   tellStory() {
     const { origin } = this, changed = origin && origin.text !== this.editor.text;
-    const own = [el("p", {}, "A list of your own. What follows # on a line that opens a take is its name."), keptList(true) === null ? null : el("p", {}, button("your list before that", () => this.openEarlier(), { id: "earlier" }))];
-    const again = changed ? [" ", button("the lesson\u2019s list again", () => this.openText(origin.text, Infinity, null, origin), { id: "lesson-list" })] : [];
+    const earlier = button("your list before that", () => this.openEarlier(), { id: "earlier", hidden: keptList(true) === null });
+    const own = [el("p", {}, "A list of your own. What follows # on a line that opens a take is its name."), el("p", {}, earlier)];
+    const back = () => this.openText(origin.text, Infinity, null, origin);
+    const again = changed ? [" ", button("the lesson\u2019s list again", back, { id: "lesson-list" })] : [];
     const lesson = () => [
       el("h2", {}, origin.title), origin.story.split("\n").map(p => el("p", {}, p)),
       el("p", {}, button("back to the lesson", () => this.back(origin), { id: "back-to-lesson" }), again),

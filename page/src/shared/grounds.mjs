@@ -7,7 +7,7 @@ import { kindOf } from "./words.mjs";
 
 /** @typedef {import("../../../bindings/js/ledger.mjs").Session} Session */
 /** @typedef {import("./record.mjs").Record} Record */
-/** @typedef {{from: number, to: number, kind: "plain" | "withdrawn" | "together", word?: string}} Line word: what is said of it, where it is not its kind's */
+/** @typedef {{from: number, to: number, kind: "plain" | "withdrawn" | "together", word?: string}} Line word: said of it instead of its kind's */
 
 /**
  * The takes that rest on the present life of one, through others too, without itself.
@@ -63,7 +63,8 @@ function openers(record, count) {
  */
 function givers(record, count, opened) {
   const found = new Map([...opened].map(([child, opener]) => [child, new Set([opener])]));
-  for (const p of fates(record)) if (p.from !== null && p.how === "taken" && p.ended <= count) found.set(p.to, (found.get(p.to) ?? new Set()).add(p.from));
+  const taken = fates(record).filter(p => p.from !== null && p.how === "taken" && p.ended <= count);
+  for (const p of taken) found.set(p.to, (found.get(p.to) ?? new Set()).add(p.from));
   return found;
 }
 
@@ -108,7 +109,10 @@ function openLines(record, count) {
 function together(record, count) {
   /** @type {Map<number, number>} */
   const last = new Map();
-  for (let i = 0; i < count; i++) if (kindOf(record.steps[i]) === "sign" && record.replies[i].outcome === 0) for (const t of takesOf(record.steps[i].parcel)) last.set(t, i);
+  for (let i = 0; i < count; i++) {
+    const signs = kindOf(record.steps[i]) === "sign" && record.replies[i].outcome === 0;
+    for (const t of signs ? takesOf(record.steps[i].parcel) : []) last.set(t, i);
+  }
   const session = record.at(count), before = new Map([...new Set(last.values())].map(i => [i, openLines(record, i)]));
   return [...last].filter(([t]) => settled(session, t)).flatMap(([t, i]) => {
     const inside = (/** @type {Line} */ l) => l.from === t && (record.steps[i].parcel >> l.to) & 1;

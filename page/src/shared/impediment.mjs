@@ -1,7 +1,6 @@
 // Why no volume with a take could be signed now: what is in the way, and the takes from the one asked about to it, each resting on the
 // next. The answers are the library's.
 import { Refusal } from "../../../bindings/js/ledger.mjs";
-import { packStep, readReply } from "../../../bindings/js/packed.mjs";
 
 /** kind: nothing, withdrawn (with the ground), all signed, or not frozen; path: from the take to the one that is in the way. */
 export function impediment(session, take) {
@@ -24,12 +23,4 @@ function namedGround(session, take) {
     if (!(e instanceof Refusal)) throw e;
     return null;
   }
-}
-
-/** Freezes a take of a copy: "frozen", "started" after a letter where it is idle, or null where the ledger does not let it. */
-export function freeze(copy, take) {
-  const done = bytes => readReply(copy.run(bytes), 0).outcome === 0, frozen = packStep("freeze", { take });
-  if (done(frozen)) return "frozen";
-  const letter = readReply(copy.run(packStep("letter", { take })), 0);
-  return letter.outcome === 0 && done(packStep("receive", { parcel: letter.parcel })) && done(frozen) ? "started" : null;
 }

@@ -55,7 +55,8 @@ function hatchOf({ take, from, to }, shown, x) {
 /** The same in sheets of so many rows, of which each has what is drawn between its first and last row. */
 export function bands(record, names, shown, wide, size) {
   const lanes = record.heads[shown].length, x = lanesOf(wide), width = pictureWidth(lanes, wide), own = `picture${++pictures}`, found = [];
-  const parcels = fates(record).filter(p => p.made <= shown), lines = Array.from({ length: lanes }, (_, t) => stretches(record, t, shown, x(t))).flat();
+  const parcels = fates(record).filter(p => p.made <= shown);
+  const lines = Array.from({ length: lanes }, (_, t) => stretches(record, t, shown, x(t))).flat();
   lines.push(...goneSpans(record, shown).map(s => hatchOf(s, shown, x)));
   for (let first = 0; first < record.length; first += size) {
     const last = Math.min(first + size, record.length), drawn = sheet(width, ROW * (last - first), first ? null : arrowheads(own));
@@ -107,8 +108,9 @@ function stretches(record, t, shown, x) {
   }
   const top = s => (s.start === 0 ? 0 : rowY(s.start)), bottom = s => (s.end === shown ? rowY(s.end) + ROW / 2 : rowY(s.end + 1));
   const lines = found.filter(s => s.style).map(s => stretch(s.style, x, top(s), bottom(s))), end = rowY(shown) + ROW / 2;
-  const signed = record.heads.findIndex((heads, i) => i <= shown && heads[t]?.mark?.list.length), gone = record.heads.findIndex((heads, i) => i <= shown && heads[t]?.status === "vanished");
-  return [signed < 0 ? null : kept(x, signed ? rowY(signed) : 0, end), ...lines, gone < 0 ? null : dead(x, gone ? rowY(gone) : 0, end)].filter(Boolean);
+  const first = holds => record.heads.findIndex((heads, i) => i <= shown && heads[t] && holds(heads[t])), from = i => (i ? rowY(i) : 0);
+  const signed = first(head => head.mark?.list.length), gone = first(head => head.status === "vanished");
+  return [signed < 0 ? null : kept(x, from(signed), end), ...lines, gone < 0 ? null : dead(x, from(gone), end)].filter(Boolean);
 }
 
 /** Where a parcel's arrow starts and ends. One from outside starts beside its addressee's lane. */

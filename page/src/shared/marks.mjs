@@ -26,7 +26,10 @@ const line = (/** @type {string} */ d, /** @type {string} */ name) => svg("path"
 /** @type {Record<string, () => SVGElement[]>} */
 const SHAPES = {
   draft: () => [svg("circle", { cx: 12, cy: 12, r: 9, class: "mark-draft" })],
-  frozen: () => [svg("path", { d: "M12 1.6 21 6.8V17.2L12 22.4 3 17.2V6.8Z", class: "mark-frozen" }), line("M12 6.2v11.6M7 9.1l10 5.8M17 9.1 7 14.9", "ice")],
+  frozen: () => [
+    svg("path", { d: "M12 1.6 21 6.8V17.2L12 22.4 3 17.2V6.8Z", class: "mark-frozen" }),
+    line("M12 6.2v11.6M7 9.1l10 5.8M17 9.1 7 14.9", "ice"),
+  ],
   signed: () => [svg("path", { d: `${scallop}Z`, class: "mark-signed" }), line("m7.3 12.4 3.2 3.2 6.3-6.9", "on-signed")],
   gone: () => [svg("path", { d: "M2.5 2.5h19v12.5l-4.75 6.5L12 15l-4.75 6.5L2.5 15Z", class: "mark-gone" }), line("M7 6.2h10M7 10.2h6", "on-gone")],
   vanished: () => [svg("rect", { x: 3, y: 3, width: 18, height: 18, class: "mark-vanished" }), line("m8 8 8 8m0-8-8 8", "cross-out")],
@@ -48,7 +51,8 @@ const SHAPES = {
  * @param {number} [size]
  */
 export function mark(kind, size = 18) {
-  return svg("svg", { class: `mark m-${kind}`, width: size, height: size, viewBox: "0 0 24 24", "aria-hidden": "true", focusable: "false" }, SHAPES[kind]());
+  const box = { width: size, height: size, viewBox: "0 0 24 24", "aria-hidden": "true", focusable: "false" };
+  return svg("svg", { class: `mark m-${kind}`, ...box }, SHAPES[kind]());
 }
 
 /**

@@ -1,10 +1,10 @@
 // Why a volume is not ready and what would help, and which mark decided at a receipt, in sentences. The answers are the library's.
-import { takesOf } from "../../../bindings/js/packed.mjs";
+import { readStep, takesOf } from "../../../bindings/js/packed.mjs";
 import { life, readTake, readMap, sameLife } from "../../../bindings/js/image.mjs";
-import { impediment, freeze } from "./impediment.mjs";
+import { impediment } from "./impediment.mjs";
 import { fallsOf, lost, outcomeOf, wayOut } from "./ways.mjs";
 import { braces, capital } from "./names.mjs";
-import { DROPPED, FALLEN_BACK, tone } from "./words.mjs";
+import { DROPPED, FALLEN_BACK, kindOf, tone } from "./words.mjs";
 
 const WORST_FIRST = ["withdrawn", "all signed", "not frozen", "nothing"];
 
@@ -57,16 +57,12 @@ function fallOf(record, count, ground, take) {
   return null;
 }
 
-/** What is to be frozen so that a volume with the take could be signed, tried on a copy. */
+/** What is left to do so that the take is signed, by the library's plan. */
 function freezing(session, take, names) {
-  const copy = session.copy(), steps = [];
-  for (let found = impediment(copy, take); found.kind === "not frozen"; found = impediment(copy, take)) {
-    const last = found.path.at(-1), how = freeze(copy, last);
-    if (!how) return [];
-    steps.push(how === "frozen" ? `freeze ${names.take(last)}` : `start work on ${names.take(last)}, freeze it`);
-  }
-  const volume = copy.smallestVolume(take);
-  return volume ? [`What would help: ${steps.join(", ")}, then sign ${braces(volume)} (${names.volume(volume)}).`] : [];
+  const list = session.plan(take), steps = Array.from({ length: list.length / 8 }, (_, i) => readStep(list, i)), of = kind => steps.filter(s => kindOf(s) === kind);
+  const woken = new Set(of("letter").map(s => s.take)), volume = of("sign")[0]?.parcel;
+  const frozen = of("freeze").map(s => (woken.has(s.take) ? `start work on ${names.take(s.take)}, freeze it` : `freeze ${names.take(s.take)}`));
+  return volume ? [`What would help: ${[...frozen, `then sign ${braces(volume)} (${names.volume(volume)})`].join(", ")}.`] : [];
 }
 
 /** Each named take could be signed, but not in this volume. */

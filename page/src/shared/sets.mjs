@@ -52,15 +52,15 @@ export function canSign(session, volume) {
  * @param {Session} session
  * @param {number} volume
  * @param {import("./names.mjs").Names} names
- * @param {{pick?: ((member: Member) => void) | null, hidden?: boolean}} how pick: told which life was clicked; hidden: who has a partner is not shown yet
+ * @param {{pick?: ((member: Member) => void) | null, hidden?: boolean}} how pick: told which life was clicked; hidden: partners are not shown
  */
 export function twoSets(session, volume, names, { pick = null, hidden = false } = {}) {
   const left = leftSet(session, volume), ready = canSign(session, volume);
-  const verdict = !volume ? "Put something into the volume." : ready ? "The two sets are equal: it can be signed." : "Not equal: it can\u2019t be signed.";
+  const verdict = ready ? "The two sets are equal: it can be signed." : "Not equal: it can\u2019t be signed.";
   return el("section", { class: `sets${ready ? " equal" : ""}${hidden ? " unknown" : ""}`, "aria-label": "the two sets of a signing" },
     el("div", { class: "sets-head" }, el("span", {}, "What it rests on, unsigned"), el("span", {}), el("span", {}, "Frozen members of the volume")),
     el("ul", {}, left.map(m => pair(m, names, pick))),
-    hidden ? null : el("p", { class: "sets-verdict", role: "status" }, ready ? mark("tick", 18) : null, verdict));
+    hidden ? null : el("p", { class: "sets-verdict", role: "status" }, ready ? mark("tick", 18) : null, volume ? verdict : "Put something into the volume."));
 }
 
 /**
@@ -69,8 +69,10 @@ export function twoSets(session, volume, names, { pick = null, hidden = false } 
  * @param {((member: Member) => void) | null} pick
  */
 function pair(member, names, pick) {
-  const label = [capital(names.take(member.take)), el("span", { class: "lf" }, ` life ${member.mark.n}`)];
-  const chip = (/** @type {string} */ tag, /** @type {string} */ state, more = {}) => el(tag, { class: `chip big s-${state}`, ...more }, mark(state, 16), label.map(l => (typeof l === "string" ? l : l.cloneNode(true))));
+  const label = () => [capital(names.take(member.take)), el("span", { class: "lf" }, ` life ${member.mark.n}`)];
+  const chip = (/** @type {string} */ tag, /** @type {string} */ state, more = {}) => {
+    return el(tag, { class: `chip big s-${state}`, ...more }, mark(state, 16), label());
+  };
   const clicked = pick ? { type: "button", "data-chip": member.take, onclick: () => pick(member) } : { "data-chip": member.take };
   return el("li", { class: `pair ${member.partner ? "paired" : "alone"}` },
     chip(pick ? "button" : "span", member.state, clicked),

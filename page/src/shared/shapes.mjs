@@ -37,8 +37,10 @@ export function kept(x, top, bottom) {
 
 /** Over a lane whose ground is gone. */
 export function hatch(x, top, bottom) {
-  const height = Math.max(bottom - top, 1), lines = Array.from({ length: Math.ceil(height / 7) }, (_, i) => `M${x - 6} ${Math.min(top + 7 * i + 7, bottom)}L${x + 6} ${top + 7 * i}`);
-  return svg("g", { class: "ground-gone", y: top, height }, svg("rect", { class: "torn", x: x - 6, y: top, width: 12, height }), svg("path", { class: "hatch", d: lines.join("") }));
+  const height = Math.max(bottom - top, 1), line = i => `M${x - 6} ${Math.min(top + 7 * i + 7, bottom)}L${x + 6} ${top + 7 * i}`;
+  const d = Array.from({ length: Math.ceil(height / 7) }, (_, i) => line(i)).join("");
+  return svg("g", { class: "ground-gone", y: top, height },
+    svg("rect", { class: "torn", x: x - 6, y: top, width: 12, height }), svg("path", { class: "hatch", d }));
 }
 
 /** A lane whose take has vanished. */
@@ -51,7 +53,8 @@ const line = (name, end) => [svg("path", { class: `arrow ${name}`, d: "M2 12L20 
 /** @type {[string, () => any][]} */
 const LEGEND = [
   ["idle", () => stretch("idle", 14, 2, 22)], ["at work", () => stretch("work", 14, 2, 22)], ["frozen", () => stretch("frozen", 14, 2, 22)],
-  ["frozen, at work", () => stretch("work frozen", 14, 2, 22)], ["signed once: kept", () => kept(14, 2, 22)], ["ground gone", () => hatch(14, 2, 22)], ["vanished", () => dead(14, 2, 22)],
+  ["frozen, at work", () => stretch("work frozen", 14, 2, 22)], ["signed once: kept", () => kept(14, 2, 22)],
+  ["ground gone", () => hatch(14, 2, 22)], ["vanished", () => dead(14, 2, 22)],
   ["opens, reads, writes, is done", () => SHAPES.dot(14, 12)],
   ["freezes", () => SHAPES.diamond(14, 12)], ["held", () => SHAPES.held(14, 12)], ["signed", () => SHAPES.signed(14, 12)],
   ["not ready", () => SHAPES.unready(14, 12)], ["falls back", () => SHAPES.falls(14, 12)], ["vanishes", () => SHAPES.gone(14, 12)],

@@ -49,8 +49,14 @@ export function fateOf(mark, now) {
   return relation === "same life" ? "present" : relation === "left signed" ? "signed" : "withdrawn";
 }
 
-/** Whether nothing has changed in a mark but its flag, so that nobody need be asked. */
-const alike = (/** @type {Mark} */ a, /** @type {Mark | null} */ b) => b !== null && a.n === b.n && a.list.length === b.list.length && a.list.every((x, i) => x === b.list[i]);
+/**
+ * Whether nothing has changed in a mark but its flag, so that nobody need be asked.
+ * @param {Mark} a
+ * @param {Mark | null} b
+ */
+function alike(a, b) {
+  return b !== null && a.n === b.n && a.list.length === b.list.length && a.list.every((x, i) => x === b.list[i]);
+}
 
 /** @typedef {{mark: Mark, end: "present" | "signed" | "withdrawn", from: number, text: number}} Life */
 

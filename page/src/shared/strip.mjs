@@ -15,7 +15,7 @@ export const ordinal = n => `${n}${n % 100 > 10 && n % 100 < 14 ? "th" : ["th", 
 /**
  * @param {Life[]} lives
  * @param {string} title whose lives
- * @param {{pick?: ((i: number) => void) | null, lit?: number[], picked?: number[], slots?: Node[], codes?: boolean}} how slots: what may come after the last signing
+ * @param {{pick?: ((i: number) => void) | null, lit?: number[], picked?: number[], slots?: Node[], codes?: boolean}} how slots: what may come next
  */
 export function strip(lives, title, { pick = null, lit = [], picked = [], slots = [], codes = false } = {}) {
   const parts = lives.flatMap((life, i) => [
