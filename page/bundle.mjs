@@ -3,6 +3,7 @@
 import { execFileSync } from "node:child_process";
 import { createHash } from "node:crypto";
 import { readFileSync, writeFileSync, readdirSync, mkdirSync } from "node:fs";
+import { gzipSync } from "node:zlib";
 import { dirname, join } from "node:path";
 import { fileURLToPath } from "node:url";
 
@@ -13,17 +14,19 @@ const LIMIT = 350000;
 const sha256 = (bytes, form) => createHash("sha256").update(bytes).digest(form);
 const bundled = (file, ...more) => execFileSync("esbuild", [join(here, "src", file), "--bundle", "--minify", "--charset=utf8", ...more], { encoding: "utf8" }).trim();
 
-/** The modules in base64, their sums, and the lessons. */
+const zipped = bytes => gzipSync(bytes, { level: 9 }).toString("base64");
+
+/** The modules and the lessons, compressed and in base64, and the modules' sums. */
 function data() {
   const modules = {}, sums = {};
   for (const name of ["ledger", "looking", "engine", "notation"]) {
     const bytes = readFileSync(join(wasm, `${name}.wasm`));
-    modules[name] = bytes.toString("base64");
+    modules[name] = zipped(bytes);
     sums[name] = sha256(bytes, "hex");
   }
   const files = readdirSync(join(here, "lessons")).filter(f => /^\d.*\.json$/.test(f)).sort();
   const lessons = files.map(f => ({ name: f.slice(0, -5), ...JSON.parse(readFileSync(join(here, "lessons", f), "utf8")) }));
-  return JSON.stringify({ modules, sums, lessons }).replaceAll("<", "\\u003c");
+  return JSON.stringify({ modules, sums, lessons: zipped(JSON.stringify(lessons)) });
 }
 
 const script = `${bundled("main.mjs", "--format=iife", "--global-name=page")}\npage.start(${data()});`.replaceAll("</script", "<\\/script");

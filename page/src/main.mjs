@@ -95,16 +95,26 @@ function toSteps(text, step = null, origin = null) {
   go(text === null ? { view: "steps" } : { view: "steps", text, step });
 }
 
-/** bundled: the library's modules in base64, their sums, and the lessons. */
+// Not yet in the types that tsc has.
+const { DecompressionStream } = /** @type {any} */ (globalThis);
+
+/** The bytes that were compressed into a word. */
+async function unzipped(word) {
+  const stream = new Blob([fromBase64(word)]).stream().pipeThrough(new DecompressionStream("gzip"));
+  return new Uint8Array(await new Response(stream).arrayBuffer());
+}
+
+/** bundled: the library's modules, compressed and in base64, their sums, and the lessons. */
 export async function start(bundled) {
-  if (typeof WebAssembly !== "object") return;
-  const modules = Object.fromEntries(Object.entries(bundled.modules).map(([name, word]) => [name, fromBase64(word)]));
-  await load(modules);
+  if (typeof WebAssembly !== "object" || typeof DecompressionStream !== "function") return;
+  const named = await Promise.all(Object.entries(bundled.modules).map(async ([name, word]) => [name, await unzipped(word)]));
+  const lessons = JSON.parse(new TextDecoder().decode(await unzipped(bundled.lessons)));
+  await load(Object.fromEntries(named));
   byId("without").remove();
   byId("sums").textContent = Object.entries(bundled.sums).map(([name, sum]) => `${name} ${sum}`).join(", ");
   byId("glossary").append(glossary());
   themeButton(byId("theme"));
-  views.course = new Course(bundled.lessons, { steps: toSteps, go });
+  views.course = new Course(lessons, { steps: toSteps, go });
   views.steps = new Workbench(({ lesson, screen }) => go({ lesson, screen }));
   views.desk = new Desk();
   views.compare = new Compare(() => views.desk.hearing);
