@@ -10,7 +10,7 @@ import { REFUSED } from "../src/shared/words.mjs";
 const folder = new URL("../lessons/", import.meta.url), quoted = JSON.stringify;
 const files = readdirSync(folder).filter(f => /^\d.*\.json$/.test(f)).sort();
 const lessons = files.map(f => ({ name: f.slice(0, -5), ...JSON.parse(readFileSync(new URL(f, folder), "utf8")) }));
-const keys = JSON.parse(readFileSync(new URL("keys.json", import.meta.url), "utf8"));
+const expected = JSON.parse(readFileSync(new URL("keys.json", import.meta.url), "utf8"));
 
 export async function lessonsChecks(context) {
   await data(context);
@@ -37,7 +37,7 @@ async function data({ check }) {
   const { Lesson, rightOf, reached } = await library(), walked = lessons.map(l => new Lesson(l));
   await check("every lesson keeps to the schema", async () => {
     for (const file of files) execFileSync("jsonschema", ["-i", new URL(file, folder).pathname, new URL("schema.json", folder).pathname], { stdio: "pipe" });
-    assert.deepEqual(Object.keys(keys), lessons.map(l => l.name));
+    assert.deepEqual(Object.keys(expected), lessons.map(l => l.name));
   });
   for (const lesson of walked) {
     await check(`lesson ${lesson.name}: no step is refused, and the engine without maps replies the same`, async () => {
@@ -51,7 +51,7 @@ async function data({ check }) {
       lesson.screens.forEach((screen, k) => {
         const scene = lesson.scene(k), right = rightOf(screen, scene), sorted = a => (screen.kind === "order" ? a : [...a].sort());
         if (screen.kind === "goal") return assert.ok(reached(screen, scene.record.at(scene.count), scene.record.end), `screen ${k + 1}`);
-        assert.deepEqual(sorted(right), sorted(keys[lesson.name][k]), `screen ${k + 1}`);
+        assert.deepEqual(sorted(right), sorted(expected[lesson.name][k]), `screen ${k + 1}`);
         const wrong = choicesOf(screen, scene, right).filter(c => !right.includes(c)).map(String), several = ["takes", "lives"].includes(screen.kind);
         const missing = several && !screen.one ? right.map(r => `-${r}`) : [], said = Object.values(screen.wrong);
         for (const choice of [...wrong, ...missing]) assert.ok(screen.wrong[choice], `screen ${k + 1} says nothing of ${choice}`);
@@ -114,7 +114,7 @@ async function students(context) {
 
 /** One screen: each wrong answer once, then the right one. */
 async function through({ browser, shots }, lesson, screen, k) {
-  const hands = student(browser), right = keys[lesson.name][k];
+  const hands = student(browser), right = expected[lesson.name][k];
   await browser.until(`document.querySelector(".screen")?.dataset.screen === "${k + 1}"`);
   if (screen.kind === "goal") await reach(browser, hands, screen);
   else if (screen.kind === "order") for (const x of [right[1], ...right]) await hands.press(`[data-choice="${x}"]:not(:disabled)`);
@@ -167,6 +167,7 @@ async function manners(context) {
     assert.match((await hands.said())[1], /^Right\./);
   });
   await kept(context, hands);
+  await keys(context);
   await pictures(context, hands);
 }
 
@@ -194,6 +195,29 @@ async function kept({ browser, check, url }, hands) {
     await browser.go(`${url}#lesson=01-frozen-and-signed&screen=5`);
     for (let i = 0; i < 3; i++) await hands.press(`[data-focus="hint"]`);
     assert.match((await hands.said())[1], /The ledger.s own plan: Someone freezes the names; Someone signs the names and page.12 together\./);
+  });
+}
+
+/** By keys alone: to a card, which keeps the cursor when it is picked, on to the check, and then to the next screen. */
+async function keys({ browser, check, url }) {
+  const at = () => browser.eval(`document.activeElement.dataset.focus ?? document.activeElement.tagName`);
+  const tabTo = async wanted => {
+    for (let i = 0; i < 40 && (await at()) !== wanted; i++) await browser.key("Tab");
+    assert.equal(await at(), wanted);
+  };
+  await check("a screen by keys alone", async () => {
+    await browser.go(`${url}#lesson=02-what-a-withdrawal-reaches&screen=2`);
+    for (const card of ["card 2", "card 1"]) {
+      await tabTo(card);
+      await browser.key("Enter");
+      assert.equal(await at(), card);
+    }
+    await tabTo("check");
+    await browser.key("Enter");
+    assert.equal(await at(), "next");
+    await browser.key("Enter");
+    await browser.until(`document.querySelector(".screen")?.dataset.screen === "3"`);
+    assert.equal(await at(), "H1");
   });
 }
 

@@ -146,7 +146,7 @@ export class Picture {
     const sealed = (head.mark?.list.length ?? 0) > 0, kept = el("span", {}, `signed: ${names.text(head.saved)}`);
     const classes = `card s-${state}${lit ? " lit" : ""}${chosen ? " picked" : ""}${fresh.includes(t) ? " fresh" : ""}`;
     const clicked = pick ? { type: "button", "aria-pressed": String(chosen), onclick: () => pick(t) } : this.trace ? { tabindex: 0 } : {};
-    const card = el(pick ? "button" : "div", { class: classes, "data-take": t, "data-state": state, ...clicked },
+    const card = el(pick ? "button" : "div", { class: classes, "data-take": t, "data-state": state, "data-focus": `card ${t}`, ...clicked },
       chosen ? el("span", { class: "tab" }, "your pick") : null,
       el("span", { class: "ttl" }, capital(names.take(t))),
       el("span", { class: "txt" }, state === "vanished" ? "nothing is left" : names.plain(head.text)),

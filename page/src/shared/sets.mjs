@@ -73,7 +73,7 @@ function pair(member, names, pick) {
   const chip = (/** @type {string} */ tag, /** @type {string} */ state, more = {}) => {
     return el(tag, { class: `chip big s-${state}`, ...more }, mark(state, 16), label());
   };
-  const clicked = pick ? { type: "button", "data-chip": member.take, onclick: () => pick(member) } : { "data-chip": member.take };
+  const clicked = pick ? { type: "button", "data-chip": member.take, "data-focus": `chip ${member.take}`, onclick: () => pick(member) } : { "data-chip": member.take };
   return el("li", { class: `pair ${member.partner ? "paired" : "alone"}` },
     chip(pick ? "button" : "span", member.state, clicked),
     el("span", { class: "eq", "aria-hidden": "true" }, member.partner ? "=" : "\u2260"),

@@ -38,7 +38,7 @@ function box(life, i, { pick, lit, picked, codes }) {
   const classes = `life ${KIND[end]}${frozen ? " ice" : ""}${lit ? " lit" : ""}${picked ? " picked" : ""}`;
   const said = `life ${own.n}, ${word}, after ${own.list.length === 1 ? "1 signing" : `${own.list.length} signings`}`;
   const clicked = pick ? { type: "button", "aria-pressed": String(picked), onclick: () => pick(i) } : { role: "img" };
-  const drawn = el(pick ? "button" : "div", { class: classes, "data-life": i, "aria-label": said, ...clicked },
+  const drawn = el(pick ? "button" : "div", { class: classes, "data-life": i, "data-focus": `life ${i}`, "aria-label": said, ...clicked },
     el("span", { class: "w" }, "life"), el("span", { class: "n" }, own.n), el("span", { class: "w" }, word),
     codes ? el("span", { class: "w code" }, lifeWords(own)) : null);
   drawn.style.setProperty("--n", String(Math.min(own.n, 4)));
