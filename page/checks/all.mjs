@@ -1,8 +1,9 @@
-// all [PART ..]: every check of the page, or those of some parts (sources, course, desk, habits, keeping, files, compare, manners), one after the other; ends with 'N passed, 0 failed'.
+// all [PART ..]: every check of the page, or those of some parts (sources, lessons, steps, desk, habits, keeping, files, compare, screen, manners), one after the other; ends with 'N passed, 0 failed'.
 import { mkdirSync } from "node:fs";
 import { fileURLToPath } from "node:url";
 import { Browser } from "./browser.mjs";
-import { courseChecks } from "./course.mjs";
+import { stepsChecks } from "./steps.mjs";
+import { lessonsChecks } from "./lessons.mjs";
 import { deskChecks } from "./desk.mjs";
 import { habitsChecks } from "./habits.mjs";
 import { compareChecks } from "./compare.mjs";
@@ -10,6 +11,7 @@ import { keepingChecks } from "./keeping.mjs";
 import { filesChecks } from "./files.mjs";
 import { sourcesChecks } from "./sources.mjs";
 import { mannersChecks } from "./manners.mjs";
+import { screenChecks } from "./screen.mjs";
 
 const root = fileURLToPath(new URL("../../", import.meta.url)), shots = `${root}target/page/shots/`;
 mkdirSync(shots, { recursive: true });
@@ -29,8 +31,8 @@ async function check(name, body) {
 
 try {
   await check("the page starts", () => browser.go(url));
-  const used = { course: courseChecks, desk: deskChecks, habits: habitsChecks, keeping: keepingChecks, files: filesChecks };
-  const parts = { sources: sourcesChecks, ...used, compare: compareChecks, manners: mannersChecks }, asked = process.argv.slice(2);
+  const used = { lessons: lessonsChecks, steps: stepsChecks, desk: deskChecks, habits: habitsChecks, keeping: keepingChecks, files: filesChecks };
+  const parts = { sources: sourcesChecks, ...used, compare: compareChecks, screen: screenChecks, manners: mannersChecks }, asked = process.argv.slice(2);
   const chosen = failed ? [] : asked.length ? asked.map(name => parts[name]) : Object.values(parts);
   for (const checks of chosen) await checks({ browser, check, url, root, shots });
   if (failed) console.log(browser.troubles().join("\n"));

@@ -8,7 +8,7 @@ const FLAGS = [
   "--headless=new", "--no-sandbox", "--disable-gpu", "--hide-scrollbars", "--no-first-run", "--disable-dev-shm-usage",
   "--disable-background-networking", "--disable-component-update", "--remote-debugging-pipe",
 ];
-const CODES = { ArrowDown: 40, ArrowUp: 38, Home: 36, End: 35, ArrowRight: 39, Escape: 27 };
+const CODES = { ArrowDown: 40, ArrowUp: 38, Home: 36, End: 35, ArrowRight: 39, Escape: 27, Enter: 13, Tab: 9 };
 const quoted = JSON.stringify;
 
 /** Works in the page: the element of a selector, which must be there. */
@@ -130,7 +130,7 @@ export class Browser {
   }
 
   async key(key) {
-    const pressed = { key, code: key, windowsVirtualKeyCode: CODES[key] };
+    const pressed = { key, code: key, windowsVirtualKeyCode: CODES[key], ...(key === "Enter" ? { text: "\r" } : {}) };
     for (const type of ["keyDown", "keyUp"]) await this.send("Input.dispatchKeyEvent", { type, ...pressed });
   }
 

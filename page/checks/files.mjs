@@ -2,6 +2,7 @@
 import assert from "node:assert/strict";
 import { writeFileSync } from "node:fs";
 import { hands } from "./desk.mjs";
+import { listed } from "./steps.mjs";
 
 const ENDINGS = ["json", "steps", "list", "image", "old-image", "txt", "bin"], LENGTHS = [1, 7, 8, 64, 4096, 22132, 42616];
 
@@ -50,7 +51,7 @@ export async function filesChecks({ browser, check, url }) {
     assert.equal(await browser.eval(`localStorage.getItem("take-ledger.desk")`), before);
   });
   await check("random bytes in the course: a reason, and the picture stays", async () => {
-    await browser.go(`${url}#lesson=94-a-bad-hour`);
+    await browser.go(`${url}#${listed("94-a-bad-hour")}`);
     for (const ending of ENDINGS) assert.match(await said("#fault", "#course-open", `r.${ending}`, noise(4096, 5)), /^r\.\S+: /);
     assert.equal(await browser.eval(`document.querySelectorAll("#course-rows li").length`), 26);
   });

@@ -57,10 +57,10 @@ async function full({ browser, check, url }) {
     await desk.open("names", "a");
     await browser.eval(FILL);
     await desk.open("page 12", "b");
-    assert.match(await browser.text("#desk-notice"), /The browser does not keep this .*: save it as a file\./);
-    await browser.go(`${url}#lesson=00-a-first-session`);
+    assert.match(await browser.text("#desk-notice"), /The browser does not keep this, for its room is full: save it as a file\./);
+    await browser.go(`${url}#view=steps`);
     await browser.fill("#text", `root text 7 # ${"x".repeat(99)}\n`);
-    assert.match(await browser.text("#course-notice"), /The browser does not keep this .*: save it as a file\./);
+    assert.match(await browser.text("#course-notice"), /The browser does not keep this, for its room is full: save it as a file\./);
   });
   await check("where what can't be restored fills the store, it stays in view; once removed, the hearing is kept", async () => {
     await store(browser, KEY, `garbage${"x".repeat(2400000)}`);

@@ -2,7 +2,7 @@
 import assert from "node:assert/strict";
 import { readFileSync, readdirSync } from "node:fs";
 
-const FOLDERS = ["page/", "page/src/", "page/checks/", "bindings/js/", "bindings/js/tests/"], LONGEST = 40;
+const FOLDERS = ["page/", ...["", "course/", "desk/", "compare/", "shared/"].map(f => `page/src/${f}`), "page/checks/", "bindings/js/", "bindings/js/tests/"], LONGEST = 40;
 const STARTS = /^(\s*)(?:export )?(?:static )?(?:async )?(?:function\b.*|(?:get |set )?[#\w$]+\(.*\)|const \w+ = .*=>|.*[(,=] ?(?:async )?(?:\([^()]*\)|\w+) =>) \{$/;
 
 /** The functions of a text over several lines: first line and how many. */
@@ -20,11 +20,5 @@ export async function sourcesChecks({ check, root }) {
     const found = files.flatMap(file => functions(readFileSync(root + file, "utf8")).map(f => ({ file, ...f })));
     assert.ok(found.length > 400, `${found.length} functions`);
     assert.deepEqual(found.filter(f => f.length > LONGEST), []);
-  });
-  await check("every lesson has a story, and a question to answer before the reply is shown", async () => {
-    for (const file of readdirSync(`${root}page/lessons`)) {
-      const text = readFileSync(`${root}page/lessons/${file}`, "utf8");
-      for (const kind of ["#= ", "#: ", "#? "]) assert.ok(text.includes(`${kind}`), `${file} has no ${kind}`);
-    }
   });
 }

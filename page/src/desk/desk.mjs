@@ -1,0 +1,251 @@
+// The desk: a hearing of one's own, kept by names and words, stepped by buttons.
+import { el, replace, byId, button, focusIn, announce, unpressed } from "../shared/dom.mjs";
+import { play, GREATEST, LONGEST } from "../../../bindings/js/ledger.mjs";
+import { joined, readReply, readStep, sameBytes } from "../../../bindings/js/packed.mjs";
+import { readImage } from "../../../bindings/js/image.mjs";
+import { toText } from "../../../bindings/js/notation.mjs";
+import { Record } from "../shared/record.mjs";
+import { Rows } from "../shared/rows.mjs";
+import { Falls } from "../shared/falls.mjs";
+import { Stepper } from "../shared/stepper.mjs";
+import { showMoment } from "../shared/moment.mjs";
+import { showBoard } from "./board.mjs";
+import { showBar } from "./bar.mjs";
+import { Names, counted, isolated } from "../shared/names.mjs";
+import { readText, namesFrom } from "../shared/listing.mjs";
+import { emptyHearing, begun, toFile, fromFile, textNumber, Unreadable } from "../shared/hearing.mjs";
+import { kept, putAside } from "../shared/store.mjs";
+import { keepHearing, showKept } from "./keeping.mjs";
+import { confirmFall, confirmReceipt, confirmEmpty, confirmName, confirmOpening, hush, tell } from "./notices.mjs";
+import { recognize } from "../shared/files.mjs";
+import { effect, verdict, kindOf, FALLEN_BACK, VANISHED, REFUSED, WITH_TEXT } from "../shared/words.mjs";
+
+function field(id, label, placeholder, list = null) {
+  return el("input", { type: "text", id, "aria-label": label, placeholder, list });
+}
+
+const NEW = { question: "Begin a new hearing? The present one is removed from this page.", yes: "begin" };
+
+// What the desk calls the two ways to withdraw a life.
+const LABELS = { fall: "give up this work\u2026", fail: "withdraw\u2026" };
+
+export class Desk {
+  constructor() {
+    this.rows = new Rows(byId("desk-rows"), count => this.choose(count));
+    this.falls = new Falls(byId("desk-falls"));
+    this.words = field("desk-words", "words of the text", "words", "desk-known");
+    this.takeName = field("desk-name", "name for a new take", "name for a new take");
+    this.stepper = new Stepper(byId("desk-steps"), {
+      textField: this.words,
+      textOf: () => textNumber(this.hearing, this.words.value, this.used()),
+      add: bytes => this.append(bytes),
+      confirm: (kind, fields, go) => this.confirm(kind, fields, go),
+      labels: LABELS,
+    });
+    this.stuck = null;
+    this.restore();
+    window.addEventListener("storage", () => showKept(this));
+  }
+
+  /** Takes the hearing that the browser keeps. */
+  restore() {
+    this.hearing = this.restored();
+    this.refresh(Infinity);
+  }
+
+  /** The hearing that the browser kept; what can't be read again is put aside and shown. */
+  restored() {
+    const text = kept();
+    if (text === null) return emptyHearing();
+    try {
+      return fromFile(text);
+    } catch (e) {
+      if (!(e instanceof Unreadable)) throw e;
+      this.stuck = putAside(text) ? text : null;
+      return emptyHearing();
+    }
+  }
+
+  /** The numbers of texts that this hearing has: in its steps, and in the image that it started from. */
+  used() {
+    const { takes, parcels } = readImage(this.record.at(0).image);
+    return new Set([...this.record.steps, ...takes, ...parcels].map(s => s.text).concat(takes.map(t => t.saved)));
+  }
+
+  refresh(count) {
+    this.record = new Record(begun(this.hearing), this.hearing.list);
+    this.names = new Names(this.hearing.takes, this.hearing.texts);
+    this.lines = this.record.steps.map((step, i) => this.said(step, this.record.replies[i], i));
+    this.rows.show(this.record, this.lines, this.names, this.record.length);
+    this.stepper.show(this.record.end, this.names);
+    byId("desk-steps").prepend(el("p", { class: "fields" }, el("label", {}, "name ", this.takeName)), this.knownWords());
+    this.words.closest("p").append(this.last());
+    this.falls.show(this.record);
+    showBoard(byId("desk-board"), this.record, this.names, bytes => this.append(bytes));
+    showBar(this);
+    byId("desk-heading").textContent = this.hearing.title;
+    this.rows.pick(Math.min(count, this.record.length));
+    keepHearing(this);
+  }
+
+  /** What the last step did, beside the words, where the picture is out of view. */
+  last() {
+    const { replies, length } = this.record;
+    return el("span", { class: "last" }, length ? `step ${length}, ${verdict(replies[length - 1])}: ${this.lines[length - 1]}` : "");
+  }
+
+  knownWords() {
+    return el("datalist", { id: "desk-known" }, Object.values(this.hearing.texts).map(words => el("option", { value: words })));
+  }
+
+  /** A step in the desk's words: what it did, or its line where it was refused. */
+  said(step, reply, i) {
+    return reply.outcome >= REFUSED ? toText(this.hearing.list.subarray(8 * i, 8 * i + 8)).trim() : effect(step, reply, this.names);
+  }
+
+  choose(count) {
+    const line = count ? toText(this.hearing.list.subarray(8 * count - 8, 8 * count)).trim() : "";
+    const go = by => this.rows.pick(count + by);
+    showMoment(byId("desk-moment"), this.record, count, line, this.names, { go, shown: this.record.length });
+  }
+
+  /** What is asked before a step: what a withdrawal costs, words for a text, a name that no take has yet. */
+  confirm(kind, { take, parcel }, go) {
+    const name = this.takeName.value.trim(), known = name ? this.hearing.takes.indexOf(name) : -1;
+    if (kind === "fall" || kind === "fail") confirmFall(this, kind, take, go);
+    else if (kind === "receive" && [FALLEN_BACK, VANISHED].includes(this.record.end.decision(parcel).outcome)) confirmReceipt(this, parcel, go);
+    else if (kind === "write" && this.words.value.trim() === "") confirmEmpty(this, take, go);
+    else if (["root", "new"].includes(kind) && known >= 0) confirmName(name, known, go);
+    else go();
+  }
+
+  /** Adds a step, or several; the last one's reply is told. */
+  append(bytes) {
+    const last = bytes.length / 8 - 1, reply = readReply(this.record.end.copy().run(bytes), last), step = readStep(bytes, last);
+    if (["root", "new"].includes(kindOf(step)) && reply.outcome === 0) {
+      this.hearing.takes[reply.take] = this.takeName.value.trim();
+      this.takeName.value = "";
+    }
+    if (WITH_TEXT.has(kindOf(step)) && reply.outcome === 0) this.words.value = "";
+    this.hearing.list = joined([this.hearing.list, bytes]);
+    const focused = focusIn(byId("desk"));
+    hush();
+    this.refresh(Infinity);
+    focused(this.words);
+    announce(`${verdict(reply)}: ${effect(step, reply, this.names)}`);
+  }
+
+  /** Takes back the last step, or a letter without words together with its receipt, and the names and words that came with it. */
+  undo() {
+    const { steps, replies, length } = this.record, back = startsWork(this.record) ? 2 : 1, last = steps[length - 1], before = this.copy();
+    const lines = this.lines.slice(-back).join("; ");
+    const opened = ["root", "new"].includes(kindOf(last)) && replies[length - 1].outcome < REFUSED;
+    if (opened) this.hearing.takes.length = Math.min(this.hearing.takes.length, replies[length - 1].take);
+    this.hearing.list = this.hearing.list.slice(0, -8 * back);
+    const focused = focusIn(byId("desk"));
+    hush();
+    this.refresh(Infinity);
+    if (WITH_TEXT.has(kindOf(last)) && !this.used().has(last.text)) this.forget(last.text);
+    this.tellOf(`Taken back: ${lines}.`, before);
+    focused(this.words);
+  }
+
+  /** The hearing as it stands, whatever is done to it. */
+  copy() {
+    return { ...this.hearing, takes: [...this.hearing.takes], texts: { ...this.hearing.texts } };
+  }
+
+  /** Says what was done, under the button that did it, and offers the hearing as it was before. */
+  tellOf(words, before) {
+    const back = button("bring it back", () => {
+      this.take(before);
+      this.rows.list.focus({ preventScroll: true });
+    });
+    replace(byId("desk-done"), el("p", {}, `${words} `, back));
+    announce(words);
+  }
+
+  /** Forgets the words of a text that nothing has any more. */
+  forget(text) {
+    delete this.hearing.texts[text];
+    this.refresh(Infinity);
+  }
+
+  entitle(title) {
+    this.hearing.title = title;
+    unpressed(() => this.refresh(this.rows.count));
+  }
+
+  rename(take, name) {
+    this.hearing.takes[take] = name.trim();
+    unpressed(() => {
+      const focused = focusIn(byId("desk"));
+      this.refresh(this.rows.count);
+      focused(this.words);
+    });
+  }
+
+  /** The list without refused steps and unused reads, part by part; the image stays. */
+  thinned() {
+    const { list } = this.hearing, parts = [];
+    for (let at = 0; at < list.length; at += LONGEST) {
+      parts.push(this.record.at(at / 8).thin(list, at, Math.min(at + LONGEST, list.length)));
+    }
+    return joined(parts);
+  }
+
+  thin() {
+    const before = this.copy(), short = this.thinned(), left = (before.list.length - short.length) / 8;
+    this.hearing.list = short;
+    hush();
+    this.refresh(Infinity);
+    this.tellOf(`${counted(left, "step")} left out; the hearing stands as it did.`, before);
+  }
+
+  /** Holds the replies to those of the engine without maps. */
+  hold() {
+    const { list, limits, image } = this.hearing;
+    if (image) return tell("The engine plays lists from a fresh session; this hearing starts from an image.");
+    if (list.length > LONGEST) return tell("The engine plays lists of at most 1,024 steps.");
+    const same = sameBytes(play(list, limits), this.record.packedReplies);
+    return tell(`The second engine, which keeps no maps, gives ${same ? "the same" : "other"} replies.`);
+  }
+
+  begin(limits) {
+    confirmOpening(this, { ...emptyHearing(limits) }, "a new hearing", NEW);
+  }
+
+  /** Opens whatever the file holds, after a question where a hearing would be replaced. */
+  openFile(name, bytes) {
+    const found = recognize(bytes, name);
+    try {
+      if (found.kind === "unknown") throw new Unreadable(found.reason);
+      confirmOpening(this, hearingFrom(found), isolated(name));
+    } catch (e) {
+      if (!(e instanceof Unreadable)) throw e;
+      tell(`${isolated(name)} can't be opened: ${e.message}`);
+    }
+  }
+
+  take(hearing) {
+    begun(hearing);
+    this.hearing = hearing;
+    this.refresh(Infinity);
+  }
+}
+
+/** Whether the last two steps are a letter without words and its receipt, as "start work" makes them. */
+function startsWork({ steps, replies, length }) {
+  const [letter, receipt] = steps.slice(-2);
+  if (length < 2 || kindOf(letter) !== "letter" || kindOf(receipt) !== "receive" || letter.text !== 0) return false;
+  return replies[length - 2].outcome < REFUSED && replies[length - 2].parcel === receipt.parcel;
+}
+
+function hearingFrom(found) {
+  if (found.kind === "desk") return fromFile(found.text);
+  if (found.kind === "image") return { ...emptyHearing(), image: found.image };
+  if (!found.list.length) throw new Unreadable("it has no steps.");
+  const hearing = { ...emptyHearing(GREATEST), list: found.list };
+  if (found.kind === "text") hearing.takes = namesFrom(new Record(begun(hearing), found.list), readText(found.text).comments).takes;
+  return hearing;
+}
