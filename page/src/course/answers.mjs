@@ -8,6 +8,9 @@ import { leftSet } from "../shared/sets.mjs";
 import { livesOf, stateOf } from "../shared/states.mjs";
 import { stepsOf } from "./lessons.mjs";
 
+/** What a receipt would do, by its outcome, in the words of the lessons' choices. */
+const DOOR = { 0: "taken in", 2: "dropped", 3: "falls", 4: "falls" };
+
 /** @typedef {import("../../../bindings/js/ledger.mjs").Session} Session */
 
 /** The session after some lines, on a copy. */
@@ -45,7 +48,7 @@ const ANSWERS = {
   sets: ({ session, screen }) => leftSet(session, volumeOf(screen.volume)).filter(m => !m.partner).map(m => m.take),
   next: ({ session, screen }) => [readHead(after(session, [screen.step]).image, screen.take).mark?.n ?? "none"],
   lives: ({ screen, record, count }) => lives(record, screen, count),
-  door: ({ session, screen }) => [session.decision(screen.parcel).kind],
+  door: ({ session, screen }) => [DOOR[session.decision(screen.parcel).outcome]],
   order: ({ screen }) => inOrder(screen.marks.map(([list, n]) => ({ list, n, frozen: false }))),
   hour: ({ screen, record, count }) => [worstWindow(record.packedReplies.subarray(0, 8 * count), screen.width).place],
   reply: ({ session, screen }) => [readReply(session.copy().run(toSteps(screen.step).steps), 0).outcome],
