@@ -320,13 +320,13 @@ static int query(const struct node *file, const struct node *test) {
         struct ledger_part p = ledger_show(i.at, i.length, number(test, "parcel", 0), &refusal);
         got[0] = p.offset, got[1] = p.length;
     } else if (!strcmp(call, "dependents")) {
-        struct ledger_dependents d = ledger_dependents(i.at, i.length, take, &refusal);
+        struct ledger_resting d = ledger_dependents(i.at, i.length, take, &refusal);
         got[0] = d.resting, got[1] = d.through, got[2] = d.unfinished, got[3] = d.carried;
     } else if (!strcmp(call, "obstacle")) {
-        struct ledger_obstacle o = ledger_obstacle(i.at, i.length, number(test, "volume", 0), &refusal);
+        struct ledger_reason o = ledger_obstacle(i.at, i.length, number(test, "volume", 0), &refusal);
         got[0] = o.kind, got[1] = o.transactor, got[2] = o.ground;
     } else if (!strcmp(call, "impediment")) {
-        struct ledger_impediment m = ledger_impediment(i.at, i.length, take, &refusal);
+        struct ledger_cause m = ledger_impediment(i.at, i.length, take, &refusal);
         got[0] = m.kind, got[1] = m.transactor, got[2] = m.ground, got[3] = m.next;
     } else if (!strcmp(call, "worst_window")) {
         list = words(get(test, "list"), number(test, "list_length", -1));

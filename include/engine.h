@@ -2,15 +2,12 @@
  * numbers, and how steps and replies are packed, are in ledger_steps.h; the rules are docs/RULES.md.
  *
  * The library is built by `rt staticlib engine_c` as target/staticlib/libengine_c.a, for x86-64 Linux, and can be linked alone or beside
- * the ledger's. It keeps nothing between calls, allocates nothing and needs only memcpy, memmove and memset.
+ * the ledger's.
  * It has no maps and no image: where a receipt or a signing depends on chains, it traces them back through the list and the replies given
  * so far. Of the refusals of steps 27, 28 and 31 cannot arise: a list is too short for the first two, and no session from a fresh one meets
  * the third.
  *
- * A buffer is a pointer and its length in bytes. The caller owes, for each call: pointers that are not null (also for a
- * length of 0), as many bytes behind each as its length says, readable, and writable where the pointer is not to const; and
- * that what is written (the replies) overlaps no other buffer of the call. Every other input is allowed, and refused where the documents
- * refuse it. A refused call changes no byte.
+ * What a caller owes (buffers, threads, stack) is said once, in ledger_steps.h.
  *
  * Stack of the call in KiB, at most, beside that of memcpy, memmove and memset (tools/stack measures the compiled library):
  *

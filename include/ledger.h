@@ -1,14 +1,10 @@
 /* The take ledger: a session is an image of LEDGER_IMAGE bytes and nothing else. The numbers, and how steps and replies are packed, are in
  * ledger_steps.h; the rules are docs/RULES.md.
  *
- * The library is built by `rt staticlib ledger_c` as target/staticlib/libledger_c.a, for x86-64 Linux. It keeps nothing between
- * calls, allocates nothing and needs only memcpy, memmove and memset.
+ * The library is built by `rt staticlib ledger_c` as target/staticlib/libledger_c.a, for x86-64 Linux.
  *
- * A buffer is a pointer and its length in bytes. The caller owes, for each call: pointers that are not null (also for a
- * length of 0), as many bytes behind each as its length says, readable, and writable where the pointer is not to const; and
- * that what is written (image, replies, out or target, refusal) overlaps no other buffer of the call. Buffers that are only read may
- * overlap each other. Every other input is allowed, and refused where the documents refuse it. A refused call changes no byte but
- * *refusal. Numbers are as wide as a caller may have them, and none is cut off.
+ * What a caller owes (buffers, threads, stack) is said once, in ledger_steps.h.
+ * Numbers are as wide as a caller may have them, and none is cut off.
  *
  * Stack of each call in KiB, at most, beside that of memcpy, memmove and memset (tools/stack measures the compiled library):
  *
@@ -16,6 +12,7 @@
  *     ledger_begin 1        ledger_dependents 1         ledger_smallest_group 3   ledger_forward 43
  *     ledger_offer 1        ledger_obstacle 1           ledger_ready_count 3      ledger_back 1
  *     ledger_show 1         ledger_impediment 1         ledger_worst_window 1     ledger_plan 1
+ *     ledger_actor 1        ledger_fault 1
  */
 #ifndef LEDGER_H
 #define LEDGER_H
@@ -26,8 +23,12 @@
 extern "C" {
 #endif
 
+/* Major, minor and patch number, a byte each, made from the file VERSION; ledger_version() is the
+ * library's own. */
+#define LEDGER_VERSION 0x040000
+#define LEDGER_VERSION_STRING "4.0.0"
+
 enum {
-    LEDGER_VERSION = 0x030000, /* major, minor and patch number, a byte each; ledger_version() is the library's own */
     LEDGER_IMAGE = 42616,      /* bytes of an image */
     LEDGER_OLD_IMAGE = 22132,  /* bytes of an image of the old form, with incarnation numbers of one byte */
     LEDGER_MAP = 528,          /* bytes of a map */
@@ -49,7 +50,7 @@ struct ledger_window {
 };
 
 /* What rests on the present incarnation of a transactor; groups as their bits. */
-struct ledger_dependents {
+struct ledger_resting {
     uint16_t resting;    /* the live transactors whose state or creation map has it, itself among them */
     uint16_t through;    /* those, whoever rests on the present incarnation of one of those, and so on; itself among them */
     uint16_t unfinished; /* the busy transactors whose behaviour map has it */
@@ -64,7 +65,7 @@ enum ledger_obstacle_kind {
     LEDGER_SUPERSEDED_OR_ANNIHILATED = 3 /* it is named and rests on such an incarnation of ground (document 01: withdrawn) */
 };
 
-struct ledger_obstacle {
+struct ledger_reason {
     uint8_t kind;
     uint8_t transactor;
     uint8_t ground;
@@ -78,11 +79,44 @@ enum ledger_impediment_kind {
     LEDGER_NOT_STABLE = 3 /* it is not stable */
 };
 
-struct ledger_impediment {
+struct ledger_cause {
     uint8_t kind;
     uint8_t transactor; /* the one that is in the way: the asked one, or one that it rests on, directly or through others */
     uint8_t ground;
     uint8_t next;       /* the next from the asked one to it: the asked one rests on its present incarnation; itself where it is in the way */
+};
+
+/* For whom a step acts. */
+enum ledger_actor_kind {
+    LEDGER_NOBODY = 0,          /* the step would be refused with 20, or it receives a message that does not wait */
+    LEDGER_HOUSE = 1,           /* root, letter, lose: no transactor's */
+    LEDGER_ONE_TRANSACTOR = 2,  /* kinds 3 to 10: the acting one; receive: the addressee of the message */
+    LEDGER_GROUP = 3            /* sign: the named ones */
+};
+
+struct ledger_acting {
+    size_t kind;
+    size_t takes; /* the transactors, as their bits: one for LEDGER_ONE_TRANSACTOR, the group for LEDGER_GROUP, else 0 */
+};
+
+/* The clauses of an image's form by their numbers in docs/RULES.md, section 8: what is wrong. */
+enum ledger_clause {
+    LEDGER_WELL_FORMED = 0,
+    LEDGER_FRONT_ZEROS = 1,      /* byte 3 or 7 not zero */
+    LEDGER_WRONG_LIMITS = 2,     /* limits out of range */
+    LEDGER_TRANSACTOR_ZEROS = 3, /* in a transactor's place a zero bit that is set, or a place past those opened that is not zero */
+    LEDGER_PLACE_ZEROS = 4,      /* in a message's place a zero bit that is set, or a free place that is not zero */
+    LEDGER_WRONG_MAP = 5,        /* in a map: the same; a history of a transactor that is not opened; or more checkpoints than the limit */
+    LEDGER_OVER_LIMIT = 6,       /* more transactors opened, or more messages waiting, than the limits */
+    LEDGER_NO_STATUS = 7,        /* an opened transactor with status 0 */
+    LEDGER_NO_OWN_HISTORY = 8,   /* a live transactor without its own history */
+    LEDGER_SAVED_VALUE = 9,      /* a transactor never checkpointed with a saved value */
+    LEDGER_IDLE_BEHAVIOUR = 10,  /* an idle transactor with a behaviour map */
+    LEDGER_OVER_STATUS = 11,     /* an annihilated transactor with more than its status */
+    LEDGER_GAP = 12,             /* messages with gaps */
+    LEDGER_OUT_OF_ORDER = 13,    /* a message with no higher number than the one before it */
+    LEDGER_OVER_NEXT = 14,       /* a message at or above the next number */
+    LEDGER_TO_UNOPENED = 15      /* a message to a transactor that is not opened */
 };
 
 /* LEDGER_VERSION of the library that is linked. */
@@ -118,21 +152,35 @@ uint8_t ledger_all_heard_stable(const uint8_t *image, size_t image_length, size_
 
 /* What rests on the present incarnation of the transactor. In a session grown from a fresh one: if it rolls back now, those of resting and through can't be checkpointed any more, but
  * for itself, as long as they keep their own; *refusal is 0. Refused: *refusal is 16, 19, 21 or 22, and all four numbers are 0. */
-struct ledger_dependents ledger_dependents(const uint8_t *image, size_t image_length, size_t transactor, uint8_t *refusal);
+struct ledger_resting ledger_dependents(const uint8_t *image, size_t image_length, size_t transactor, uint8_t *refusal);
 
 /* Why the group (its bits, transactor t counting 2^t) can't be checkpointed now: the first reason, LEDGER_NOTHING exactly if it can; *refusal
  * is 0. An unstable transactor comes first; then the maps are looked at, transactor by transactor and entry by entry. With
  * LEDGER_SUPERSEDED_OR_ANNIHILATED no group with that transactor can be checkpointed as long as it keeps its present incarnation. Refused:
  * *refusal is 16, 19, or what the signing would get, 29, 21, 22 or 30, and all three numbers are 0. A number past 16 bits names a transactor that
  * no session opens: 21. */
-struct ledger_obstacle ledger_obstacle(const uint8_t *image, size_t image_length, size_t members, uint8_t *refusal);
+struct ledger_reason ledger_obstacle(const uint8_t *image, size_t image_length, size_t members, uint8_t *refusal);
 
 /* Why no group with the transactor could be checkpointed now: LEDGER_NO_IMPEDIMENT exactly if one could, that is, if ledger_smallest_group
  * gives one; *refusal is 0. The hopeless come first, then the exhausted, then the unstable; of each the lowest. Asked about next, the answer is
  * the same but for next, so a caller walks the chain to the one in the way by asking again. With LEDGER_HOPELESS no group with the asked
  * transactor can be checkpointed as long as it keeps its present incarnation. Refused: *refusal is 16, 19, 21 or 22, and all
  * four numbers are 0. */
-struct ledger_impediment ledger_impediment(const uint8_t *image, size_t image_length, size_t transactor, uint8_t *refusal);
+struct ledger_cause ledger_impediment(const uint8_t *image, size_t image_length, size_t transactor, uint8_t *refusal);
+
+/* For whom the step, LEDGER_STEP bytes, acts on this image: whoever gives people rights asks it
+ * before the step is run. Whether the step would be refused with more than 20 is not asked. A step
+ * changes no transactor that is opened before it and that it does not act for, refused or not.
+ * *refusal is 0. Refused: *refusal is 16, 17 (step not LEDGER_STEP bytes) or 19, and both numbers
+ * are 0. */
+struct ledger_acting ledger_actor(const uint8_t *image, size_t image_length, const uint8_t *step, size_t step_length, uint8_t *refusal);
+
+/* Where an image fails the form first: answers 0 if it is well-formed, with *at and *clause 0; 19
+ * if it is not, with the byte in *at (where the field, map or place begins) and the clause in
+ * *clause; 16, with both 0, if it has another length. So the answer is what every other call
+ * refuses the image with. The head and the limits come first, then the transactors, then the places
+ * of messages, each in the order of the bytes. */
+uint8_t ledger_fault(const uint8_t *image, size_t image_length, size_t *at, uint8_t *clause);
 
 /* What is left to do so that the transactor is checkpointed: the steps, eight bytes each, written to out
  * (LEDGER_PLAN bytes) with zero bytes after them; the answer is how many, and *refusal is 0. Run from the same

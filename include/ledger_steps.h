@@ -15,6 +15,30 @@
  *
  *     byte 0               byte 1       bytes 2, 3   bytes 4 to 7
  *     outcome or refusal   transactor   message      value
+ *
+ * ---- How every call of these libraries is used
+ *
+ * Buffers. A buffer is a pointer and its length in bytes. The caller owes, for each call: pointers
+ * that are not null, also for a length of 0 (any address will do there); as many bytes behind each
+ * as its length says, readable, and writable where the pointer is not to const; and that what is
+ * written (an image that is run, replies, out, target, a lent number) overlaps no other buffer of
+ * the call. Buffers that are only read may overlap each other. No alignment is asked of bytes.
+ * Every other input is allowed, and refused where the documents refuse it.
+ *
+ * Refused calls change no byte but the lent number for the refusal.
+ *
+ * Threads. The libraries keep nothing between calls, have no variable of their own and allocate
+ * nothing. Any number of threads may call at the same time; two calls of which one writes to a
+ * buffer must not have that buffer in common at the same time, as for any memory.
+ *
+ * Stack. Each header says how much stack each of its calls takes at most. No call calls back,
+ * waits, or asks the operating system for anything; each ends. They need memcpy, memmove and memset
+ * and nothing else.
+ *
+ * The code. The libraries are for x86-64 Linux. The code is position-independent and has neither
+ * unwind tables nor marks for control-flow enforcement (CET), which the compiler of the proved
+ * language does not make: an exception must not be thrown through a call (none calls back), and a
+ * debugger can't walk up from inside one.
  */
 #ifndef LEDGER_STEPS_H
 #define LEDGER_STEPS_H
@@ -47,14 +71,21 @@ enum ledger_kind {
     LEDGER_SIGN = 12    /* message: the group */
 };
 
-/* The outcome of a step or its refusal, a reply's first byte; the answer of a call, or its refusal. */
+/* The outcome of a step that is not refused, a reply's first byte. */
 enum ledger_outcome {
-    LEDGER_DONE = 0,
-    LEDGER_HELD = 1,
-    LEDGER_DROPPED = 2,
-    LEDGER_FALLEN_BACK = 3,
-    LEDGER_VANISHED = 4,
-    LEDGER_NOT_READY = 5,
+    LEDGER_OUTCOME_DONE = 0,
+    LEDGER_OUTCOME_HELD = 1,
+    LEDGER_OUTCOME_DROPPED = 2,
+    LEDGER_OUTCOME_FALLEN_BACK = 3,
+    LEDGER_OUTCOME_VANISHED = 4,
+    LEDGER_OUTCOME_NOT_READY = 5
+};
+
+/* The answer of a call, or what a lent number takes: 0 if it is accepted; or why a call or a step
+ * is refused, of a step a reply's first byte too. notation_refusal_text (notation.h) has the words
+ * of each. */
+enum ledger_refusal {
+    LEDGER_ACCEPTED = 0,
     /* calls */
     LEDGER_WRONG_LENGTH = 16, /* image, an image to be converted or its target, or a history, not of its length */
     LEDGER_WRONG_PART = 17,   /* part not inside the list, its length not a multiple of 8, or over 8,192 */
@@ -83,9 +114,11 @@ enum ledger_outcome {
     LEDGER_WRONG_WIDTH = 35   /* width outside 1 to 256 */
 };
 
-/* Writes a step: ledger_step(list + LEDGER_STEP * i, LEDGER_SEND, 0, 1, 0, 9). Each number must fit its field; no bit beyond it is written. */
-static inline void ledger_step(uint8_t *at, unsigned kind, unsigned transactor, unsigned other, unsigned message, uint32_t value) {
-    at[0] = (uint8_t)((kind & 15u) << 4 | (transactor & 15u));
+/* Writes a step: ledger_step(list + LEDGER_STEP * i, LEDGER_SEND, 0, 1, 0, 9). Each number must fit
+ * its field; no bit beyond it is written. The functions below, one for each kind, take the fields
+ * of that kind alone, and write nothing where a number does not fit. */
+static inline void ledger_step(uint8_t *at, enum ledger_kind kind, unsigned transactor, unsigned other, unsigned message, uint32_t value) {
+    at[0] = (uint8_t)(((unsigned)kind & 15u) << 4 | (transactor & 15u));
     at[1] = (uint8_t)((other & 15u) << 4);
     at[2] = (uint8_t)(message >> 8 & 255u);
     at[3] = (uint8_t)(message & 255u);
@@ -94,6 +127,42 @@ static inline void ledger_step(uint8_t *at, unsigned kind, unsigned transactor, 
     at[6] = (uint8_t)(value >> 8 & 255u);
     at[7] = (uint8_t)(value & 255u);
 }
+
+/* Each writes a step of its kind and answers 1; or 0, with no byte written, where a transactor is
+ * past 15, or a message or group past 65,535. */
+static inline int ledger_fitting_step(uint8_t *at, enum ledger_kind kind, size_t transactor, size_t other, size_t message, uint32_t value) {
+    if (transactor >= LEDGER_TRANSACTORS || other >= LEDGER_TRANSACTORS || message > 65535u) return 0;
+    ledger_step(at, kind, (unsigned)transactor, (unsigned)other, (unsigned)message, value);
+    return 1;
+}
+
+static inline int ledger_root(uint8_t *at, uint32_t value) { return ledger_fitting_step(at, LEDGER_ROOT, 0, 0, 0, value); }
+
+static inline int ledger_letter(uint8_t *at, size_t addressee, uint32_t value) { return ledger_fitting_step(at, LEDGER_LETTER, addressee, 0, 0, value); }
+
+static inline int ledger_receive(uint8_t *at, size_t message) { return ledger_fitting_step(at, LEDGER_RECEIVE, 0, 0, message, 0); }
+
+static inline int ledger_new(uint8_t *at, size_t transactor, uint32_t value) { return ledger_fitting_step(at, LEDGER_NEW, transactor, 0, 0, value); }
+
+static inline int ledger_send(uint8_t *at, size_t transactor, size_t addressee, uint32_t value) {
+    return ledger_fitting_step(at, LEDGER_SEND, transactor, addressee, 0, value);
+}
+
+static inline int ledger_read(uint8_t *at, size_t transactor) { return ledger_fitting_step(at, LEDGER_READ, transactor, 0, 0, 0); }
+
+static inline int ledger_write(uint8_t *at, size_t transactor, uint32_t value) { return ledger_fitting_step(at, LEDGER_WRITE, transactor, 0, 0, value); }
+
+static inline int ledger_freeze(uint8_t *at, size_t transactor) { return ledger_fitting_step(at, LEDGER_FREEZE, transactor, 0, 0, 0); }
+
+static inline int ledger_finish(uint8_t *at, size_t transactor) { return ledger_fitting_step(at, LEDGER_FINISH, transactor, 0, 0, 0); }
+
+static inline int ledger_fall(uint8_t *at, size_t transactor) { return ledger_fitting_step(at, LEDGER_FALL, transactor, 0, 0, 0); }
+
+static inline int ledger_fail(uint8_t *at, size_t transactor) { return ledger_fitting_step(at, LEDGER_FAIL, transactor, 0, 0, 0); }
+
+static inline int ledger_lose(uint8_t *at, size_t message) { return ledger_fitting_step(at, LEDGER_LOSE, 0, 0, message, 0); }
+
+static inline int ledger_sign(uint8_t *at, size_t group) { return ledger_fitting_step(at, LEDGER_SIGN, 0, 0, group, 0); }
 
 /* Transactor t as a member of a group, 2^t; a group is its members put together by |. Past 15: 2^16, which is in no group:
  * ledger_obstacle refuses it with 21, a step has no room for it, and names the other members alone. */

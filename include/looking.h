@@ -2,12 +2,9 @@
  * two steps may come in either order, what a byte of an image belongs to.
  *
  * The library is built by `rt staticlib looking_c` as target/staticlib/liblooking_c.a, for x86-64 Linux, and can be linked alone or beside
- * the ledger's. It keeps nothing between calls, allocates nothing and needs only memcpy, memmove and memset.
+ * the ledger's.
  *
- * A buffer is a pointer and its length in bytes. The caller owes, for each call: pointers that are not null (also for a
- * length of 0), as many bytes behind each as its length says, readable, and writable where the pointer is not to const; and
- * that what is written (refusal) overlaps no other buffer of the call. Buffers that are only read may overlap each other. Every other input
- * is allowed, and refused where the documents refuse it. A call changes no byte but *refusal.
+ * What a caller owes (buffers, threads, stack) is said once, in ledger_steps.h.
  *
  * Stack of each call in KiB, at most, beside that of memcpy, memmove and memset (tools/stack measures the compiled library):
  *
@@ -16,26 +13,17 @@
 #ifndef LOOKING_H
 #define LOOKING_H
 
-#include <stddef.h>
-#include <stdint.h>
-
 #include "ledger_steps.h"
 
 #ifdef __cplusplus
 extern "C" {
 #endif
 
-/* What a receipt would do. */
-enum looking_decision_kind {
-    LOOKING_UNDECIDED = 0,           /* refused */
-    LOOKING_ACCEPTED = 1,            /* the message is taken in */
-    LOOKING_MESSAGE_SUPERSEDED = 2,  /* it is dropped: its history of transactor is superseded by the receiver's */
-    LOOKING_RECEIVER_SUPERSEDED = 3  /* the receiver rolls back: its history of transactor is superseded by the message's */
-};
-
-struct looking_decision {
-    size_t kind;
-    size_t transactor; /* the first of which there is such a history; 0 where the message is accepted */
+/* What a receipt would reply. */
+struct looking_verdict {
+    size_t outcome;    /* LEDGER_OUTCOME_DONE, _DROPPED, _FALLEN_BACK or _VANISHED: 0, 2, 3 or 4 */
+    size_t transactor; /* dropped: the first whose history in the message is superseded by the receiver's; fallen back or
+                          vanished: the first whose history in the receiver's maps is superseded by the message's; done: 0 */
 };
 
 /* Two histories of a transactor compared; of the middle four the named one is the earlier. */
@@ -74,7 +62,7 @@ enum looking_field_kind {
     LOOKING_FIELD_CHECKPOINT = 16   /* 2 bytes: that entry of its list, from 0 */
 };
 
-struct looking_field {
+struct looking_place {
     uint8_t kind;
     uint8_t holder; /* the transactor, or the place of the message */
     uint8_t map;    /* of kinds 14 to 16: 0 state, 1 creation, 2 behaviour, 3 the message's; numbers that a kind does not use are 0 */
@@ -83,9 +71,9 @@ struct looking_field {
     uint8_t byte;   /* which byte of the field, from 0, the most significant one */
 };
 
-/* What the receipt of the waiting message with this number would do now, and whose histories decide it; *refusal is 0. The image is only read.
+/* What the receipt of the waiting message with this number would reply now, and whose histories decide it; *refusal is 0. The image is only read.
  * Refused: *refusal is 16, 19, or what the receipt would get, 24, 22, 23, 31 or 28, and both numbers are 0. */
-struct looking_decision looking_decision(const uint8_t *image, size_t image_length, size_t number, uint8_t *refusal);
+struct looking_verdict looking_decision(const uint8_t *image, size_t image_length, size_t number, uint8_t *refusal);
 
 /* Two packed histories of one transactor, 33 bytes each, compared; *refusal is 0. Refused: *refusal is 16 where one has another
  * length, 19 where one is absent or ill-formed, and both numbers are 0. */
@@ -99,7 +87,7 @@ uint8_t looking_independent(const uint8_t *image, size_t image_length, const uin
     size_t second_length, uint8_t *refusal);
 
 /* What byte at of an image belongs to; past the image all numbers are 0. Each byte of an image has an answer of its own. */
-struct looking_field looking_field(size_t at);
+struct looking_place looking_field(size_t at);
 
 #ifdef __cplusplus
 }

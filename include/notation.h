@@ -2,22 +2,19 @@
  * the documents' words.
  *
  * The library is built by `rt staticlib notation_c` as target/staticlib/libnotation_c.a, for x86-64 Linux, and can be linked alone or beside
- * the ledger's. It keeps nothing between calls, allocates nothing and needs only memcpy, memmove and memset.
+ * the ledger's.
  *
- * A buffer is a pointer and its length in bytes. The caller owes, for each call: pointers that are not null (also for a length of 0), as
- * many bytes behind each as its length says, readable, and writable where the pointer is not to const; and that what is written (out, line,
- * column, expected) overlaps no other buffer of the call. Buffers that are only read may overlap each other. Every other input is allowed. A
- * refused call changes no byte of out. No text is ended by a zero byte.
+ * What a caller owes (buffers, threads, stack) is said once, in ledger_steps.h.
+ * No text is ended by a zero byte.
  *
  * Stack of each call in KiB, at most, beside that of memcpy, memmove and memset (tools/stack measures the compiled library):
  *
- *     notation_parse 1   notation_expected_text 2   notation_reply 3   notation_length 4   notation_step 4   notation_print 4   notation_image 6
+ *     notation_parse 1   notation_expected_text 2   notation_refusal_text 2   notation_reply 3   notation_length 4   notation_step 4   notation_print 4   notation_image 6
  */
 #ifndef NOTATION_H
 #define NOTATION_H
 
-#include <stddef.h>
-#include <stdint.h>
+#include "ledger_steps.h"
 
 #ifdef __cplusplus
 extern "C" {
@@ -68,6 +65,10 @@ size_t notation_parse(const uint8_t *text, size_t text_length, uint8_t *out, siz
 
 /* Writes the words of what was expected, as `a take, 0 to 15`, without LF; nothing for a number that is not 1 to 12. 18. */
 struct notation_given notation_expected_text(uint8_t expected, uint8_t *out, size_t out_length);
+
+/* Writes the words of a refusal, as `image ill-formed`, without LF; nothing for a number that is
+ * not 16 to 35. 18. */
+struct notation_given notation_refusal_text(uint8_t number, uint8_t *out, size_t out_length);
 
 /* How long the text of a list is. 17. */
 struct notation_given notation_length(const uint8_t *list, size_t list_length);

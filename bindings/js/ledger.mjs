@@ -3,7 +3,7 @@
 import { memory, accepted } from "./modules.mjs";
 import { wide } from "./memory.mjs";
 
-export { load } from "./modules.mjs";
+export { load, refusalText } from "./modules.mjs";
 export { Refusal, REFUSALS, OUTCOMES, nameOf } from "./refusals.mjs";
 
 export const IMAGE = 42616;
@@ -12,16 +12,19 @@ export const STEP = 8;
 export const LONGEST = 8192;
 export const PLAN = 392;
 const NO_PARCEL = 65535;
+const ILL_FORMED = 19;
 const OBSTACLES = ["nothing", "not frozen", "outside", "withdrawn"];
-const DECISIONS = ["nothing", "taken in", "dropped", "falls"];
 const RELATIONS = ["same life", "left signed", "right signed", "left withdrawn", "right withdrawn", "unrelated"];
+const ACTORS = ["nobody", "the house", "a take", "a volume"];
 const IMPEDIMENTS = ["nothing", "withdrawn", "all signed", "not frozen"];
 
 /** @typedef {import("./memory.mjs").Memory} Memory */
 /** @typedef {{takes: number, parcels: number, signings: number}} Limits */
 /** @typedef {{kind: "nothing" | "not frozen" | "outside" | "withdrawn", take: number, ground: number}} Obstacle */
 /** @typedef {{kind: "nothing" | "withdrawn" | "all signed" | "not frozen", take: number, ground: number, next: number}} Impediment */
-/** @typedef {{kind: "taken in" | "dropped" | "falls", take: number}} Decision */
+/** @typedef {{outcome: number, take: number}} Decision */
+/** @typedef {{kind: "nobody" | "the house" | "a take" | "a volume", takes: number}} Actor */
+/** @typedef {{at: number, clause: number}} Fault */
 /** @typedef {{relation: "same life" | "left signed" | "right signed" | "left withdrawn" | "right withdrawn" | "unrelated", newer: "left" | "right"}} Comparison */
 /** @typedef {{kind: number, holder: number, map: number, ground: number, entry: number, byte: number}} Field */
 /** @typedef {{resting: number, through: number, unfinished: number, carried: number}} Dependents */
@@ -204,6 +207,20 @@ export class Session {
   }
 
   /**
+   * For whom a step acts: nobody, if it is no step or receives a parcel that does not wait; the house, for root, letter and lose; a take, as a volume
+   * with it alone; the volume that it signs. A step changes no take that is opened before it and that it does not act for.
+   * @param {Uint8Array} step eight bytes
+   * @returns {Actor}
+   */
+  actor(step) {
+    return query(this.#image, (c, at, length, refusal, m) => {
+      const bytes = m.lend(step), answer = m.room(16);
+      c.ledger_actor(answer, at, length, bytes, wide(step.length), refusal);
+      return { kind: /** @type {Actor["kind"]} */ (ACTORS[m.word(answer)]), takes: m.word(answer + 8) };
+    });
+  }
+
+  /**
    * What is left to do so that the take is signed: the steps, packed. Run on this session each is answered with outcome 0, and the last
    * signs the take with all that it rests on. No steps: impediment says "withdrawn" or "all signed", and then it can't be signed any more in
    * the life that it has; where it says anything else, there is no place or no number for a letter that is needed.
@@ -233,8 +250,8 @@ export class Session {
   }
 
   /**
-   * What the receipt of a waiting parcel would do now, and the take whose marks decide it: dropped, the parcel's mark of that take is stale;
-   * falls, the addressee's. Refused as the receipt would be.
+   * What the receipt of a waiting parcel would reply now: its outcome, 0 done, 2 dropped, 3 fallen back, 4 vanished; and the take whose marks decide
+   * it: dropped, the parcel's mark of that take is stale; fallen back or vanished, the addressee's; done, 0. Refused as the receipt would be.
    * @param {number} parcel
    * @returns {Decision}
    */
@@ -242,7 +259,7 @@ export class Session {
     return query(this.#image, (c, at, length, refusal, m) => {
       const answer = m.room(16);
       c.looking_decision(answer, at, length, wide(parcel), refusal);
-      return { kind: /** @type {Decision["kind"]} */ (DECISIONS[m.word(answer)]), take: m.word(answer + 8) };
+      return { outcome: m.word(answer), take: m.word(answer + 8) };
     }, "looking");
   }
 
@@ -274,6 +291,19 @@ export class Session {
       return m.copy(out, STEP * kept);
     });
   }
+}
+
+/**
+ * Where an image fails the form first: the byte, and the number of the clause (include/ledger.h has them); null for one that is well-formed. An
+ * image of another length is refused.
+ * @param {Uint8Array} image
+ * @returns {Fault | null}
+ */
+export function fault(image) {
+  const m = memory("ledger"), bytes = m.lend(image), at = m.room(8), clause = m.room(1);
+  const answer = m.calls.ledger_fault(bytes, wide(image.length), at, clause) & 255;
+  if (answer !== ILL_FORMED) accepted(answer);
+  return answer === ILL_FORMED ? { at: m.word(at), clause: m.byte(clause) } : null;
 }
 
 /**

@@ -1,6 +1,6 @@
 // The library's modules: loaded once, and lent to one call after the other.
-import { Memory } from "./memory.mjs";
-import { Refusal } from "./refusals.mjs";
+import { Memory, wide } from "./memory.mjs";
+import { Refusal, REFUSALS } from "./refusals.mjs";
 
 /** @typedef {"ledger" | "looking" | "engine" | "notation"} Name */
 
@@ -13,6 +13,22 @@ const loaded = new Map();
  */
 export async function load(modules) {
   for (const [name, bytes] of Object.entries(modules)) if (bytes) loaded.set(name, await Memory.load(bytes));
+  if (modules.notation) for (const [number, row] of Object.entries(REFUSALS)) row[1] = refusalText(Number(number));
+}
+
+const LINE = 256;
+
+/**
+ * The library's words for a refusal, 16 to 35; none for another number.
+ * @param {number} number
+ * @returns {string}
+ */
+export function refusalText(number) {
+  if (!Number.isInteger(number) || number < 0 || number > 255) return "";
+  const m = memory("notation"), answer = m.room(16), out = m.room(LINE);
+  m.calls.notation_refusal_text(answer, number, out, wide(LINE));
+  accepted(m.byte(answer + 8));
+  return new TextDecoder().decode(m.copy(out, m.word(answer)));
 }
 
 /**

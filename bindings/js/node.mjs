@@ -1,10 +1,11 @@
-// For node: loads the modules from the folder in which bindings/js/build left them.
-import { readFileSync } from "node:fs";
+// For node: loads the modules from the folder wasm beside this file, as in the package, or from where bindings/js/build left them.
+import { existsSync, readFileSync } from "node:fs";
 import { join } from "node:path";
 import { fileURLToPath } from "node:url";
 import { load } from "./ledger.mjs";
 
-export const FOLDER = fileURLToPath(new URL("../../target/wasm/", import.meta.url));
+const BESIDE = fileURLToPath(new URL("./wasm/", import.meta.url));
+export const FOLDER = existsSync(BESIDE) ? BESIDE : fileURLToPath(new URL("../../target/wasm/", import.meta.url));
 
 /**
  * Throws where bindings/js/build has not been run.

@@ -3,6 +3,8 @@ import { memory, accepted } from "./modules.mjs";
 import { wide } from "./memory.mjs";
 import { joined } from "./packed.mjs";
 
+export { refusalText } from "./modules.mjs";
+
 const STEP = 8, LONGEST = 8192, STEP_LINE = 45, LINE = 256, IMAGE_LINES = 1330;
 
 /** @typedef {{line: number, column: number, expected: string}} Fault */

@@ -7,18 +7,45 @@ export const KINDS = ["root", "letter", "receive", "new", "send", "read", "write
 /** @typedef {{outcome: number, take: number, parcel: number, text: number}} Reply */
 
 /**
- * A step's eight bytes.
+ * The greatest number that each field of a step holds.
+ * @type {Record<string, number>}
+ */
+const GREATEST_IN = { take: 15, other: 15, parcel: 65535, text: 4294967295 };
+
+/**
+ * A whole number from 0 to most, as it is; anything else throws.
+ * @param {string} name what it is the number of
+ * @param {unknown} n
+ * @param {number} most
+ * @returns {number}
+ */
+function fitting(name, n, most) {
+  if (typeof n !== "number") throw new TypeError(`${name}: a number is needed, not ${typeof n === "string" ? `the string "${n}"` : String(n)}`);
+  if (!Number.isInteger(n) || n < 0 || n > most) throw new RangeError(`${name}: 0 to ${most}, not ${n}`);
+  return n;
+}
+
+/**
+ * A step's eight bytes. A field that is not given is 0. A kind or a field that there is not, and a number that its field does not hold, throw:
+ * no bit of one field is ever written into another. A field that the kind does not use is packed as it is given: the ledger refuses such a step (20).
  * @param {string} kind
  * @param {{take?: number, other?: number, parcel?: number, text?: number}} [fields]
  * @returns {Uint8Array}
  */
 export function packStep(kind, fields = {}) {
-  const { take = 0, other = 0, parcel = 0, text = 0 } = fields;
+  const number = KINDS.indexOf(kind);
+  if (number < 0) throw new RangeError(`no kind of step: ${String(kind)}`);
+  /** @type {Record<string, number>} */
+  const numbers = { take: 0, other: 0, parcel: 0, text: 0 };
+  for (const [name, n] of Object.entries(fields)) {
+    if (!(name in GREATEST_IN)) throw new RangeError(`no field of a step: ${name}`);
+    if (n !== undefined) numbers[name] = fitting(name, n, GREATEST_IN[name]);
+  }
   const bytes = new Uint8Array(8), view = new DataView(bytes.buffer);
-  bytes[0] = (KINDS.indexOf(kind) << 4) | take;
-  bytes[1] = other << 4;
-  view.setUint16(2, parcel);
-  view.setUint32(4, text);
+  bytes[0] = (number << 4) | numbers.take;
+  bytes[1] = numbers.other << 4;
+  view.setUint16(2, numbers.parcel);
+  view.setUint32(4, numbers.text);
   return bytes;
 }
 
@@ -69,13 +96,13 @@ export function takesOf(volume) {
 }
 
 /**
- * The volume of these takes.
+ * The volume of these takes; a number that no take has throws.
  * @param {Iterable<number>} takes
  * @returns {number}
  */
 export function volumeOf(takes) {
   let volume = 0;
-  for (const t of takes) volume |= 1 << t;
+  for (const t of takes) volume |= 1 << fitting("take", t, 15);
   return volume;
 }
 

@@ -5,7 +5,7 @@
 int main(void) {
     static uint8_t list[BYTES], replies[BYTES];
     pack(list);
-    if (engine_play(list, sizeof list, replies, sizeof replies, LEDGER_TRANSACTORS, LEDGER_MESSAGES, LEDGER_CHECKPOINTS) != LEDGER_DONE) return 1;
+    if (engine_play(list, sizeof list, replies, sizeof replies, LEDGER_TRANSACTORS, LEDGER_MESSAGES, LEDGER_CHECKPOINTS) != LEDGER_ACCEPTED) return 1;
     print(replies);
     return 0;
 }

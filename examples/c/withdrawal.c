@@ -15,7 +15,7 @@ static unsigned pages(void) { return ledger_member(PAGE_1) | ledger_member(PAGE_
 static void step(enum ledger_kind kind, unsigned take, unsigned other, unsigned parcel) {
     uint8_t packed[LEDGER_STEP], reply[LEDGER_STEP];
     ledger_step(packed, kind, take, other, parcel, 0);
-    if (ledger_run(image, sizeof image, packed, sizeof packed, 0, sizeof packed, reply, sizeof reply) != LEDGER_DONE) exit(1);
+    if (ledger_run(image, sizeof image, packed, sizeof packed, 0, sizeof packed, reply, sizeof reply) != LEDGER_ACCEPTED) exit(1);
     if (ledger_reply_outcome(reply) >= LEDGER_MALFORMED) exit(1);
 }
 
@@ -32,7 +32,7 @@ static void print_volume(unsigned volume) {
 
 static void who_rests_on(unsigned take) {
     uint8_t refusal;
-    struct ledger_dependents d = ledger_dependents(image, sizeof image, take, &refusal);
+    struct ledger_resting d = ledger_dependents(image, sizeof image, take, &refusal);
     if (refusal != 0) {
         printf("who rests on %s? refused with %d\n", word[take], refusal);
         return;
@@ -48,7 +48,7 @@ static void who_rests_on(unsigned take) {
 
 static void why_not(unsigned volume) {
     uint8_t refusal;
-    struct ledger_obstacle o = ledger_obstacle(image, sizeof image, volume, &refusal);
+    struct ledger_reason o = ledger_obstacle(image, sizeof image, volume, &refusal);
     printf("why not sign ");
     print_volume(volume);
     if (refusal != 0) printf("  refused with %d\n", refusal);
@@ -61,7 +61,7 @@ static void why_not(unsigned volume) {
 /* The chain from the take to what is in the way, one call a link. */
 static void why_none_with(unsigned take) {
     uint8_t refusal;
-    struct ledger_impediment i = ledger_impediment(image, sizeof image, take, &refusal);
+    struct ledger_cause i = ledger_impediment(image, sizeof image, take, &refusal);
     printf("why is no volume with %s ready?\n", word[take]);
     if (refusal != 0) {
         printf("  refused with %d\n", refusal);
@@ -79,7 +79,7 @@ static void why_none_with(unsigned take) {
 }
 
 int main(void) {
-    if (ledger_begin(image, sizeof image, LEDGER_TRANSACTORS, LEDGER_MESSAGES, LEDGER_CHECKPOINTS) != LEDGER_DONE) return 1;
+    if (ledger_begin(image, sizeof image, LEDGER_TRANSACTORS, LEDGER_MESSAGES, LEDGER_CHECKPOINTS) != LEDGER_ACCEPTED) return 1;
     for (unsigned t = 0; t < TAKES; t++) step(LEDGER_ROOT, 0, 0, 0);
     step(LEDGER_LETTER, NAMES, 0, 0), step(LEDGER_RECEIVE, 0, 0, 0);
     step(LEDGER_SEND, NAMES, PAGE_1, 0), step(LEDGER_RECEIVE, 0, 0, 1), step(LEDGER_WRITE, PAGE_1, 0, 0), step(LEDGER_FINISH, PAGE_1, 0, 0);

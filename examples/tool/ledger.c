@@ -247,7 +247,7 @@ static struct bytes name_in(const uint8_t *step, struct bytes comment) {
 /* A name has any bytes, so printf won't do. */
 static void tell_name(const uint8_t *step, const uint8_t *reply, struct bytes comment) {
     unsigned kind = step[0] >> 4;
-    if ((kind != LEDGER_ROOT && kind != LEDGER_NEW) || ledger_reply_outcome(reply) != LEDGER_DONE) return;
+    if ((kind != LEDGER_ROOT && kind != LEDGER_NEW) || ledger_reply_outcome(reply) != LEDGER_OUTCOME_DONE) return;
     struct bytes name = name_in(step, comment);
     if (name.length == 0) return;
     fputs(" (", stdout);
@@ -389,7 +389,7 @@ static void members(const char *what, unsigned group) {
 static int who(const char *name, const char *word) {
     struct bytes image = load(name);
     uint8_t refusal;
-    struct ledger_dependents d = ledger_dependents(image.at, image.length, take_of(word), &refusal);
+    struct ledger_resting d = ledger_dependents(image.at, image.length, take_of(word), &refusal);
     if (refusal) return refused(name, refusal);
     members("rest on it", d.resting);
     members("through others too", d.through);
@@ -400,11 +400,11 @@ static int who(const char *name, const char *word) {
 
 static int why_none(const char *name, struct bytes image, unsigned take) {
     uint8_t refusal;
-    struct ledger_impediment o = ledger_impediment(image.at, image.length, take, &refusal);
+    struct ledger_cause o = ledger_impediment(image.at, image.length, take, &refusal);
     if (refusal) return refused(name, refusal);
     if (o.kind == LEDGER_NO_IMPEDIMENT) return members("can be signed", ledger_smallest_group(image.at, image.length, take, &refusal)), 0;
     for (unsigned at = take; at != o.transactor;) {
-        struct ledger_impediment on = ledger_impediment(image.at, image.length, at, &refusal);
+        struct ledger_cause on = ledger_impediment(image.at, image.length, at, &refusal);
         printf("take %u rests on take %u\n", at, on.next);
         at = on.next;
     }
@@ -420,7 +420,7 @@ static int why(const char *name, int count, char **words) {
     size_t group = 0;
     for (int i = 0; i < count; i++) group |= ledger_member(take_of(words[i]));
     uint8_t refusal;
-    struct ledger_obstacle o = ledger_obstacle(image.at, image.length, group, &refusal);
+    struct ledger_reason o = ledger_obstacle(image.at, image.length, group, &refusal);
     if (refusal) return refused(name, refusal);
     if (o.kind == LEDGER_NOTHING) return members("can be signed", (unsigned)group), 0;
     if (o.kind == LEDGER_UNSTABLE) printf("take %u is not frozen\n", o.transactor);

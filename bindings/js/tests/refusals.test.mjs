@@ -52,7 +52,7 @@ test("queries: 21, 22, 24, 29, 30", () => {
 });
 
 test("18 has its error; numbers that a call can't take are no refusals of the ledger", () => {
-  assert.equal(new Refusal(18).message, "refused with 18, wrong room: the room for replies is not as long as the part");
+  assert.equal(new Refusal(18).message, "refused with 18, wrong room: replies, or other room lent, not of the right length");
   for (const n of [-1, 0.5, NaN, 2 ** 60]) assert.throws(() => Session.begin().offer(n), RangeError);
   assert.throws(() => Session.begin().obstacle(-1), RangeError);
 });

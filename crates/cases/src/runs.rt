@@ -150,7 +150,7 @@ fn steps(op: u8, image: &mut [u8], n: &[u8]) -> u8 {
 }
 
 // Plays an operation: the image, the list that lines build, and the line up to its label.
-pub fn play(image: &mut [u8], list: &mut [u8], n: &[u8]) -> u8 {
+pub(crate) fn play(image: &mut [u8], list: &mut [u8], n: &[u8]) -> u8 {
     let op = bytes::get(n, 0);
     match op {
         b'l' => numbers::put(list, n),

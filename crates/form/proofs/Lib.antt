@@ -1,2 +1,2 @@
-mod FormTest
+pub mod FormTest
 pub mod Unsound

@@ -1,5 +1,6 @@
 // The ledger's calls for programs in other languages, as include/ledger.h declares them: a slice is a pointer and a length, a
-// lent number a pointer. None has a precondition, and each promises what the call of ledger, queries, thin, convert or window promises.
+// lent number a pointer. None has a precondition, and each promises what the call of ledger, queries, plans, actors, defects, thin, convert or window promises.
+use actors::Actor;
 use rules::Dependents;
 use rules::Grouped;
 use rules::Impediment;
@@ -9,20 +10,20 @@ use window::Worst;
 ghost use mathlib.Core.Path.{_≡_};
 ghost use Rattle.rules.specs.Layout.{base, limitsOf};
 ghost use Rattle.rules.specs.Calls.{queryRefusal, showRefusal};
-ghost use Rattle.rules.specs.Promises.{BeginPromise, RunPromise, OfferPromise, SmallestPromise, CountPromise, DependentsPromise, PlanPromise};
+ghost use Rattle.rules.specs.Promises.{BeginPromise, RunPromise, OfferPromise, SmallestPromise, CountPromise, DependentsPromise, ObstaclePromise, ImpedimentPromise, PlanPromise};
 ghost use Rattle.rules.specs.Heard.{heardAnswer};
-ghost use Rattle.rules.specs.Obstacle.{obstacleRefusal, obstacleAnswer};
-ghost use Rattle.rules.specs.Impediment.{impedimentAnswer};
+ghost use Rattle.actors.specs.Actor.{actorRefusal, actorAnswer};
+ghost use Rattle.defects.specs.Defect.{defectRefusal, defectAnswer};
 ghost use Rattle.thin.specs.Thin.{thinRefusal, thinOut, thinCount};
 ghost use Rattle.convert.specs.Convert.{forwardAnswer, forwardImage, backAnswer, backImage};
 ghost use Rattle.window.specs.Window.{windowRefusal, worstWindow};
-ghost use Rattle.ledger_c.specs.Interface.{version, offeredBy, groupOf, numberFor, reasonFor, causeFor, shownPart};
+ghost use Rattle.ledger_c.specs.Interface.{version, offeredBy, groupOf, numberFor, reasonNumbers, causeNumbers, actingFor, shownPart};
 
 // The number that stands for no message.
 pub const NONE: u16 = 65535;
 
-// The interface's major, minor and patch number, a byte each: LEDGER_VERSION of include/ledger.h.
-pub const VERSION: u32 = 196608;
+// The interface's major, minor and patch number, a byte each, as the file VERSION has them: LEDGER_VERSION of include/ledger.h.
+pub const VERSION: u32 = 262144;
 
 // The kinds of what is in the way of every group with a transactor.
 const HOPELESS: u8 = 1;
@@ -30,6 +31,13 @@ const HOPELESS: u8 = 1;
 const EXHAUSTED: u8 = 2;
 
 const NOT_STABLE: u8 = 3;
+
+// The kinds of whom a step acts for.
+const HOUSE: usize = 1;
+
+const ONE: usize = 2;
+
+const GROUP: usize = 3;
 
 // A part of the image.
 #[repr(C)]
@@ -57,10 +65,17 @@ pub struct Cause {
     pub next: u8,
 }
 
+// For whom a step acts, in numbers: the kind, 0 nobody, 1 the house, 2 one transactor, 3 a group; and the transactors, their bits.
+#[repr(C)]
+pub struct Acting {
+    pub kind: usize,
+    pub takes: usize,
+}
+
 // The version of this library.
 #[no_mangle]
 pub extern "C" fn ledger_version() -> u32
-    ensures { λ r. ⌜ r ≡ version 3 0 0 ⌝ }
+    ensures { λ r. ⌜ r ≡ version 4 0 0 ⌝ }
 {
     VERSION
 }
@@ -150,7 +165,7 @@ pub extern "C" fn ledger_dependents(image: &[u8], transactor: usize, refusal: &m
 // get, 29, 21, 22 or 30, or 0; refused, all are 0.
 #[no_mangle]
 pub extern "C" fn ledger_obstacle(image: &[u8], members: usize, refusal: &mut u8) -> Reason
-    ensures { λ r. ⌜ (now (refusal .exit) ≡ obstacleRefusal base (now (image .entry)) members) × (r ≡ reasonFor (obstacleAnswer base (now (image .entry)) members)) ⌝ }
+    ensures { λ r. ⌜ ObstaclePromise base (now (image .entry)) members (now (refusal .exit)) (reasonNumbers r) ⌝ }
 {
     match queries::obstacle(image, members, refusal) {
         Obstacle::Nothing => Reason {
@@ -180,7 +195,7 @@ pub extern "C" fn ledger_obstacle(image: &[u8], members: usize, refusal: &mut u8
 // 22, or 0; refused, all are 0.
 #[no_mangle]
 pub extern "C" fn ledger_impediment(image: &[u8], transactor: usize, refusal: &mut u8) -> Cause
-    ensures { λ r. ⌜ (now (refusal .exit) ≡ queryRefusal base (now (image .entry)) transactor) × (r ≡ causeFor (impedimentAnswer base (now (image .entry)) transactor)) ⌝ }
+    ensures { λ r. ⌜ ImpedimentPromise base (now (image .entry)) transactor (now (refusal .exit)) (causeNumbers r) ⌝ }
 {
     match queries::impediment(image, transactor, refusal) {
         Impediment::Nothing => Cause {
@@ -208,6 +223,41 @@ pub extern "C" fn ledger_impediment(image: &[u8], transactor: usize, refusal: &m
             next: x,
         },
     }
+}
+
+// For whom the step acts on this image. The lent number takes the refusal, 16, 17 unless the step has eight bytes, 19, or 0; refused, both
+// numbers are 0.
+#[no_mangle]
+pub extern "C" fn ledger_actor(image: &[u8], step: &[u8], refusal: &mut u8) -> Acting
+    ensures { λ r. ⌜ (now (refusal .exit) ≡ actorRefusal base (now (image .entry)) (now (step .entry))) × (r ≡ actingFor (actorAnswer base (now (image .entry)) (now (step .entry)))) ⌝ }
+{
+    match actors::for_whom(image, step, refusal) {
+        Actor::Nobody => Acting { kind: 0, takes: 0 },
+        Actor::House => Acting {
+            kind: HOUSE,
+            takes: 0,
+        },
+        Actor::One(t) => Acting {
+            kind: ONE,
+            takes: 1usize << t,
+        },
+        Actor::Group(members) => Acting {
+            kind: GROUP,
+            takes: members as usize,
+        },
+    }
+}
+
+// Where the image fails the form first: the byte and the clause, lent numbers, both 0 where it does not. 16, 19 if it does, or 0.
+#[no_mangle]
+pub extern "C" fn ledger_fault(image: &[u8], at: &mut usize, clause: &mut u8) -> u8
+    ensures { λ r. ⌜ (r ≡ defectRefusal base (now (image .entry))) × (now (at .exit) ≡ defectAnswer base (now (image .entry)) .at) × (now (clause .exit) ≡ defectAnswer base (now (image .entry)) .clause) ⌝ }
+{
+    let mut refusal: u8 = 0;
+    let d = defects::first_defect(image, &mut refusal);
+    *at = d.at;
+    *clause = d.clause;
+    refusal
 }
 
 // Writes the steps after which the transactor is checkpointed with all that it rests on, each answered with 0, and zeros after them: how many

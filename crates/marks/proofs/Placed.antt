@@ -13,7 +13,7 @@ use lib.Seq.{take-all}
 use borrow.Author.Tests.{le-leb, lt-leb, eq-eqb, ne-eqb}
 use Rattle.octets.specs.Bytes.{_and_, _or_, put, part, chunks, tabulate, allZero}
 use Rattle.octets.specs.Numbers.{be, ofBe}
-use Rattle.octets.proofs.Put.{put-append, part-part, getD-part, part-def, part-add, part-one, length-part}
+use Rattle.octets.proofs.Put.{part-part, getD-part, part-def, part-add, part-one, length-part, put-then}
 use Rattle.octets.proofs.Numbers.{length-be, put-be-one}
 use Rattle.octets.proofs.Chunks.{step, sides, tabulate-same, getD-tabulate, fill-more, fill-all, put-more}
 use Rattle.octets.proofs.Tests.{and-true}
@@ -42,9 +42,6 @@ pub numbers-filled : (w at i n : ℕ) (s l : List ℕ) → take i l ≡ tabulate
 numbers-filled w at i n s l e h k = fill-all (loadNumberAt w s at) l n (subst (λ (j : ℕ). take j l ≡ tabulate j (loadNumberAt w s at)) h e) k
 
 -- ---- a history
-
-put-then : (at n : ℕ) (bs cs l : List ℕ) → length bs ≡ n → at + n + length cs ≤ length l → put (at + n) cs (put at bs l) ≡ put at (bs ++ cs) l
-put-then at n bs cs l e h = ap (λ (k : ℕ). put (at + k) cs (put at bs l)) (sym e) ∙ put-append at bs cs l (omega (arith, e))
 
 pub put-history : (w l at : ℕ) (h : History) (f : ℕ) (b b' b'' : List ℕ) → at + historySize w l ≤ length b → f ≡ bit (h .stable) → h .count < countBound
     → b' ≡ put (at + 1) (be w (h .incarnation)) (set b at (128 + 64 * f + h .count))

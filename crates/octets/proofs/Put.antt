@@ -92,6 +92,10 @@ put-append at bs cs l h =
     let h' : at + length bs ≤ length l = omega arith in
     rw (put-def (at + length bs) cs (put at bs l), put-def at (bs ++ cs) l, front-put at bs l h', drop-put-add at bs l h', length-append) (simp (append-assoc, add-assoc))
 
+-- the same, by the length of the first piece
+pub put-then : (at n : ℕ) (bs cs l : List ℕ) → length bs ≡ n → at + n + length cs ≤ length l → put (at + n) cs (put at bs l) ≡ put at (bs ++ cs) l
+put-then at n bs cs l e h = ap (λ (k : ℕ). put (at + k) cs (put at bs l)) (sym e) ∙ put-append at bs cs l (omega (arith, e))
+
 -- what stands there is put
 pub put-part : (at n : ℕ) (l : List ℕ) → at + n ≤ length l → l ≡ put at (part at n l) l
 put-part at n l h = sym (rw (put-def, length-part at n l h, part-def, ← take-add at n l, take-append-drop))

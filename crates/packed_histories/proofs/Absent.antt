@@ -7,7 +7,7 @@ use native.Mathlib.Omega.{arith}
 use lib.ListN.{length, length-append, set}
 use Rattle.octets.specs.Bytes.{put, chunks, zeros}
 use Rattle.octets.specs.Numbers.{be}
-use Rattle.octets.proofs.Put.{put-append}
+use Rattle.octets.proofs.Put.{put-then}
 use Rattle.octets.proofs.Numbers.{length-be, put-be-one}
 use Rattle.marks.specs.declared.History.{History}
 use Rattle.marks.specs.History.{initialHistory}
@@ -28,9 +28,6 @@ head-fits true true n h = omega arith
 head-fits true false n h = omega arith
 head-fits false true n h = omega arith
 head-fits false false n h = omega arith
-
-put-then : (at n : ℕ) (bs cs l : List ℕ) → length bs ≡ n → at + n + length cs ≤ length l → put (at + n) cs (put at bs l) ≡ put at (bs ++ cs) l
-put-then at n bs cs l e h = ap (λ (k : ℕ). put (at + k) cs (put at bs l)) (sym e) ∙ put-append at bs cs l (omega (arith, e))
 
 pub put-as : (w l at : ℕ) (p : Bool) (h : History) (g f : ℕ) (b b' b'' : List ℕ) → at + historySize w l ≤ length b → g ≡ bit p → f ≡ bit (h .stable) → h .count < countBound
     → b' ≡ put (at + 1) (be w (h .incarnation)) (set b at (128 * g + 64 * f + h .count))

@@ -4,11 +4,12 @@ use mathlib.Core.Bool.{Bool, true, false}
 use mathlib.Core.Path.{_≡_, refl, sym, ap, _∙_}
 use mathlib.Core.List.{List, [], _∷_, _++_}
 use native.Mathlib.Omega.{arith}
-use borrow.Author.Tests.{leb-true, lt-ltb, le-ltb, le-leb, lt-leb}
+use borrow.Author.Tests.{leb-true, lt-ltb, le-ltb, le-leb, lt-leb, eq-eqb, ne-eqb}
 use lib.Dec.{eqb, ltb, leb}
-use lib.ListN.{length, take, drop, getD, length-append}
-use Rattle.octets.specs.Bytes.{pick, _and_, _or_, every, part}
+use lib.ListN.{length, take, drop, length-append}
+use Rattle.octets.specs.Bytes.{_and_, _or_, every, part}
 use Rattle.octets.proofs.Put.{part-def}
+use Rattle.octets.proofs.Tests.{pick-view}
 use Rattle.octets.proofs.Zero.{both, every-at}
 use Rattle.marks.specs.Incarnation.{sameList}
 use Rattle.marks.proofs.Tests.{sameList-test}
@@ -17,9 +18,11 @@ use Rattle.rules.specs.declared.Reply.{Reply}
 use Rattle.rules.specs.Step.{stepBytes, stepAt, unpackStep, unpackReply, receive, notReady}
 use Rattle.rules.specs.Calls.{stepsIn}
 use Rattle.notation.specs.Notation.{bytes, decimal, places, hex}
+use Rattle.refusal_words.specs.Words.{refusalWords}
+use Rattle.refusal_words.proofs.Wording.{words-short}
 use Rattle.lines.specs.declared.Line.{Line}
 use Rattle.lines.specs.Lines.{lineRoom, written, plus, Says, letters, rowIn}
-use Rattle.replies.specs.Replies.{repliesTransactor, repliesMessage, repliesValue, outcomeOf, fieldText, fieldsText, isOutcome, sentences, sentenceOf, refusalText, isRefused, replyText, replyTextAt}
+use Rattle.replies.specs.Replies.{repliesTransactor, repliesMessage, repliesValue, outcomeOf, fieldText, fieldsText, isOutcome, sentenceOf, refusalText, isRefused, replyText, replyTextAt}
 use Rattle.notation.proofs.Numerals.{length-hex}
 use Rattle.lines.proofs.Putting.{decimal-places}
 use Rattle.lines.proofs.Lining.{plus-none, plus-two, plus-three, says-short, written-empty}
@@ -30,27 +33,14 @@ abbrev pub outcomesTable : List ℕ
 outcomesTable =
     100 ∷ 111 ∷ 110 ∷ 101 ∷ 0 ∷ 0 ∷ 0 ∷ 0 ∷ 0 ∷ 0 ∷ 0 ∷ 104 ∷ 101 ∷ 108 ∷ 100 ∷ 0 ∷ 0 ∷ 0 ∷ 0 ∷ 0 ∷ 0 ∷ 0 ∷ 100 ∷ 114 ∷ 111 ∷ 112 ∷ 112 ∷ 101 ∷ 100 ∷ 0 ∷ 0 ∷ 0 ∷ 0 ∷ 102 ∷ 97 ∷ 108 ∷ 108 ∷ 101 ∷ 110 ∷ 32 ∷ 98 ∷ 97 ∷ 99 ∷ 107 ∷ 118 ∷ 97 ∷ 110 ∷ 105 ∷ 115 ∷ 104 ∷ 101 ∷ 100 ∷ 0 ∷ 0 ∷ 0 ∷ 110 ∷ 111 ∷ 116 ∷ 32 ∷ 114 ∷ 101 ∷ 97 ∷ 100 ∷ 121 ∷ 0 ∷ 0 ∷ []
 
-abbrev pub sentencesTable : List ℕ
-sentencesTable =
-    107 ∷ 105 ∷ 110 ∷ 100 ∷ 32 ∷ 49 ∷ 51 ∷ 32 ∷ 116 ∷ 111 ∷ 32 ∷ 49 ∷ 53 ∷ 44 ∷ 32 ∷ 111 ∷ 114 ∷ 32 ∷ 117 ∷ 110 ∷ 117 ∷ 115 ∷ 101 ∷ 100 ∷ 32 ∷ 111 ∷ 114 ∷ 32 ∷ 122 ∷ 101 ∷ 114 ∷ 111 ∷ 32 ∷ 98 ∷ 105 ∷ 116 ∷ 115 ∷ 32 ∷ 110 ∷ 111 ∷ 116 ∷ 32 ∷ 122 ∷ 101 ∷ 114 ∷ 111 ∷ 0 ∷ 97 ∷ 99 ∷ 116 ∷ 105 ∷ 110 ∷ 103 ∷ 32 ∷ 116 ∷ 97 ∷ 107 ∷ 101 ∷ 44 ∷ 32 ∷ 97 ∷ 100 ∷ 100 ∷ 114 ∷ 101 ∷ 115 ∷ 115 ∷ 101 ∷ 101 ∷ 32 ∷ 111 ∷ 114 ∷ 32 ∷ 110 ∷ 97 ∷ 109 ∷ 101 ∷ 100 ∷ 32 ∷ 116 ∷ 97 ∷ 107 ∷ 101 ∷ 32 ∷ 110 ∷ 111 ∷ 116 ∷ 32 ∷ 111 ∷ 112 ∷ 101 ∷ 110 ∷ 101 ∷ 100 ∷ 97 ∷ 99 ∷ 116 ∷ 105 ∷ 110 ∷ 103 ∷ 44 ∷ 32 ∷ 114 ∷ 101 ∷ 99 ∷ 101 ∷ 105 ∷ 118 ∷ 105 ∷ 110 ∷ 103 ∷ 32 ∷ 111 ∷ 114 ∷ 32 ∷ 110 ∷ 97 ∷ 109 ∷ 101 ∷ 100 ∷ 32 ∷ 116 ∷ 97 ∷ 107 ∷ 101 ∷ 32 ∷ 118 ∷ 97 ∷ 110 ∷ 105 ∷ 115 ∷ 104 ∷ 101 ∷ 100 ∷ 0 ∷ 0 ∷ 0 ∷ 0 ∷ 0 ∷ 0 ∷ 0 ∷ 97 ∷ 99 ∷ 116 ∷ 105 ∷ 110 ∷ 103 ∷ 32 ∷ 116 ∷ 97 ∷ 107 ∷ 101 ∷ 32 ∷ 110 ∷ 111 ∷ 116 ∷ 32 ∷ 97 ∷ 116 ∷ 32 ∷ 119 ∷ 111 ∷ 114 ∷ 107 ∷ 0 ∷ 0 ∷ 0 ∷ 0 ∷ 0 ∷ 0 ∷ 0 ∷ 0 ∷ 0 ∷ 0 ∷ 0 ∷ 0 ∷ 0 ∷ 0 ∷ 0 ∷ 0 ∷ 0 ∷ 0 ∷ 0 ∷ 0 ∷ 0 ∷ 0 ∷ 0 ∷ 0 ∷ 112 ∷ 97 ∷ 114 ∷ 99 ∷ 101 ∷ 108 ∷ 32 ∷ 110 ∷ 111 ∷ 116 ∷ 32 ∷ 119 ∷ 97 ∷ 105 ∷ 116 ∷ 105 ∷ 110 ∷ 103 ∷ 0 ∷ 0 ∷ 0 ∷ 0 ∷ 0 ∷ 0 ∷ 0 ∷ 0 ∷ 0 ∷ 0 ∷ 0 ∷ 0 ∷ 0 ∷ 0 ∷ 0 ∷ 0 ∷ 0 ∷ 0 ∷ 0 ∷ 0 ∷ 0 ∷ 0 ∷ 0 ∷ 0 ∷ 0 ∷ 0 ∷ 0 ∷ 0 ∷ 0 ∷ 110 ∷ 111 ∷ 32 ∷ 114 ∷ 111 ∷ 111 ∷ 109 ∷ 32 ∷ 102 ∷ 111 ∷ 114 ∷ 32 ∷ 97 ∷ 32 ∷ 116 ∷ 97 ∷ 107 ∷ 101 ∷ 0 ∷ 0 ∷ 0 ∷ 0 ∷ 0 ∷ 0 ∷ 0 ∷ 0 ∷ 0 ∷ 0 ∷ 0 ∷ 0 ∷ 0 ∷ 0 ∷ 0 ∷ 0 ∷ 0 ∷ 0 ∷ 0 ∷ 0 ∷ 0 ∷ 0 ∷ 0 ∷ 0 ∷ 0 ∷ 0 ∷ 0 ∷ 0 ∷ 0 ∷ 110 ∷ 111 ∷ 32 ∷ 114 ∷ 111 ∷ 111 ∷ 109 ∷ 32 ∷ 102 ∷ 111 ∷ 114 ∷ 32 ∷ 97 ∷ 32 ∷ 112 ∷ 97 ∷ 114 ∷ 99 ∷ 101 ∷ 108 ∷ 0 ∷ 0 ∷ 0 ∷ 0 ∷ 0 ∷ 0 ∷ 0 ∷ 0 ∷ 0 ∷ 0 ∷ 0 ∷ 0 ∷ 0 ∷ 0 ∷ 0 ∷ 0 ∷ 0 ∷ 0 ∷ 0 ∷ 0 ∷ 0 ∷ 0 ∷ 0 ∷ 0 ∷ 0 ∷ 0 ∷ 0 ∷ 110 ∷ 101 ∷ 120 ∷ 116 ∷ 32 ∷ 112 ∷ 97 ∷ 114 ∷ 99 ∷ 101 ∷ 108 ∷ 32 ∷ 110 ∷ 117 ∷ 109 ∷ 98 ∷ 101 ∷ 114 ∷ 32 ∷ 105 ∷ 115 ∷ 32 ∷ 54 ∷ 53 ∷ 53 ∷ 51 ∷ 53 ∷ 0 ∷ 0 ∷ 0 ∷ 0 ∷ 0 ∷ 0 ∷ 0 ∷ 0 ∷ 0 ∷ 0 ∷ 0 ∷ 0 ∷ 0 ∷ 0 ∷ 0 ∷ 0 ∷ 0 ∷ 0 ∷ 0 ∷ 0 ∷ 97 ∷ 32 ∷ 115 ∷ 105 ∷ 103 ∷ 110 ∷ 101 ∷ 100 ∷ 32 ∷ 116 ∷ 97 ∷ 107 ∷ 101 ∷ 32 ∷ 119 ∷ 111 ∷ 117 ∷ 108 ∷ 100 ∷ 32 ∷ 102 ∷ 97 ∷ 108 ∷ 108 ∷ 32 ∷ 102 ∷ 114 ∷ 111 ∷ 109 ∷ 32 ∷ 108 ∷ 105 ∷ 102 ∷ 101 ∷ 32 ∷ 54 ∷ 53 ∷ 53 ∷ 51 ∷ 53 ∷ 0 ∷ 0 ∷ 0 ∷ 0 ∷ 0 ∷ 0 ∷ 0 ∷ 118 ∷ 111 ∷ 108 ∷ 117 ∷ 109 ∷ 101 ∷ 32 ∷ 101 ∷ 109 ∷ 112 ∷ 116 ∷ 121 ∷ 0 ∷ 0 ∷ 0 ∷ 0 ∷ 0 ∷ 0 ∷ 0 ∷ 0 ∷ 0 ∷ 0 ∷ 0 ∷ 0 ∷ 0 ∷ 0 ∷ 0 ∷ 0 ∷ 0 ∷ 0 ∷ 0 ∷ 0 ∷ 0 ∷ 0 ∷ 0 ∷ 0 ∷ 0 ∷ 0 ∷ 0 ∷ 0 ∷ 0 ∷ 0 ∷ 0 ∷ 0 ∷ 0 ∷ 0 ∷ 0 ∷ 97 ∷ 32 ∷ 110 ∷ 97 ∷ 109 ∷ 101 ∷ 100 ∷ 32 ∷ 116 ∷ 97 ∷ 107 ∷ 101 ∷ 32 ∷ 104 ∷ 97 ∷ 115 ∷ 32 ∷ 110 ∷ 111 ∷ 32 ∷ 114 ∷ 111 ∷ 111 ∷ 109 ∷ 32 ∷ 102 ∷ 111 ∷ 114 ∷ 32 ∷ 97 ∷ 32 ∷ 115 ∷ 105 ∷ 103 ∷ 110 ∷ 105 ∷ 110 ∷ 103 ∷ 0 ∷ 0 ∷ 0 ∷ 0 ∷ 0 ∷ 0 ∷ 0 ∷ 0 ∷ 0 ∷ 117 ∷ 110 ∷ 114 ∷ 101 ∷ 108 ∷ 97 ∷ 116 ∷ 101 ∷ 100 ∷ 32 ∷ 109 ∷ 97 ∷ 114 ∷ 107 ∷ 115 ∷ 32 ∷ 105 ∷ 110 ∷ 32 ∷ 112 ∷ 97 ∷ 114 ∷ 99 ∷ 101 ∷ 108 ∷ 32 ∷ 97 ∷ 110 ∷ 100 ∷ 32 ∷ 114 ∷ 101 ∷ 99 ∷ 101 ∷ 105 ∷ 118 ∷ 101 ∷ 114 ∷ 0 ∷ 0 ∷ 0 ∷ 0 ∷ 0 ∷ 0 ∷ 0 ∷ 0 ∷ 0 ∷ 114 ∷ 101 ∷ 99 ∷ 101 ∷ 105 ∷ 118 ∷ 105 ∷ 110 ∷ 103 ∷ 32 ∷ 116 ∷ 97 ∷ 107 ∷ 101 ∷ 32 ∷ 110 ∷ 111 ∷ 116 ∷ 32 ∷ 105 ∷ 100 ∷ 108 ∷ 101 ∷ 0 ∷ 0 ∷ 0 ∷ 0 ∷ 0 ∷ 0 ∷ 0 ∷ 0 ∷ 0 ∷ 0 ∷ 0 ∷ 0 ∷ 0 ∷ 0 ∷ 0 ∷ 0 ∷ 0 ∷ 0 ∷ 0 ∷ 0 ∷ 0 ∷ 0 ∷ 0 ∷ 0 ∷ []
-
 outcomes-right : every 6 (λ k. sameList (rowIn outcomesTable 11 k) (outcomeOf k) and leb (length (outcomeOf k)) 11) ≡ true
 unfolding every sameList rowIn letters part outcomeOf
 outcomes-right = refl
-
-sentences-right : every 13 (λ k. sameList (rowIn sentencesTable 47 k) (getD sentences k []) and leb (length (getD sentences k [])) 47) ≡ true
-unfolding every sameList rowIn letters part
-sentences-right = refl
 
 outcome-row : (k : ℕ) → k < 6 → (rowIn outcomesTable 11 k ≡ outcomeOf k) × (length (outcomeOf k) ≤ 11)
 outcome-row k h =
     let e = both _ _ (every-at (λ k. sameList (rowIn outcomesTable 11 k) (outcomeOf k) and leb (length (outcomeOf k)) 11) 6 k outcomes-right h) in
     (sameList-test (rowIn outcomesTable 11 k) (outcomeOf k) .0 (e .0), leb-true (length (outcomeOf k)) 11 (e .1))
-
-sentence-row : (k : ℕ) → k < 13 → (rowIn sentencesTable 47 k ≡ getD sentences k []) × (length (getD sentences k []) ≤ 47)
-sentence-row k h =
-    let e = both _ _ (every-at (λ k. sameList (rowIn sentencesTable 47 k) (getD sentences k []) and leb (length (getD sentences k [])) 47) 13 k sentences-right h) in
-    (sameList-test (rowIn sentencesTable 47 k) (getD sentences k []) .0 (e .0), leb-true (length (getD sentences k [])) 47 (e .1))
 
 -- ---- the tests
 
@@ -85,13 +75,6 @@ module _ (k : ℕ) (r : Reply) where
   unfolding isOutcome
   outcome-low x e h = leb-true (r .outcome) notReady (both (leb (r .outcome) notReady) (transactorFits and messageFits and (repliesValue k (r .outcome) or eqb (r .value) 0)) (sym e ∙ h) .0)
 
-pub refusal-bounds : (r : Reply) (x : Bool) → x ≡ isRefused r → x ≡ true → (20 ≤ r .outcome) × (r .outcome ≤ 31)
-unfolding isRefused
-refusal-bounds r x e h =
-    let rest : Bool = eqb (r .transactor) 0 and eqb (r .message) 0 and eqb (r .value) 0 in
-    let a = both (leb 20 (r .outcome)) (leb (r .outcome) 31 and rest) (sym e ∙ h) in
-    (leb-true 20 (r .outcome) (a .0), leb-true (r .outcome) 31 (both (leb (r .outcome) 31) rest (a .1) .0))
-
 -- ---- a reply's fields
 
 pub field-used : (a b c w : List ℕ) (used : Bool) (n : ℕ) → used ≡ true → b ≡ plus a w → c ≡ plus b (decimal places n) → c ≡ plus a (fieldText used w n)
@@ -112,13 +95,25 @@ module _ (k : ℕ) (r : Reply) where
       let z : List ℕ = fieldText (repliesValue k (r .outcome)) (bytes " text ") (r .value) in
       plus-three a b c d x y z (rw e at f) (rw g at h) (rw i at j)
 
-pub refused-said : (a b c d l : List ℕ) (k n row : ℕ) → (row ≡ pick (eqb n 23 and eqb k receive) 12 (n - 20)) × (row < 13) → b ≡ plus a (bytes "refused ") → c ≡ plus b (decimal places n)
-    → d ≡ plus c (bytes ": ") → l ≡ plus d (rowIn sentencesTable 47 row) → l ≡ plus a (refusalText k n)
-unfolding refusalText sentenceOf
-refused-said a b c d l k n row e f g h i =
-    let s : rowIn sentencesTable 47 row ≡ getD sentences (pick (eqb n 23 and eqb k receive) 12 (n - 20)) [] = sentence-row row (e .1) .0 ∙ ap (λ (x : ℕ). getD sentences x []) (e .0) in
-    plus-two a d l (bytes "refused " ++ decimal places n ++ bytes ": ") (getD sentences (pick (eqb n 23 and eqb k receive) 12 (n - 20)) [])
-    (plus-three a b c d (bytes "refused ") (decimal places n) (bytes ": ") f g h) (rw s at i)
+pub refused-said : (a b c d l : List ℕ) (k n : ℕ) → b ≡ plus a (bytes "refused ") → c ≡ plus b (decimal places n)
+    → d ≡ plus c (bytes ": ") → l ≡ plus d (sentenceOf k n) → l ≡ plus a (refusalText k n)
+unfolding refusalText
+refused-said a b c d l k n f g h i =
+    plus-two a d l (bytes "refused " ++ decimal places n ++ bytes ": ") (sentenceOf k n)
+    (plus-three a b c d (bytes "refused ") (decimal places n) (bytes ": ") f g h) i
+
+module _ (a b : List ℕ) (k n : ℕ) where
+  pub sentence-other : (n ≡ 23 → ⊥) → b ≡ plus a (refusalWords n) → b ≡ plus a (sentenceOf k n)
+  unfolding sentenceOf
+  sentence-other h e = rw (ne-eqb n 23 h) e
+
+  pub sentence-work : n ≡ 23 → (k ≡ receive → ⊥) → b ≡ plus a (bytes "acting take not at work") → b ≡ plus a (sentenceOf k n)
+  unfolding sentenceOf
+  sentence-work h g e = rw (eq-eqb n 23 h, ne-eqb k 2 g) e
+
+  pub sentence-idle : n ≡ 23 → k ≡ receive → b ≡ plus a (bytes "receiving take not idle") → b ≡ plus a (sentenceOf k n)
+  unfolding sentenceOf
+  sentence-idle h g e = rw (eq-eqb n 23 h, eq-eqb k 2 g) e
 
 -- ---- how long they are
 
@@ -135,16 +130,17 @@ fields-short k r =
     let z : List ℕ = fieldText (repliesValue k (r .outcome)) (bytes " text ") (r .value) in
     omega (arith, length-append (x ++ y) z, length-append x y, field-short (repliesTransactor k) (bytes " take ") (r .transactor), field-short (repliesMessage k) (bytes " parcel ") (r .message), field-short (repliesValue k (r .outcome)) (bytes " text ") (r .value))
 
-sentence-index : (c : Bool) (n : ℕ) → n ≤ 31 → pick c 12 (n - 20) < 13
-sentence-index true n h = omega arith
-sentence-index false n h = omega arith
+sentence-short : (k n : ℕ) → length (sentenceOf k n) ≤ 77
+unfolding sentenceOf
+sentence-short k n = pick-view (λ (w : List ℕ). length w ≤ 77) (eqb n 23) _ _
+    (λ e. pick-view (λ (w : List ℕ). length w ≤ 77) (eqb k receive) _ _ (λ f. omega arith) (λ f. omega arith))
+    (λ e. words-short n)
 
-refusal-short : (k n : ℕ) → n ≤ 31 → length (refusalText k n) ≤ 67
-unfolding refusalText sentenceOf
-refusal-short k n h =
-    let i : ℕ = pick (eqb n 23 and eqb k receive) 12 (n - 20) in
-    let s : List ℕ = getD sentences i [] in
-    omega (arith, length-append (bytes "refused " ++ decimal places n ++ bytes ": ") s, length-append (bytes "refused " ++ decimal places n) (bytes ": "), length-append (bytes "refused ") (decimal places n), decimal-places places n, sentence-row i (sentence-index (eqb n 23 and eqb k receive) n h) .1)
+refusal-short : (k n : ℕ) → length (refusalText k n) ≤ 97
+unfolding refusalText
+refusal-short k n =
+    let s : List ℕ = sentenceOf k n in
+    omega (arith, length-append (bytes "refused " ++ decimal places n ++ bytes ": ") s, length-append (bytes "refused " ++ decimal places n) (bytes ": "), length-append (bytes "refused ") (decimal places n), decimal-places places n, sentence-short k n)
 
 -- ---- a reply
 
@@ -164,7 +160,7 @@ module _ (k : ℕ) (b : List ℕ) (r : Reply) (is : r ≡ unpackReply b) (l : Li
     refusal-says z h g i =
         let t : isOutcome k r ≡ false = sym e ∙ no in
         let u : isRefused r ≡ true = sym f ∙ h in
-        rw (← is, t, u) (says-short l z (refusalText k (r .outcome)) g i (omega (arith, refusal-short k (r .outcome) (refusal-bounds r y f h .1))) sized)
+        rw (← is, t, u) (says-short l z (refusalText k (r .outcome)) g i (omega (arith, refusal-short k (r .outcome))) sized)
 
     pub raw-says : (z m : List ℕ) → length b ≡ stepBytes → y ≡ false → z ≡ [] → m ≡ plus z (bytes "raw ") → written l ≡ plus m (hex b) → Says l (replyText k b)
     unfolding replyText

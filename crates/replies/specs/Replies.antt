@@ -1,5 +1,5 @@
 -- A reply in words, by the kind of the step that it answers. No LF behind it.
-use Prim.Native.Nat.{ℕ, _-_, _*_}
+use Prim.Native.Nat.{ℕ, _*_}
 use mathlib.Core.Bool.{Bool}
 use mathlib.Core.List.{List, [], _∷_, _++_}
 use lib.Dec.{eqb, ltb, leb}
@@ -9,6 +9,7 @@ use Rattle.rules.specs.declared.Reply.{Reply}
 use Rattle.rules.specs.Step.{stepBytes, stepAt, unpackReply, isRefusal, letter, receive, send, read, fail, lose, done, notReady}
 use Rattle.rules.specs.Calls.{stepsIn}
 use Rattle.notation.specs.Notation.{bytes, decimal, places, hex}
+use Rattle.refusal_words.specs.Words.{refusalWords}
 
 -- ---- which fields the reply to a step of kind k has
 
@@ -50,28 +51,11 @@ isOutcome k r =
     and (repliesMessage k or eqb (r .message) 0)
     and (repliesValue k (r .outcome) or eqb (r .value) 0)
 
--- ---- refusals, 20 to 31, as the documents' table has them. What depends on the session's limits is said so that it is true for each.
+-- ---- refusals, 20 to 31
 
-abbrev pub sentences : List (List ℕ)
-sentences =
-    bytes "kind 13 to 15, or unused or zero bits not zero"
-    ∷ bytes "acting take, addressee or named take not opened"
-    ∷ bytes "acting, receiving or named take vanished"
-    ∷ bytes "acting take not at work"
-    ∷ bytes "parcel not waiting"
-    ∷ bytes "no room for a take"
-    ∷ bytes "no room for a parcel"
-    ∷ bytes "next parcel number is 65535"
-    ∷ bytes "a signed take would fall from life 65535"
-    ∷ bytes "volume empty"
-    ∷ bytes "a named take has no room for a signing"
-    ∷ bytes "unrelated marks in parcel and receiver"
-    ∷ bytes "receiving take not idle"
-    ∷ []
-
--- 23 has two reasons: "receive when not idle; kinds 3 to 9 when not at work"
+-- 23 has two reasons, "receive when not idle; kinds 3 to 9 when not at work": the one that holds
 unfoldable pub sentenceOf : ℕ → ℕ → List ℕ
-sentenceOf k n = getD sentences (pick (eqb n 23 and eqb k receive) 12 (n - 20)) []
+sentenceOf k n = pick (eqb n 23) (pick (eqb k receive) (bytes "receiving take not idle") (bytes "acting take not at work")) (refusalWords n)
 
 unfoldable pub refusalText : ℕ → ℕ → List ℕ
 refusalText k n = bytes "refused " ++ decimal places n ++ bytes ": " ++ sentenceOf k n

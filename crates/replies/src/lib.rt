@@ -11,15 +11,11 @@ ghost use lib.ListN.{length};
 ghost use Rattle.octets.specs.Bytes.{pick, _and_, _or_, part};
 ghost use Rattle.rules.specs.Step.{stepBytes, receive};
 ghost use Rattle.lines.specs.Lines.{written, plus, Says};
-ghost use Rattle.replies.specs.Replies.{repliesTransactor, repliesMessage, repliesValue, fieldText, fieldsText, isOutcome, refusalText, isRefused, replyText, replyTextAt};
+ghost use Rattle.replies.specs.Replies.{repliesTransactor, repliesMessage, repliesValue, fieldText, fieldsText, isOutcome, sentenceOf, refusalText, isRefused, replyText, replyTextAt};
 
 // The outcomes, eleven bytes each.
 const OUTCOMES: [u8; 66] =
     *b"done\0\0\0\0\0\0\0held\0\0\0\0\0\0\0dropped\0\0\0\0fallen backvanished\0\0\0not ready\0\0";
-
-// Why a step is refused: 20 to 31, and 23 for a receive; 47 bytes each.
-const SENTENCES: [u8; 611] =
-    *b"kind 13 to 15, or unused or zero bits not zero\0acting take, addressee or named take not openedacting, receiving or named take vanished\0\0\0\0\0\0\0acting take not at work\0\0\0\0\0\0\0\0\0\0\0\0\0\0\0\0\0\0\0\0\0\0\0\0parcel not waiting\0\0\0\0\0\0\0\0\0\0\0\0\0\0\0\0\0\0\0\0\0\0\0\0\0\0\0\0\0no room for a take\0\0\0\0\0\0\0\0\0\0\0\0\0\0\0\0\0\0\0\0\0\0\0\0\0\0\0\0\0no room for a parcel\0\0\0\0\0\0\0\0\0\0\0\0\0\0\0\0\0\0\0\0\0\0\0\0\0\0\0next parcel number is 65535\0\0\0\0\0\0\0\0\0\0\0\0\0\0\0\0\0\0\0\0a signed take would fall from life 65535\0\0\0\0\0\0\0volume empty\0\0\0\0\0\0\0\0\0\0\0\0\0\0\0\0\0\0\0\0\0\0\0\0\0\0\0\0\0\0\0\0\0\0\0a named take has no room for a signing\0\0\0\0\0\0\0\0\0unrelated marks in parcel and receiver\0\0\0\0\0\0\0\0\0receiving take not idle\0\0\0\0\0\0\0\0\0\0\0\0\0\0\0\0\0\0\0\0\0\0\0\0";
 
 fn replies_transactor(kind: u8) -> bool
     ensures { λ r. ⌜ r ≡ repliesTransactor kind ⌝ }
@@ -120,29 +116,24 @@ fn fields(l: Line, kind: u8, r: Reply) -> Line
     field(messages, replies_value(kind, r.outcome), b" text ", r.value)
 }
 
-// The row of a refusal's sentence.
-fn sentence_row(kind: u8, n: u8) -> usize
-    requires { ⌜ (20 ≤ n) × (n ≤ 31) ⌝ }
-    ensures { λ r. ⌜ (r ≡ pick (eqb n 23 and eqb kind receive) 12 (n - 20)) × (r < 13) ⌝ }
+// Why a step of that kind is refused with n.
+fn sentence(l: Line, kind: u8, n: u8) -> Line
+    ensures { λ r. ⌜ written r ≡ plus (written l) (sentenceOf kind n) ⌝ }
 {
     if n != numbers::WRONG_STATUS {
-        return (n - numbers::MALFORMED) as usize;
+        return refusal_words::words(l, n);
     }
     if kind != numbers::RECEIVE {
-        return 3;
+        return l.word(b"acting take not at work");
     }
-    12
+    l.word(b"receiving take not idle")
 }
 
 fn refused(l: Line, kind: u8, n: u8) -> Line
-    requires { ⌜ (20 ≤ n) × (n ≤ 31) ⌝ }
     ensures { λ r. ⌜ written r ≡ plus (written l) (refusalText kind n) ⌝ }
 {
-    let row = sentence_row(kind, n);
-    l.word(b"refused ")
-        .number(n as u32)
-        .word(b": ")
-        .row(&SENTENCES, 47, row)
+    let number = l.word(b"refused ").number(n as u32).word(b": ");
+    sentence(number, kind, n)
 }
 
 // The reply at at, to a step of that kind, in words.

@@ -84,9 +84,9 @@ module _ (b c : Provenance) (g : ℕ) (lives : (t : ℕ) → named g t ≡ true 
 
 -- ---- the refusals of a signing
 
-there : {s : Status} → Live s → eqb (statusNumber s) number.annihilated ≡ false
-there is-idle = refl
-there is-busy = refl
+pub live-there : {s : Status} → Live s → eqb (statusNumber s) number.annihilated ≡ false
+live-there is-idle = refl
+live-there is-busy = refl
 
 -- where the named takes are live and keep their marks, under the same limits, no refusal of their signing arises
 pub signing-on : (y : Layout) (b c : Provenance) (k : Ledger) → Rel k c → (v : ℕ) → c .limits ≡ b .limits → ((t : ℕ) → named v t ≡ true → Stays (b .holders t) (c .holders t))
@@ -101,7 +101,7 @@ signing-on y b c k r v limits same e =
     signing-refusal y (provenanceSeen c) v ∙ rw (
       e0 .0,
       unnamed-all v (λ t. leb (c .opened) t) (λ t h n. lt-leb (c .opened) t (live-opened k c r t (same t n .live))),
-      unnamed-all v (λ t. eqb (statusNumber (c .holders t .status)) number.annihilated) (λ t h n. there (same t n .live)),
+      unnamed-all v (λ t. eqb (statusNumber (c .holders t .status)) number.annihilated) (λ t h n. live-there (same t n .live)),
       limits,
       unnamed-all v (λ t. leb (b .limits .checkpoints) (count c t)) (λ t h n.
           ap (λ (x : HistoryView). leb (b .limits .checkpoints) (length (x .incarnation .checkpoints))) (same t n .history) ∙ named-at v (λ t. leb (b .limits .checkpoints) (count b t)) t (e3 .0) h n),

@@ -1,7 +1,7 @@
 -- An outcome, a refusal, or the bytes.
 use borrow.Author.Needs.{needs}
 use native.Mathlib.Omega.{arith}
-use Rattle.replies.proofs.Replying.{outcome-low, refusal-bounds, outcome-says, refusal-says, raw-says, step-part}
+use Rattle.replies.proofs.Replying.{outcome-low, outcome-says, refusal-says, raw-says, step-part}
 use Rattle.octets.proofs.Put.{length-part}
 use Rattle.lines.proofs.Lining.{written-empty}
 use Rattle.replies.proofs.reply_at.Statement.{statement}
@@ -9,9 +9,6 @@ use Rattle.replies.proofs.reply_at.Tie as tie
 
 row-requires : tie.Need-row-requires
 row-requires c κs = omega (arith, outcome-low _ _ _ (c .before .before .before .is-outcome .ensures) (c .before .before .if1 .taken))
-
-refused-requires : tie.Need-refused-requires
-refused-requires c κs = refusal-bounds _ _ (c .before .is-refused .ensures) (c .if2 .taken)
 
 returns : tie.Need-returns
 returns c = outcome-says _ _ _ (c .before .before .before .before .before .before .decode-reply .ensures) _ (search needs) _ (c .before .before .before .before .before .is-outcome .ensures) _ _ (c .before .before .before .before .if1 .taken) (written-empty _) (c .before .row .ensures) (c .fields .ensures)
@@ -34,7 +31,7 @@ reply-at-spec =
     (λ c κs. search needs)
     returns
     (λ c κs. search needs)
-    refused-requires
+    (λ c κs. search needs)
     returns-2
     (λ c. search needs)
     (λ c. search needs)

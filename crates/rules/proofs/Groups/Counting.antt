@@ -125,7 +125,7 @@ size-zero : (v : ℕ) → v < 2 ^ groupBits → sizeOf v ≡ 0 → v ≡ 0
 unfolding sizeOf
 size-zero v h e = named-same groupBits v 0 h (pow-pos groupBits) (λ t b. many-nowhere (named v) groupBits e t b ∙ sym (named-zero t))
 
-zero-size : sizeOf 0 ≡ 0
+pub zero-size : sizeOf 0 ≡ 0
 zero-size = sym (size-ones 0 (pow-pos groupBits)) ∙ omega (arith, ones-le 0 0 (pow-pos 0))
 
 -- one more

@@ -1,0 +1,3 @@
+mod Acting
+pub mod Members
+pub mod Others

@@ -1,0 +1,2 @@
+mod Finding
+pub mod Sound
