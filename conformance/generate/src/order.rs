@@ -69,6 +69,9 @@ fn takes_and_parcels() -> Asked {
             ("root text 8", "letter to 3 text 9", Shows, "The addressee is opened by the other: else 21."),
             ("root text 8", "send 0 to 3 text 9", Shows, "The same for a send."),
             ("root text 8", "letter to 2 text 9", Free, "Another take is opened."),
+            ("new 0 text 8", "letter to 3 text 9", Shows, "The addressee is opened by new."),
+            ("new 0 text 8", "send 1 to 3 text 9", Shows, "The same for a send."),
+            ("lose 3", "lose 3", Shows, "The second finds no parcel."),
             ("root text 8", "write 3 text 9", Shows, "Take 3 is refused with 21, and then with 23."),
         ],
     }
@@ -82,6 +85,8 @@ fn refused_ones() -> Asked {
         pairs: vec![
             ("raw d000000000000000", "write 0 text 9", Free, "A malformed step sees nothing, and changes nothing."),
             ("raw 7000000000000001", "freeze 0", Free, "So does a freeze with a text."),
+            ("raw 5000000000000001", "write 0 text 9", Free, "And a read with a text: it does not see take 0."),
+            ("sign {1}", "send 1 to 2 text 9", Free, "Both see take 1, and neither changes it."),
             ("receive 9", "lose 9", Free, "Both are refused, whatever comes before: nothing is changed."),
             ("write 2 text 8", "write 2 text 9", Free, "Take 2 is idle: both are refused."),
             (
@@ -158,6 +163,7 @@ fn strange() -> Asked {
         image: image.0,
         pairs: vec![
             ("sign {1}", "sign {0}", Shows, "The creation map counts as the state map does."),
+            ("sign {1,3}", "sign {0}", Meets, "Also in a volume that is not ready either way."),
             ("sign {3}", "write 2 text 9", Shows, "The write gives take 2 a list, by which the life that take 3 rests on is signed."),
             ("sign {0}", "write 2 text 9", Free, "Take 0 has no mark of take 2."),
         ],

@@ -95,6 +95,12 @@ fn without_steps() -> Vec<Asked> {
             questions: vec![(1, Ok(""), "Hopeless: no steps."), (0, Err(22), "Vanished.")],
         },
         Asked {
+            name: "hopeless below",
+            told: "Take 1 sent to take 2, which wrote on it; then take 0 failed, on which take 1 rested.",
+            image: after(LIMITS, "send 1 to 2 text 4; receive 2; write 2 text 5; freeze 2; fail 0"),
+            questions: vec![(2, Ok(""), "Hopeless, by a take that it rests on.")],
+        },
+        Asked {
             name: "exhausted",
             told: "Take 0 has the one signing that is allowed, and take 1 rests on its present life.",
             image: after([3, 4, 1], "done 1; freeze 0; sign {0}; letter to 0 text 1; receive 2; send 0 to 2 text 5; receive 3; write 2 text 6"),
@@ -113,7 +119,7 @@ fn without_steps() -> Vec<Asked> {
             name: "no place, no letter",
             told: "As many parcels wait as may, and takes 0 and 1 are at work.",
             image: after([3, 1, 2], "letter to 2 text 1"),
-            questions: vec![(1, Ok("freeze 0; freeze 1; sign {0,1}"), "No letter is needed, so no place is.")],
+            questions: vec![(1, Ok("freeze 0; freeze 1; sign {0,1}"), "No letter is needed, so no place is."), (0, Ok("freeze 0; sign {0}"), "Nor for take 0 alone.")],
         },
     ]
 }
