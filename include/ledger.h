@@ -11,7 +11,7 @@
  *     ledger_version 1      ledger_all_heard_stable 1   ledger_run 3              ledger_thin 45
  *     ledger_begin 1        ledger_dependents 1         ledger_smallest_group 3   ledger_forward 43
  *     ledger_offer 1        ledger_obstacle 1           ledger_ready_count 3      ledger_back 1
- *     ledger_show 1         ledger_impediment 1         ledger_worst_window 1     ledger_plan 3
+ *     ledger_show 1         ledger_impediment 1         ledger_worst_window 1     ledger_plan 1
  *     ledger_actor 1        ledger_fault 1
  */
 #ifndef LEDGER_H
