@@ -9,7 +9,7 @@
  *
  * Stack of each call in KiB, at most, beside that of memcpy, memmove and memset (tools/stack measures the compiled library):
  *
- *     notation_parse 1   notation_expected_text 2   notation_refusal_text 2   notation_reply 3   notation_length 4   notation_step 4   notation_print 4   notation_image 6
+ *     notation_parse 1   notation_expected_text 2   notation_refusal_text 4   notation_reply 5   notation_length 4   notation_step 4   notation_print 4   notation_image 6
  */
 #ifndef NOTATION_H
 #define NOTATION_H
