@@ -15,7 +15,7 @@
  *     ledger_version 1      ledger_all_heard_stable 1   ledger_run 3              ledger_thin 45
  *     ledger_begin 1        ledger_dependents 1         ledger_smallest_group 3   ledger_forward 43
  *     ledger_offer 1        ledger_obstacle 1           ledger_ready_count 3      ledger_back 1
- *     ledger_show 1         ledger_impediment 1         ledger_worst_window 1
+ *     ledger_show 1         ledger_impediment 1         ledger_worst_window 1     ledger_plan 1
  */
 #ifndef LEDGER_H
 #define LEDGER_H
@@ -134,12 +134,15 @@ struct ledger_obstacle ledger_obstacle(const uint8_t *image, size_t image_length
  * four numbers are 0. */
 struct ledger_impediment ledger_impediment(const uint8_t *image, size_t image_length, size_t transactor, uint8_t *refusal);
 
-/* What is left to do so that the transactor can be checkpointed: the steps, eight bytes each, written to out (LEDGER_PLAN bytes) with zero bytes after
- * them; the answer is how many, *refusal is 0. Run from the same image, each is answered with outcome 0 and the last, a signing, checkpoints the
- * transactor with all that it rests on; no value changes, nobody rolls back, and no waiting message is touched. An idle transactor is woken by an
- * empty letter first. 0 steps: ledger_impediment says hopeless or exhausted, and then, in a session grown from a fresh one, the transactor can't be
- * checkpointed any more as long as it keeps its present incarnation; or a letter is needed and no place or number is left for it. Refused: *refusal is
- * 16, 19, 21, 22, or 18 if out has another length, no byte of out is changed, and the answer is 0. */
+/* What is left to do so that the transactor is checkpointed: the steps, eight bytes each, written to out
+ * (LEDGER_PLAN bytes) with zero bytes after them; the answer is how many, and *refusal is 0. Run from the same
+ * image, each is answered with outcome 0, and the last, a signing, checkpoints the transactor with all that it
+ * rests on; no value changes, nobody rolls back, and no waiting message is touched. An idle transactor is woken
+ * by an empty letter first. Where there are 0 steps, ledger_impediment on the same image tells why. It says
+ * hopeless or exhausted: then, in a session grown from a fresh one, the transactor can't be checkpointed any more
+ * as long as it keeps its present incarnation. It says not stable: then a letter is needed for which there is no
+ * place or no number. Refused: *refusal is 16, 19, 21, 22, or 18 if out has another length, no byte of out is
+ * changed, and the answer is 0. */
 size_t ledger_plan(const uint8_t *image, size_t image_length, size_t transactor, uint8_t *out, size_t out_length, uint8_t *refusal);
 
 /* The short list of the steps of list from byte start up to byte end: without those that a run from the image refuses, and without

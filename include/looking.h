@@ -11,7 +11,7 @@
  *
  * Stack of each call in KiB, at most, beside that of memcpy, memmove and memset (tools/stack measures the compiled library):
  *
- *     looking_decision 2    looking_compare 1    looking_independent 50    looking_field 1
+ *     looking_decision 2    looking_compare 1    looking_independent 45    looking_field 1
  */
 #ifndef LOOKING_H
 #define LOOKING_H
@@ -25,17 +25,11 @@
 extern "C" {
 #endif
 
-/* What a receipt would do. */
-enum looking_decision_kind {
-    LOOKING_UNDECIDED = 0,           /* refused */
-    LOOKING_ACCEPTED = 1,            /* the message is taken in */
-    LOOKING_MESSAGE_SUPERSEDED = 2,  /* it is dropped: its history of transactor is superseded by the receiver's */
-    LOOKING_RECEIVER_SUPERSEDED = 3  /* the receiver rolls back: its history of transactor is superseded by the message's */
-};
-
+/* What a receipt would reply. */
 struct looking_decision {
-    size_t kind;
-    size_t transactor; /* the first of which there is such a history; 0 where the message is accepted */
+    size_t outcome;    /* LEDGER_DONE, LEDGER_DROPPED, LEDGER_FALLEN_BACK or LEDGER_VANISHED: 0, 2, 3 or 4 */
+    size_t transactor; /* dropped: the first whose history in the message is superseded by the receiver's; fallen back or
+                          vanished: the first whose history in the receiver's maps is superseded by the message's; done: 0 */
 };
 
 /* Two histories of a transactor compared; of the middle four the named one is the earlier. */
@@ -83,7 +77,7 @@ struct looking_field {
     uint8_t byte;   /* which byte of the field, from 0, the most significant one */
 };
 
-/* What the receipt of the waiting message with this number would do now, and whose histories decide it; *refusal is 0. The image is only read.
+/* What the receipt of the waiting message with this number would reply now, and whose histories decide it; *refusal is 0. The image is only read.
  * Refused: *refusal is 16, 19, or what the receipt would get, 24, 22, 23, 31 or 28, and both numbers are 0. */
 struct looking_decision looking_decision(const uint8_t *image, size_t image_length, size_t number, uint8_t *refusal);
 
@@ -91,9 +85,10 @@ struct looking_decision looking_decision(const uint8_t *image, size_t image_leng
  * length, 19 where one is absent or ill-formed, and both numbers are 0. */
 struct looking_comparison looking_compare(const uint8_t *left, size_t left_length, const uint8_t *right, size_t right_length, uint8_t *refusal);
 
-/* 1 exactly if the two packed steps, 8 bytes each, are independent on this image: neither of them sees what the other changes. Then both orders
- * leave the same image and give each step the same reply, also where one of them is refused. Otherwise 0: then the order may show. *refusal is 0,
- * and the image is only read. Refused: the answer is 0, and *refusal is 16 (the image's length), 17 (a step that has not 8 bytes) or 19. */
+/* Whether two packed steps, 8 bytes each, may come in either order on this image. The answer is 1 exactly if they are
+ * independent: neither of them sees what the other changes. Then both orders leave the same image and give each step the
+ * same reply, also where one of them is refused. If the answer is 0, the order may show. *refusal is 0, and the image is
+ * only read. Refused: the answer is 0, and *refusal is 16 for the image's length, 17 if a step has not 8 bytes, or 19. */
 uint8_t looking_independent(const uint8_t *image, size_t image_length, const uint8_t *first, size_t first_length, const uint8_t *second,
     size_t second_length, uint8_t *refusal);
 

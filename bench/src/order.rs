@@ -1,5 +1,5 @@
 //! Whether two steps may change places on an image: what a step sees and what it changes, a line a clause
-//! (docs/RULES.md, section 10, "Any order of arrival"). Read from the bytes of a well-formed image.
+//! (docs/RULES.md, 9.11). Read from the bytes of a well-formed image.
 
 use crate::generate::{self, take_at, MAP, MARK, STATE};
 use crate::ledger::{self, TAKES};
@@ -174,6 +174,20 @@ pub fn meetings(image: &[u8], p: u64, q: u64) -> Vec<[usize; 2]> {
     let mut all = met(image, p, q);
     all.extend(met(image, q, p));
     all
+}
+
+/// The call: 16, then 17 unless both steps have eight bytes, then 19; else whether the steps are independent.
+pub fn independent(image: &[u8], first: &[u8], second: &[u8]) -> Result<bool, u8> {
+    if image.len() != ledger::IMAGE {
+        return Err(16);
+    }
+    let (Ok(p), Ok(q)) = (first.try_into(), second.try_into()) else {
+        return Err(17);
+    };
+    if !ledger::formed(image) {
+        return Err(19);
+    }
+    Ok(meetings(image, u64::from_be_bytes(p), u64::from_be_bytes(q)).is_empty())
 }
 
 /// Both orders on copies: whether they leave the same image and give each step the same reply.

@@ -13,7 +13,6 @@ export const LONGEST = 8192;
 export const PLAN = 392;
 const NO_PARCEL = 65535;
 const OBSTACLES = ["nothing", "not frozen", "outside", "withdrawn"];
-const DECISIONS = ["nothing", "taken in", "dropped", "falls"];
 const RELATIONS = ["same life", "left signed", "right signed", "left withdrawn", "right withdrawn", "unrelated"];
 const IMPEDIMENTS = ["nothing", "withdrawn", "all signed", "not frozen"];
 
@@ -21,7 +20,7 @@ const IMPEDIMENTS = ["nothing", "withdrawn", "all signed", "not frozen"];
 /** @typedef {{takes: number, parcels: number, signings: number}} Limits */
 /** @typedef {{kind: "nothing" | "not frozen" | "outside" | "withdrawn", take: number, ground: number}} Obstacle */
 /** @typedef {{kind: "nothing" | "withdrawn" | "all signed" | "not frozen", take: number, ground: number, next: number}} Impediment */
-/** @typedef {{kind: "taken in" | "dropped" | "falls", take: number}} Decision */
+/** @typedef {{outcome: number, take: number}} Decision */
 /** @typedef {{relation: "same life" | "left signed" | "right signed" | "left withdrawn" | "right withdrawn" | "unrelated", newer: "left" | "right"}} Comparison */
 /** @typedef {{kind: number, holder: number, map: number, ground: number, entry: number, byte: number}} Field */
 /** @typedef {{resting: number, through: number, unfinished: number, carried: number}} Dependents */
@@ -233,8 +232,8 @@ export class Session {
   }
 
   /**
-   * What the receipt of a waiting parcel would do now, and the take whose marks decide it: dropped, the parcel's mark of that take is stale;
-   * falls, the addressee's. Refused as the receipt would be.
+   * What the receipt of a waiting parcel would reply now: its outcome, 0 done, 2 dropped, 3 fallen back, 4 vanished; and the take whose marks decide
+   * it: dropped, the parcel's mark of that take is stale; fallen back or vanished, the addressee's; done, 0. Refused as the receipt would be.
    * @param {number} parcel
    * @returns {Decision}
    */
@@ -242,7 +241,7 @@ export class Session {
     return query(this.#image, (c, at, length, refusal, m) => {
       const answer = m.room(16);
       c.looking_decision(answer, at, length, wide(parcel), refusal);
-      return { kind: /** @type {Decision["kind"]} */ (DECISIONS[m.word(answer)]), take: m.word(answer + 8) };
+      return { outcome: m.word(answer), take: m.word(answer + 8) };
     }, "looking");
   }
 

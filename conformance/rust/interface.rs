@@ -100,21 +100,9 @@ unsafe extern "C" fn ledger_plan(i: Bytes, n: usize, take: usize, o: Room, k: us
     answered(ledger::plan(lent(i, n), take, room(o, k)), 0, refusal)
 }
 
-/// The steps are read as the call's words say: 16, then 17 unless both have 8 bytes, then 19.
-fn independent(image: &[u8], first: &[u8], second: &[u8]) -> Result<bool, u8> {
-    if image.len() != ledger::IMAGE {
-        return Err(16);
-    }
-    let (Ok(p), Ok(q)) = (first.try_into(), second.try_into()) else { return Err(17) };
-    if !ledger::formed(image) {
-        return Err(19);
-    }
-    Ok(order::meetings(image, u64::from_be_bytes(p), u64::from_be_bytes(q)).is_empty())
-}
-
 #[no_mangle]
 unsafe extern "C" fn looking_independent(i: Bytes, n: usize, p: Bytes, k: usize, q: Bytes, m: usize, refusal: Room) -> u8 {
-    answered(independent(lent(i, n), lent(p, k), lent(q, m)), false, refusal) as u8
+    answered(order::independent(lent(i, n), lent(p, k), lent(q, m)), false, refusal) as u8
 }
 
 #[no_mangle]

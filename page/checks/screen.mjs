@@ -66,12 +66,12 @@ async function firstScreen({ browser, check, url, shots }) {
     assert.doesNotMatch(await browser.text("body"), /\(empty; 0\)|text 1\b|write 1/);
   });
   await check("the lines that a take rests on light up when it is chosen, through others too", async () => {
-    const lit = () => browser.eval(`document.querySelectorAll(".line.lit-line").length`);
+    const lit = () => browser.eval(`document.querySelectorAll(".stage .lit-line").length`);
     await browser.go(`${url}#lesson=02-what-a-withdrawal-reaches&screen=3`);
     assert.equal(await lit(), 0);
     await browser.eval(`document.querySelector('.stage [data-take="2"]').dispatchEvent(new PointerEvent("pointerover", { bubbles: true }))`);
     assert.equal(await lit(), 2);
-    assert.deepEqual(await browser.eval(`[...document.querySelectorAll(".line")].map(l => l.className.baseVal.split(" ")[1]).sort()`), ["plain", "withdrawn"]);
+    assert.deepEqual(await browser.eval(`[...document.querySelectorAll(".stage .line")].map(l => l.className.baseVal.split(" ")[1]).sort()`), ["plain", "withdrawn"]);
   });
 }
 

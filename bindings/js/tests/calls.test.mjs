@@ -212,15 +212,18 @@ letter to 2 text 0\nreceive 3\nsend 2 to 1 text 9
 test("what a receipt would do, and whose mark decides", () => {
   const session = Session.begin(), refused = (number, parcel, on = session) => assert.throws(() => on.decision(parcel), e => e.number === number);
   session.run(steps(TWO_LIVES));
-  for (const parcel of [2, 4]) assert.deepEqual(session.decision(parcel), { kind: "taken in", take: 0 });
+  for (const parcel of [2, 4]) assert.deepEqual(session.decision(parcel), { outcome: 0, take: 0 });
   refused(24, 0);
   const [older, newer] = [session.copy(), session.copy()];
   older.run(steps("receive 4\nwrite 1 text 5\n"));
   refused(23, 2, older);
   older.run(steps("done 1\n"));
-  assert.deepEqual(older.decision(2), { kind: "dropped", take: 2 });
+  assert.deepEqual(older.decision(2), { outcome: 2, take: 2 });
   newer.run(steps("receive 2\nwrite 1 text 5\ndone 1\n"));
-  assert.deepEqual(newer.decision(4), { kind: "falls", take: 2 });
+  assert.deepEqual(newer.decision(4), { outcome: 4, take: 2 });
+  const signed = session.copy();
+  signed.run(steps("letter to 1 text 0\nreceive 5\nfreeze 1\nsign {1}\nreceive 2\nwrite 1 text 5\ndone 1\n"));
+  assert.deepEqual(signed.decision(4), { outcome: 3, take: 2 });
   session.run(steps("fail 1\n"));
   refused(22, 2);
   assert.throws(() => new Session(new Uint8Array(9)).decision(0), e => e.number === 16);

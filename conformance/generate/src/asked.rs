@@ -14,7 +14,7 @@ pub struct Asked {
     pub questions: Vec<Question>,
 }
 
-fn numbers(of: &[usize]) -> Result<Json, u8> {
+pub fn numbers(of: &[usize]) -> Result<Json, u8> {
     Ok(of.to_vec().into())
 }
 
@@ -176,5 +176,5 @@ fn wide() -> Vec<Asked> {
 }
 
 pub fn all() -> Vec<Asked> {
-    [ways(), lowest(), orders(), maps(), wide()].into_iter().flatten().collect()
+    [ways(), lowest(), orders(), maps(), wide(), crate::house::asked()].into_iter().flatten().collect()
 }

@@ -100,6 +100,9 @@ fn beginnings(b: &mut Builder) {
             limits[i] = n;
             b.begin(&format!("33: {what}, {told}."), IMAGE, limits);
         }
+        let mut limits = LIMITS;
+        limits[i] = 0;
+        b.begin(&format!("33: {what}, none, the others the greatest."), IMAGE, limits);
     }
 }
 
@@ -115,6 +118,7 @@ fn parts(b: &mut Builder) {
         IMAGE,
         Part { start: 4, end: 20, room: 16, ..p },
     );
+    odd_lists(b);
     b.part("16: one byte short.", "small", IMAGE - 1, p);
     b.part("16: one byte over.", "small", IMAGE + 1, p);
     b.part("16 comes before 17.", "small", 0, Part { end: 23, ..p });
@@ -136,6 +140,23 @@ fn parts(b: &mut Builder) {
     b.part("18 comes before 19.", "ill", IMAGE, Part { room: 16, ..p });
     b.part("19: ill-formed.", "ill", IMAGE, p);
     b.part("19 also for an empty part.", "ill", IMAGE, Part { start: 0, end: 0, room: 0, ..p });
+}
+
+/// Lists whose own length is no multiple of 8, and parts that end past the list.
+fn odd_lists(b: &mut Builder) {
+    let (p, far) = (WHOLE, 1 << 32);
+    b.part("The list's own length is no multiple of 8, that of its part is.", "small", IMAGE, Part { length: 27, ..p });
+    b.part("The same, up to its end.", "small", IMAGE, Part { length: 27, start: 3, end: 27, ..p });
+    b.part("17: it ends one byte past the list.", "small", IMAGE, Part { length: 23, steps: &STEPS[..2], ..p });
+    b.part("17: it ends four bytes past the list.", "small", IMAGE, Part { length: 20, steps: &STEPS[..2], ..p });
+    b.part("17: it ends seven bytes past the list.", "small", IMAGE, Part { length: 25, end: 32, start: 8, ..p });
+    b.part("17: it starts one byte after its end.", "small", IMAGE, Part { start: 9, end: 8, room: 0, ..p });
+    b.part("17: 4,294,967,296 is not 0, as its start.", "small", IMAGE, Part { start: far, ..p });
+    b.part("17: nor as its end.", "small", IMAGE, Part { end: far, room: 0, ..p });
+    b.part("17: nor as both.", "small", IMAGE, Part { start: far, end: far, room: 0, ..p });
+    b.part("17: a part past 4,294,967,296.", "small", IMAGE, Part { start: far, end: far + 24, ..p });
+    b.part("17: it ends past 4,294,967,296.", "small", IMAGE, Part { end: far + 24, ..p });
+    b.part("17: over 8,192 bytes by far.", "small", IMAGE, Part { length: 16_384, end: 16_384, room: 16_384, ..p });
 }
 
 /// The five queries about a take, of the small image.
@@ -161,6 +182,8 @@ fn others_asked(b: &mut Builder) {
     size("Size 1.", "small", IMAGE, 1);
     size("Size 16.", "small", IMAGE, 16);
     size("34: 0.", "small", IMAGE, 0);
+    size("16.", "small", IMAGE + 1, 2);
+    size("19.", "ill", IMAGE, 2);
     size("34: 17.", "small", IMAGE, 17);
     size("34: 257 is not 1.", "small", IMAGE, 257);
     size("34: 4,294,967,297 is not 1.", "small", IMAGE, 1 << 32 | 1);
@@ -171,9 +194,12 @@ fn others_asked(b: &mut Builder) {
     parcel("The second.", "small", IMAGE, 7);
     parcel("24: between them.", "small", IMAGE, 5);
     parcel("24: the next number.", "small", IMAGE, 9);
+    parcel("24: 0, which free places have.", "small", IMAGE, 0);
     parcel("24: 65,535.", "small", IMAGE, 65_535);
     parcel("24: 65,539 is not 3.", "small", IMAGE, 65_539);
     parcel("24: 4,294,967,299 is not 3.", "small", IMAGE, 1 << 32 | 3);
+    parcel("16.", "small", IMAGE + 1, 3);
+    parcel("19.", "ill", IMAGE, 3);
     parcel("16 comes before 24.", "small", 0, 5);
     parcel("19 comes before 24.", "ill", IMAGE, 5);
     let mut volume =
@@ -203,6 +229,9 @@ fn engine(b: &mut Builder) {
     b.play("18: one reply short.", LIMITS, 24, 16);
     b.play("18: one over.", LIMITS, 24, 32);
     b.play("18 comes before 33.", [0, 0, 0], 24, 16);
+    b.play("18 comes before 33: seventeen takes.", [17, 1, 1], 24, 23);
+    b.play("18 comes before 33: sixteen signings.", [1, 1, 16], 24, 32);
+    b.play("18 comes before 33: no parcels.", [1, 0, 1], 24, 0);
     b.play("33: no takes.", [0, 1, 1], 24, 24);
     b.play("33: 17 takes.", [17, 1, 1], 24, 24);
     b.play("33: no parcels.", [1, 0, 1], 24, 24);

@@ -21,6 +21,7 @@ pub const FLAGS: &[(&str, &str)] = &[
     ("to-the-letter", "joins on images that no session grows"),
     ("ill-formed", "19"),
     ("well-formed", "the neighbour of an ill-formed image"),
+    ("strange", "an image drawn at random that no session grows"),
     ("query", "a call that only reads"),
     ("engine", "the engine's own call"),
     ("thin", "thinner step lists (document 02, W12)"),

@@ -285,6 +285,77 @@ fn numbers(b: &mut Builder) {
     b.ill("marks of a parcel", "the second parcel's", &[(mark_at(Map::Parcel(1), 0), &[0x84])]);
 }
 
+/// The last take, the last mark of a map and the last parcel; lists around the middle of a mark.
+fn last_places(b: &mut Builder) {
+    let last = take_at(15);
+    let mut full = |clause: &str, kept: bool, comment: &str, at: usize, bytes: &[u8]| {
+        b.case("full", clause, kept, comment, &[(at, bytes)])
+    };
+    full("status of an opened take", false, "take 15 has status 0", last, &[0]);
+    full("zero bits of a status", false, "of take 15", last, &[0x41]);
+    full("own mark of a live take", false, "take 15 has none", mark_at(Map::State(15), 15), &[0]);
+    full("saved text of a never signed take", false, "take 15", last + 5, &[1]);
+    full("behaviour map of an idle take", false, "take 15", mark_at(Map::Behaviour(15), 0), &[0x80]);
+    full("vanished take with its status alone", false, "take 15, with its text and its mark", last, &[0xc0]);
+    for (name, map) in [("state", Map::State(0)), ("creation", Map::Creation(0)), ("a parcel's", Map::Parcel(31))] {
+        let said = |what: &str| format!("{name} map, {what}");
+        full("zero bits of a mark", false, &said("take 15"), mark_at(map, 15), &[0x90]);
+        full("zero bits of a mark", true, &said("take 15 frozen"), mark_at(map, 15), &[0xc0]);
+        full("absent mark all zero", false, &said("take 15, its last byte"), mark_at(map, 15) + 32, &[1]);
+    }
+    for count in [1, 5, 6, 7, 8, 9, 13, 14] {
+        let mut bytes = [255; 33];
+        bytes[0] = 0x80 | count as u8;
+        bytes[3 + 2 * count..].fill(0);
+        full("places past the count", true, "full up to the count", mark_at(Map::Creation(2), 1), &bytes);
+        bytes[4 + 2 * count] = 1;
+        full("places past the count", false, "the low byte of the first place", mark_at(Map::Creation(2), 1), &bytes);
+        bytes[3 + 2 * count..5 + 2 * count].copy_from_slice(&[1, 0]);
+        full("places past the count", false, "its high byte", mark_at(Map::Creation(2), 1), &bytes);
+    }
+}
+
+fn last_parcels(b: &mut Builder) {
+    let last = parcel_at(31);
+    b.case(
+        "full",
+        "parcels in rising number",
+        false,
+        "the last has the number of the one before",
+        &[(last + 1, &[0, 60])],
+    );
+    b.case(
+        "full",
+        "parcels in rising number",
+        true,
+        "the last has the next after the one before",
+        &[(last + 1, &[0, 61])],
+    );
+    b.case("full", "parcels in rising number", false, "the second has the first's", &[(parcel_at(1) + 1, &[0, 0])]);
+    b.case("full", "number below the next", false, "the last is at the next number", &[(last + 1, &[0, 63])]);
+    b.case("full", "zero bits of a parcel", false, "of the last", &[(last, &[0xaf])]);
+    b.case("full", "parcels without gaps", false, "the last but one does not wait", &[(parcel_at(30), &[0; 7])]);
+    b.case("full", "parcels without gaps", true, "the last does not wait", &[(last, &[0; 7])]);
+    b.case(
+        "full",
+        "place without a parcel all zero",
+        false,
+        "the last has a text alone",
+        &[(last, &[0, 0, 0, 0, 0, 0, 1])],
+    );
+    b.ill("addressee opened", "the second parcel, take 3", &[(parcel_at(1), &[0x83])]);
+    b.ill("addressee opened", "the first parcel, take 4", &[(parcel_at(0), &[0x84])]);
+    b.ill("addressee opened", "the first parcel, take 15", &[(parcel_at(0), &[0x8f])]);
+    b.ill("zero byte of the limits", "byte 7 is 128", &[(7, &[128])]);
+    b.ill("vanished take with its status alone", "the first byte of its text", &[(take_at(2) + 1, &[1])]);
+    b.ill("vanished take with its status alone", "the first bit of its text", &[(take_at(2) + 1, &[128])]);
+    b.ill(
+        "parcels waiting within the limit",
+        "three, and two are allowed",
+        &[(5, &[2]), (parcel_at(2), &[0x80, 0, 8])],
+    );
+}
+
 pub fn suite(kit: &mut Kit) -> Suite {
     let mut suite = Suite::new(
         "images",
@@ -301,5 +372,7 @@ pub fn suite(kit: &mut Kit) -> Suite {
     marks(&mut b);
     parcels(&mut b);
     numbers(&mut b);
+    last_places(&mut b);
+    last_parcels(&mut b);
     b.suite
 }

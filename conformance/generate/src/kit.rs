@@ -6,7 +6,7 @@ use crate::impediment::impediment;
 use crate::json::Json;
 use crate::sha256::hex_digest;
 use bench::ledger::Obstacle;
-use bench::{ledger, library, reading};
+use bench::{ledger, library, order, reading};
 use std::io::Write;
 use std::path::PathBuf;
 use std::process::{Command, Stdio};
@@ -98,16 +98,11 @@ impl Kit {
         Ok((steps?, x))
     }
 
-    /// Whether two steps are independent, by the library: refused where the Rust ledger refuses a query, or 17.
+    /// Whether two steps are independent.
     pub fn independent(&mut self, image: &[u8], first: &[u8], second: &[u8]) -> Result<bool, u8> {
-        let answer = library::independent(image, first, second);
-        let wanted = match (image.len() == ledger::IMAGE, first.len() == 8 && second.len() == 8) {
-            (false, _) => 16,
-            (_, false) => 17,
-            _ => 19 * !ledger::formed(image) as u8,
-        };
-        agree("independent", answer.err().unwrap_or(0), wanted);
-        self.seen.call("independent", wanted);
+        let (a, b) = (library::independent(image, first, second), order::independent(image, first, second));
+        let answer = agree("independent", a, b);
+        self.seen.call("independent", answer.err().unwrap_or(0));
         answer
     }
 

@@ -9,6 +9,7 @@ mod asked;
 mod calls;
 mod coverage;
 mod flags;
+mod house;
 mod image;
 mod images;
 #[path = "../../rust/impediment.rs"]
@@ -24,13 +25,14 @@ mod queries;
 mod runs;
 mod sha256;
 mod steps;
+mod strange;
 
 use kit::{Kit, Suite};
 use std::path::{Path, PathBuf};
 use std::{env, fs, process};
 
 /// The most that all files may take together.
-const MOST: usize = 2_000_000;
+const MOST: usize = 2_400_000;
 
 fn suites(kit: &mut Kit, folder: &Path) -> Vec<Suite> {
     let read = |name: &str| fs::read_to_string(folder.join(name)).unwrap_or_else(|e| panic!("{name}: {e}"));
@@ -45,6 +47,7 @@ fn suites(kit: &mut Kit, folder: &Path) -> Vec<Suite> {
         queries::suite(kit),
         plan::suite(kit),
         order::suite(kit),
+        strange::suite(kit),
         passes::thin(kit),
         passes::window(kit),
         passes::convert(kit),

@@ -1,4 +1,4 @@
-//! Whether two steps may change places (docs/RULES.md, section 10, "Any order of arrival"), by hand: for each clause two steps that meet in it
+//! Whether two steps may change places (docs/RULES.md, 9.11), by hand: for each clause two steps that meet in it
 //! alone and whose order shows, and neighbours that do not meet. Independent steps are run in both orders; then random pairs of both sorts.
 
 use crate::image::{frozen, mark, words, Image, Map, AT_WORK, IDLE};

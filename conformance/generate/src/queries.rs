@@ -173,7 +173,7 @@ fn volume(of: usize) -> String {
 }
 
 /// What is asked about.
-fn about(call: &str, of: usize) -> String {
+pub fn about(call: &str, of: usize) -> String {
     match call {
         "ready_count" => format!("Volumes of size {of}"),
         "show" => format!("Parcel {of}"),
@@ -183,7 +183,7 @@ fn about(call: &str, of: usize) -> String {
 }
 
 /// An answer in words.
-fn told(call: &str, of: usize, answer: &Json) -> String {
+pub fn told(call: &str, of: usize, answer: &Json) -> String {
     let number = |n: &Json| if let Json::Number(n) = n { *n as usize } else { 0 };
     let n: Vec<usize> =
         if let Json::List(all) = answer { all.iter().map(number).collect() } else { vec![number(answer)] };

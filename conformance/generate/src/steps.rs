@@ -1,11 +1,12 @@
 //! Steps on images that no session grows: 31; 28 at life 65,535; 27 at the last numbers; joins to the letter.
 
+use crate::house;
 use crate::image::{frozen, mark, sparse, words, Image, Map, Mark, AT_WORK, IDLE, VANISHED};
 use crate::kit::{texts, Kit, Suite, Test, LIMITS};
 use crate::notation;
 
 /// Comment, flags, image, steps with their outcomes.
-type Case = (&'static str, &'static str, Image, &'static str);
+pub type Case = (&'static str, &'static str, Image, &'static str);
 
 const TIE: &str = "left-at-a-tie mistake";
 const HIDES: &str = "join-hides mistake";
@@ -499,6 +500,7 @@ pub fn suite(kit: &mut Kit) -> Suite {
     let mut suite = Suite::new("steps", about);
     let receipts = [unrelated(), unrelated_first(), hidden(), last_life(), after_dropped(), falls(), emptied()];
     let others = [last_number(), ties(), own_ties(), to_the_letter(), own_news(), news(), signed_lives(), signings()];
-    suite.tests = receipts.iter().chain(&others).flatten().map(|case| test(kit, case)).collect();
+    let house = [house::receipts(), house::signings(), house::kinds()];
+    suite.tests = receipts.iter().chain(&others).chain(&house).flatten().map(|case| test(kit, case)).collect();
     suite
 }

@@ -7,7 +7,6 @@ use crate::print::BAD;
 use crate::print::COMPARE;
 use crate::print::PRINTED;
 use crate::print::SILENT;
-use decisive::Decision;
 use decisive::receipt;
 use rules::Grouped;
 use rules::Impediment;
@@ -146,28 +145,19 @@ fn impediment(image: &[u8], t: usize) -> u8 {
     PRINTED
 }
 
-// D: the refusal, what the receipt of the message would do, and whose histories decide it, in the documents' words.
+// D: the refusal, the outcome that the receipt of the message would reply, and the transactor whose histories decide it.
 fn decision(image: &[u8], number: usize) -> u8 {
     let mut refusal: u8 = 99;
     let d = receipt::decide(image, number, &mut refusal);
     print::number(refusal as usize);
-    match d {
-        Decision::Nothing => print::text(b" none"),
-        Decision::Accepted => print::text(b" taken in"),
-        Decision::MessageSuperseded(u) => decided(b" dropped", u),
-        Decision::ReceiverSuperseded(u) => decided(b" falls", u),
-    }
+    print::number(d.outcome);
+    print::number(d.transactor);
     PRINTED
 }
 
 fn triple(what: &[u8], t: u8, u: u8, next: u8) {
     pair(what, t, u);
     print::number(next as usize);
-}
-
-fn decided(what: &[u8], u: usize) {
-    print::text(what);
-    print::number(u);
 }
 
 // F: the six numbers of the field that byte at belongs to.
@@ -208,7 +198,7 @@ fn ask(op: u8, image: &[u8], a: usize, b: usize) -> u8 {
     }
 }
 
-pub fn play(image: &mut [u8], n: &[u8]) -> u8 {
+pub(crate) fn play(image: &mut [u8], n: &[u8]) -> u8 {
     let op = bytes::get(n, 0);
     let a = numbers::at(n, 1);
     let b = numbers::at(n, 2);

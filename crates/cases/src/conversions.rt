@@ -63,7 +63,7 @@ fn moved(n: &[u8], space: &mut [u8], old: usize, other: &mut [u8], number: usize
 
 // Plays the line with this number on an image of length old. If the answer is 0, the destination is the image from then on. Gives the
 // image's length.
-pub fn play(space: &mut [u8], old: usize, n: &[u8], number: usize) -> usize {
+pub(crate) fn play(space: &mut [u8], old: usize, n: &[u8], number: usize) -> usize {
     let mut other = [0u8; ROOM];
     moved(n, space, old, &mut other, number)
 }

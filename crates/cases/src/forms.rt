@@ -12,7 +12,7 @@ fn matches(forms: &[u8], i: usize, op: u8, count: u8) -> bool
 
 // The group of a line's operation: each row has the letter, the least and the most numbers that it takes, from 0 on, and the group. 0
 // where the line is not understood.
-pub fn group(forms: &[u8], n: &[u8]) -> u8 {
+pub(crate) fn group(forms: &[u8], n: &[u8]) -> u8 {
     let op = get(n, 0);
     let count = (48 + numbers::count(n)) as u8;
     let mut k: usize = 0;

@@ -1,12 +1,13 @@
 // A script of cases: lines of an operation's letter, its numbers and a label, the operations, and what they print.
 pub mod bytes;
-pub mod calls;
-pub mod conversions;
-pub mod dependences;
-pub mod forms;
-pub mod histories;
+mod calls;
+mod conversions;
+mod dependences;
+mod forms;
+mod histories;
 pub mod lines;
-pub mod numbers;
+mod numbers;
 pub mod print;
-pub mod raw;
+mod raw;
 pub mod runs;
+pub mod script;

@@ -19,7 +19,7 @@ pub fn line_end(s: &[u8], from: usize) -> usize
 }
 
 // The end of a line's letter and numbers.
-pub fn numbers_end(s: &[u8]) -> usize
+pub(crate) fn numbers_end(s: &[u8]) -> usize
     ensures { λ r. ⌜ r ≤ length (now (s .entry)) ⌝ }
 {
     let mut i: usize = 0;
@@ -33,7 +33,7 @@ pub fn numbers_end(s: &[u8]) -> usize
 }
 
 // The label of a line whose numbers end there.
-pub fn label<'a>(s: &'a [u8], end: usize) -> &'a [u8] {
+pub(crate) fn label<'a>(s: &'a [u8], end: usize) -> &'a [u8] {
     if s.len() < 3 {
         return &s[..0];
     }

@@ -33,7 +33,7 @@ fn one_if(yes: bool) -> usize
 }
 
 // How many they are.
-pub fn count(n: &[u8]) -> usize
+pub(crate) fn count(n: &[u8]) -> usize
     ensures { λ r. ⌜ r ≤ 60 ⌝ }
 {
     let mut found: usize = 0;
@@ -65,7 +65,7 @@ fn extended(n: usize, c: u8, own: bool) -> usize
 }
 
 // Number k of a line, from 1 on; 0 past the last.
-pub fn at(n: &[u8], k: usize) -> usize
+pub(crate) fn at(n: &[u8], k: usize) -> usize
     ensures { λ r. ⌜ r < 4294967296 ⌝ }
 {
     let mut value: usize = 0;
@@ -81,7 +81,7 @@ pub fn at(n: &[u8], k: usize) -> usize
 }
 
 // The numbers after the first stand from the place that this gives on.
-pub fn put(s: &mut [u8], n: &[u8]) -> u8 {
+pub(crate) fn put(s: &mut [u8], n: &[u8]) -> u8 {
     let from = at(n, 1);
     let end = count(n);
     if s.len() + 1 < from + end {

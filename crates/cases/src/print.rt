@@ -37,7 +37,7 @@ pub fn row(s: &[u8], at: usize, count: usize) {
     }
 }
 
-pub fn truth(yes: bool) {
+pub(crate) fn truth(yes: bool) {
     if yes {
         text(b" yes");
     } else {
@@ -61,14 +61,14 @@ pub fn label(s: &[u8]) {
 }
 
 // A line of the script that is not understood.
-pub fn bad(line: usize) {
+pub(crate) fn bad(line: usize) {
     text(b" bad line");
     number(line);
     text(b"\n");
 }
 
 // Prints what an operation of that line left to print; same says whether the image is as it was.
-pub fn finish(left: u8, same: bool, line: usize) {
+pub(crate) fn finish(left: u8, same: bool, line: usize) {
     match left {
         SILENT => {}
         PRINTED => text(b"\n"),

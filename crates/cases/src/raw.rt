@@ -48,7 +48,7 @@ fn row(image: &[u8], at: usize, count: usize) -> u8
     PRINTED
 }
 
-pub fn play(image: &mut [u8], n: &[u8]) -> u8 {
+pub(crate) fn play(image: &mut [u8], n: &[u8]) -> u8 {
     let op = bytes::get(n, 0);
     let a = numbers::at(n, 1);
     let b = numbers::at(n, 2);

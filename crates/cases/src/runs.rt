@@ -1,4 +1,4 @@
-// Operations that run steps, one or a list, or thin a list.
+// Operations that run steps, one or a list, by the ledger or by the engine, or thin a list.
 use crate::bytes;
 use crate::numbers;
 use crate::print;
@@ -83,20 +83,29 @@ fn thinned(
     PRINTED
 }
 
-// Runs or thins a part.
+// The engine on a whole list, with replies of which every byte was 255: prints the answer, and so many bytes of the replies.
+fn chained(list: &[u8], replies: &mut [u8], n: &[u8]) -> u8 {
+    bytes::fill(replies, 255);
+    let answer = engine::play(list, replies, numbers::at(n, 1), numbers::at(n, 2), numbers::at(n, 3));
+    print::number(answer as usize);
+    print::row(replies, 0, numbers::at(n, 6));
+    PRINTED
+}
+
+// Runs or thins a part, or plays the whole list by the engine.
 fn listed(image: &mut [u8], list: &[u8], buffer: &mut [u8], n: &[u8]) -> u8 {
     let start = numbers::at(n, 1);
     let end = numbers::at(n, 2);
-    if bytes::get(n, 0) == b'u' {
-        return run(image, list, start, end, buffer);
+    let op = bytes::get(n, 0);
+    match op {
+        b'u' => run(image, list, start, end, buffer),
+        b'd' => thinned(image, list, start, end, buffer, numbers::at(n, 5)),
+        _ => chained(list, buffer, n),
     }
-    thinned(image, list, start, end, buffer, numbers::at(n, 5))
 }
 
-// u, d: a part of a list of so many bytes, with a buffer of so many bytes.
-fn part(image: &mut [u8], list: &[u8], n: &[u8]) -> u8 {
-    let length = numbers::at(n, 3);
-    let room = numbers::at(n, 4);
+// u, d, G: a list of so many bytes, with a buffer of so many bytes.
+fn part(image: &mut [u8], list: &[u8], n: &[u8], length: usize, room: usize) -> u8 {
     if list.len() < length {
         return BAD;
     }
@@ -141,13 +150,14 @@ fn steps(op: u8, image: &mut [u8], n: &[u8]) -> u8 {
 }
 
 // Plays an operation: the image, the list that lines build, and the line up to its label.
-pub fn play(image: &mut [u8], list: &mut [u8], n: &[u8]) -> u8 {
+pub(crate) fn play(image: &mut [u8], list: &mut [u8], n: &[u8]) -> u8 {
     let op = bytes::get(n, 0);
     match op {
         b'l' => numbers::put(list, n),
         b'm' => put(list, n),
-        b'u' => part(image, list, n),
-        b'd' => part(image, list, n),
+        b'u' => part(image, list, n, numbers::at(n, 3), numbers::at(n, 4)),
+        b'd' => part(image, list, n, numbers::at(n, 3), numbers::at(n, 4)),
+        b'G' => part(image, list, n, numbers::at(n, 4), numbers::at(n, 5)),
         b't' => worst(list, numbers::at(n, 1), numbers::at(n, 2)),
         _ => steps(op, image, n),
     }

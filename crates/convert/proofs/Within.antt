@@ -8,17 +8,47 @@ use native.Mathlib.Numerals.{add-one}
 use lib.Bits.{bitOr}
 use lib.Dec.{eqb, leb}
 use lib.ListN.{getD}
-use borrow.Author.Tests.{le-leb, lt-leb, eq-eqb, ne-eqb}
+use borrow.Author.Tests.{leb-true, le-leb, lt-leb, eqb-true, eq-eqb, ne-eqb}
 use Rattle.octets.specs.Bytes.{_and_, part, every, Octets}
-use Rattle.octets.proofs.Put.{getD-part, octets-part}
-use Rattle.octets.proofs.Zero.{or-zero}
-use Rattle.marks.specs.Packed.{presentIn}
+use Rattle.octets.specs.Numbers.{ofBe}
+use Rattle.octets.proofs.Tests.{same-test}
+use Rattle.octets.proofs.Put.{octet, getD-part, octets-part}
+use Rattle.octets.proofs.Numbers.{two-bytes}
+use Rattle.octets.proofs.Zero.{every-same, or-zero}
+use Rattle.octets.proofs.Chunks.{getD-tabulate}
+use Rattle.octets.proofs.Runs.{every-add}
+use Rattle.marks.specs.Packed.{presentIn, loadNumberAt, unpackHistory}
+use Rattle.marks.specs.Within.{historyWithin}
 use Rattle.rules.specs.Layout.{base, widest, stateAt, dependencesAt, transactorAddress, messageAddress}
 use Rattle.rules.specs.Pack.{waitingIn, unpack}
 use Rattle.convert.specs.Convert.{largestNarrow, limitsAre, stateWithin, tooWide}
 use Rattle.convert.specs.Internal.HighBytes.{entryWithin, entriesWithin}
-use Rattle.marks.proofs.Within.{firstZero, history-high}
 use Rattle.convert.proofs.HighBytes.{state-entries}
+
+-- ---- a number of two bytes is at most 255 exactly if the first is zero
+
+high : (a b : ℕ) → b < 256 → leb (a * 256 + b) 255 ≡ eqb a 0
+high a b h = same-test (leb (a * 256 + b) 255) (eqb a 0)
+    (λ (e : leb (a * 256 + b) 255 ≡ true). let p : a * 256 + b ≤ 255 = leb-true (a * 256 + b) 255 e in eq-eqb a 0 (omega arith))
+    (λ (e : eqb a 0 ≡ true). let p : a ≡ 0 = eqb-true a 0 e in le-leb (a * 256 + b) 255 (omega arith))
+
+-- the first byte of number i of a mark
+abbrev pub firstZero : List ℕ → ℕ → Bool
+firstZero b i = eqb (getD b (1 + 2 * i) 0) 0
+
+module _ (b : List ℕ) (o : Octets b) where
+  number-high : (at : ℕ) → leb (ofBe 2 (part at 2 b)) 255 ≡ eqb (getD b at 0) 0
+  number-high at = ap (λ (n : ℕ). leb n 255) (two-bytes at b) ∙ high (getD b at 0) (getD b (at + 1) 0) (octet b o (at + 1))
+
+  history-high : historyWithin 255 15 (unpackHistory 2 15 b) ≡ every (1 + 15) (firstZero b)
+  unfolding historyWithin unpackHistory loadNumberAt every
+  history-high =
+      let rest : (i : ℕ) → i < 15 → leb (getD (unpackHistory 2 15 b .checkpoints) i 0) 255 ≡ firstZero b (1 + i) =
+      λ i h. ap (λ (n : ℕ). leb n 255) (getD-tabulate (loadNumberAt 2 b (1 + 2)) 15 i 0 h) ∙ number-high (1 + 2 + 2 * i) ∙ ap (λ (k : ℕ). eqb (getD b k 0) 0) (omega arith) in
+      rw (number-high 1, every-same (λ i. leb (getD (unpackHistory 2 15 b .checkpoints) i 0) 255) (λ i. firstZero b (1 + i)) 15 rest)
+      (sym (every-add 1 15 (firstZero b)))
+
+-- ---- one mark in an image: its first bytes, one after the other
 
 module _ (at : ℕ) (s : List ℕ) where
   first-byte : (i : ℕ) → i < 16 → firstZero (part at 33 s) i ≡ eqb (getD s (at + 1 + 2 * i) 0) 0

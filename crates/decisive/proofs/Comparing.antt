@@ -11,7 +11,6 @@ use Rattle.octets.specs.Bytes.{pick, _and_, part}
 use Rattle.octets.proofs.Put.{part-whole}
 use Rattle.octets.proofs.Tests.{passed, failed, pick-zero}
 use Rattle.marks.specs.declared.History.{History}
-use Rattle.marks.specs.declared.Relation.{Relation}
 use Rattle.marks.specs.Packed.{width, places, historySize, bit, unpackHistory, presentIn, formedHistory}
 use Rattle.marks.specs.History.{incarnationOf, isOlder}
 use Rattle.marks.specs.Relation.{relationOf, relationNumber}
@@ -85,10 +84,10 @@ module _ (a b : List ℕ) where
       right-length = eqb-true (length b) (historySize width places) (passed refl (tested (sym e ∙ z) .1))
 
       pub compare-answered : {x y : History} → x ≡ unpackHistory width places (part 0 (historySize width places) a) → y ≡ unpackHistory width places (part 0 (historySize width places) b)
-          → {r : Relation} {k v : ℕ} → r ≡ relationOf (incarnationOf x) (incarnationOf y) → k ≡ relationNumber r → v ≡ bit (isOlder x y)
+          → {k v : ℕ} → k ≡ relationNumber (relationOf (incarnationOf x) (incarnationOf y)) → v ≡ bit (isOlder x y)
           → ComparePromise a b n (record { relation = k; newer = v })
       unfolding compareAnswer comparedOf
-      compare-answered {x} {y} f g {r} {k} {v} p q w =
+      compare-answered {x} {y} f g {k} {v} p w =
           let s : x ≡ unpackHistory width places a = f ∙ ap (unpackHistory width places) (part-whole (historySize width places) a left-length) in
           let t : y ≡ unpackHistory width places b = g ∙ ap (unpackHistory width places) (part-whole (historySize width places) b right-length) in
-          (e, rw (← e, z, ← s, ← t, q, p, w) refl)
+          (e, rw (← e, z, ← s, ← t, p, w) refl)

@@ -16,8 +16,7 @@ use Rattle.rules.specs.Step.{done, dropped}
 use Rattle.rules.specs.Rules.{Effect, known, rollback, messageSuperseded, receiverSuperseded, receiveBy, refusal, applyReceive, apply, stepOf}
 use Rattle.rules.proofs.ByKind.Applied.{applies}
 use Rattle.decisive.specs.declared.Decision.{Decision}
-use Rattle.decisive.specs.declared.Decision.the-variants.{Nothing, Accepted, MessageSuperseded, ReceiverSuperseded}
-use Rattle.decisive.specs.Decision.{decidedBy, decisionBy, numbered, addressee, decisionOf, receiving, FirstSuperseded, NoneSuperseded, Decides, accepted, message-superseded, receiver-superseded}
+use Rattle.decisive.specs.Decision.{decider, numbered, addressee, decisionOf, receiving, FirstSuperseded, NoneSuperseded, Decides, accepted, message-superseded, receiver-superseded}
 
 -- ---- the first that is stale, or none
 
@@ -26,6 +25,12 @@ first-is y a b (found i h l e g) = record { below = omega arith; stale = e; firs
 
 none-is : (y : Layout) (a b : DependenceMap) → First (supersededAt a b) 0 (y .transactors) none → NoneSuperseded y a b
 none-is y a b (nowhere g) = λ k p. g k (omega arith) (omega arith)
+
+-- the outcome, by the first stale mark of the parcel and the first of the take
+abbrev pub outcomeBy : Layout → ℕ → Transactor → Option ℕ → Option ℕ → ℕ
+outcomeBy y t x (some u) q = dropped
+outcomeBy y t x none (some u) = rollback y t x .outcome
+outcomeBy y t x none none = done
 
 module _ (y : Layout) (s : State) (n : ℕ) where
   abbrev m : Message
@@ -48,25 +53,22 @@ module _ (y : Layout) (s : State) (n : ℕ) where
   unfolding stepOf applyReceive
   replied h = rw (h, applies y s (receiving n) .receive refl) refl
 
-  dropping : {u : ℕ} → firstSuperseded (y .transactors) a b ≡ some u → (received .outcome ≡ dropped) × (decisionOf y s n ≡ MessageSuperseded u)
-  unfolding receiveBy messageSuperseded decisionOf decisionBy
-  dropping e = (rw e refl, rw e refl)
+  received-as : (p q : Option ℕ) → firstSuperseded (y .transactors) a b ≡ p → firstSuperseded (y .transactors) b a ≡ q → received .outcome ≡ outcomeBy y (m .addressee) x p q
+  unfolding receiveBy messageSuperseded receiverSuperseded
+  received-as (some u) q e f = rw e refl
+  received-as none (some u) e f = rw (e, f) refl
+  received-as none none e f = rw (e, f) refl
 
-  module _ (e : firstSuperseded (y .transactors) a b ≡ none) where
-    falling : {u : ℕ} → firstSuperseded (y .transactors) b a ≡ some u
-        → (received .outcome ≡ rollback y (m .addressee) x .outcome) × (decisionOf y s n ≡ ReceiverSuperseded u)
-    unfolding receiveBy messageSuperseded receiverSuperseded decisionOf decisionBy
-    falling f = (rw (e, f) refl, rw (e, f) refl)
+  pub decision-as : (p q : Option ℕ) → refusal y s (receiving n) ≡ 0 → firstSuperseded (y .transactors) a b ≡ p → firstSuperseded (y .transactors) b a ≡ q
+      → decisionOf y s n ≡ record { outcome = outcomeBy y (m .addressee) x p q; transactor = decider p q }
+  unfolding decisionOf
+  decision-as p q h e f = λ i. record { outcome = (replied h ∙ received-as p q e f) i; transactor = decider (e i) (f i) }
 
-    taking : firstSuperseded (y .transactors) b a ≡ none → (received .outcome ≡ done) × (decisionOf y s n ≡ Accepted)
-    unfolding receiveBy messageSuperseded receiverSuperseded decisionOf decisionBy
-    taking f = (rw (e, f) refl, rw (e, f) refl)
-
-  pub decides : refusal y s (receiving n) ≡ 0 → Decides y s n (stepOf y s (receiving n) .reply .outcome) (decisionOf y s n)
-  decides h = rw (replied h) (go (firstSuperseded (y .transactors) a b) (firstSuperseded (y .transactors) b a) refl refl (superseded-view (y .transactors) a b) (superseded-view (y .transactors) b a))
+  pub decides : refusal y s (receiving n) ≡ 0 → Decides y s n (decisionOf y s n)
+  decides h = go (firstSuperseded (y .transactors) a b) (firstSuperseded (y .transactors) b a) refl refl (superseded-view (y .transactors) a b) (superseded-view (y .transactors) b a)
     where
       go : (p q : Option ℕ) → firstSuperseded (y .transactors) a b ≡ p → firstSuperseded (y .transactors) b a ≡ q
-          → First (supersededAt a b) 0 (y .transactors) p → First (supersededAt b a) 0 (y .transactors) q → Decides y s n (received .outcome) (decisionOf y s n)
-      go (some u) q e f v w = let d = dropping e in subst (Decides y s n (received .outcome)) (sym (d .1)) (message-superseded (first-is y a b v) (d .0))
-      go none (some u) e f v w = let d = falling e f in subst (Decides y s n (received .outcome)) (sym (d .1)) (receiver-superseded (none-is y a b v) (first-is y b a w) (d .0))
-      go none none e f v w = let d = taking e f in subst (Decides y s n (received .outcome)) (sym (d .1)) (accepted (none-is y a b v) (none-is y b a w) (d .0))
+          → First (supersededAt a b) 0 (y .transactors) p → First (supersededAt b a) 0 (y .transactors) q → Decides y s n (decisionOf y s n)
+      go (some u) q e f v w = subst (Decides y s n) (sym (decision-as (some u) q h e f)) (message-superseded (first-is y a b v))
+      go none (some u) e f v w = subst (Decides y s n) (sym (decision-as none (some u) h e f)) (receiver-superseded (none-is y a b v) (first-is y b a w))
+      go none none e f v w = subst (Decides y s n) (sym (decision-as none none h e f)) (accepted (none-is y a b v) (none-is y b a w))

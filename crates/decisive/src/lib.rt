@@ -18,22 +18,12 @@ pub struct Compared {
     pub newer: u8,
 }
 
-// What a receipt would do; the transactor is the first of which there is such a history.
-pub enum Decision {
-    // refused
-    Nothing,
-    // the message is taken in
-    Accepted,
-    // it is dropped: its history of that transactor is superseded by the receiver's
-    MessageSuperseded(usize),
-    // the receiver rolls back: its history of that transactor is superseded by the message's
-    ReceiverSuperseded(usize),
-}
-
-// What the comparison of the message's map with what the receiver rests on says.
-pub struct Found {
-    pub unrelated: bool,
-    pub decision: Decision,
+// What a receipt would reply: its outcome, 0 done, 2 dropped, 3 fallen back, 4 vanished; and the first transactor whose histories decide it:
+// dropped, the message's is superseded by the receiver's; fallen back or vanished, the receiver's by the message's. Done: 0.
+#[repr(C)]
+pub struct Decision {
+    pub outcome: usize,
+    pub transactor: usize,
 }
 
 // A receipt's refusal, or 0, and what decides it.

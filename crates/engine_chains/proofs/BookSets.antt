@@ -11,7 +11,7 @@ use Rattle.octets.specs.Bytes.{pick}
 use Rattle.marks.specs.Incarnation.{Incarnation, initialIncarnation, nextIncarnation, checkpointIncarnation}
 use Rattle.marks.specs.History.{initialView}
 use Rattle.octets.specs.Table.{updated}
-use Rattle.octets.proofs.Tables.{updated-view}
+use Rattle.octets.proofs.Tables.{updated-self}
 use Rattle.rules.specs.Layout.{Layout, Limits}
 use Rattle.rules.specs.declared.Step.{Step}
 use Rattle.rules.specs.Step.{root, letter, receive, new, send, read, write, freeze, finish, fall, lose}
@@ -110,9 +110,6 @@ updated-ap {A} {B} f F t x u = go (eqb t u)
     go : (c : Bool) → f (pick c x (F u)) ≡ pick c (f x) (f (F u))
     go true = refl
     go false = refl
-
-pub updated-self : {A : Type 0} (F : ℕ → A) (t u : ℕ) → updated F t (F t) u ≡ F u
-updated-self F t = updated-view (λ u z. z ≡ F u) F t (F t) refl (λ u d. refl)
 
 pick-ap : {A B : Type 0} (f : A → B) (c : Bool) (x y : A) → f (pick c x y) ≡ pick c (f x) (f y)
 pick-ap f true x y = refl

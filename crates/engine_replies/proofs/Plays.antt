@@ -28,7 +28,7 @@ use Rattle.session.specs.Steps.{isDropped, isRolledBack, acted, received, recei
 use Rattle.session.specs.Grounds.{Equal}
 use Rattle.session.proofs.Step.{SigningRight, checkpointed, uncheckpointed, StepRight}
 use Rattle.session.proofs.Model.{view}
-use Rattle.octets.proofs.Tables.{updated-both}
+use Rattle.octets.proofs.Tables.{updated-self, updated-both}
 use Rattle.session.proofs.Relation.{Rel}
 use Rattle.session.proofs.Related.{receipt-related}
 use Rattle.session.proofs.Seen.{same-seen}
@@ -38,7 +38,7 @@ use Rattle.engine_tables.specs.declared.table.Row.{Row}
 use Rattle.engine_tables.specs.declared.table.Slot.{Slot}
 use Rattle.engine_tables.specs.Internal.Tables.{Tables, openedRow, filledSlot, emptySlot, withRow, openRow, withSlot, withoutSlot, checkpointRow, checkpointRows, receiveRow, Played, playReceive, playLocal, playApplied, seenIn, playRefusal, play}
 use Rattle.engine_chains.proofs.Seek.{seek, seek-append, seek-without, length-without}
-use Rattle.engine_chains.proofs.BookSets.{NumberedBook, updated-self, missing-is, remove-is, find-remove, find-append, missing-remove, missing-append}
+use Rattle.engine_chains.proofs.BookSets.{NumberedBook, missing-is, remove-is, find-remove, find-append, missing-remove, missing-append}
 use Rattle.engine_chains.proofs.Replied as replied
 use Rattle.engine_replies.proofs.Tells.{updated-each, pick-each, RowRel, EffectRel, local-rel, receive-rel, checkpoint-rel, transactor-with, transactor-opened, transactor-message, transactor-without, transactor-checkpoint, contentIn, content-is, messages-without, state-rising, Tells}
 

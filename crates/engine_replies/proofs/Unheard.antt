@@ -28,7 +28,7 @@ use Rattle.rules.proofs.Keep.Step.{keeps, fitting-base}
 use Rattle.session.specs.Provenance.{Provenance, emptyProvenance, find}
 use Rattle.session.specs.Steps.{isDropped, isRolledBack}
 use Rattle.session.specs.Fed.{Call, run, none}
-use Rattle.session.specs.Trace.{Answer, ran, refusalIn, Performed, beginning, running, offering, naming, hearing, counting, depending, hindering, blocking, showing, Trace, opened, called}
+use Rattle.session.specs.Trace.{Answer, ran, refusalIn, Performed, beginning, running, offering, showing, Trace, opened, called}
 use Rattle.session.specs.Silent.{receiveSilently, applySilently, stepSilently, silentAfter, silentCall, silentIn}
 use Rattle.session.proofs.Model.{view}
 use Rattle.octets.proofs.Tests.{pick-view, pick-both}
@@ -196,12 +196,6 @@ module _ {y : Layout} (z : Fitting y) where
       go true = subst (λ (s : State). Twins y s (silentAfter y r steps n)) (sym (unpack-pack y (stateAfter y (unpack y img) steps n) (on .heard .well .packable))) on
       go false = t
   call-twins t (offering e) = t
-  call-twins t (naming e) = t
-  call-twins t (hearing e) = t
-  call-twins t (counting e) = t
-  call-twins t (depending e) = t
-  call-twins t (hindering e) = t
-  call-twins t (blocking e) = t
   call-twins t (showing e) = t
 
   session-twins : {img : List ℕ} (τ : Trace y img) → Twins y (unpack y img) (silentIn τ)

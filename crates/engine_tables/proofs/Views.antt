@@ -7,7 +7,7 @@ use Rattle.octets.specs.Table.{updated}
 use Rattle.engine_tables.specs.declared.table.Row.{Row}
 use Rattle.engine_tables.specs.declared.table.Slot.{Slot}
 use Rattle.engine_tables.specs.Internal.Tables.{openedRow, filledSlot, emptySlot, openRow, withSlot, withoutSlot, checkpointRows}
-use Rattle.engine_chains.proofs.BookSets.{updated-self}
+use Rattle.octets.proofs.Tables.{updated-self}
 use Rattle.engine_tables.specs.declared.register.Register.{Register}
 use Rattle.engine_tables.specs.Internal.Register.{rowAt, viewOf, withOpened, withNumber, withoutNumber, checkpointedRow, CheckpointedRows}
 

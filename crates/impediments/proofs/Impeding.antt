@@ -1,6 +1,6 @@
 -- What is in the way, as the code tests it.
-use Prim.Native.Nat.{ℕ, _+_, _*_, _≤_, _<_}
-use mathlib.Core.Bool.{Bool, true, false, not, false≢true}
+use Prim.Native.Nat.{ℕ, _≤_, _<_}
+use mathlib.Core.Bool.{Bool, true, false, not}
 use mathlib.Core.Path.{_≡_, refl, sym, ap, _∙_}
 use mathlib.Core.List.{List}
 use lib.Dec.{ltb}
@@ -13,60 +13,40 @@ use Rattle.maps.specs.Map.{historyAt}
 use Rattle.rules.specs.declared.Obstacle.{Obstacle}
 use Rattle.rules.specs.declared.Obstacle.the-variants as obstacle
 use Rattle.rules.specs.declared.Impediment.the-variants.{Nothing, Hopeless, Exhausted, Unstable}
-use Rattle.rules.specs.Layout.{Layout, historyBytes, stateAt, creationAt, transactorAddress}
-use Rattle.rules.specs.State.{State, transactorAt, ownHistory, placeFrom}
+use Rattle.rules.specs.Layout.{Layout}
+use Rattle.rules.specs.State.{State, Transactor, transactorAt, ownHistory, placeFrom}
 use Rattle.rules.specs.Refusals.{named}
 use Rattle.rules.specs.Rules.{entryReady}
-use Rattle.rules.specs.Pack.{unpack}
 use Rattle.rules.specs.Dependents.{throughAt}
-use Rattle.rules.specs.Obstacle.{blocksIn, groundOf}
+use Rattle.rules.specs.Obstacle.{blocksIn, groundOf, entryObstacle}
 use Rattle.rules.specs.Impediment.{isWithdrawn, withdrawnIn, withdrawnBy, lostGround, impedesAt, lowestFor, nextAt, impedimentOf}
 use Rattle.rules.specs.Internal.Guards.{isFull}
 use Rattle.rules.proofs.Groups.Dependents.{in-group}
-use Rattle.obstacles.specs.Internal.Marks.{isNothing, markObstacle}
+use Rattle.obstacles.specs.Internal.Marks.{isNothing}
 use Rattle.impediments.specs.Internal.Ways.{Reached}
-use Rattle.obstacles.proofs.Blocking.{in-state, in-creation, ground-one}
+use Rattle.obstacles.proofs.Blocking.{ground-one}
 
 -- ---- marks of withdrawn lives
 
-module _ (y : Layout) (img : List ℕ) (v c u : ℕ) (low : c < y .transactors) (within : u < y .transactors) (all : named v u ≡ true) where
-  abbrev s : State
-  s = unpack y img
-
+module _ (s : State) (v c u : ℕ) (all : named v u ≡ true) where
   -- what blocks in a volume that names its take is a withdrawn life
   blocks-withdrawn : (m : DependenceMap) → blocksIn s v m u ≡ withdrawnIn s m u
   unfolding blocksIn entryReady withdrawnIn isWithdrawn
   blocks-withdrawn m = rw all
 
-  tested : (m : DependenceMap) (h : History) → isNothing (pick (blocksIn s v m u) (groundOf s c u h) obstacle.Nothing) ≡ not (withdrawnIn s m u)
-  tested m h = go (blocksIn s v m u) ∙ ap not (blocks-withdrawn m)
-    where
-      go : (b : Bool) → isNothing (pick b (groundOf s c u h) obstacle.Nothing) ≡ not b
-      go true = ground-one y img v c u low within h
-      go false = refl
+  either : (a b : Bool) (g h : Obstacle) → isNothing g ≡ false → isNothing h ≡ false → not (isNothing (pick a g (pick b h obstacle.Nothing))) ≡ a or b
+  either true b g h e f = ap not e
+  either false true g h e f = ap not f
+  either false false g h e f = refl
 
-  module _ (o : Obstacle) (e : o ≡ markObstacle y img v c u (transactorAddress y c + stateAt + historyBytes y * u)) where
-    state-is : isNothing o ≡ not (withdrawnIn s (transactorAt s c .state) u)
-    state-is = ap isNothing (e ∙ in-state y img v c u low within) ∙ tested (transactorAt s c .state) (historyAt (transactorAt s c .state) u)
-
-    pub withdrawn-state : isNothing o ≡ false → true ≡ withdrawnBy s c u
-    unfolding withdrawnBy
-    withdrawn-state q = go (withdrawnIn s (transactorAt s c .state) u) (sym state-is ∙ q)
-      where
-        go : (b : Bool) → not b ≡ false → true ≡ b or withdrawnIn s (transactorAt s c .creation) u
-        go true f = refl
-        go false f = absurd (false≢true (sym f))
-
-    pub withdrawn-creation : isNothing o ≡ true → (p : Obstacle) → p ≡ markObstacle y img v c u (transactorAddress y c + creationAt y + historyBytes y * u) → not (isNothing p) ≡ withdrawnBy s c u
-    unfolding withdrawnBy
-    withdrawn-creation q p f =
-        let i : isNothing p ≡ not (withdrawnIn s (transactorAt s c .creation) u) = ap isNothing (f ∙ in-creation y img v c u low within) ∙ tested (transactorAt s c .creation) (historyAt (transactorAt s c .creation) u) in
-        rw i (go (withdrawnIn s (transactorAt s c .state) u) (withdrawnIn s (transactorAt s c .creation) u) (sym state-is ∙ q))
-      where
-        go : (a b : Bool) → not a ≡ true → not (not b) ≡ a or b
-        go true b g = absurd (false≢true g)
-        go false true g = refl
-        go false false g = refl
+  pub entry-withdrawn : {o : Obstacle} → o ≡ entryObstacle s v c u → not (isNothing o) ≡ withdrawnBy s c u
+  unfolding entryObstacle withdrawnBy
+  entry-withdrawn e =
+      let of : DependenceMap → Obstacle = λ m. groundOf s c u (historyAt m u) in
+      let x : Transactor = transactorAt s c in
+      ap (λ (o : Obstacle). not (isNothing o)) e
+      ∙ rw (blocks-withdrawn (x .state), blocks-withdrawn (x .creation))
+      (either (withdrawnIn s (x .state) u) (withdrawnIn s (x .creation) u) (of (x .state)) (of (x .creation)) (ground-one s c u (historyAt (x .state) u)) (ground-one s c u (historyAt (x .creation) u)))
 
 -- ---- the first of them
 

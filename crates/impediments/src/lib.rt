@@ -5,13 +5,9 @@ use crate::ways::Reach;
 use crate::ways::reach_of;
 use group::is_full;
 use group::own;
-use image::layout::CREATION;
-use image::layout::FIRST_TRANSACTOR;
-use image::layout::STATE;
-use image::layout::TRANSACTOR;
 use image::layout::TRANSACTORS;
 use lists::groups::is_named;
-use obstacles::history;
+use obstacles::entry;
 use obstacles::is_nothing;
 use rules::Impediment;
 ghost use mathlib.Core.Path.{_≡_};
@@ -39,18 +35,11 @@ fn superseded(image: &[u8], c: usize, u: usize) -> bool
     requires { ⌜ Good (now image) × (c < base .transactors) × (u < base .transactors) ⌝ }
     ensures { λ r. ⌜ r ≡ withdrawnBy (unpack base (now (image .entry))) c u ⌝ }
 {
-    let at = FIRST_TRANSACTOR + TRANSACTOR * c;
-    let state = at + STATE + marks::SIZE * u;
-    let o = history(image, ALL, c, u, state);
-    if !is_nothing(o) {
-        return true;
-    }
-    let creation = at + CREATION + marks::SIZE * u;
-    let p = history(image, ALL, c, u, creation);
-    !is_nothing(p)
+    let o = entry(image, ALL, c, u);
+    !is_nothing(o)
 }
 
-// The first transactor of which it has, or how many there are.
+// The first transactor of which c has such a history; TRANSACTORS if there is none.
 fn lost_ground(image: &[u8], c: usize) -> usize
     requires { ⌜ Good (now image) × (c < base .transactors) ⌝ }
     ensures { λ r. ⌜ (r ≡ lostGround base (unpack base (now (image .entry))) c) × (r ≤ base .transactors) ⌝ }
@@ -80,7 +69,7 @@ fn impedes(image: &[u8], kind: u8, c: usize) -> bool
     !h.stable
 }
 
-// And transactor t, one of row, rests on it.
+// Whether transactor t rests on c, as the row of c says, and c is in the way.
 fn in_way(image: &[u8], kind: u8, c: usize, row: u16, t: usize) -> bool
     requires { ⌜ Good (now image) × (c < base .transactors) × (t < base .transactors) ⌝ }
     ensures { λ r. ⌜ r ≡ named row t and impedesAt base (unpack base (now (image .entry))) kind c ⌝ }
@@ -91,7 +80,7 @@ fn in_way(image: &[u8], kind: u8, c: usize, row: u16, t: usize) -> bool
     impedes(image, kind, c)
 }
 
-// The lowest that is, or how many there are.
+// The lowest transactor that t rests on and that is in the way in this manner; TRANSACTORS if there is none.
 fn lowest(image: &[u8], reach: Reach, kind: u8, t: usize) -> usize
     requires { ⌜ Good (now image) × (t < base .transactors) × Reached base (unpack base (now image)) (base .transactors) t (reach .through) (reach .next) ⌝ }
     ensures { λ r. ⌜ (r ≡ lowestFor base (unpack base (now (image .entry))) kind t) × (r ≤ base .transactors) ⌝ }

@@ -14,7 +14,7 @@ ghost use Rattle.rules.specs.Pack.{unpack};
 ghost use Rattle.rules.specs.Internal.Good.{Good};
 ghost use Rattle.impediments.specs.Internal.Ways.{Filled, firstRow, itself, widerRow, keptNext, Reached};
 
-// Of every transactor.
+// For each transactor: who rests on it, and the next one on a chain to it.
 pub struct Reach {
     // Who rests on it, directly or through others; itself among them, a bit each.
     pub through: [u16; 16],

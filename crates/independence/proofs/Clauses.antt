@@ -142,9 +142,6 @@ module _ (p q : Step) where
   freed-both false e f = never e
 
 module _ (next : ℕ) (full : Bool) (p q : Step) where
-  abbrev freed : Bool
-  freed = full and takesAway (p .kind) and sends (q .kind)
-
   abbrev same : Bool
   same = handles (p .kind) and handles (q .kind) and eqb (handled next p) (handled next q)
 

@@ -1,5 +1,5 @@
 -- What the code tests is what specs/Independent says: q sees something that p changes exactly if the tests of specs/Internal/Footprint hold.
-use Prim.Native.Nat.{ℕ, zero, suc, _^_, _≤_, _<_}
+use Prim.Native.Nat.{ℕ, zero, suc, _≤_, _<_}
 use mathlib.Core.Bool.{Bool, true, false, not}
 use mathlib.Core.Path.{_≡_, refl, sym, ap, _∙_, subst}
 use mathlib.Core.List.{List, [], _∷_}
@@ -7,13 +7,13 @@ use mathlib.Core.Logic.{_⊎_, inl, inr, ⊎-elim}
 use native.Mathlib.Omega.{arith}
 use lib.Dec.{eqb, leb}
 use lib.ListN.{length, getD}
-use borrow.Author.Tests.{eqb-true, eqb-false, eq-eqb, ne-eqb, leb-true, leb-false, le-leb, lt-leb, not-true, not-false}
+use borrow.Author.Tests.{eqb-true, eqb-false, eq-eqb, ne-eqb, leb-true, le-leb, lt-leb, not-true, not-false}
 use Rattle.octets.specs.Bytes.{pick, _and_, _or_, part, any, Octets}
 use Rattle.octets.specs.Numbers.{bound}
 use Rattle.octets.proofs.Put.{part-whole}
 use Rattle.octets.proofs.Tests.{never, true-or-false, pick-zero, and-of, and-off, or-to, or-of, or-off}
 use Rattle.octets.proofs.Chunks.{sides}
-use Rattle.octets.proofs.Zero.{any-on, any-at}
+use Rattle.octets.proofs.Zero.{both, any-on, any-at}
 use Rattle.marks.specs.Incarnation.{Incarnation, sameList, checkpointedIn}
 use Rattle.marks.specs.History.{incarnationOf}
 use Rattle.marks.proofs.Tests.{sameList-test}
@@ -21,7 +21,7 @@ use Rattle.rules.specs.Layout.{base, imageBytes}
 use Rattle.rules.specs.State.{Transactor, State, live, transactorAt, messageAt, ownHistory, placeOf, numbered, noTransactor}
 use Rattle.rules.specs.declared.Step.{Step}
 use Rattle.rules.specs.Step.{root, letter, receive, new, send, lose, sign, stepBytes, unpackStep}
-use Rattle.rules.specs.Refusals.{groupBits, named, anyNamed, acts, sends, malformed}
+use Rattle.rules.specs.Refusals.{named, anyNamed, acts, sends, malformed}
 use Rattle.rules.specs.Rules.{groupReady, refusal, seen, stepOf}
 use Rattle.rules.specs.Pack.{unpack}
 use Rattle.rules.specs.Form.{wellFormed}
@@ -32,7 +32,7 @@ use Rattle.rules.specs.Independent.{Cell, whole, there, signed, parcel, room, o
 use Rattle.rules.proofs.Bits.{named-past}
 use Rattle.rules.proofs.Places.{Place, place}
 use Rattle.rules.proofs.Pack.Messages.{numbers-rise}
-use Rattle.rules.proofs.Keep.Accepted.{Accepted, accepted, one-unopened}
+use Rattle.rules.proofs.Keep.Accepted.{accepted, one-unopened}
 use Rattle.rules.proofs.Good.{good-formed}
 use Rattle.rules.proofs.Keep.Run.{stepOk-unpack}
 use Rattle.rules.proofs.Keep.Step.{fitting-base, keeps}
@@ -43,10 +43,6 @@ use Rattle.independence.proofs.Clauses.{touch-sign, touch-receive, touc
 use Rattle.independence.proofs.Signing.{same-signed, other-signed}
 
 -- ---- tests
-
-both : (a b : Bool) → a and b ≡ true → (a ≡ true) × (b ≡ true)
-both true b e = (refl, e)
-both false b e = never (sym e)
 
 -- the first n have one at which f holds
 any-within : (f : ℕ → Bool) (n : ℕ) → any n f ≡ true → (i : ℕ) × (i < n) × (f i ≡ true)

@@ -13,7 +13,8 @@ use Rattle.rules.specs.State.{placeOf}
 use Rattle.rules.specs.Pack.{waitingIn, unpack}
 use Rattle.rules.specs.Form.{wellFormed}
 use Rattle.rules.specs.Calls.{showRefusal, shown}
-use Rattle.image.specs.Internal.Addresses.{mapAt, shownAt}
+use Rattle.image.specs.Internal.Addresses.{mapAt}
+use Rattle.ledger.specs.Internal.Shown.{shownAt}
 use Rattle.rules.proofs.Pack.Loads.{unpack-waiting, waiting-few}
 use Rattle.rules.proofs.Calls.Begin.{wrong-length, right-length}
 use Rattle.rules.proofs.Calls.Show.{accepted}

@@ -21,7 +21,7 @@ ghost use Rattle.rules.specs.Layout.{base, limitsOf, imageBytes};
 ghost use Rattle.rules.specs.Step.{stepBytes};
 ghost use Rattle.rules.specs.Internal.Good.{Good};
 ghost use Rattle.rules.specs.Calls.{ranImage, ranReplies, offeredNumber, showRefusal};
-ghost use Rattle.image.specs.Internal.Addresses.{shownAt};
+ghost use Rattle.ledger.specs.Internal.Shown.{shownAt};
 ghost use Rattle.rules.specs.Promises.{BeginPromise, RunPromise, OfferPromise, ShowPromise};
 
 // ---- begin
@@ -138,6 +138,9 @@ pub fn shown_at(image: &[u8], number: usize, refusal: &mut u8) -> usize
     map_at(k)
 }
 
+// The bytes of a map: those of a history, for each of its entries.
+const MAP: usize = marks::SIZE * maps::ENTRIES;
+
 // The bytes of the image that hold a waiting message's map. The lent number takes the refusal, 16, 19 or 24, or 0; refused, an
 // empty part.
 pub fn show<'a>(image: &'a [u8], number: usize, refusal: &mut u8) -> &'a [u8]
@@ -147,6 +150,6 @@ pub fn show<'a>(image: &'a [u8], number: usize, refusal: &mut u8) -> &'a [u8]
     if *refusal != 0 {
         return &image[..0];
     }
-    let end = at + maps::SIZE;
+    let end = at + MAP;
     &image[at..end]
 }

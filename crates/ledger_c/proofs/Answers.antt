@@ -18,7 +18,7 @@ use Rattle.rules.specs.Pack.{unpack}
 use Rattle.rules.specs.Form.{wellFormed}
 use Rattle.rules.specs.Calls.{wrongLength, queryRefusal, offeredNumber, Offers, waiting, showRefusal, shown}
 use Rattle.rules.specs.Groups.{groupNumber, Smallest, smallest}
-use Rattle.image.specs.Internal.Addresses.{shownAt}
+use Rattle.ledger.specs.Internal.Shown.{shownAt}
 use Rattle.rules.proofs.Bits.{named-zero}
 use Rattle.rules.proofs.Form.State.{formed-state}
 use Rattle.octets.proofs.Tests.{never}

@@ -9,10 +9,8 @@ use Rattle.rules.specs.Layout.{Layout, messageAddress, dependencesAt, mapBytes}
 use Rattle.rules.specs.State.{placeOf}
 use Rattle.rules.specs.Pack.{unpack}
 use Rattle.rules.specs.Calls.{showRefusal}
-use Rattle.rules.specs.declared.Obstacle.{Obstacle}
-use Rattle.rules.specs.Obstacle.{obstacleNumbers}
-use Rattle.rules.specs.declared.Impediment.{Impediment}
-use Rattle.rules.specs.Impediment.{impedimentNumbers}
+use Rattle.rules.specs.Obstacle.{ObstacleNumbers}
+use Rattle.rules.specs.Impediment.{ImpedimentNumbers}
 use Rattle.ledger_c.specs.declared.Cause.{Cause}
 use Rattle.ledger_c.specs.declared.Part.{Part}
 use Rattle.ledger_c.specs.declared.Reason.{Reason}
@@ -48,13 +46,13 @@ abbrev pub numberFor : Bool → ℕ
 numberFor true = 1
 numberFor false = 0
 
--- The numbers that stand for an answer of obstacle.
-abbrev pub reasonFor : Obstacle → Reason
-reasonFor o = record { kind = obstacleNumbers o .kind; transactor = obstacleNumbers o .transactor; ground = obstacleNumbers o .ground }
+-- The numbers of obstacle's answer, as the struct for other languages has them.
+abbrev pub reasonNumbers : Reason → ObstacleNumbers
+reasonNumbers r = record { kind = r .kind; transactor = r .transactor; ground = r .ground }
 
--- The numbers that stand for an answer of impediment.
-abbrev pub causeFor : Impediment → Cause
-causeFor o = record { kind = impedimentNumbers o .kind; transactor = impedimentNumbers o .transactor; ground = impedimentNumbers o .ground; next = impedimentNumbers o .next }
+-- And those of impediment's answer.
+abbrev pub causeNumbers : Cause → ImpedimentNumbers
+causeNumbers r = record { kind = r .kind; transactor = r .transactor; ground = r .ground; next = r .next }
 
 -- The bytes of the image that hold a waiting parcel's map: where they start, and how many. Refused: an empty part.
 unfoldable pub shownPart : Layout → List ℕ → ℕ → Part

@@ -9,14 +9,12 @@ use window::Worst;
 ghost use mathlib.Core.Path.{_≡_};
 ghost use Rattle.rules.specs.Layout.{base, limitsOf};
 ghost use Rattle.rules.specs.Calls.{queryRefusal, showRefusal};
-ghost use Rattle.rules.specs.Promises.{BeginPromise, RunPromise, OfferPromise, SmallestPromise, CountPromise, DependentsPromise, PlanPromise};
+ghost use Rattle.rules.specs.Promises.{BeginPromise, RunPromise, OfferPromise, SmallestPromise, CountPromise, DependentsPromise, ObstaclePromise, ImpedimentPromise, PlanPromise};
 ghost use Rattle.rules.specs.Heard.{heardAnswer};
-ghost use Rattle.rules.specs.Obstacle.{obstacleRefusal, obstacleAnswer};
-ghost use Rattle.rules.specs.Impediment.{impedimentAnswer};
 ghost use Rattle.thin.specs.Thin.{thinRefusal, thinOut, thinCount};
 ghost use Rattle.convert.specs.Convert.{forwardAnswer, forwardImage, backAnswer, backImage};
 ghost use Rattle.window.specs.Window.{windowRefusal, worstWindow};
-ghost use Rattle.ledger_c.specs.Interface.{version, offeredBy, groupOf, numberFor, reasonFor, causeFor, shownPart};
+ghost use Rattle.ledger_c.specs.Interface.{version, offeredBy, groupOf, numberFor, reasonNumbers, causeNumbers, shownPart};
 
 // The number that stands for no message.
 pub const NONE: u16 = 65535;
@@ -150,7 +148,7 @@ pub extern "C" fn ledger_dependents(image: &[u8], transactor: usize, refusal: &m
 // get, 29, 21, 22 or 30, or 0; refused, all are 0.
 #[no_mangle]
 pub extern "C" fn ledger_obstacle(image: &[u8], members: usize, refusal: &mut u8) -> Reason
-    ensures { λ r. ⌜ (now (refusal .exit) ≡ obstacleRefusal base (now (image .entry)) members) × (r ≡ reasonFor (obstacleAnswer base (now (image .entry)) members)) ⌝ }
+    ensures { λ r. ⌜ ObstaclePromise base (now (image .entry)) members (now (refusal .exit)) (reasonNumbers r) ⌝ }
 {
     match queries::obstacle(image, members, refusal) {
         Obstacle::Nothing => Reason {
@@ -180,7 +178,7 @@ pub extern "C" fn ledger_obstacle(image: &[u8], members: usize, refusal: &mut u8
 // 22, or 0; refused, all are 0.
 #[no_mangle]
 pub extern "C" fn ledger_impediment(image: &[u8], transactor: usize, refusal: &mut u8) -> Cause
-    ensures { λ r. ⌜ (now (refusal .exit) ≡ queryRefusal base (now (image .entry)) transactor) × (r ≡ causeFor (impedimentAnswer base (now (image .entry)) transactor)) ⌝ }
+    ensures { λ r. ⌜ ImpedimentPromise base (now (image .entry)) transactor (now (refusal .exit)) (causeNumbers r) ⌝ }
 {
     match queries::impediment(image, transactor, refusal) {
         Impediment::Nothing => Cause {

@@ -11,48 +11,16 @@ ghost use lib.Dec.{eqb};
 ghost use Rattle.rules.specs.Layout.{base};
 ghost use Rattle.fields.specs.Field.{fieldOf};
 ghost use Rattle.decisive.specs.Compared.{ComparePromise};
-ghost use Rattle.decisive.specs.Decision.{decisionRefusal, decisionAnswer};
-ghost use Rattle.looking_c.specs.Interface.{verdictFor};
+ghost use Rattle.decisive.specs.Decision.{DecisionPromise};
 ghost use Rattle.rules.specs.Promises.{IndependentPromise};
 
-// The kinds of what a receipt would do.
-const ACCEPTED: usize = 1;
-
-const DROPPED: usize = 2;
-
-const ROLLED_BACK: usize = 3;
-
-// What a receipt would do, in numbers: the kind, 0 nothing, 1 taken in, 2 dropped, 3 a fall; and the transactor whose histories decide it.
-#[repr(C)]
-pub struct Verdict {
-    pub kind: usize,
-    pub transactor: usize,
-}
-
-// What the receipt of the waiting message would do now, and the first transactor whose histories decide it. The lent number takes the
+// What the receipt of the waiting message would reply now, and the first transactor whose histories decide it. The lent number takes the
 // refusal, 16, 19, or what the receipt would get, 24, 22, 23, 31 or 28, or 0; refused, both numbers are 0.
 #[no_mangle]
-pub extern "C" fn looking_decision(image: &[u8], number: usize, refusal: &mut u8) -> Verdict
-    ensures { λ r. ⌜ (now (refusal .exit) ≡ decisionRefusal base (now (image .entry)) number) × (r ≡ verdictFor (decisionAnswer base (now (image .entry)) number)) ⌝ }
+pub extern "C" fn looking_decision(image: &[u8], number: usize, refusal: &mut u8) -> Decision
+    ensures { λ r. ⌜ DecisionPromise base (now (image .entry)) number (now (refusal .exit)) r ⌝ }
 {
-    match receipt::decide(image, number, refusal) {
-        Decision::Nothing => Verdict {
-            kind: 0,
-            transactor: 0,
-        },
-        Decision::Accepted => Verdict {
-            kind: ACCEPTED,
-            transactor: 0,
-        },
-        Decision::MessageSuperseded(u) => Verdict {
-            kind: DROPPED,
-            transactor: u,
-        },
-        Decision::ReceiverSuperseded(u) => Verdict {
-            kind: ROLLED_BACK,
-            transactor: u,
-        },
-    }
+    receipt::decide(image, number, refusal)
 }
 
 // Two packed histories of one transactor compared. The lent number takes the refusal, 16 where one is not as long as a history, 19 where one

@@ -10,6 +10,5 @@ pub mod Within
 pub mod Masked
 pub mod Placed
 pub mod Unpacked
-pub mod Wide
 pub mod Starred
 pub mod News

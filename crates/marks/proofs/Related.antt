@@ -2,22 +2,39 @@
 use Prim.Native.Nat.{ℕ, suc, _≤_, _<_}
 use mathlib.Core.Bool.{Bool, true, false, false≢true}
 use mathlib.Core.Path.{_≡_, refl, ap, sym, _∙_}
-use mathlib.Core.List.{List, _∷_, _++_}
+use mathlib.Core.List.{List, [], _∷_, _++_}
 use mathlib.Core.Logic.{_⊎_, inl, inr, _↔_, ⊎-elim}
 use native.Mathlib.Omega.{arith}
 use lib.Dec.{eqb, ltb}
-use lib.ListN.{length, drop, length-append}
+use lib.ListN.{length, drop, getD, length-append}
 use borrow.Author.Tests.{ltb-true, ltb-false, eqb-true, eqb-false}
 use Rattle.octets.specs.Bytes.{pick}
 use Rattle.octets.proofs.Zero.{both}
 use Rattle.marks.specs.declared.Relation.{Relation}
 use Rattle.marks.specs.declared.Relation.the-variants.{Same, LeftCheckpointed, RightCheckpointed, LeftSuperseded, RightSuperseded, Unrelated}
 use Rattle.marks.specs.Incarnation.{Incarnation, sameList, beginsWith, strictPrefix, supersededBy, checkpointedIn, sameIncarnation, Superseded, lower, passed, Checkpointed, begins}
-use Rattle.marks.specs.Relation.{turned, byNumbers, byNextEntry, nextEntry, relationOf, isSame, isLeftCheckpointed, isLeftSuperseded, isUnrelated, Related, same, left-checkpointed, right-checkpointed, left-superseded, right-superseded, unrelated}
+use Rattle.marks.specs.Relation.{turned, byNumbers, byNextEntry, nextEntry, relationOf, relationNumber, isSame, isLeftCheckpointed, isLeftSuperseded, isUnrelated, Related, same, left-checkpointed, right-checkpointed, left-superseded, right-superseded, unrelated}
 use Rattle.marks.specs.Order.{Along, Precedes}
 use Rattle.marks.proofs.Trail.{clash, there, places}
 use Rattle.marks.proofs.Order.{checkpointed-precedes, superseded-precedes, precedes-eq, precedes-size, precedes-antisym, comparable, superseded-not-checkpointed, superseded-ne, checkpointed-ne}
 use Rattle.marks.proofs.Tests.{not-test, sameList-test, strict-to, strict-of, superseded-test, checkpointed-test, same-test}
+
+-- ---- a number has one answer
+
+numbered : ℕ → Relation
+numbered n = getD (Same ∷ LeftCheckpointed ∷ RightCheckpointed ∷ LeftSuperseded ∷ RightSuperseded ∷ Unrelated ∷ []) n Same
+
+numbered-again : (r : Relation) → numbered (relationNumber r) ≡ r
+unfolding numbered
+numbered-again Same = refl
+numbered-again LeftCheckpointed = refl
+numbered-again RightCheckpointed = refl
+numbered-again LeftSuperseded = refl
+numbered-again RightSuperseded = refl
+numbered-again Unrelated = refl
+
+pub same-answer : (r q : Relation) → relationNumber r ≡ relationNumber q → r ≡ q
+same-answer r q e = sym (numbered-again r) ∙ ap numbered e ∙ numbered-again q
 
 -- ---- what each answer means
 

@@ -57,7 +57,7 @@ impl Relation {
     }
 
     // What the comparison the other way round says.
-    pub fn turned(self) -> Relation
+    fn turned(self) -> Relation
         ensures { λ r. ⌜ r ≡ turned self ⌝ }
     {
         match self {
@@ -188,10 +188,10 @@ impl History {
         self.same_incarnation(other)
     }
 
-    // Document 02, W3: the comparison of two marks.
+    // Document 02, W3: the comparison of two marks; the promise is about the answer's number.
     pub fn compare(self, other: History) -> Relation
         requires { ⌜ (self .count ≤ places) × (other .count ≤ places) ⌝ }
-        ensures { λ r. ⌜ r ≡ relationOf (incarnationOf self) (incarnationOf other) ⌝ }
+        ensures { λ r. ⌜ relationNumber r ≡ relationNumber (relationOf (incarnationOf self) (incarnationOf other)) ⌝ }
     {
         if other.count < self.count {
             return other.compare_longer(self).turned();

@@ -89,8 +89,7 @@ roomy : (most : ℕ) (l : List ℕ) (long at e : ℕ) → Stop most l long at e 
 roomy most l long at e (unsaid a b r c) h p d = b p d
 roomy most l long at e (filled q c k f g) h p d = omega arith
 
--- With eight bytes of room for each byte of the text, every fault is at a line that says no step: steps_said never answers for want of room
--- where the text is shorter than 2 ^ 61 bytes.
+-- With eight bytes of room for each byte of the text, every fault is at a line that says no step: parse never answers for want of room.
 pub roomy-fault : (most : ℕ) (t : List ℕ) (n c e : ℕ) → 8 * length t ≤ most → read most t ≡ fault n c e → (p : Step) → Says (said (getD (linesOf t) (n - 1) [])) p → ⊥
 roomy-fault most t n c e h f =
     let k = fault-first most t n c e f in

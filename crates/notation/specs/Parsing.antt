@@ -42,9 +42,21 @@ abbrev pub writtenOf : Read → List ℕ → List ℕ
 writtenOf (steps l) out = put 0 l out
 writtenOf (fault n c e) out = out
 
--- as many bytes as any list has
-abbrev pub longest : ℕ
-longest = 18446744073709551615
+-- ---- the numbers of each answer
+
+pub record ParsedNumbers : Type 0 where
+  -- how many steps; 0 at a fault
+  pub count : ℕ
+  -- the fault's line and column, and the number of what was expected there; 0 where there is no fault
+  pub line : ℕ
+  pub column : ℕ
+  pub expected : ℕ
+
+abbrev pub parsedNumbers : Parsed → ParsedNumbers
+parsedNumbers (Steps n) = record { count = n; line = 0; column = 0; expected = 0 }
+parsedNumbers (Fault n c e) = record { count = 0; line = n; column = c; expected = numberOf e }
+
+-- ---- what was expected, in words
 
 -- in the documents' words
 abbrev pub expectedText : Expected → List ℕ

@@ -4,17 +4,14 @@ use mathlib.Core.List.{List}
 use lib.Dec.{eqb, ltb}
 use lib.ListN.{length}
 use Rattle.octets.specs.Bytes.{pick, put}
-use Rattle.printer.specs.declared.Printed.{Printed}
-use Rattle.notation.specs.declared.Parsed.{Parsed}
-use Rattle.notation.specs.declared.Parsed.the-variants.{Steps, Fault}
-use Rattle.notation.specs.Parsing.{numberOf}
-use Rattle.printer.specs.Printing.{lengthIn, refusalIn}
+use Rattle.notation.specs.Parsing.{ParsedNumbers}
+use Rattle.printer.specs.Printing.{PrintedNumbers}
 use Rattle.inspection.specs.Inspection.{inspectRefusal, inspected}
 use Rattle.notation_c.specs.declared.Given.{Given}
 
--- the answer of print and of text_length, in numbers
-abbrev pub givenBy : Printed → Given
-givenBy p = record { length = lengthIn p; refusal = refusalIn p }
+-- the numbers of an answer of print or text_length
+abbrev pub givenBy : PrintedNumbers → Given
+givenBy n = record { length = n .length; refusal = n .refusal }
 
 abbrev pub none : ℕ → Given
 none n = record { length = 0; refusal = n }
@@ -31,24 +28,6 @@ givenOut x out = pick (ltb (length out) (length x)) out (put 0 x out)
 unfoldable pub imageGiven : List ℕ → ℕ → List ℕ → Given
 imageGiven img n out = pick (eqb (inspectRefusal img) 0) (givenFor (inspected img n) out) (none (inspectRefusal img))
 
--- ---- the answers of parse
-
--- how many steps; 0 at a fault
-abbrev pub stepsFor : Parsed → ℕ
-stepsFor (Steps n) = n
-stepsFor (Fault line column e) = 0
-
--- the fault's line; 0 where there is none
-abbrev pub lineFor : Parsed → ℕ
-lineFor (Steps n) = 0
-lineFor (Fault line column e) = line
-
--- its column; 0 where there is none
-abbrev pub columnFor : Parsed → ℕ
-columnFor (Steps n) = 0
-columnFor (Fault line column e) = column
-
--- the number of what was expected there; 0 where there is no fault
-abbrev pub expectedFor : Parsed → ℕ
-expectedFor (Steps n) = 0
-expectedFor (Fault line column e) = numberOf e
+-- the numbers of parse's answer: the function's own answer, and the three lent numbers
+abbrev pub parsedAs : (count line column expected : ℕ) → ParsedNumbers
+parsedAs n l c e = record { count = n; line = l; column = c; expected = e }

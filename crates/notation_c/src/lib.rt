@@ -14,11 +14,11 @@ ghost use Rattle.rules.specs.Calls.{stepsIn};
 ghost use Rattle.notation.specs.Notation.{stepText};
 ghost use Rattle.lines.specs.Lines.{written};
 ghost use Rattle.notation.specs.Reading.{read};
-ghost use Rattle.notation.specs.Parsing.{answerOf, writtenOf, expectedWords};
-ghost use Rattle.printer.specs.Printing.{lengthAnswer, printAnswer, printedOut};
+ghost use Rattle.notation.specs.Parsing.{answerOf, writtenOf, parsedNumbers, expectedWords};
+ghost use Rattle.printer.specs.Printing.{lengthAnswer, printAnswer, printedOut, printedNumbers};
 ghost use Rattle.replies.specs.Replies.{replyTextAt};
 ghost use Rattle.inspection.specs.Inspection.{inspected};
-ghost use Rattle.notation_c.specs.Interface.{givenBy, givenFor, givenOut, imageGiven, stepsFor, lineFor, columnFor, expectedFor};
+ghost use Rattle.notation_c.specs.Interface.{givenBy, givenFor, givenOut, imageGiven, parsedAs};
 
 // How many bytes were written, and the refusal or 0.
 #[repr(C)]
@@ -28,7 +28,7 @@ pub struct Given {
 }
 
 fn told(p: Printed) -> Given
-    ensures { λ r. ⌜ r ≡ givenBy p ⌝ }
+    ensures { λ r. ⌜ r ≡ givenBy (printedNumbers p) ⌝ }
 {
     match p {
         Printed::Length(n) => Given {
@@ -65,7 +65,7 @@ fn give(l: Line, out: &mut [u8]) -> Given
 // How long the list's text is: 17.
 #[no_mangle]
 pub extern "C" fn notation_length(list: &[u8]) -> Given
-    ensures { λ r. ⌜ r ≡ givenBy (lengthAnswer (now (list .entry))) ⌝ }
+    ensures { λ r. ⌜ r ≡ givenBy (printedNumbers (lengthAnswer (now (list .entry)))) ⌝ }
 {
     told(printer::text_length(list))
 }
@@ -73,7 +73,7 @@ pub extern "C" fn notation_length(list: &[u8]) -> Given
 // Writes the list's text to the front of out: 17, 18 with no byte changed.
 #[no_mangle]
 pub extern "C" fn notation_print(list: &[u8], out: &mut [u8]) -> Given
-    ensures { λ r. ⌜ (r ≡ givenBy (printAnswer (now (list .entry)) (now (out .entry)))) × (now (out .exit) ≡ printedOut (now (list .entry)) (now (out .entry))) ⌝ }
+    ensures { λ r. ⌜ (r ≡ givenBy (printedNumbers (printAnswer (now (list .entry)) (now (out .entry))))) × (now (out .exit) ≡ printedOut (now (list .entry)) (now (out .entry))) ⌝ }
 {
     told(printer::print(list, out))
 }
@@ -120,10 +120,7 @@ pub extern "C" fn notation_parse(
     column: &mut usize,
     expected: &mut u8,
 ) -> usize
-    ensures { λ r. ⌜ (r ≡ stepsFor (answerOf (read (length (now (out .entry))) (now (text .entry)))))
-        × (now (line .exit) ≡ lineFor (answerOf (read (length (now (out .entry))) (now (text .entry)))))
-        × (now (column .exit) ≡ columnFor (answerOf (read (length (now (out .entry))) (now (text .entry)))))
-        × (now (expected .exit) ≡ expectedFor (answerOf (read (length (now (out .entry))) (now (text .entry)))))
+    ensures { λ r. ⌜ (parsedAs r (now (line .exit)) (now (column .exit)) (now (expected .exit)) ≡ parsedNumbers (answerOf (read (length (now (out .entry))) (now (text .entry)))))
         × (now (out .exit) ≡ writtenOf (read (length (now (out .entry))) (now (text .entry))) (now (out .entry))) ⌝ }
 {
     match parser::parse(text, out) {

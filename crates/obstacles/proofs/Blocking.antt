@@ -136,27 +136,27 @@ module _ (y : Layout) (img : List ℕ) (v t u at : ℕ) where
 
 -- ---- the two marks of an entry
 
+pub ground-one : (s : State) (t u : ℕ) (h : History) → isNothing (groundOf s t u h) ≡ false
+unfolding groundOf
+ground-one s t u h = go (isPresent s u h)
+  where
+    go : (c : Bool) → isNothing (pick c (Outside t u) (SupersededOrAnnihilated t u)) ≡ false
+    go true = refl
+    go false = refl
+
 module _ (y : Layout) (img : List ℕ) (v t u : ℕ) (low : t < y .transactors) (within : u < y .transactors) where
   mark-map : (at : ℕ) → markObstacle y img v t u (at + historyBytes y * u)
       ≡ pick (blocksIn (unpack y img) v (unpackDependences y at img) u) (groundOf (unpack y img) t u (historyAt (unpackDependences y at img) u)) Nothing
   unfolding markObstacle blocksIn
   mark-map at = rw (held-at y at img u within, history-at y at img u within)
 
-  pub in-state : markObstacle y img v t u (transactorAddress y t + stateAt + historyBytes y * u)
+  in-state : markObstacle y img v t u (transactorAddress y t + stateAt + historyBytes y * u)
       ≡ pick (blocksIn (unpack y img) v (transactorAt (unpack y img) t .state) u) (groundOf (unpack y img) t u (historyAt (transactorAt (unpack y img) t .state) u)) Nothing
   in-state = rw (read-state y img t low) (mark-map (transactorAddress y t + stateAt))
 
-  pub in-creation : markObstacle y img v t u (transactorAddress y t + creationAt y + historyBytes y * u)
+  in-creation : markObstacle y img v t u (transactorAddress y t + creationAt y + historyBytes y * u)
       ≡ pick (blocksIn (unpack y img) v (transactorAt (unpack y img) t .creation) u) (groundOf (unpack y img) t u (historyAt (transactorAt (unpack y img) t .creation) u)) Nothing
   in-creation = rw (read-creation y img t low) (mark-map (transactorAddress y t + creationAt y))
-
-  pub ground-one : (h : History) → isNothing (groundOf (unpack y img) t u h) ≡ false
-  unfolding groundOf
-  ground-one h = go (isPresent (unpack y img) u h)
-    where
-      go : (c : Bool) → isNothing (pick c (Outside t u) (SupersededOrAnnihilated t u)) ≡ false
-      go true = refl
-      go false = refl
 
   picked : (c : Bool) (o p : Obstacle) → isNothing o ≡ false → isNothing (pick c o Nothing) ≡ false → pick c o Nothing ≡ pick c o p
   picked true o p e f = refl
@@ -169,11 +169,11 @@ module _ (y : Layout) (img : List ℕ) (v t u : ℕ) (low : t < y .transactors) 
   module _ (o : Obstacle) (e : o ≡ markObstacle y img v t u (transactorAddress y t + stateAt + historyBytes y * u)) where
     pub entry-state : isNothing o ≡ false → o ≡ entryObstacle (unpack y img) v t u
     unfolding entryObstacle
-    entry-state q = e ∙ in-state ∙ picked (blocksIn (unpack y img) v (transactorAt (unpack y img) t .state) u) _ _ (ground-one _) (ap isNothing (sym in-state ∙ sym e) ∙ q)
+    entry-state q = e ∙ in-state ∙ picked (blocksIn (unpack y img) v (transactorAt (unpack y img) t .state) u) _ _ (ground-one _ _ _ _) (ap isNothing (sym in-state ∙ sym e) ∙ q)
 
     pub entry-creation : isNothing o ≡ true → markObstacle y img v t u (transactorAddress y t + creationAt y + historyBytes y * u) ≡ entryObstacle (unpack y img) v t u
     unfolding entryObstacle
-    entry-creation q = in-creation ∙ passed-by (blocksIn (unpack y img) v (transactorAt (unpack y img) t .state) u) _ _ (ground-one _) (ap isNothing (sym in-state ∙ sym e) ∙ q)
+    entry-creation q = in-creation ∙ passed-by (blocksIn (unpack y img) v (transactorAt (unpack y img) t .state) u) _ _ (ground-one _ _ _ _) (ap isNothing (sym in-state ∙ sym e) ∙ q)
 
 -- ---- a take, a volume
 

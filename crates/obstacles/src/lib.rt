@@ -47,8 +47,8 @@ fn unstable(image: &[u8], group: u16, t: usize) -> Obstacle
     Obstacle::Unstable(t as u8)
 }
 
-// What the history at at, if there is one, of transactor u in a map of transactor t keeps from being checkpointed.
-pub fn history(image: &[u8], group: u16, t: usize, u: usize, at: usize) -> Obstacle
+// Why the history of transactor u at at, in a map of transactor t, keeps the group from being checkpointed; nothing where there is none.
+fn history(image: &[u8], group: u16, t: usize, u: usize, at: usize) -> Obstacle
     requires { ⌜ Good (now image) × (t < base .transactors) × (u < base .transactors) × (at + historyBytes base ≤ imageBytes base)
         × Roomy (base .places) (historyIn (base .width) (base .places) (now image) at) ⌝ }
     ensures { λ r. ⌜ r ≡ markObstacle base (now (image .entry)) group t u at ⌝ }
@@ -73,7 +73,7 @@ pub fn history(image: &[u8], group: u16, t: usize, u: usize, at: usize) -> Obsta
 }
 
 // The histories of transactor u in the maps of transactor t, state before creation.
-fn entry(image: &[u8], group: u16, t: usize, u: usize) -> Obstacle
+pub fn entry(image: &[u8], group: u16, t: usize, u: usize) -> Obstacle
     requires { ⌜ Good (now image) × (t < base .transactors) × (u < base .transactors) ⌝ }
     ensures { λ r. ⌜ r ≡ entryObstacle (unpack base (now (image .entry))) group t u ⌝ }
 {

@@ -32,6 +32,10 @@ updated-view {A} P f t x p q u = go (eqb t u) refl
     go true e = subst (λ v. P v x) (eqb-true t u e) p
     go false e = q u (eqb-false t u e)
 
+-- a table that is given what it has
+pub updated-self : {A : Type 0} (f : ℕ → A) (t u : ℕ) → updated f t (f t) u ≡ f u
+updated-self f t = updated-view (λ u z. z ≡ f u) f t (f t) refl (λ u d. refl)
+
 -- what holds of two tables at the place where both change and away from it holds everywhere
 pub updated-both : {A B : Type 0} (P : ℕ → A → B → Type 0) (f : ℕ → A) (g : ℕ → B) (t : ℕ) (x : A) (y : B)
     → P t x y → ((u : ℕ) → t ≢ u → P u (f u) (g u)) → (u : ℕ) → P u (updated f t x u) (updated g t y u)

@@ -22,7 +22,7 @@ use Rattle.notation.specs.Reading.{notLF, notHash, run, next, good, nothing, ro
 use Rattle.notation.specs.declared.Parsed.{Parsed}
 use Rattle.notation.specs.declared.Expected.{Expected}
 use Rattle.notation.specs.declared.Parsed.the-variants.{Steps, Fault}
-use Rattle.notation.specs.Parsing.{expectedOf, answerOf, writtenOf}
+use Rattle.notation.specs.Parsing.{expectedOf, answerOf, writtenOf, parsedNumbers}
 use Rattle.parser.specs.Internal.Parsing.{Line, Lines, otherThan, lineOf, bytesOf, Stored, Gone}
 use Rattle.rules.proofs.Pack.Steps.{length-packStep}
 use Rattle.notation.proofs.Within.{run-most, line-within}
@@ -308,7 +308,7 @@ cut-inside text from end h e = omega (arith, run-most (otherThan 10) (drop from 
 
 -- the text read into before, as parse answers and leaves it
 abbrev pub Parses : List ℕ → List ℕ → List ℕ → Parsed → Type 0
-Parses text before now r = (r ≡ answerOf (read (length before) text)) × (now ≡ writtenOf (read (length before) text) before)
+Parses text before now r = (parsedNumbers r ≡ parsedNumbers (answerOf (read (length before) text))) × (now ≡ writtenOf (read (length before) text) before)
 
 module _ (most : ℕ) (text before now : List ℕ) (r : Lines) (g : Gone false before now (progress most text) r) where
   faulted : (r .expected ≡ 0 → ⊥) → eqb (progress most text .expected) nothing ≡ false
@@ -317,21 +317,18 @@ module _ (most : ℕ) (text before now : List ℕ) (r : Lines) (g : Gone false b
   faultless : r .expected ≡ 0 → eqb (progress most text .expected) nothing ≡ true
   faultless n = eq-eqb (progress most text .expected) 0 (sym (g .expected) ∙ n)
 
-  pub said-fault : (r .expected ≡ 0 → ⊥) → (e : Expected) → e ≡ expectedOf (r .expected) → Fault (r .line) (r .column) e ≡ answerOf (read most text)
+  said-fault : (r .expected ≡ 0 → ⊥) → (e : Expected) → e ≡ expectedOf (r .expected) → Fault (r .line) (r .column) e ≡ answerOf (read most text)
   unfolding read outcome
   said-fault n e f = rw (faulted n, f, ← g .line, ← g .column, ← g .expected)
-
-  pub said-steps : r .expected ≡ 0 → Steps (r .length / 8) ≡ answerOf (read most text)
-  unfolding read outcome
-  said-steps n = rw (faultless n, g .long)
 
 module _ (text before now : List ℕ) (r : Lines) (g : Gone false before now (progress (length before) text) r) where
   pub parsed-fault : (r .expected ≡ 0 → ⊥) → (e : Expected) → e ≡ expectedOf (r .expected) → Parses text before now (Fault (r .line) (r .column) e)
   unfolding read outcome
-  parsed-fault n e f = (said-fault (length before) text before now r g n e f, rw (faulted (length before) text before now r g n) (g .is))
+  parsed-fault n e f = (ap parsedNumbers (said-fault (length before) text before now r g n e f), rw (faulted (length before) text before now r g n) (g .is))
 
   pub parsed-steps : (now' : List ℕ) (r' : Lines) → r .expected ≡ 0 → Gone true now now' (progress (length before) text) r' → Parses text before now' (Steps (r' .length / 8))
   unfolding read outcome
   parsed-steps now' r' n h =
       let b = faultless (length before) text before now r g n in
-      (rw (b, h .long), rw b (h .is ∙ ap (put 0 (progress (length before) text .list)) (g .is)))
+      let a : Steps (r' .length / 8) ≡ answerOf (read (length before) text) = rw (b, h .long) in
+      (ap parsedNumbers a, rw b (h .is ∙ ap (put 0 (progress (length before) text .list)) (g .is)))

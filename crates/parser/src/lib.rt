@@ -5,7 +5,7 @@ ghost use lib.ListN.{length, drop};
 ghost use Rattle.octets.specs.Bytes.{pick, put};
 ghost use Rattle.rules.specs.Step.{packStep};
 ghost use Rattle.notation.specs.Reading.{run, said, progress, read};
-ghost use Rattle.notation.specs.Parsing.{answerOf, writtenOf, longest};
+ghost use Rattle.notation.specs.Parsing.{answerOf, writtenOf, parsedNumbers};
 ghost use Rattle.parser.specs.Internal.Parsing.{otherThan, lineOf, bytesOf, Stored, Gone};
 use notation::Parsed;
 use rules::Step;
@@ -31,8 +31,6 @@ const NOTHING: u8 = 0;
 const ROOM: u8 = 12;
 
 const STEP: usize = 8;
-
-const LONGEST: usize = 0xffff_ffff_ffff_ffff;
 
 // The first place of the byte b from from on, or the end.
 fn find(s: &[u8], from: usize, b: u8) -> usize
@@ -160,26 +158,9 @@ fn read_lines(text: &[u8], most: usize, out: &mut [u8], write: bool) -> Lines
     }
 }
 
-// How many steps a text says, or its first fault, in a list as long as any.
-pub fn steps_said(text: &[u8]) -> Parsed
-    ensures { λ r. ⌜ r ≡ answerOf (read longest (now (text .entry))) ⌝ }
-{
-    let mut none = [0u8; 1];
-    let all = read_lines(text, LONGEST, &mut none, false);
-    if all.expected != NOTHING {
-        let expected = faults::expected_of(all.expected);
-        return Parsed::Fault {
-            line: all.line,
-            column: all.column,
-            expected,
-        };
-    }
-    Parsed::Steps(all.length / STEP)
-}
-
 // Writes the packed steps of a text from the start of out on and answers how many, or the first fault; at a fault out is untouched.
 pub fn parse(text: &[u8], out: &mut [u8]) -> Parsed
-    ensures { λ r. ⌜ (r ≡ answerOf (read (length (now (out .entry))) (now (text .entry)))) × (now (out .exit) ≡ writtenOf (read (length (now (out .entry))) (now (text .entry))) (now (out .entry))) ⌝ }
+    ensures { λ r. ⌜ (parsedNumbers r ≡ parsedNumbers (answerOf (read (length (now (out .entry))) (now (text .entry))))) × (now (out .exit) ≡ writtenOf (read (length (now (out .entry))) (now (text .entry))) (now (out .entry))) ⌝ }
 {
     let most = out.len();
     let first = read_lines(text, most, out, false);

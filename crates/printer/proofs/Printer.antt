@@ -23,7 +23,7 @@ use Rattle.rules.specs.Internal.Well.{StepOk}
 use Rattle.rules.proofs.Keep.Run.{stepOk-unpack}
 use Rattle.notation.specs.Notation.{bytes, decimal, places, hex, groupText, raw, nameOf, templateOf, itemText, itemsText, rowOf, lineText, stepText, text, longestLine}
 use Rattle.printer.specs.Internal.Fields.{fieldOf}
-use Rattle.printer.specs.Printing.{wrongList, lengthAnswer, noRoom, printAnswer, printedOut}
+use Rattle.printer.specs.Printing.{wrongList, lengthAnswer, noRoom, printAnswer, printedOut, printedNumbers}
 use Rattle.printer.specs.declared.Printed.the-variants.{Length, Refused}
 use Rattle.lines.specs.declared.Line.{Line}
 use Rattle.lines.specs.Lines.{lineRoom, written, plus, Says}
@@ -245,20 +245,20 @@ length-right l r n e h f =
     rw (w, f)
 
 module _ (l out : List ℕ) (r : Bool) (e : r ≡ wrongList l) where
-  pub print-wrong : r ≡ true → (Refused 17 ≡ printAnswer l out) × (out ≡ printedOut l out)
+  pub print-wrong : r ≡ true → (printedNumbers (Refused 17) ≡ printedNumbers (printAnswer l out)) × (out ≡ printedOut l out)
   unfolding printAnswer printedOut
   print-wrong h =
       let w : wrongList l ≡ true = sym e ∙ h in
       (rw w, rw w)
 
-  pub print-full : (n : ℕ) → r ≡ false → n ≡ length (text l) → length out < n → (Refused 18 ≡ printAnswer l out) × (out ≡ printedOut l out)
+  pub print-full : (n : ℕ) → r ≡ false → n ≡ length (text l) → length out < n → (printedNumbers (Refused 18) ≡ printedNumbers (printAnswer l out)) × (out ≡ printedOut l out)
   unfolding printAnswer printedOut noRoom
   print-full n h f k =
       let w : wrongList l ≡ false = sym e ∙ h in
       let m : ltb (length out) (length (text l)) ≡ true = lt-ltb (length out) (length (text l)) (omega arith) in
       (rw (w, m), rw (w, m))
 
-  pub print-done : (n : ℕ) (after : List ℕ) → r ≡ false → n ≡ length (text l) → n ≤ length out → after ≡ put 0 (text l) out → (Length n ≡ printAnswer l out) × (after ≡ printedOut l out)
+  pub print-done : (n : ℕ) (after : List ℕ) → r ≡ false → n ≡ length (text l) → n ≤ length out → after ≡ put 0 (text l) out → (printedNumbers (Length n) ≡ printedNumbers (printAnswer l out)) × (after ≡ printedOut l out)
   unfolding printAnswer printedOut noRoom
   print-done n after h f k g =
       let w : wrongList l ≡ false = sym e ∙ h in

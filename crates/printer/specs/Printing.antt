@@ -28,12 +28,12 @@ printAnswer l out = pick (wrongList l) (Refused 17) (pick (noRoom l out) (Refuse
 unfoldable pub printedOut : List ℕ → List ℕ → List ℕ
 printedOut l out = pick (wrongList l or noRoom l out) out (put 0 (text l) out)
 
--- ---- the answers in numbers: the refusal or 0, and the text's length or 0
+-- ---- the numbers of each answer: the text's length or 0, and the refusal or 0
 
-abbrev pub refusalIn : Printed → ℕ
-refusalIn (Refused n) = n
-refusalIn (Length n) = 0
+pub record PrintedNumbers : Type 0 where
+  pub length : ℕ
+  pub refusal : ℕ
 
-abbrev pub lengthIn : Printed → ℕ
-lengthIn (Refused n) = 0
-lengthIn (Length n) = n
+abbrev pub printedNumbers : Printed → PrintedNumbers
+printedNumbers (Length n) = record { length = n; refusal = 0 }
+printedNumbers (Refused n) = record { length = 0; refusal = n }

@@ -15,7 +15,7 @@ ghost use Rattle.rules.specs.Calls.{stepsIn};
 ghost use Rattle.notation.specs.Notation.{nameOf, templateOf, itemText, itemsText, rowOf, stepText, text};
 ghost use Rattle.printer.specs.Internal.Fields.{fieldOf};
 ghost use Rattle.lines.specs.Lines.{written, plus, Says};
-ghost use Rattle.printer.specs.Printing.{wrongList, lengthAnswer, printAnswer, printedOut};
+ghost use Rattle.printer.specs.Printing.{wrongList, lengthAnswer, printAnswer, printedOut, printedNumbers};
 
 // The row of a step that cannot be said in words.
 const RAW: u8 = 13;
@@ -163,7 +163,7 @@ fn put_text(list: &[u8], out: &mut [u8])
 
 // How many bytes the list's text has.
 pub fn text_length(list: &[u8]) -> Printed
-    ensures { λ r. ⌜ r ≡ lengthAnswer (now (list .entry)) ⌝ }
+    ensures { λ r. ⌜ printedNumbers r ≡ printedNumbers (lengthAnswer (now (list .entry))) ⌝ }
 {
     if wrong(list) {
         return Printed::Refused(numbers::WRONG_PART);
@@ -173,7 +173,7 @@ pub fn text_length(list: &[u8]) -> Printed
 
 // Writes the list's text to out, and answers how many bytes it has. A refusal leaves out untouched.
 pub fn print(list: &[u8], out: &mut [u8]) -> Printed
-    ensures { λ r. ⌜ (r ≡ printAnswer (now (list .entry)) (now (out .entry))) × (now (out .exit) ≡ printedOut (now (list .entry)) (now (out .entry))) ⌝ }
+    ensures { λ r. ⌜ (printedNumbers r ≡ printedNumbers (printAnswer (now (list .entry)) (now (out .entry)))) × (now (out .exit) ≡ printedOut (now (list .entry)) (now (out .entry))) ⌝ }
 {
     if wrong(list) {
         return Printed::Refused(numbers::WRONG_PART);

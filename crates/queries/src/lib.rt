@@ -18,6 +18,8 @@ use rules::Obstacle;
 use rules::numbers;
 ghost use Rattle.rules.specs.Layout.{base};
 ghost use Rattle.rules.specs.Groups.{groupNumber};
+ghost use Rattle.rules.specs.Obstacle.{obstacleNumbers};
+ghost use Rattle.rules.specs.Impediment.{impedimentNumbers};
 ghost use Rattle.rules.specs.Promises.{SmallestPromise, HeardPromise, CountPromise, DependentsPromise, ObstaclePromise, ImpedimentPromise};
 
 // The smallest group with the transactor that could be checkpointed now, or none exactly if there is none. The lent number takes
@@ -101,7 +103,7 @@ const GROUPS: usize = 65536;
 // Why the group can't be checkpointed now; nothing exactly if it can. The lent number takes the refusal, 16, 19, or what the signing would get,
 // 29, 21, 22 or 30, or 0; refused, nothing.
 pub fn obstacle(image: &[u8], members: usize, refusal: &mut u8) -> Obstacle
-    ensures { λ r. ⌜ ObstaclePromise base (now (image .entry)) members (now (refusal .exit)) r ⌝ }
+    ensures { λ r. ⌜ ObstaclePromise base (now (image .entry)) members (now (refusal .exit)) (obstacleNumbers r) ⌝ }
 {
     let r = form::image_refusal(image);
     if r != 0 {
@@ -124,7 +126,7 @@ pub fn obstacle(image: &[u8], members: usize, refusal: &mut u8) -> Obstacle
 // Why no group with the transactor could be checkpointed now, and the next transactor on a chain to the one that is in the way; nothing exactly
 // if smallest_group has one. The lent number takes the refusal, 16, 19, 21 or 22, or 0; refused, nothing.
 pub fn impediment(image: &[u8], transactor: usize, refusal: &mut u8) -> Impediment
-    ensures { λ r. ⌜ ImpedimentPromise base (now (image .entry)) transactor (now (refusal .exit)) r ⌝ }
+    ensures { λ r. ⌜ ImpedimentPromise base (now (image .entry)) transactor (now (refusal .exit)) (impedimentNumbers r) ⌝ }
 {
     let number = form::query_refusal(image, transactor);
     *refusal = number;

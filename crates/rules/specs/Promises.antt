@@ -6,16 +6,14 @@ use mathlib.Core.Path.{_≡_}
 use mathlib.Core.List.{List}
 use mathlib.Core.Option.{Option}
 use Rattle.rules.specs.declared.Dependents.{Dependents}
-use Rattle.rules.specs.declared.Obstacle.{Obstacle}
-use Rattle.rules.specs.declared.Impediment.{Impediment}
 use Rattle.rules.specs.Layout.{Layout, Limits}
 use Rattle.rules.specs.Calls.{beginAnswer, beginImage, runAnswer, runImage, runReplies, queryRefusal, Offers, showRefusal, shown}
 use Rattle.rules.specs.Groups.{Smallest}
 use Rattle.rules.specs.Heard.{heardAnswer}
 use Rattle.rules.specs.ReadyGroups.{readyRefusal, readyAnswer}
 use Rattle.rules.specs.Dependents.{dependentsAnswer}
-use Rattle.rules.specs.Obstacle.{obstacleRefusal, obstacleAnswer}
-use Rattle.rules.specs.Impediment.{impedimentAnswer}
+use Rattle.rules.specs.Obstacle.{ObstacleNumbers, obstacleNumbers, obstacleRefusal, obstacleAnswer}
+use Rattle.rules.specs.Impediment.{ImpedimentNumbers, impedimentNumbers, impedimentAnswer}
 use Rattle.rules.specs.Plan.{planRefusal, planAnswer, planOut}
 use Rattle.rules.specs.Independent.{independentRefusal, IndependentAnswer}
 
@@ -45,11 +43,12 @@ CountPromise y img size r n = (r ≡ readyRefusal y img size) × (n ≡ readyAns
 abbrev pub DependentsPromise : Layout → (img : List ℕ) (t r : ℕ) → Dependents → Type 0
 DependentsPromise y img t r d = (r ≡ queryRefusal y img t) × (d ≡ dependentsAnswer y img t)
 
-abbrev pub ObstaclePromise : Layout → (img : List ℕ) (v r : ℕ) → Obstacle → Type 0
-ObstaclePromise y img v r o = (r ≡ obstacleRefusal y img v) × (o ≡ obstacleAnswer y img v)
+-- by the answer's numbers
+abbrev pub ObstaclePromise : Layout → (img : List ℕ) (v r : ℕ) → ObstacleNumbers → Type 0
+ObstaclePromise y img v r n = (r ≡ obstacleRefusal y img v) × (n ≡ obstacleNumbers (obstacleAnswer y img v))
 
-abbrev pub ImpedimentPromise : Layout → (img : List ℕ) (t r : ℕ) → Impediment → Type 0
-ImpedimentPromise y img t r o = (r ≡ queryRefusal y img t) × (o ≡ impedimentAnswer y img t)
+abbrev pub ImpedimentPromise : Layout → (img : List ℕ) (t r : ℕ) → ImpedimentNumbers → Type 0
+ImpedimentPromise y img t r n = (r ≡ queryRefusal y img t) × (n ≡ impedimentNumbers (impedimentAnswer y img t))
 
 -- lent, given: the bytes for the steps at entry and exit; n: how many steps
 abbrev pub PlanPromise : Layout → (img : List ℕ) (t : ℕ) (lent : List ℕ) (r : ℕ) (given : List ℕ) (n : ℕ) → Type 0

@@ -21,6 +21,7 @@ use Rattle.rules.specs.ReadyGroups.{readyRefusal}
 use Rattle.rules.specs.Refusals.{groupBits}
 use Rattle.rules.specs.Groups.{signing, signingRefusal}
 use Rattle.rules.specs.Obstacle.{obstacleRefusal}
+use Rattle.rules.specs.Plan.{planRefusal}
 use Rattle.rules.proofs.Pack.Sizes.{length-pack}
 use Rattle.rules.proofs.Pack.RoundTrip.{unpack-pack}
 use Rattle.rules.proofs.Form.Packed.{formed-pack}
@@ -28,8 +29,9 @@ use Rattle.rules.proofs.Pack.Fresh.{pack-fresh}
 use Rattle.rules.proofs.Keep.State.{well-fresh}
 use Rattle.rules.proofs.Keep.Step.{keeps-after}
 use Rattle.session.specs.Provenance.{Provenance, emptyProvenance, statusNumber, isMissing}
-use Rattle.session.specs.Fed.{Call, begin, run, counts, hinders, show, provenanceQueryRefusal, callRefusal, ProvenanceCall, provenance-refuses, provenance-begins, provenance-runs, provenance-offers, provenance-names, provenance-hears, provenance-counts, provenance-depends, provenance-hinders, provenance-blocks, provenance-shows}
-use Rattle.session.specs.Trace.{Answer, begun, ran, refusalIn, Performed, beginning, running, offering, naming, hearing, counting, depending, hindering, blocking, showing, Matches}
+use Rattle.session.specs.Fed.{Call, begin, run, show, provenanceQueryRefusal, callRefusal, ProvenanceCall, provenance-refuses, provenance-begins, provenance-runs, provenance-offers, provenance-shows}
+use Rattle.session.specs.Trace.{Answer, begun, ran, refusalIn, Performed, beginning, running, offering, showing, Matches}
+use Rattle.session.specs.Queries.{provenanceCountRefusal, provenanceSigningRefusal, provenancePlanRefusal}
 use Rattle.session.proofs.Model.{view}
 use Rattle.session.proofs.Relation.{Rel, fresh-rel}
 use Rattle.session.proofs.Messages.{missing-same}
@@ -60,7 +62,7 @@ module _ {y : Layout} {img : List ℕ} {b : Provenance} (h : Holds y img b) wher
   right-length = ap not (eq-eqb (length img) (imageBytes y) (ap length (sym (h .back)) ∙ length-pack y (unpack y img)))
 
   -- it is well-formed, so 19 does not arise
-  right-form : wellFormed y img ≡ true
+  pub right-form : wellFormed y img ≡ true
   right-form = subst (λ i. wellFormed y i ≡ true) (h .back) (formed-pack y (unpack y img) (h .well))
 
   pub holds-matches : Matches (unpack y img) b
@@ -79,13 +81,17 @@ module _ {y : Layout} {img : List ℕ} {b : Provenance} (h : Holds y img b) wher
       let k : transactorAt (unpack y img) t .status ≡ statusNumber (b .holders t .status) = holds-matches t .status in
       rw (right-length, right-form, k, n)
 
-  counts-same : (n : ℕ) → readyRefusal y img n ≡ callRefusal y b (counts n)
+  pub counts-same : (n : ℕ) → readyRefusal y img n ≡ provenanceCountRefusal n
   unfolding readyRefusal
   counts-same n = rw (right-length, right-form)
 
-  hinders-same : (v : ℕ) → obstacleRefusal y img v ≡ callRefusal y b (hinders v)
+  pub hinders-same : (v : ℕ) → obstacleRefusal y img v ≡ provenanceSigningRefusal y b v
   unfolding obstacleRefusal signingRefusal
   hinders-same v = rw (right-length, right-form) (ap (pick (leb (2 ^ groupBits) v) 21) (same-refusal (h .well) (h .rel) (signing v)))
+
+  pub plan-same : (t : ℕ) (lent : List ℕ) → planRefusal y img t lent ≡ provenancePlanRefusal y b t lent
+  unfolding planRefusal
+  plan-same t lent = rw (query-same t)
 
   show-same : (n : ℕ) → showRefusal y img n ≡ callRefusal y b (show n)
   unfolding showRefusal
@@ -163,10 +169,4 @@ module _ {y : Layout} (z : layout.Fitting y) {img : List ℕ} {b : Provenance} (
   call-right (beginning {m} e) = rw (e .0, e .1) (begin-called m)
   call-right (running {list} {o} {start} {end} {lent} e) = rw (e .0, e .1, e .2) (run-called list o start end lent)
   call-right (offering {t} e) = called-as (kept provenance-offers) (e .0 ∙ query-same h t) h
-  call-right (naming {t} e) = called-as (kept provenance-names) (e .0 ∙ query-same h t) h
-  call-right (hearing {t} e) = called-as (kept provenance-hears) (e .0 ∙ query-same h t) h
-  call-right (counting {size} e) = called-as (kept provenance-counts) (e .0 ∙ counts-same h size) h
-  call-right (depending {t} e) = called-as (kept provenance-depends) (e .0 ∙ query-same h t) h
-  call-right (hindering {v} e) = called-as (kept provenance-hinders) (e .0 ∙ hinders-same h v) h
-  call-right (blocking {t} e) = called-as (kept provenance-blocks) (e .0 ∙ query-same h t) h
   call-right (showing {n} e) = called-as (kept provenance-shows) (e .1 ∙ show-same h n) h

@@ -27,7 +27,7 @@ use Rattle.rules.proofs.Keep.Step.{keeps-after, replies-fit, fitting-base}
 use Rattle.session.specs.Count.{made, received, lost, once, countSteps, countCall, count, waiting}
 use Rattle.session.specs.Provenance.{Provenance}
 use Rattle.session.specs.Fed.{Call, begin, run}
-use Rattle.session.specs.Trace.{Answer, begun, ran, Performed, beginning, running, offering, naming, hearing, counting, depending, hindering, blocking, showing, Trace, called}
+use Rattle.session.specs.Trace.{Answer, begun, ran, Performed, beginning, running, offering, showing, Trace, called}
 use Rattle.session.specs.Trace as trace
 use Rattle.session.proofs.Model.{viewMessage, view}
 use Rattle.session.proofs.Relation.{all2-length}
@@ -187,12 +187,6 @@ module _ {y : Layout} (z : Fitting y) {img : List ℕ} {b : Provenance} (h : Hol
   call-counted (beginning {m} e) = rw (e .0, e .1) (begin-counted m)
   call-counted (running {list} {o} {start} {end} {lent} e) = rw (e .0, e .1, e .2) (run-counted list o start end lent)
   call-counted (offering f) = before
-  call-counted (naming f) = before
-  call-counted (hearing f) = before
-  call-counted (counting f) = before
-  call-counted (depending f) = before
-  call-counted (hindering f) = before
-  call-counted (blocking f) = before
   call-counted (showing f) = before
 
 -- In a session grown from a fresh one, counting only from its last accepted begin, parcels made, counted from the steps, are

@@ -1,11 +1,11 @@
 -- Demand 3 of document 01, over every list of calls: each of its claims by itself, then the whole (specs/Demand3).
 use Prim.Native.Nat.{ℕ, suc, _-_, _*_, _≤_, _<_}
 use mathlib.Core.Path.{_≡_, refl, ap, sym, _∙_, subst}
-use mathlib.Core.List.{List, _∷_}
+use mathlib.Core.List.{List, [], _∷_, _++_}
 use mathlib.Core.Logic.{_↔_}
 use native.Mathlib.Decide.{ℕ-discrete}
 use native.Mathlib.Omega.{arith}
-use lib.ListN.{getD}
+use lib.ListN.{length, getD, drop}
 use borrow.Author.Tests.{eq-eqb}
 use Rattle.octets.specs.Bytes.{part, Octets}
 use Rattle.octets.proofs.Put.{octets-part}
@@ -25,7 +25,7 @@ use Rattle.session.specs.Grounds.{Equal, Sound}
 use Rattle.session.specs.Steps.{provenanceSeen, provenanceRefusal, ProvenanceStep}
 use Rattle.session.specs.Fed as provenance
 use Rattle.session.specs.Fed.{Call, run, callRefusal, ProvenanceSteps, provenance-runs, ProvenanceOf, fed}
-use Rattle.session.specs.Trace.{Answer, ran, refusalIn, Performed, running, Trace, called, callsOf, Matches, Started, Traced}
+use Rattle.session.specs.Trace.{Answer, ran, refusalIn, Performed, running, Trace, opened, called, callsOf, Matches, Started, Traced}
 use Rattle.session.specs.Point.{CallIn, last-call, earlier-call, StepIn, last-run, earlier-run, Point, at-end, at-step, earlier, replied, outcomeIn}
 use Rattle.session.specs.Demand3.{Demand3}
 use Rattle.session.proofs.Model.{view}
@@ -38,6 +38,24 @@ use Rattle.session.proofs.Calls.{call-right}
 use Rattle.session.proofs.Points.{Taken, held, beside-steps, point-beside, step-taken}
 use Rattle.session.proofs.Grown.{grown}
 use Rattle.session.proofs.Traces.{every-list-base}
+
+-- ---- lists of calls
+
+first-of : {c d : Call} {cs ds : List Call} → c ∷ cs ≡ d ∷ ds → c ≡ d
+first-of {c} {d} e = ap (λ (l : List Call). getD l 0 c) e
+
+rest-of : {c d : Call} {cs ds : List Call} → c ∷ cs ≡ d ∷ ds → cs ≡ ds
+rest-of e = ap (λ (l : List Call). drop 1 l) e
+
+one-alone : {c : Call} (d k : Call) (rest later : List Call) → c ∷ [] ≡ later ++ (d ∷ k ∷ rest) → ⊥
+one-alone d k rest [] e = let n : _≡_ {A = ℕ} 1 _ = ap length e in omega (arith, n)
+one-alone d k rest (x ∷ later) e = some later (rest-of e)
+  where
+    some : (later : List Call) → [] ≡ later ++ (d ∷ k ∷ rest) → ⊥
+    some [] e = let n : _≡_ {A = ℕ} 0 _ = ap length e in omega (arith, n)
+    some (x ∷ later) e = let n : _≡_ {A = ℕ} 0 _ = ap length e in omega (arith, n)
+
+-- ---- steps
 
 -- two such replies with different outcomes differ
 replied-apart : (n m : ℕ) → n < 256 → m < 256 → replied n ≡ replied m → n ≡ m
@@ -120,6 +138,17 @@ module _ (y : Layout) (z : Fitting y) where
   pub never-withdrawn : {img : List ℕ} {τ : Trace y img} {s : State} {b : Provenance} → Point y img τ s b → Sound b
   never-withdrawn {s = s} {b = b} k = rel-sound (view s) b (point-beside z k .rel)
 
+  -- every call after the opening begin is among those that are spoken of
+  pub every-call : {img : List ℕ} (τ : Trace y img) (later rest : List Call) (c k : Call) → callsOf τ ≡ later ++ (c ∷ k ∷ rest)
+      → (b : Provenance) × (a : Answer) × ProvenanceOf y (k ∷ rest) b × CallIn y img τ b c a
+  unfolding callsOf
+  every-call (opened m img e) later rest c k q = absurd (one-alone c k rest later q)
+  every-call (called {img} {after} τ d a p) [] rest c k q =
+      let g = grown z τ in
+      let e : d ≡ c = first-of q in
+      (g .provenance, a, subst (λ (cs : List Call). ProvenanceOf y cs (g .provenance)) (rest-of q) (g .fed), subst (λ (x : Call). CallIn y after (called τ d a p) (g .provenance) x a) e (last-call (g .fed)))
+  every-call (called τ d a p) (x ∷ later) rest c k q = let n = every-call τ later rest c k (rest-of q) in (n .0, n .1, n .2, earlier-call (n .3))
+
   -- every step of every accepted run is among those that are spoken of
   pub every-step : {img : List ℕ} {τ : Trace y img} {b : Provenance} {list : List ℕ} {o : Octets list} {start end : ℕ} {lent replies : List ℕ}
       → CallIn y img τ b (run list o start end lent) (ran 0 replies) → (i : ℕ) → i < stepsIn (part start (end - start) list)
@@ -181,6 +210,7 @@ module _ (y : Layout) (z : Fitting y) where
         signs-exactly = signs-exactly;
         transactors-match = transactors-match;
         never-withdrawn = never-withdrawn;
+        every-call = every-call τ;
         every-step = every-step;
       }
 

@@ -6,8 +6,8 @@ use Rattle.rules.specs.Layout.{Layout, Limits, Fitting}
 use Rattle.rules.specs.Calls.{beginAnswer, beginImage}
 use Rattle.rules.proofs.Calls.Begin.{begin-accepted}
 use Rattle.session.specs.Provenance.{Provenance, emptyProvenance}
-use Rattle.session.specs.Fed.{Call, ProvenanceOf, new-provenance, fed}
-use Rattle.session.specs.Trace.{Trace, opened, called, callsOf, CallsFrom, none, one-more}
+use Rattle.session.specs.Fed.{ProvenanceOf, new-provenance, fed}
+use Rattle.session.specs.Trace.{Trace, opened, called, callsOf}
 use Rattle.session.proofs.Calls.{Holds, holds-fresh, call-right}
 
 -- an accepted begin leaves a fresh image
@@ -30,8 +30,3 @@ module _ {y : Layout} (z : Fitting y) where
       let before = grown τ in
       let k = call-right z (before .holds) p in
       record { provenance = k .provenance; fed = fed (before .fed) (k .fed); holds = k .holds }
-
--- calls that follow a session make one
-pub on-trace : {y : Layout} {P : List ℕ → Call → Type 0} {img after : List ℕ} → Trace y img → CallsFrom y P img after → Trace y after
-on-trace τ none = τ
-on-trace τ (one-more {c = c} {a = a} k g p) = called (on-trace τ k) c a p

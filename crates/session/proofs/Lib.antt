@@ -1,4 +1,5 @@
 pub mod Accepted
+pub mod Asked
 pub mod Attainable
 pub mod Calls
 pub mod Carried

@@ -24,6 +24,7 @@ use Rattle.rules.specs.Pack.{pack, unpack}
 use Rattle.rules.specs.Internal.Well.{StepOk, WellFormed}
 use Rattle.rules.specs.Calls.{wrongLength, beginAnswer, freshImage, beginImage, stateAfter, stepsIn, runAnswer, ranImage, runImage, queryRefusal}
 use Rattle.rules.specs.Heard.{allHeardStable, heardAnswer, Heard, in-state, in-creation}
+use Rattle.rules.specs.Promises.{HeardPromise}
 use Rattle.rules.proofs.Calls.Begin.{begin-accepted}
 use Rattle.rules.proofs.Calls.Heard.{heard-test}
 use Rattle.rules.proofs.Calls.Query.{query-accepted}
@@ -35,8 +36,8 @@ use Rattle.rules.proofs.Keep.Step.{keeps-after, fitting-base}
 use Rattle.session.specs.Provenance.{unused, Provenance, emptyProvenance}
 use Rattle.session.specs.Steps.{freezes, acted, applied, ProvenanceStep, refuses, applies, signing, not-ready}
 use Rattle.session.specs.Fed as book
-use Rattle.session.specs.Fed.{Call, begin, run, offer, smallest, heard, counts, depends, hinders, blocks, show, callRefusal, ProvenanceSteps, ProvenanceCall, provenance-refuses, provenance-begins, provenance-runs, provenance-offers, provenance-names, provenance-hears, provenance-counts, provenance-depends, provenance-hinders, provenance-blocks, provenance-shows, ProvenanceOf, new-provenance, fed}
-use Rattle.session.specs.Trace.{Answer, told, Performed, beginning, running, offering, naming, hearing, counting, depending, hindering, blocking, showing, Trace, opened, called, callsOf, GoesOn}
+use Rattle.session.specs.Fed.{Call, begin, run, offer, show, callRefusal, ProvenanceSteps, ProvenanceCall, provenance-refuses, provenance-begins, provenance-runs, provenance-offers, provenance-shows, ProvenanceOf, new-provenance, fed}
+use Rattle.session.specs.Trace.{Answer, Performed, beginning, running, offering, showing, Trace, opened, called, callsOf, GoesOn}
 use Rattle.session.specs.Point.{StepIn, last-run, earlier-run, Point}
 use Rattle.session.specs.Since.{SinceBegin}
 use Rattle.session.specs.Withdrawal.{ProvenanceFurther}
@@ -65,12 +66,6 @@ abbrev pub restarts : Layout → Call → Bool
 restarts y (begin m) = inRange y m
 restarts y (run list o start end lent) = false
 restarts y (offer t) = false
-restarts y (smallest t) = false
-restarts y (heard t) = false
-restarts y (counts n) = false
-restarts y (depends t) = false
-restarts y (hinders v) = false
-restarts y (blocks t) = false
 restarts y (show n) = false
 
 -- a step of these calls, the last one first, freezes take u in its life a, in an accepted run after which there is no accepted begin
@@ -239,12 +234,6 @@ module _ {y : Layout} (z : Fitting y) where
   performed-grown g (beginning {m} e) = rw (e .1) (begin-grown g z m)
   performed-grown g (running {list} {o} {start} {end} {lent} e) = rw (e .1) (run-grown g z list o start end lent)
   performed-grown g (offering {t} f) = reading g (book.offer t) refl provenance-offers
-  performed-grown g (naming {t} f) = reading g (book.smallest t) refl provenance-names
-  performed-grown g (hearing {t} f) = reading g (book.heard t) refl provenance-hears
-  performed-grown g (counting {size} f) = reading g (book.counts size) refl provenance-counts
-  performed-grown g (depending {t} f) = reading g (book.depends t) refl provenance-depends
-  performed-grown g (hindering {v} f) = reading g (book.hinders v) refl provenance-hinders
-  performed-grown g (blocking {t} f) = reading g (book.blocks t) refl provenance-blocks
   performed-grown g (showing {n} f) = reading g (book.show n) refl provenance-shows
 
   pub grown-log : {img : List ℕ} (τ : Trace y img) → GrownLog y img (callsOf τ)
@@ -315,12 +304,9 @@ module _ {y : Layout} (z : Fitting y) {img : List ℕ} (τ : Trace y img) where
       heard-stable t u h k (heard-test (unpack y img) t ok .0 (p .1) u h n k)
 
 -- The same at the ledger's own layout, said of the call: whatever refusal it gives with its yes.
-pub yes-means-base : {img : List ℕ} (τ : Trace base img) {t r : ℕ} {after : List ℕ} → Performed base img (heard t) (told r true) after
+pub yes-means-base : {img : List ℕ} (τ : Trace base img) {t r : ℕ} → HeardPromise base img t r true
     → (u : ℕ) (h : HistoryView) → u ≢ t → Heard (unpack base img) t u h → StabilizedIn base img τ u (h .incarnation)
-yes-means-base τ {t} c = yes-means fitting-base τ t (sym (answered c))
-  where
-    answered : {img after : List ℕ} {t r : ℕ} {stable : Bool} → Performed base img (heard t) (told r stable) after → stable ≡ heardAnswer base img t
-    answered (hearing e) = e .1
+yes-means-base τ {t} c = yes-means fitting-base τ t (sym (c .1))
 
 -- ---- and nothing less: what such a step does, and where there is none
 

@@ -1,8 +1,13 @@
 -- Why a volume can't be signed, in a session: what each answer means in the book.
-use Prim.Native.Nat.{ℕ}
-use mathlib.Core.Bool.{true}
+use Prim.Native.Nat.{ℕ, _^_, _<_}
+use mathlib.Core.Bool.{true, not}
 use mathlib.Core.List.{List}
 use mathlib.Core.Path.{_≡_, refl, ap, sym, _∙_, subst}
+use native.Mathlib.Omega.{arith}
+use lib.Dec.{leb}
+use borrow.Author.Tests.{eq-eqb, leb-false}
+use Rattle.octets.specs.Numbers.{bound}
+use Rattle.octets.proofs.Tests.{pick-zero}
 use Rattle.marks.specs.declared.History.{History}
 use Rattle.marks.specs.Incarnation.{Checkpointed}
 use Rattle.marks.specs.History.{HistoryView, incarnationOf}
@@ -13,24 +18,31 @@ use Rattle.rules.specs.declared.Obstacle.the-variants.{Unstable, Outside}
 use Rattle.rules.specs.declared.Obstacle.the-variants as answer
 use Rattle.rules.specs.Layout.{Layout, Fitting, base}
 use Rattle.rules.specs.State.{State, transactorAt, ownHistory, live}
-use Rattle.rules.specs.Refusals.{named}
-use Rattle.rules.specs.Obstacle.{obstacleOf, StandsIn, WithdrawnMark, Obstructs, is-unstable, is-outside, is-withdrawn}
+use Rattle.rules.specs.Refusals.{groupBits, named}
+use Rattle.rules.specs.Rules.{refusal}
+use Rattle.rules.specs.Pack.{unpack}
+use Rattle.rules.specs.Form.{wellFormed}
+use Rattle.rules.specs.Calls.{wrongLength}
+use Rattle.rules.specs.Groups.{signing, signingRefusal}
+use Rattle.rules.specs.Obstacle.{obstacleOf, obstacleRefusal, obstacleAnswer, StandsIn, WithdrawnMark, Obstructs, is-unstable, is-outside, is-withdrawn}
 use Rattle.rules.specs.Obstacle as obstacle
 use Rattle.rules.specs.Internal.Well.{WellFormed}
 use Rattle.rules.proofs.Keep.Step.{fitting-base}
-use Rattle.rules.proofs.Groups.Obstacles.{obstructs}
+use Rattle.rules.proofs.Groups.Obstacles.{obstructs, nothing-exactly}
 use Rattle.session.specs.Provenance.{Live, In, Provenance}
 use Rattle.session.specs.Grounds.{from-start, in-state, in-creation, RestsOn, SupersededOrAnnihilated, neither}
 use Rattle.session.specs.Waiting.{ReadyGroup}
-use Rattle.session.specs.Trace.{Trace}
-use Rattle.session.specs.Point.{Point}
+use Rattle.session.specs.Fed.{ProvenanceOf}
+use Rattle.session.specs.Trace.{Trace, callsOf}
+use Rattle.session.specs.Point.{Point, at-end}
 use Rattle.session.specs.Withdrawal.{Further, SameIncarnation, Doomed}
-use Rattle.session.specs.Meanings.{UnstableMeans, OutsideMeans, WithdrawnMeans}
+use Rattle.session.specs.Meanings.{UnstableMeans, OutsideMeans, WithdrawnMeans, ObstacleMeans, means-equal, means-not-stable, means-outside, means-withdrawn}
 use Rattle.session.proofs.Model.{view}
 use Rattle.session.proofs.Sets.{cell-has}
 use Rattle.session.proofs.Relation.{Rel, own-history}
 use Rattle.session.proofs.ViewState.{own-view}
 use Rattle.session.proofs.ViewRules.{live-test}
+use Rattle.session.proofs.Waiting.{signs-exactly}
 use Rattle.session.proofs.Reached.{related, well}
 use Rattle.session.proofs.Withdrawal.{never-ready}
 
@@ -99,6 +111,30 @@ module _ {y : Layout} (z : Fitting y) {img : List ℕ} {τ : Trace y img} {s : S
   withdrawn-for-good v t u e o same =
       let m = withdrawn-means v t u e in
       never-ready z (well z k) (related z k) (m .rests) (m .withdrawn) o same
+
+  -- What the answer means, of a volume whose signing is not refused.
+  pub obstacle-means : (v : ℕ) → v < bound 2 → refusal y s (signing v) ≡ 0 → ObstacleMeans b v (obstacleOf y s v)
+  obstacle-means v bits zero = go (obstacleOf y s v) refl
+    where
+      go : (o : Obstacle) → obstacleOf y s v ≡ o → ObstacleMeans b v o
+      go answer.Nothing e = means-equal (signs-exactly z (well z k) (related z k) v bits .0 (nothing-exactly y s v .0 (zero, e)) .same)
+      go (Unstable t) e = means-not-stable (unstable-means v t e)
+      go (Outside t u) e = means-outside (outside-means v t u e)
+      go (answer.SupersededOrAnnihilated t u) e = means-withdrawn (withdrawn-means v t u e)
+
+-- Between two calls, and not refused: what the call answers.
+pub obstacle-answered : {y : Layout} (z : Fitting y) {img : List ℕ} (τ : Trace y img) {b : Provenance} → ProvenanceOf y (callsOf τ) b → (v : ℕ) → obstacleRefusal y img v ≡ 0
+    → ObstacleMeans b v (obstacleAnswer y img v)
+unfolding obstacleAnswer obstacleRefusal signingRefusal bound
+obstacle-answered {y} z {img} τ f v e =
+    let p = pick-zero (wrongLength y img) 16 _ (omega arith) e in
+    let q = pick-zero (not (wellFormed y img)) 19 _ (omega arith) (p .1) in
+    let i = pick-zero (leb (2 ^ groupBits) v) 21 _ (omega arith) (q .1) in
+    rw (eq-eqb (obstacleRefusal y img v) 0 e) (obstacle-means z (at-end {τ = τ} f) v (leb-false (2 ^ groupBits) v (i .0)) (i .1))
+
+pub obstacle-answered-base : {img : List ℕ} (τ : Trace base img) {b : Provenance} → ProvenanceOf base (callsOf τ) b → (v : ℕ) → obstacleRefusal base img v ≡ 0
+    → ObstacleMeans b v (obstacleAnswer base img v)
+obstacle-answered-base = obstacle-answered fitting-base
 
 -- At the ledger's own layout: no hypothesis but the trace.
 module _ {img : List ℕ} {τ : Trace base img} {s : State} {b : Provenance} (k : Point base img τ s b) where

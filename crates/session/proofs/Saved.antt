@@ -29,7 +29,7 @@ use Rattle.rules.proofs.Pack.Fresh.{pack-fresh}
 use Rattle.rules.proofs.Keep.State.{well-fresh}
 use Rattle.rules.proofs.Keep.Step.{keeps-after, fitting-base}
 use Rattle.session.specs.Fed.{Call}
-use Rattle.session.specs.Trace.{Answer, Performed, beginning, running, offering, naming, hearing, counting, depending, hindering, blocking, showing, Trace, opened, called}
+use Rattle.session.specs.Trace.{Answer, Performed, beginning, running, offering, showing, Trace, opened, called}
 use Rattle.session.specs.Provenance.{Provenance}
 use Rattle.session.specs.Point as session
 use Rattle.session.specs.Point.{StepIn, last-run, earlier-run, Point}
@@ -239,12 +239,6 @@ module _ {y : Layout} (z : Fitting y) where
   call-saved {img} well (beginning {m} k) t = ap (λ (i : List ℕ). transactorAt (unpack y i) t .saved) (k .1) ∙ begin-saved img m t
   call-saved {img} well (running {list} {o} {start} {end} {lent} k) t = ap (λ (i : List ℕ). transactorAt (unpack y i) t .saved) (k .1) ∙ run-saved img well list o start end lent t
   call-saved well (offering f) t = refl
-  call-saved well (naming f) t = refl
-  call-saved well (hearing f) t = refl
-  call-saved well (counting f) t = refl
-  call-saved well (depending f) t = refl
-  call-saved well (hindering f) t = refl
-  call-saved well (blocking f) t = refl
   call-saved well (showing f) t = refl
 
   -- After the calls of a session the saved text of every take is the text that it had just before its last signing since the last accepted begin;

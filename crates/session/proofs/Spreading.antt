@@ -42,7 +42,7 @@ use Rattle.rules.proofs.Keep.Run.{stepOk-at}
 use Rattle.rules.proofs.Keep.Step.{keeps}
 use Rattle.session.specs.Provenance.{Status, unused, idle, busy, annihilated, Live, statusNumber, Incarnations, In, one, Holder, WaitingMessage, noWaitingMessage, Provenance, blank, remove, find}
 use Rattle.session.specs.Grounds.{from-start, Ground, in-state, in-creation, RestsOn}
-use Rattle.session.specs.Fed.{Call, ProvenanceSteps, ProvenanceCall, provenance-refuses, provenance-begins, provenance-runs, provenance-offers, provenance-names, provenance-hears, provenance-counts, provenance-depends, provenance-hinders, provenance-blocks, provenance-shows, ProvenanceOf}
+use Rattle.session.specs.Fed.{Call, ProvenanceSteps, ProvenanceCall, provenance-refuses, provenance-begins, provenance-runs, provenance-offers, provenance-shows, ProvenanceOf}
 use Rattle.session.specs.Fed as provenance
 use Rattle.session.specs.Trace.{Trace, callsOf, GoesOn}
 use Rattle.session.specs.Point.{Point}
@@ -72,10 +72,14 @@ use Rattle.session.proofs.Withdrawal.{past-withdrawn, resting-means}
 -- ---- work in hand, and parcels
 
 -- two lists alike, at place k
-at-place : {R : MessageView → WaitingMessage → Type 0} (xs : List Message) (ys : List WaitingMessage) → All2 R (map viewMessage xs) ys → (k : ℕ) → k < length xs → R (viewMessage (getD xs k noMessage)) (getD ys k noWaitingMessage)
+pub at-place : {R : MessageView → WaitingMessage → Type 0} (xs : List Message) (ys : List WaitingMessage) → All2 R (map viewMessage xs) ys → (k : ℕ) → k < length xs → R (viewMessage (getD xs k noMessage)) (getD ys k noWaitingMessage)
 at-place [] ys h k l = absurd (omega arith)
 at-place (x ∷ xs) (z ∷ ys) (cons2 r h) zero l = r
 at-place (x ∷ xs) (z ∷ ys) (cons2 r h) (suc k) l = at-place xs ys h k (omega arith)
+
+pub as-many : (s : State) {b : Provenance} → Rel (view s) b → length (s .messages) ≡ length (b .messages)
+unfolding view
+as-many s r = sym (length-map (s .messages) viewMessage) ∙ all2-length (r .messages)
 
 module _ {y : Layout} {s : State} (well : WellFormed y s) {b : Provenance} (r : Rel (view s) b) (t : ℕ) (there : Live (b .holders t .status)) where
   -- a take with work in hand is at work
@@ -149,17 +153,13 @@ module _ {y : Layout} (z : Fitting y) {img : List ℕ} {τ : Trace y img} {s : S
       below e (inl h) = h
       below e (inr h) = absurd (false≢true (sym (idle-past t u h) ∙ e))
 
-  as-many : length (s .messages) ≡ length (b .messages)
-  unfolding view
-  as-many = sym (length-map (s .messages) viewMessage) ∙ all2-length (related z k .messages)
-
   -- `carried` is how many of the book's waiting parcels have it in their sets.
   pub carried-means : (t : ℕ) → Live (b .holders t .status) → CarriedMeans b t (dependentsOf y s t .carried)
   unfolding dependentsOf
   carried-means t there = record {
     carries = carriesAt s t;
-    exactly = λ i h. carries-exactly (well z k) (related z k) t there i (subst (λ (n : ℕ). i < n) (sym as-many) h);
-    many = ap (λ (n : ℕ). howMany n (carriesAt s t)) as-many;
+    exactly = λ i h. carries-exactly (well z k) (related z k) t there i (subst (λ (n : ℕ). i < n) (sym (as-many s (related z k))) h);
+    many = ap (λ (n : ℕ). howMany n (carriesAt s t)) (as-many s (related z k));
   }
 
 -- ---- a life that is in no set and past comes into none
@@ -353,7 +353,7 @@ own-past l c r {t} {a} (vanished e) x = go x (r .holders t .gone (dead-live e))
     go x q = none (subst (λ (h : Holder). Whole h t a) q x)
 
 -- the place of a parcel in the list
-place-in : (qs : List WaitingMessage) (q : WaitingMessage) → List·Memᴰ q qs → (k : ℕ) × (k < length qs) × (getD qs k noWaitingMessage ≡ q)
+pub place-in : (qs : List WaitingMessage) (q : WaitingMessage) → List·Memᴰ q qs → (k : ℕ) × (k < length qs) × (getD qs k noWaitingMessage ≡ q)
 place-in [] q i = absurd (List·Memᴰ·not-nil i)
 place-in (p ∷ qs) q i = ⊎-elim (λ e. (0, omega arith, sym e)) (λ j. let k = place-in qs q j in (suc (k .0), omega (arith, k .1), k .2)) (List·Memᴰ·cases-cons i)
 
@@ -452,10 +452,4 @@ module _ {y : Layout} where
   further-call z τ f g (provenance-begins {m} e) = absurd (g m refl (rw (right-length (held z τ f)) e))
   further-call z τ f g (provenance-runs {list} {o} {start} {end} e q) = further-steps (part start (end - start) list) (octets-part start (end - start) list o) provenance.none q (omega arith)
   further-call z τ f g (provenance-offers e) = no-further
-  further-call z τ f g (provenance-names e) = no-further
-  further-call z τ f g (provenance-hears e) = no-further
-  further-call z τ f g (provenance-counts e) = no-further
-  further-call z τ f g (provenance-depends e) = no-further
-  further-call z τ f g (provenance-hinders e) = no-further
-  further-call z τ f g (provenance-blocks e) = no-further
   further-call z τ f g (provenance-shows e) = no-further

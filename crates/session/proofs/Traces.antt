@@ -11,10 +11,10 @@ use Rattle.rules.specs.Layout.{Layout, Limits, inRange, Fitting, base, imageByt
 use Rattle.rules.specs.Calls.{wrongLength, beginAnswer}
 use Rattle.rules.proofs.Keep.Step.{fitting-base}
 use Rattle.session.specs.Provenance.{Provenance}
-use Rattle.session.specs.Fed.{Call, begin, run, offer, smallest, heard, counts, depends, hinders, blocks, show, ProvenanceOf}
-use Rattle.session.specs.Trace.{Answer, Performed, beginning, running, offering, naming, hearing, counting, depending, hindering, blocking, showing, opened, called, callsOf, Started, first, later, Traced}
+use Rattle.session.specs.Fed.{Call, begin, run, offer, show, ProvenanceOf}
+use Rattle.session.specs.Trace.{Answer, Performed, beginning, running, offering, showing, opened, called, callsOf, Started, first, later, Traced}
 use Rattle.session.proofs.Calls.{Holds}
-use Rattle.session.proofs.Queries.{offers-exist, smallest-exist}
+use Rattle.session.proofs.Queries.{offers-exist}
 use Rattle.session.proofs.Grown.{grown}
 
 -- ---- every call is performed
@@ -24,18 +24,12 @@ performs : {y : Layout} {img : List ℕ} {b : Provenance} → Holds y img b → 
 performs h (begin m) = (_, _, beginning (refl, refl))
 performs h (run list o start end lent) = (_, _, running (refl, refl, refl))
 performs {y} {img} h (offer t) = (_, _, offering (refl, offers-exist y img t .1))
-performs h (smallest t) = (_, _, naming (refl, smallest-exist (h .well) t .1))
-performs h (heard t) = (_, _, hearing (refl, refl))
-performs h (counts n) = (_, _, counting (refl, refl))
-performs h (depends t) = (_, _, depending (refl, refl))
-performs h (hinders v) = (_, _, hindering (refl, refl))
-performs h (blocks t) = (_, _, blocking (refl, refl))
 performs h (show n) = (_, _, showing (refl, refl))
 
 -- ---- every list of calls, the last one first
 
 -- an image of the right length is begun
-fresh-begins : (y : Layout) (m : Limits) → inRange y m ≡ true → beginAnswer y m (zeros (imageBytes y)) ≡ 0
+pub fresh-begins : (y : Layout) (m : Limits) → inRange y m ≡ true → beginAnswer y m (zeros (imageBytes y)) ≡ 0
 unfolding beginAnswer
 fresh-begins y m r =
     let e : wrongLength y (zeros (imageBytes y)) ≡ false = ap not (eq-eqb (length (zeros (imageBytes y))) (imageBytes y) (length-zeros (imageBytes y))) in

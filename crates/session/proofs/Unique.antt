@@ -7,7 +7,7 @@ use Rattle.rules.specs.Step.{stepAt}
 use Rattle.session.specs.Provenance.{Provenance}
 use Rattle.session.specs.Steps.{ProvenanceStep}
 use Rattle.session.specs.Fed as provenance
-use Rattle.session.specs.Fed.{Call, ProvenanceSteps, ProvenanceCall, provenance-refuses, provenance-begins, provenance-runs, provenance-offers, provenance-names, provenance-hears, provenance-counts, provenance-depends, provenance-hinders, provenance-blocks, provenance-shows, ProvenanceOf, new-provenance, fed}
+use Rattle.session.specs.Fed.{Call, ProvenanceSteps, ProvenanceCall, provenance-refuses, provenance-begins, provenance-runs, provenance-offers, provenance-shows, ProvenanceOf, new-provenance, fed}
 use Rattle.session.proofs.Kept.{provenance-determined}
 
 pub steps-determined : {y : Layout} {b c d : Provenance} {steps : List ℕ} {i : ℕ} → ProvenanceSteps y b steps i c → ProvenanceSteps y b steps i d → c ≡ d
@@ -20,12 +20,6 @@ call-determined (provenance-refuses n) (provenance-refuses k) = refl
 call-determined (provenance-refuses n) (provenance-begins z) = absurd (n z)
 call-determined (provenance-refuses n) (provenance-runs z p) = absurd (n z)
 call-determined (provenance-refuses n) (provenance-offers z) = refl
-call-determined (provenance-refuses n) (provenance-names z) = refl
-call-determined (provenance-refuses n) (provenance-hears z) = refl
-call-determined (provenance-refuses n) (provenance-counts z) = refl
-call-determined (provenance-refuses n) (provenance-depends z) = refl
-call-determined (provenance-refuses n) (provenance-hinders z) = refl
-call-determined (provenance-refuses n) (provenance-blocks z) = refl
 call-determined (provenance-refuses n) (provenance-shows z) = refl
 call-determined (provenance-begins z) (provenance-refuses n) = absurd (n z)
 call-determined (provenance-begins z) (provenance-begins k) = refl
@@ -33,18 +27,6 @@ call-determined (provenance-runs z p) (provenance-refuses n) = absurd (n z)
 call-determined (provenance-runs z p) (provenance-runs y q) = steps-determined p q
 call-determined (provenance-offers z) (provenance-refuses n) = refl
 call-determined (provenance-offers z) (provenance-offers y) = refl
-call-determined (provenance-names z) (provenance-refuses n) = refl
-call-determined (provenance-names z) (provenance-names y) = refl
-call-determined (provenance-hears z) (provenance-refuses n) = refl
-call-determined (provenance-hears z) (provenance-hears y) = refl
-call-determined (provenance-counts z) (provenance-refuses n) = refl
-call-determined (provenance-counts z) (provenance-counts y) = refl
-call-determined (provenance-depends z) (provenance-refuses n) = refl
-call-determined (provenance-depends z) (provenance-depends y) = refl
-call-determined (provenance-hinders z) (provenance-refuses n) = refl
-call-determined (provenance-hinders z) (provenance-hinders y) = refl
-call-determined (provenance-blocks z) (provenance-refuses n) = refl
-call-determined (provenance-blocks z) (provenance-blocks y) = refl
 call-determined (provenance-shows z) (provenance-refuses n) = refl
 call-determined (provenance-shows z) (provenance-shows y) = refl
 

@@ -37,7 +37,7 @@ use Rattle.session.specs.Provenance.{Live, Holder, Provenance}
 use Rattle.session.specs.Grounds.{Equal}
 use Rattle.session.specs.Steps.{provenanceRefusal, signing}
 use Rattle.session.specs.Fed.{Call, run}
-use Rattle.session.specs.Trace.{Answer, Performed, beginning, running, offering, naming, hearing, counting, depending, hindering, blocking, showing, Trace, none, one-more, GoesOn}
+use Rattle.session.specs.Trace.{Answer, Performed, beginning, running, offering, showing, Trace, none, one-more, extended, GoesOn}
 use Rattle.session.specs.Waiting.{ReadyGroup, Grounded, Rolls, rolls-back, annihilates, rolls-last, Stands, NoSigning, Waits, Waiting, CheckpointsTransactor, Uncheckpointed, Leaves, Leaving}
 use Rattle.session.proofs.Model.{MessageView, own, findMessage, knownMap, view}
 use Rattle.session.proofs.Tables.{pick-view}
@@ -49,7 +49,7 @@ use Rattle.session.proofs.ViewRules.{rolledBackAt, rolledBack-test, ent
 use Rattle.session.proofs.ViewStep.{stable-below, state-kept}
 use Rattle.session.proofs.Step.{SigningRight, checkpointed, uncheckpointed, StepRight, step-right}
 use Rattle.session.proofs.Run.{Ran, run-right}
-use Rattle.session.proofs.Grown.{grown, on-trace}
+use Rattle.session.proofs.Grown.{grown}
 use Rattle.session.proofs.Stands.{stands, With, with-exists, rule-with}
 use Rattle.session.proofs.Carried.{Signs, signs-on}
 use Rattle.session.proofs.Remainder.{Beside, beside-on}
@@ -292,12 +292,6 @@ module _ (y : Layout) (z : Fitting y) where
   call-keeps P g (running {list} {o} {start} {end} {lent} e) keeps before = rw (e .1) (keeps list o start end lent refl before)
   call-keeps P {img} g (beginning {m} q) keeps before = rw (q .1) (pick-view (λ (i : List ℕ). P (unpack y i)) (eqb (beginAnswer y m img) 0) _ img (λ e. absurd (g m refl (eqb-true (beginAnswer y m img) 0 e))) (λ e. before))
   call-keeps P g (offering q) keeps before = before
-  call-keeps P g (naming q) keeps before = before
-  call-keeps P g (hearing q) keeps before = before
-  call-keeps P g (counting q) keeps before = before
-  call-keeps P g (depending q) keeps before = before
-  call-keeps P g (hindering q) keeps before = before
-  call-keeps P g (blocking q) keeps before = before
   call-keeps P g (showing q) keeps before = before
 
   -- ---- calls that sign nothing
@@ -313,7 +307,7 @@ module _ (y : Layout) (z : Fitting y) where
     -- The same over any list of calls that sign nothing: runs without a signing, offers, shows and queries, and whatever is refused.
     pub still-ready-calls : {img after : List ℕ} → Trace y img → Waiting y img after → ReadyGroup y (unpack y img) v → ReadyGroup y (unpack y after) v
     still-ready-calls τ none before = before
-    still-ready-calls τ (one-more k w p) before = call-ready (on-trace τ k) w p (still-ready-calls τ k before)
+    still-ready-calls τ (one-more k w p) before = call-ready (extended τ k) w p (still-ready-calls τ k before)
 
   -- ---- calls that leave take t unsigned
 
@@ -327,13 +321,13 @@ module _ (y : Layout) (z : Fitting y) where
 
     calls-beside : {img after : List ℕ} → Trace y img → Leaving y img t after → Beside (view (unpack y img)) t → Beside (view (unpack y after)) t
     calls-beside τ none before = before
-    calls-beside τ (one-more k w p) before = call-beside (on-trace τ k) w p (calls-beside τ k before)
+    calls-beside τ (one-more k w p) before = call-beside (extended τ k) w p (calls-beside τ k before)
 
     -- And of the fact: no parcel of that session makes the take fall, until it is signed itself or the session is begun anew.
     pub never-rolls-calls : {img after : List ℕ} → Trace y img → Leaving y img t after → (v : ℕ) → ReadyGroup y (unpack y img) v → Grounded (unpack y img) v t → Stands y (unpack y after) t
     never-rolls-calls τ k v before g =
         let r = grown z τ .holds in
-        let q = grown z (on-trace τ k) .holds in
+        let q = grown z (extended τ k) .holds in
         beside-stands z (q .well) (q .rel) t (calls-beside τ k (grounded-beside z (r .well) (r .rel) before g))
 
 -- At the ledger's own layout: no hypothesis but the trace.

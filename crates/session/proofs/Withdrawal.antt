@@ -45,7 +45,7 @@ use Rattle.session.specs.Grounds.{from-start, from-noted, from-list, Gro
 use Rattle.session.specs.Grounds as grounds
 use Rattle.session.specs.Steps.{isNil, anew, rolledBackHolder, provenanceRefusal, ProvenanceStep, refuses, applies, signing, not-ready}
 use Rattle.session.specs.Fed.{provenanceQueryRefusal, ProvenanceOf}
-use Rattle.session.specs.Trace.{Trace, callsOf, none, one-more}
+use Rattle.session.specs.Trace.{Trace, callsOf, none, one-more, extended}
 use Rattle.session.specs.Point.{Point, at-end}
 use Rattle.session.specs.Waiting.{ReadyGroup}
 use Rattle.session.specs.Withdrawal.{Withdraws, Further, here, step, SameIncarnation, RestsThrough, itself, via, Spoilt, on-withdrawn, on-spoilt, Doomed, SmallestIn, Continued}
@@ -62,7 +62,7 @@ use Rattle.session.proofs.ViewState.{no-transactor, own-view, view-no-m
 use Rattle.session.proofs.ViewRules.{live-test}
 use Rattle.session.proofs.ViewStep.{state-kept}
 use Rattle.session.proofs.Step.{matches-rel}
-use Rattle.session.proofs.Grown.{grown, on-trace}
+use Rattle.session.proofs.Grown.{grown}
 use Rattle.session.proofs.Calls.{holds-pack, query-same}
 use Rattle.session.proofs.Onward.{Stays, stays-refl, limits-stay}
 use Rattle.session.proofs.Carried.{signing-on}
@@ -402,7 +402,7 @@ module _ (y : Layout) (z : Fitting y) where
   pub after-calls : {img after : List ℕ} → Trace y img → Continued y img after → Further y (unpack y img) (unpack y after)
   after-calls τ none = here
   after-calls {img} τ (one-more {now} k g p) = call-keeps y z (Further y (unpack y img)) g p
-      (λ list o start end lent e f. further-trans f (run-onward (on-trace τ k) list o start end lent)) (after-calls τ k)
+      (λ list o start end lent e f. further-trans f (run-onward (extended τ k) list o start end lent)) (after-calls τ k)
 
 -- ---- what smallest_group answers
 

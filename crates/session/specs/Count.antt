@@ -11,8 +11,8 @@ use Rattle.rules.specs.Step.{stepBytes, stepAt, receive, lose, done, dropped, f
 use Rattle.rules.specs.Refusals.{sends}
 use Rattle.rules.specs.Pack.{unpack}
 use Rattle.rules.specs.Calls.{stepsIn}
-use Rattle.session.specs.Fed.{Call, begin, run, offer, smallest, heard, counts, depends, hinders, blocks, show}
-use Rattle.session.specs.Trace.{Answer, begun, ran, offered, grouped, told, counted, depended, hindered, blocked, showed, refusalIn, Trace, opened, called}
+use Rattle.session.specs.Fed.{Call, begin, run, offer, show}
+use Rattle.session.specs.Trace.{Answer, begun, ran, offered, showed, refusalIn, Trace, opened, called}
 
 -- ---- what is counted, by a step's kind and the first byte of its reply
 
@@ -43,12 +43,6 @@ abbrev pub repliesIn : Answer → List ℕ
 repliesIn (begun r) = []
 repliesIn (ran r replies) = replies
 repliesIn (offered r message) = []
-repliesIn (grouped r group) = []
-repliesIn (told r stable) = []
-repliesIn (counted r n) = []
-repliesIn (depended r d) = []
-repliesIn (hindered r o) = []
-repliesIn (blocked r o) = []
 repliesIn (showed r bytes) = []
 
 -- a call, n counted before it: an accepted begin counts from 0, an accepted run adds its steps
@@ -57,12 +51,6 @@ countCall f (begin m) a n = pick (eqb (refusalIn a) 0) 0 n
 countCall f (run list o start end lent) a n =
     pick (eqb (refusalIn a) 0) (n + countSteps f (part start (end - start) list) (repliesIn a) (stepsIn (part start (end - start) list))) n
 countCall f (offer t) a n = n
-countCall f (smallest t) a n = n
-countCall f (heard t) a n = n
-countCall f (counts k) a n = n
-countCall f (depends t) a n = n
-countCall f (hinders v) a n = n
-countCall f (blocks t) a n = n
 countCall f (show k) a n = n
 
 -- the whole session

@@ -3,7 +3,7 @@
 -- (the book), Trace and Point (the session). It is claimed of every session, so of every shorter one: each call of τ ends one.
 use Prim.Native.Nat.{ℕ, _-_, _*_, _≤_, _<_}
 use mathlib.Core.Path.{_≡_}
-use mathlib.Core.List.{List}
+use mathlib.Core.List.{List, _∷_, _++_}
 use mathlib.Core.Logic.{_↔_}
 use Rattle.octets.specs.Bytes.{part, Octets}
 use Rattle.rules.specs.Layout.{Layout}
@@ -41,7 +41,10 @@ pub record Demand3 (y : Layout) (img : List ℕ) (τ : Trace y img) : Type 1 whe
   pub transactors-match : {s : State} {b : Provenance} → Point y img τ s b → Matches s b
   -- "Hence at no point of the list does a text signed since the last accepted begin rest, through any chain, on a withdrawn life."
   pub never-withdrawn : {s : State} {b : Provenance} → Point y img τ s b → Sound b
-  -- None is left out: every step of every accepted run is a StepIn, with some book before it.
+  -- None is left out: every call after the opening begin is a CallIn, with the book before it that is fed the calls before, which are k and rest;
+  -- and every step of every accepted run is a StepIn, with some book before it.
+  pub every-call : (later rest : List Call) (c k : Call) → callsOf τ ≡ later ++ (c ∷ k ∷ rest)
+      → (b : Provenance) × (a : Answer) × ProvenanceOf y (k ∷ rest) b × CallIn y img τ b c a
   pub every-step : {b : Provenance} {list : List ℕ} {o : Octets list} {start end : ℕ} {lent replies : List ℕ} → CallIn y img τ b (run list o start end lent) (ran 0 replies)
       → (i : ℕ) → i < stepsIn (part start (end - start) list)
       → (s : State) × (s' : State) × (d : Provenance) × StepIn y img τ s d (stepAt (part start (end - start) list) i) (part (stepBytes * i) stepBytes replies) s'

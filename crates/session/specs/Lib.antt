@@ -19,3 +19,4 @@ pub mod Play
 pub mod Sessions
 pub mod Withdrawal
 pub mod Attainable
+pub mod Queries

@@ -13,7 +13,7 @@ use Rattle.rules.specs.Refusals.{named}
 use Rattle.rules.specs.Rules.{stepOf}
 use Rattle.rules.specs.Pack.{unpack}
 use Rattle.rules.specs.Calls.{beginAnswer, runAnswer, stateAfter, stepsIn}
-use Rattle.session.specs.Fed.{Call, begin, run, offer, smallest, heard, counts, depends, hinders, blocks, show}
+use Rattle.session.specs.Fed.{Call, begin, run, offer, show}
 use Rattle.session.specs.Trace.{Answer, ran, Performed, Trace, opened, called}
 
 -- step p is a signing that replies 0 and names take t
@@ -31,12 +31,6 @@ signedOver y img (begin m) t v = pick (eqb (beginAnswer y m img) 0) 0 v
 signedOver y img (run list o start end lent) t v =
     pick (eqb (runAnswer y img list start end lent) 0) (lastSigned y (unpack y img) (part start (end - start) list) t v (stepsIn (part start (end - start) list))) v
 signedOver y img (offer u) t v = v
-signedOver y img (smallest u) t v = v
-signedOver y img (heard u) t v = v
-signedOver y img (counts n) t v = v
-signedOver y img (depends u) t v = v
-signedOver y img (hinders g) t v = v
-signedOver y img (blocks u) t v = v
 signedOver y img (show n) t v = v
 
 -- The text that take t had in this session just before its last signing since the last accepted begin; 0 if there is none.

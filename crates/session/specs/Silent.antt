@@ -11,7 +11,7 @@ use Rattle.rules.specs.declared.Step.{Step}
 use Rattle.rules.specs.Step.{stepAt, receive, done, dropped}
 use Rattle.rules.specs.Rules.{Effect, Result, unchanged, rollback, messageSuperseded, receiverSuperseded, refusal, answer, stepOf}
 use Rattle.rules.specs.Calls.{stepsIn}
-use Rattle.session.specs.Fed.{Call, begin, run, offer, smallest, heard, counts, depends, hinders, blocks, show}
+use Rattle.session.specs.Fed.{Call, begin, run, offer, show}
 use Rattle.session.specs.Trace.{refusalIn, Trace, opened, called}
 
 -- a receipt as the rules have it (receiveBy of rules/specs/Rules), but where the parcel is taken in, state and creation maps stay as they are
@@ -48,12 +48,6 @@ unfoldable pub silentCall : Layout → Call → ℕ → State → State
 silentCall y (begin m) r s = pick (eqb r 0) (fresh y m) s
 silentCall y (run list o start end lent) r s = pick (eqb r 0) (silentAfter y s (part start (end - start) list) (stepsIn (part start (end - start) list))) s
 silentCall y (offer t) r s = s
-silentCall y (smallest t) r s = s
-silentCall y (heard t) r s = s
-silentCall y (counts n) r s = s
-silentCall y (depends t) r s = s
-silentCall y (hinders v) r s = s
-silentCall y (blocks t) r s = s
 silentCall y (show n) r s = s
 
 -- after the calls of the session τ

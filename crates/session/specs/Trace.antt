@@ -1,6 +1,6 @@
 -- Document 01, demand 3: sessions.
 use Prim.Native.Nat.{ℕ}
-use mathlib.Core.Bool.{Bool, true}
+use mathlib.Core.Bool.{true}
 use mathlib.Core.Path.{_≡_}
 use mathlib.Core.List.{List, [], _∷_}
 use mathlib.Core.Option.{Option}
@@ -10,12 +10,9 @@ use Rattle.maps.specs.Map.{heldAt}
 use Rattle.rules.specs.Layout.{Layout, Limits, inRange}
 use Rattle.rules.specs.State.{State, Transactor, transactorAt, ownHistory}
 use Rattle.rules.specs.Calls.{beginAnswer, beginImage}
-use Rattle.rules.specs.declared.Dependents.{Dependents}
-use Rattle.rules.specs.declared.Obstacle.{Obstacle}
-use Rattle.rules.specs.declared.Impediment.{Impediment}
-use Rattle.rules.specs.Promises.{BeginPromise, RunPromise, OfferPromise, SmallestPromise, HeardPromise, CountPromise, DependentsPromise, ObstaclePromise, ImpedimentPromise, ShowPromise}
+use Rattle.rules.specs.Promises.{BeginPromise, RunPromise, OfferPromise, ShowPromise}
 use Rattle.session.specs.Provenance.{statusNumber, Live, Holder, Provenance}
-use Rattle.session.specs.Fed.{Call, begin, run, offer, smallest, heard, counts, depends, hinders, blocks, show}
+use Rattle.session.specs.Fed.{Call, begin, run, offer, show}
 
 -- ---- calls performed
 
@@ -26,18 +23,6 @@ pub data Answer : Type 0 where
   ran : ℕ → List ℕ → Answer
   -- the parcel's number, or none
   offered : ℕ → Option ℕ → Answer
-  -- the volume, or none
-  grouped : ℕ → Option ℕ → Answer
-  -- yes or no
-  told : ℕ → Bool → Answer
-  -- how many
-  counted : ℕ → ℕ → Answer
-  -- who rests on the take
-  depended : ℕ → Dependents → Answer
-  -- why the volume can't be signed
-  hindered : ℕ → Obstacle → Answer
-  -- why no volume with the take could be signed
-  blocked : ℕ → Impediment → Answer
   -- the part of the image
   showed : ℕ → List ℕ → Answer
 
@@ -46,32 +31,19 @@ abbrev pub refusalIn : Answer → ℕ
 refusalIn (begun r) = r
 refusalIn (ran r replies) = r
 refusalIn (offered r message) = r
-refusalIn (grouped r group) = r
-refusalIn (told r stable) = r
-refusalIn (counted r n) = r
-refusalIn (depended r d) = r
-refusalIn (hindered r o) = r
-refusalIn (blocked r o) = r
 refusalIn (showed r bytes) = r
 
--- A call performed on the image img: the answer and the image after it are what the contract of begin, run, offer, smallest_group,
--- all_heard_stable, ready_count, dependents, obstacle, impediment or show promises, by the same definitions (rules/specs/Promises). From offer on
--- the image is borrowed for reading, so it stays.
+-- A call performed on the image img: the answer and the image after it are what the contract of begin, run, offer or show promises, by
+-- the same definitions (rules/specs/Promises). To offer and show the image is lent for reading, so it stays.
 pub data Performed (y : Layout) (img : List ℕ) : Call → Answer → List ℕ → Type 0 where
   beginning : {m : Limits} {r : ℕ} {after : List ℕ} → BeginPromise y m img r after → Performed y img (begin m) (begun r) after
   running : {list : List ℕ} {o : Octets list} {start end : ℕ} {lent : List ℕ} {r : ℕ} {after given : List ℕ}
       → RunPromise y img list start end lent r after given → Performed y img (run list o start end lent) (ran r given) after
   offering : {t r : ℕ} {message : Option ℕ} → OfferPromise y img t r message → Performed y img (offer t) (offered r message) img
-  naming : {t r : ℕ} {group : Option ℕ} → SmallestPromise y img t r group → Performed y img (smallest t) (grouped r group) img
-  hearing : {t r : ℕ} {stable : Bool} → HeardPromise y img t r stable → Performed y img (heard t) (told r stable) img
-  counting : {size r n : ℕ} → CountPromise y img size r n → Performed y img (counts size) (counted r n) img
-  depending : {t r : ℕ} {d : Dependents} → DependentsPromise y img t r d → Performed y img (depends t) (depended r d) img
-  hindering : {v r : ℕ} {o : Obstacle} → ObstaclePromise y img v r o → Performed y img (hinders v) (hindered r o) img
-  blocking : {t r : ℕ} {o : Impediment} → ImpedimentPromise y img t r o → Performed y img (blocks t) (blocked r o) img
   showing : {n r : ℕ} {bytes : List ℕ} → ShowPromise y img n r bytes → Performed y img (show n) (showed r bytes) img
 
 -- "A session grown from a fresh one is an accepted begin, then any list of begins, runs, offers and shows on that image, refused ones
--- included. Each gets the image as the last left it". With these the queries. The index is the image as it stands after the list.
+-- included. Each gets the image as the last left it". The index is the image as it stands after the list.
 pub data Trace (y : Layout) : List ℕ → Type 0 where
   opened : (m : Limits) (img : List ℕ) → beginAnswer y m img ≡ 0 → Trace y (beginImage y m img)
   called : {img after : List ℕ} → Trace y img → (c : Call) (a : Answer) → Performed y img c a after → Trace y after
@@ -88,6 +60,11 @@ callsOf (called τ c a p) = c ∷ callsOf τ
 pub data CallsFrom (y : Layout) (P : List ℕ → Call → Type 0) (img : List ℕ) : List ℕ → Type 0 where
   none : CallsFrom y P img img
   one-more : {now after : List ℕ} {c : Call} {a : Answer} → CallsFrom y P img now → P now c → Performed y now c a after → CallsFrom y P img after
+
+-- the session τ with these calls at its end
+unfoldable pub extended : {y : Layout} {P : List ℕ → Call → Type 0} {img after : List ℕ} → Trace y img → CallsFrom y P img after → Trace y after
+extended τ none = τ
+extended τ (one-more {c = c} {a = a} k g p) = called (extended τ k) c a p
 
 -- no accepted begin: the call c on the image img goes on with the same session
 abbrev pub GoesOn : Layout → (img : List ℕ) → Call → Type 0

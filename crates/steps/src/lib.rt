@@ -152,18 +152,18 @@ fn new(image: &mut [u8], p: Step) -> Reply
     if r != 0 {
         return answered(r);
     }
-    let c = head::opened(image);
-    if limits::transactors(image) <= c {
+    let child = head::opened(image);
+    if limits::transactors(image) <= child {
         return answered(numbers::ALL_OPENED);
     }
     let at = FIRST_TRANSACTOR + TRANSACTOR * t;
     let end = at + TRANSACTOR;
     let creation = transactor::carry(&image[at..end], t);
-    transactor::adopt(&mut image[at..end], c as usize);
-    open(image, c, p.value, creation);
+    transactor::adopt(&mut image[at..end], child as usize);
+    open(image, child, p.value, creation);
     Reply {
         outcome: numbers::DONE,
-        transactor: c,
+        transactor: child,
         message: 0,
         value: 0,
     }

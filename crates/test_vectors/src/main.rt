@@ -3,9 +3,9 @@
 // lines of the file stdout were not made by this program: they come from the documents, by hand, or from an independent model.
 //
 // To add a case, add its line to stdin and what it should print to stdout: no proof changes. To add an operation, write its function
-// in a crate of operations, with its letter in the play of its group, and give it a row of lines::FORMS.
-mod lines;
-
+// in the crate cases, with its letter in the play of its group, and give it a row of script::FORMS.
+use cases::runs;
+use cases::script;
 use libc::STDIN_FILENO;
 
 // The longest script.
@@ -14,7 +14,7 @@ const SCRIPT: usize = 131072;
 fn main() {
     let mut text = [0u8; SCRIPT];
     let end = io::read_full(STDIN_FILENO, &mut text);
-    let mut space = [0u8; lines::ROOM];
-    let mut list = [0u8; cases::runs::LIST];
-    lines::play(&mut space, &mut list, &text[..end]);
+    let mut space = [0u8; script::ROOM];
+    let mut list = [0u8; runs::LIST];
+    script::play(&mut space, &mut list, &text[..end]);
 }

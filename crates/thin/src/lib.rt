@@ -29,7 +29,7 @@ fn place(list: &[u8], out: &mut [u8], i: usize, k: usize, kept: bool) -> usize
     k - 1
 }
 
-// Of the replies in out, the steps that are kept at its end; how many.
+// Moves the steps that are kept to the end of out, which holds their replies; how many there are.
 fn gather(list: &[u8], out: &mut [u8]) -> usize
     requires { ⌜ (length (now out) ≡ length (now list)) × (stepBytes * (length (now list) / stepBytes) ≡ length (now list)) ⌝ }
     ensures { λ r. ⌜ Gathered (now (list .entry)) (now (out .entry)) (now (out .exit)) r ⌝ }

@@ -18,7 +18,7 @@ import { kept, putAside } from "../shared/store.mjs";
 import { keepHearing, showKept } from "./keeping.mjs";
 import { confirmFall, confirmReceipt, confirmEmpty, confirmName, confirmOpening, hush, tell } from "./notices.mjs";
 import { recognize } from "../shared/files.mjs";
-import { effect, verdict, kindOf, REFUSED, WITH_TEXT } from "../shared/words.mjs";
+import { effect, verdict, kindOf, FALLEN_BACK, VANISHED, REFUSED, WITH_TEXT } from "../shared/words.mjs";
 
 function field(id, label, placeholder, list = null) {
   return el("input", { type: "text", id, "aria-label": label, placeholder, list });
@@ -113,7 +113,7 @@ export class Desk {
   confirm(kind, { take, parcel }, go) {
     const name = this.takeName.value.trim(), known = name ? this.hearing.takes.indexOf(name) : -1;
     if (kind === "fall" || kind === "fail") confirmFall(this, kind, take, go);
-    else if (kind === "receive" && this.record.end.decision(parcel).kind === "falls") confirmReceipt(this, parcel, go);
+    else if (kind === "receive" && [FALLEN_BACK, VANISHED].includes(this.record.end.decision(parcel).outcome)) confirmReceipt(this, parcel, go);
     else if (kind === "write" && this.words.value.trim() === "") confirmEmpty(this, take, go);
     else if (["root", "new"].includes(kind) && known >= 0) confirmName(name, known, go);
     else go();

@@ -1,4 +1,5 @@
 -- Refused, or compared.
+use mathlib.Core.Path.{_∙_}
 use native.Mathlib.Omega.{arith}
 use borrow.Author.Needs.{needs}
 use Rattle.decisive.proofs.Comparing.{compare-refused, left-length, right-length, compare-answered}
@@ -18,4 +19,4 @@ compare-spec =
     (λ c κs. (loaded-count width places _ _ (omega arith) (c .before .load .ensures), loaded-count width places _ _ (omega arith) (c .load2 .ensures)))
     (λ c κs. search needs)
     (λ c κs. search needs)
-    (λ c. let d = c .before .before .before .before .before in compare-answered _ _ (d .before .refused .ensures) (d .if1 .left) (c .before .before .before .before .load .ensures) (c .before .before .before .load2 .ensures) (c .before .before .compare .ensures) (c .before .number .ensures) (c .newer .ensures)))
+    (λ c. let d = c .before .before .before .before .before in compare-answered _ _ (d .before .refused .ensures) (d .if1 .left) (c .before .before .before .before .load .ensures) (c .before .before .before .load2 .ensures) (c .before .number .ensures ∙ c .before .before .compare .ensures) (c .newer .ensures)))

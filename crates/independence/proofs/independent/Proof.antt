@@ -37,12 +37,13 @@ returns-2 c =
 meets-requires-2 : tie.Need-meets-requires-2
 meets-requires-2 c κs =
     let d = c .before .before .before .before .before in
-    let r = d .before .before in (
-      fine-good _ _ _ _ (r .before .refused .ensures) (r .if1 .left) (octets-of _ (r .before .before .before .before .shared-slice-known .given)),
-      search needs,
-      fine-second _ _ _ _ (r .before .refused .ensures) (r .if1 .left) (octets-of _ (r .before .before .before .before .shared-slice-known .given))
-          (octets-of _ (r .before .before .before .shared-slice-known2 .given)) (octets-of _ (r .before .before .shared-slice-known3 .given)) _ _ (d .before .decode .ensures) (d .decode2 .ensures),
-    )
+    let r = d .before .before in
+    let image = octets-of _ (r .before .before .before .before .shared-slice-known .given) in
+    let first = octets-of _ (r .before .before .before .shared-slice-known2 .given) in
+    let second = octets-of _ (r .before .before .shared-slice-known3 .given) in
+    let p = fine-first _ _ _ _ (r .before .refused .ensures) (r .if1 .left) image first second _ _ (d .before .decode .ensures) (d .decode2 .ensures) in
+    let q = fine-second _ _ _ _ (r .before .refused .ensures) (r .if1 .left) image first second _ _ (d .before .decode .ensures) (d .decode2 .ensures) in
+    (fine-good _ _ _ _ (r .before .refused .ensures) (r .if1 .left) image, search needs, search (p, q))
 
 returns-3 : tie.Need-returns-3
 returns-3 c =

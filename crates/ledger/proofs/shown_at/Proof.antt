@@ -7,7 +7,7 @@ use lib.ListN.{length}
 use Rattle.rules.specs.Layout.{base, imageBytes}
 use Rattle.rules.specs.Form.{wellFormed}
 use Rattle.rules.specs.Calls.{showRefusal}
-use Rattle.image.specs.Internal.Addresses.{shownAt}
+use Rattle.ledger.specs.Internal.Shown.{shownAt}
 use Rattle.form.proofs.Unsound.{image-refused, sound-long, sound-not}
 use Rattle.ledger.proofs.Showing.{shown-16, shown-19, shown-24, shown-place}
 use Rattle.ledger.proofs.shown_at.Statement.{statement}

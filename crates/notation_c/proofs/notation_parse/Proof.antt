@@ -1,21 +1,20 @@
 -- The numbers of each answer; the steps are where parse put them.
 use mathlib.Core.Path.{sym, ap, _∙_}
 use borrow.Author.Needs.{needs}
-use Rattle.notation_c.specs.Interface.{stepsFor, lineFor, columnFor, expectedFor}
+use Rattle.notation.specs.Parsing.{parsedNumbers}
+use Rattle.notation_c.specs.Interface.{parsedAs}
 use Rattle.notation_c.proofs.notation_parse.Statement.{statement}
 use Rattle.notation_c.proofs.notation_parse.Tie as tie
 
 returns : tie.Need-returns
 returns c =
     let f = c .before .before .before .before .before .parse .ensures in
-    let e = sym (c .before .n .given .1) ∙ f .0 in
-    (ap stepsFor e, ap lineFor e, ap columnFor e, ap expectedFor e, f .1)
+    (ap parsedNumbers (sym (c .before .n .given .1)) ∙ f .0, f .1)
 
 returns-2 : tie.Need-returns-2
 returns-2 c =
     let f = c .before .before .before .before .before .before .parse .ensures in
-    let e = sym (c .before .before .l .given .1) ∙ f .0 in
-    (ap stepsFor e, ap lineFor e, ap columnFor e, c .number-of .ensures ∙ ap expectedFor e, f .1)
+    (ap (parsedAs 0 _ _) (c .number-of .ensures) ∙ ap parsedNumbers (sym (c .before .before .l .given .1)) ∙ f .0, f .1)
 
 pub notation-parse-spec : {M : Type 1} → statement M
 notation-parse-spec =

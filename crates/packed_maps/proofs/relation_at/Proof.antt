@@ -9,6 +9,7 @@ use Rattle.marks.specs.History.{incarnationOf}
 use Rattle.marks.specs.Relation.{relationOf}
 use Rattle.marks.specs.Packed.{width, places, historySize}
 use Rattle.marks.proofs.Packed.{unpack-count}
+use Rattle.marks.proofs.Related.{same-answer}
 use Rattle.maps.proofs.Compared.{absent-left, absent-right, both-held}
 use borrow.Author.Needs.{needs}
 use Rattle.packed_maps.proofs.relation_at.Statement.{statement}
@@ -28,7 +29,7 @@ compare-requires c κs =
 returns-3 : tie.Need-returns-3
 returns-3 c =
     let h = c .before .before .before .before in
-    c .compare .ensures
+    same-answer (c .compare .result) (relationOf (incarnationOf (c .before .load .result)) (incarnationOf (h .before .before .args .x))) (c .compare .ensures)
     ∙ ap (λ (y : History). relationOf (incarnationOf y) (incarnationOf (h .before .before .args .x))) (c .before .load .ensures)
     ∙ sym (both-held _ _ _ _ (sym (h .present .ensures) ∙ not-false _ (c .before .before .before .if1 .left)) (not-false _ (c .before .before .if2 .left)))
 

@@ -1,6 +1,7 @@
 -- 17, or the measure.
-use mathlib.Core.Path.{_∙_, sym}
+use mathlib.Core.Path.{_∙_, sym, ap}
 use borrow.Author.Needs.{needs}
+use Rattle.printer.specs.Printing.{printedNumbers}
 use Rattle.printer.proofs.Printer.{length-wrong, length-right}
 use Rattle.printer.proofs.text_length.Statement.{statement}
 use Rattle.printer.proofs.text_length.Tie as tie
@@ -13,6 +14,6 @@ text-length-spec =
     tie.close
     (tie.spec
     (λ c κs. search needs)
-    (λ c. length-wrong _ _ (c .before .wrong .ensures) (c .if1 .taken))
+    (λ c. ap printedNumbers (length-wrong _ _ (c .before .wrong .ensures) (c .if1 .taken)))
     measure-requires
-    (λ c. length-right _ _ _ (c .before .before .wrong .ensures) (c .before .if1 .left) (c .measure .ensures)))
+    (λ c. ap printedNumbers (length-right _ _ _ (c .before .before .wrong .ensures) (c .before .if1 .left) (c .measure .ensures))))

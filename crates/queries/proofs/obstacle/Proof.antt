@@ -5,7 +5,7 @@ use borrow.Author.Needs.{needs}
 use Rattle.octets.proofs.Put.{octets-of}
 use Rattle.rules.specs.Layout.{base}
 use Rattle.rules.specs.declared.Obstacle.the-variants.{Nothing}
-use Rattle.rules.specs.Obstacle.{obstacleRefusal, obstacleAnswer}
+use Rattle.rules.specs.Obstacle.{obstacleNumbers, obstacleRefusal, obstacleAnswer}
 use Rattle.rules.specs.Internal.Good.{Good}
 use Rattle.rules.proofs.Good.{good-formed}
 use Rattle.rules.proofs.Groups.Obstacles.{obstacle-16, obstacle-19, obstacle-21, obstacle-refused, obstacle-0}
@@ -16,7 +16,7 @@ use Rattle.queries.proofs.obstacle.Tie as tie
 returns : tie.Need-returns
 returns c =
     let s = c .before .before .before .args in
-    image-refused base _ _ (c .before .image-refusal .ensures) (λ (n : ℕ). (n ≡ obstacleRefusal base (s .image .now) (s .members)) × (Nothing ≡ obstacleAnswer base (s .image .now) (s .members)))
+    image-refused base _ _ (c .before .image-refusal .ensures) (λ (n : ℕ). (n ≡ obstacleRefusal base (s .image .now) (s .members)) × (obstacleNumbers Nothing ≡ obstacleNumbers (obstacleAnswer base (s .image .now) (s .members))))
     (obstacle-16 base _ _) (obstacle-19 base _ _) (c .if1 .taken)
 
 -- not refused with 16 or 19

@@ -298,17 +298,17 @@ module _ (y : Layout) (s : State) (v : ℕ) where
 -- ---- the call's returns
 
 module _ (y : Layout) (img : List ℕ) (v : ℕ) where
-  pub obstacle-16 : (length img ≡ imageBytes y → ⊥) → (16 ≡ obstacleRefusal y img v) × (Nothing ≡ obstacleAnswer y img v)
+  pub obstacle-16 : (length img ≡ imageBytes y → ⊥) → (16 ≡ obstacleRefusal y img v) × (obstacleNumbers Nothing ≡ obstacleNumbers (obstacleAnswer y img v))
   unfolding obstacleRefusal obstacleAnswer
   obstacle-16 n = let e = wrong-length y img n in (rw e, rw e)
 
   module _ (long : length img ≡ imageBytes y) where
-    pub obstacle-19 : not (wellFormed y img) ≡ true → (19 ≡ obstacleRefusal y img v) × (Nothing ≡ obstacleAnswer y img v)
+    pub obstacle-19 : not (wellFormed y img) ≡ true → (19 ≡ obstacleRefusal y img v) × (obstacleNumbers Nothing ≡ obstacleNumbers (obstacleAnswer y img v))
     unfolding obstacleRefusal obstacleAnswer
     obstacle-19 e = let l = right-length y img long in (rw (l, e), rw (l, e))
 
     module _ (formed : not (wellFormed y img) ≡ false) where
-      pub obstacle-21 : 2 ^ groupBits ≤ v → (21 ≡ obstacleRefusal y img v) × (Nothing ≡ obstacleAnswer y img v)
+      pub obstacle-21 : 2 ^ groupBits ≤ v → (21 ≡ obstacleRefusal y img v) × (obstacleNumbers Nothing ≡ obstacleNumbers (obstacleAnswer y img v))
       unfolding obstacleRefusal obstacleAnswer signingRefusal
       obstacle-21 h = let l = right-length y img long in let w = le-leb (2 ^ groupBits) v h in (rw (l, formed, w), rw (l, formed, w))
 
@@ -318,13 +318,13 @@ module _ (y : Layout) (img : List ℕ) (v : ℕ) where
         unfolding obstacleRefusal signingRefusal malformed
         refusal-is = e ∙ sym (refuses y (unpack y img) (signing v) refl .sign refl) ∙ rw (right-length y img long, formed, lt-leb (2 ^ groupBits) v narrow)
 
-        pub obstacle-refused : (r ≡ 0 → ⊥) → (r ≡ obstacleRefusal y img v) × (Nothing ≡ obstacleAnswer y img v)
+        pub obstacle-refused : (r ≡ 0 → ⊥) → (r ≡ obstacleRefusal y img v) × (obstacleNumbers Nothing ≡ obstacleNumbers (obstacleAnswer y img v))
         unfolding obstacleAnswer
         obstacle-refused n = (refusal-is, rw (ne-eqb (obstacleRefusal y img v) 0 (λ (z : obstacleRefusal y img v ≡ 0). n (refusal-is ∙ z))))
 
-        pub obstacle-0 : r ≡ 0 → (o : Obstacle) → o ≡ obstacleOf y (unpack y img) v → (r ≡ obstacleRefusal y img v) × (o ≡ obstacleAnswer y img v)
+        pub obstacle-0 : r ≡ 0 → (o : Obstacle) → o ≡ obstacleOf y (unpack y img) v → (r ≡ obstacleRefusal y img v) × (obstacleNumbers o ≡ obstacleNumbers (obstacleAnswer y img v))
         unfolding obstacleAnswer
-        obstacle-0 z o q = (refusal-is, q ∙ rw (eq-eqb (obstacleRefusal y img v) 0 (sym refusal-is ∙ z)))
+        obstacle-0 z o q = (refusal-is, ap obstacleNumbers q ∙ rw (eq-eqb (obstacleRefusal y img v) 0 (sym refusal-is ∙ z)))
 
 -- ---- what the call answers, on every image
 

@@ -64,7 +64,7 @@ record Ran (y : Layout) (s : State) (b places : List ℕ) : Type 0 where
   state : stateAfter y s (rearranged 0 places b) (stepsIn (rearranged 0 places b)) ≡ stateAfter y s b (stepsIn b)
   replies : chunks (stepsIn (rearranged 0 places b)) (replyAt y s (rearranged 0 places b)) ≡ rearranged 0 places (chunks (stepsIn b) (replyAt y s b))
 
-module _ (y : Layout) (s : State) (full : Full y s) where
+module _ (y : Layout) (s : State) (full : length (s .transactors) ≡ y .transactors) where
   abbrev run : List ℕ → State
   run b = stateAfter y s b (stepsIn b)
 

@@ -5,8 +5,7 @@ use native.Mathlib.Omega.{arith}
 use lib.Dec.{eqb}
 use Rattle.octets.specs.Bytes.{part, every}
 use Rattle.octets.proofs.Put.{octets-of}
-use Rattle.marks.proofs.Within.{firstZero}
-use Rattle.convert.proofs.Within.{first-more, absent-within, present-within}
+use Rattle.convert.proofs.Within.{firstZero, first-more, absent-within, present-within}
 use borrow.Author.Needs.{needs}
 use Rattle.convert.proofs.low.history.Statement.{statement}
 use Rattle.convert.proofs.low.history.Tie as tie

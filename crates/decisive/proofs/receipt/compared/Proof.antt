@@ -1,7 +1,7 @@
 -- Joined, compared, and read where it stands.
 use native.Mathlib.Omega.{arith}
 use borrow.Author.Needs.{needs}
-use Rattle.decisive.proofs.Judging.{read-unrelated, read-decision}
+use Rattle.decisive.proofs.Judging.{read-unrelated, read-message, read-receiver}
 use mathlib.Core.Path.{sym, ap, _∙_}
 use Rattle.maps.proofs.Packed.{bounded-unpack, bounded-join}
 use Rattle.decisive.proofs.receipt.compared.Statement.{statement}
@@ -13,12 +13,12 @@ compare-requires c κs =
 
 returns : tie.Need-returns
 returns c =
-    let a = c .before in
-    let j = a .before in
+    let j = c .before in
     let m = j .before in
     let s = m .before .before in (
-      read-unrelated _ _ (s .pre .1) _ (s .pre .2) (a .compare .ensures .0 ∙ rw (j .joined .ensures, m .map-at .ensures)),
-      read-decision _ _ (s .pre .1) _ (s .pre .2) (a .compare .result .packed) (a .compare .result .own) (c .decided .ensures) (a .compare .ensures .1 ∙ rw (j .joined .ensures, m .map-at .ensures)) (a .compare .ensures .2 ∙ rw (j .joined .ensures, m .map-at .ensures)),
+      read-unrelated _ _ (s .pre .1) _ (s .pre .2) (c .compare .ensures .0 ∙ rw (j .joined .ensures, m .map-at .ensures)),
+      read-message _ _ (s .pre .1) _ (s .pre .2) (c .compare .ensures .1 ∙ rw (j .joined .ensures, m .map-at .ensures)),
+      read-receiver _ _ (s .pre .1) _ (s .pre .2) (c .compare .ensures .2 ∙ rw (j .joined .ensures, m .map-at .ensures)),
     )
 
 pub compared-spec : {M : Type 1} → statement M
@@ -32,5 +32,4 @@ compared-spec =
     (λ c κs. search needs)
     (λ c κs. search needs)
     compare-requires
-    (λ c κs. search needs)
     returns)

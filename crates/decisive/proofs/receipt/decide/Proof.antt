@@ -17,4 +17,4 @@ decide-spec =
     (λ c κs.
     let r = c .before in
     good-formed _ (sound-long base _ _ (r .image-refusal .ensures) (c .if1 .left)) (octets-of _ (r .before .shared-slice-known .given)) (sound-formed base _ _ (r .image-refusal .ensures) (c .if1 .left)))
-    (λ c. decide-judged _ _ _ (c .before .before .image-refusal .ensures) (c .before .if1 .left) (c .judge-numbered .ensures)))
+    (λ c. decide-judged _ _ _ (c .before .before .before .image-refusal .ensures) (c .before .before .if1 .left) (c .before .judge-numbered .ensures)))

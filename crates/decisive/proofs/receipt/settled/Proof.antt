@@ -1,6 +1,7 @@
 -- By the answer.
 use borrow.Author.Needs.{needs}
-use Rattle.decisive.proofs.Judging.{by-receiver}
+use Rattle.rules.specs.Layout.{base}
+use Rattle.decisive.proofs.Judging.{by-none, by-receiver}
 use Rattle.decisive.proofs.receipt.settled.Statement.{statement}
 use Rattle.decisive.proofs.receipt.settled.Tie as tie
 
@@ -10,5 +11,7 @@ settled-spec =
     (tie.spec
     (λ c. search needs)
     (λ c. search needs)
-    (λ c. search needs)
-    (λ c. by-receiver _ (c .before .receiver .given .1)))
+    (λ c κs. search needs)
+    (λ c. by-none base _ _ _ (c .before .enum-told .given .1) (c .told .ensures))
+    (λ c κs. search needs)
+    (λ c. by-receiver base _ _ _ (c .before .before .receiver .given .1) (c .falls .ensures)))

@@ -2,7 +2,7 @@
 use mathlib.Core.Path.{_∙_}
 use Rattle.octets.proofs.Put.{octets-of}
 use Rattle.octets.proofs.Tests.{passed, failed}
-use Rattle.marks.proofs.Wide.{wide-first, wide-last}
+use Rattle.packed_histories.proofs.Wide.{wide-first, wide-last}
 use borrow.Author.Needs.{needs}
 use Rattle.packed_histories.proofs.in_place.agree.Statement.{statement}
 use Rattle.packed_histories.proofs.in_place.agree.Tie as tie

@@ -6,7 +6,7 @@ use Rattle.octets.proofs.Tests.{passed, failed}
 use Rattle.marks.specs.Packed.{width, places, historyIn}
 use Rattle.marks.proofs.Packed.{length-unpack}
 use Rattle.marks.proofs.Unpacked.{other-counts}
-use Rattle.marks.proofs.Wide.{whole-first, whole-last}
+use Rattle.packed_histories.proofs.Wide.{whole-first, whole-last}
 use borrow.Author.Needs.{needs}
 use Rattle.packed_histories.proofs.in_place.same_in.Statement.{statement}
 use Rattle.packed_histories.proofs.in_place.same_in.Tie as tie
