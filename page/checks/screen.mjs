@@ -97,7 +97,10 @@ async function themes({ browser, check, url, shots }) {
     assert.notEqual(await border("course"), await border("desk"));
     await browser.click(`.stage [data-take="1"]`);
     assert.match(await browser.eval(`getComputedStyle(document.querySelector('.stage [data-take="1"]')).outlineStyle`), /solid/);
+    assert.match(await browser.eval(`getComputedStyle(document.querySelector(".lesson-tab[aria-current]")).outlineStyle`), /solid/);
     await browser.shot(`${shots}forced.png`);
+    await browser.go(`${url}#text=${encodeURIComponent(steps.join("\n"))}`);
+    assert.match(await browser.eval(`getComputedStyle(document.querySelector("#course-rows [aria-selected=true]")).outlineStyle`), /solid/);
   });
   await check("reduced motion: nothing moves", async () => {
     await media({ "prefers-reduced-motion": "reduce" });
