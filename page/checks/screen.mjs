@@ -66,12 +66,12 @@ async function firstScreen({ browser, check, url, shots }) {
     assert.doesNotMatch(await browser.text("body"), /\(empty; 0\)|text 1\b|write 1/);
   });
   await check("the lines that a take rests on light up when it is chosen, through others too", async () => {
-    const lit = () => browser.eval(`document.querySelectorAll(".line.lit-line").length`);
+    const lit = () => browser.eval(`document.querySelectorAll(".stage .lit-line").length`);
     await browser.go(`${url}#lesson=02-what-a-withdrawal-reaches&screen=3`);
     assert.equal(await lit(), 0);
     await browser.eval(`document.querySelector('.stage [data-take="2"]').dispatchEvent(new PointerEvent("pointerover", { bubbles: true }))`);
     assert.equal(await lit(), 2);
-    assert.deepEqual(await browser.eval(`[...document.querySelectorAll(".line")].map(l => l.className.baseVal.split(" ")[1]).sort()`), ["plain", "withdrawn"]);
+    assert.deepEqual(await browser.eval(`[...document.querySelectorAll(".stage .line")].map(l => l.className.baseVal.split(" ")[1]).sort()`), ["plain", "withdrawn"]);
   });
 }
 
@@ -97,7 +97,10 @@ async function themes({ browser, check, url, shots }) {
     assert.notEqual(await border("course"), await border("desk"));
     await browser.click(`.stage [data-take="1"]`);
     assert.match(await browser.eval(`getComputedStyle(document.querySelector('.stage [data-take="1"]')).outlineStyle`), /solid/);
+    assert.match(await browser.eval(`getComputedStyle(document.querySelector(".lesson-tab[aria-current]")).outlineStyle`), /solid/);
     await browser.shot(`${shots}forced.png`);
+    await browser.go(`${url}#text=${encodeURIComponent(steps.join("\n"))}`);
+    assert.match(await browser.eval(`getComputedStyle(document.querySelector("#course-rows [aria-selected=true]")).outlineStyle`), /solid/);
   });
   await check("reduced motion: nothing moves", async () => {
     await media({ "prefers-reduced-motion": "reduce" });

@@ -1,15 +1,12 @@
 // What is right, by the library: each kind of question has a call that answers it. No lesson says it itself.
 import { compare, worstWindow } from "../../../bindings/js/ledger.mjs";
 import { packMark, readHead } from "../../../bindings/js/image.mjs";
-import { readReply, sameBytes, volumeOf } from "../../../bindings/js/packed.mjs";
+import { packStep, readReply, sameBytes, volumeOf } from "../../../bindings/js/packed.mjs";
 import { toSteps } from "../../../bindings/js/notation.mjs";
 import { groundsOf, reachOf } from "../shared/grounds.mjs";
 import { leftSet } from "../shared/sets.mjs";
 import { livesOf, stateOf } from "../shared/states.mjs";
 import { stepsOf } from "./lessons.mjs";
-
-/** What a receipt would do, by its outcome, in the words of the lessons' choices. */
-const DOOR = { 0: "taken in", 2: "dropped", 3: "falls", 4: "falls" };
 
 /** @typedef {import("../../../bindings/js/ledger.mjs").Session} Session */
 
@@ -19,6 +16,9 @@ function after(session, lines) {
   stepsOf(copy, lines);
   return copy;
 }
+
+/** The outcome that a step would get, on a copy. */
+const replyTo = (session, step) => readReply(session.copy().run(step), 0).outcome;
 
 /** The takes that a question is about, in the words of lessons. */
 function asked(session, screen, heads) {
@@ -48,10 +48,10 @@ const ANSWERS = {
   sets: ({ session, screen }) => leftSet(session, volumeOf(screen.volume)).filter(m => !m.partner).map(m => m.take),
   next: ({ session, screen }) => [readHead(after(session, [screen.step]).image, screen.take).mark?.n ?? "none"],
   lives: ({ screen, record, count }) => lives(record, screen, count),
-  door: ({ session, screen }) => [DOOR[session.decision(screen.parcel).outcome]],
+  door: ({ session, screen }) => [replyTo(session, packStep("receive", { parcel: screen.parcel }))],
   order: ({ screen }) => inOrder(screen.marks.map(([list, n]) => ({ list, n, frozen: false }))),
   hour: ({ screen, record, count }) => [worstWindow(record.packedReplies.subarray(0, 8 * count), screen.width).place],
-  reply: ({ session, screen }) => [readReply(session.copy().run(toSteps(screen.step).steps), 0).outcome],
+  reply: ({ session, screen }) => [replyTo(session, toSteps(screen.step).steps)],
   same: ({ session, screen }) => [sameEnd(session, ...screen.orders) ? "same" : "other"],
 };
 

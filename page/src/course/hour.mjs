@@ -17,8 +17,9 @@ function judge(player, i) {
 }
 
 function box(player, reply, i) {
-  const { solved, right, picked, screen } = player, [from] = solved ? right : picked, inside = from !== undefined && i >= from && i < from + screen.width;
-  const fell = tone(reply) === "fell", said = `step ${i + 1}${fell ? ", a fall" : ""}`, classes = `reply-box${fell ? " fell" : ""}${inside ? " inside" : ""}`;
+  const { solved, right, picked, screen } = player, [from] = solved ? right : picked;
+  const inside = from !== undefined && i >= from && i < from + screen.width, fell = tone(reply) === "fell";
+  const classes = `reply-box${fell ? " fell" : ""}${inside ? " inside" : ""}`, said = `step ${i + 1}${fell ? ", a fall" : ""}`;
   const clicked = solved ? { role: "img" } : { type: "button", onclick: () => judge(player, i) };
   return el(solved ? "div" : "button", { class: classes, "data-choice": i, "data-focus": `reply ${i}`, "aria-label": said, ...clicked },
     el("span", {}, i + 1), fell ? mark("tear", 20) : null);
