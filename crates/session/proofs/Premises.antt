@@ -10,22 +10,26 @@ use native.Mathlib.Omega.{arith}
 use lib.ListN.{length, getD}
 use lib.Dec.{eqb, ltb, leb}
 use borrow.Author.Tests.{eqb-true, ltb-true, leb-true}
-use Rattle.octets.specs.Bytes.{part, Octets}
+use Rattle.octets.specs.Bytes.{part}
 use Rattle.octets.specs.Numbers.{bound}
 use Rattle.octets.proofs.Tests.{or-to}
 use Rattle.octets.proofs.Zero.{both}
 use Rattle.rules.specs.Layout.{Layout, Limits, lastNumber}
 use Rattle.rules.specs.State.{State}
-use Rattle.rules.specs.Step.{stepAt, sign, fallenBack, vanished}
+use Rattle.rules.specs.Step.{stepAt, sign, done, fallenBack, vanished}
 use Rattle.rules.specs.Refusals.{named}
-use Rattle.rules.specs.Calls.{stepsIn, beginAnswer, runAnswer}
+use Rattle.rules.specs.Rules.{stepOf}
+use Rattle.rules.specs.Pack.{unpack}
+use Rattle.rules.specs.Calls.{stateAfter, stepsIn, beginAnswer}
 use Rattle.rules.specs.ReadyGroups.{howMany}
 use Rattle.rules.specs.Plan.{letters, lettersFit}
+use Rattle.rules.proofs.Calls.Begin.{begin-accepted}
 use Rattle.rules.proofs.Groups.Counting.{many-same}
 use Rattle.session.specs.Provenance.{Provenance}
 use Rattle.session.specs.Fed.{Call, begin, run, offer, show}
+use Rattle.session.specs.Trace.{Trace, opened, called, callsOf, Started, first, later}
 use Rattle.session.specs.Point.{outcomeIn}
-use Rattle.session.specs.Waiting.{Waits}
+use Rattle.session.specs.Waiting.{Waits, CheckpointsTransactor, Leaves}
 use Rattle.session.specs.Withdrawal.{RolledBackIn, rolled-back, annihilated-in}
 use Rattle.session.specs.Meanings.{OfferMeans, no-message, lowest, SmallestMeans, no-group, smallest, CountMeans}
 use Rattle.session.specs.Attainable.{LettersFit, none-needed, room}
@@ -81,3 +85,27 @@ waits-unsigned y img c u g = record {
   goes-on = g;
   uncheckpointed = λ list o start end lent e a k h i s. subst Unsigned e u k i s;
 }
+
+-- ---- calls that do not sign take t (specs/Waiting): whatever is no accepted begin and no accepted run by which t is signed
+
+-- no step of a run on the image img is a signing that names take t and replies 0; of any other call nothing
+abbrev Untouched : Layout → List ℕ → ℕ → Call → Type 0
+Untouched y img t (begin m) = Unit {0}
+Untouched y img t (run list o start end lent) =
+    (k : ℕ) → k < stepsIn (part start (end - start) list) → stepAt (part start (end - start) list) k .kind ≡ sign → named (stepAt (part start (end - start) list) k .message) t ≡ true
+    → stepOf y (stateAfter y (unpack y img) (part start (end - start) list) k) (stepAt (part start (end - start) list) k) .reply .outcome ≡ done → ⊥
+Untouched y img t (offer u) = Unit {0}
+Untouched y img t (show n) = Unit {0}
+
+pub leaves-untouched : (y : Layout) (img : List ℕ) (t : ℕ) (c : Call) → Untouched y img t c → ((m : Limits) → c ≡ begin m → beginAnswer y m img ≡ 0 → ⊥) → Leaves y t img c
+leaves-untouched y img t c u g = record {
+  goes-on = g;
+  uncheckpointed = λ list o start end lent e a k h i s. subst (Untouched y img t) e u k i (s .kind) (s .names) (s .signs);
+}
+
+-- ---- the calls of every session start with an accepted begin (specs/Trace): a list of calls that does not has no session
+
+pub trace-started : {y : Layout} {img : List ℕ} (τ : Trace y img) → Started y (callsOf τ)
+unfolding callsOf
+trace-started {y} (opened m img e) = first (begin-accepted y img m e .0)
+trace-started (called τ c a p) = later c (trace-started τ)
