@@ -62,6 +62,9 @@ module _ (b : Provenance) where
   pub smallest-means-one : (t : ℕ) {v w : ℕ} → SmallestMeans b t (some v) → SmallestMeans b t (some w) → (u : ℕ) → named v u ≡ true ↔ named w u ≡ true
   smallest-means-one t (smallest {v} h s l) (smallest {v = w} k r m) u = (l w k r u, m v h s u)
 
+  pub smallest-or-none : (t : ℕ) {v : ℕ} → SmallestMeans b t (some v) → SmallestMeans b t none → ⊥
+  smallest-or-none t (smallest {v} h s l) (no-group e) = e v h s
+
   pub count-means-one : (size : ℕ) {n m : ℕ} → CountMeans b size n → CountMeans b size m → n ≡ m
   count-means-one size c d = c .many ∙ many-same (c .ready) (d .ready) (bound 2) (λ v h. same (c .ready v) (d .ready v)
       (λ (e : c .ready v ≡ true). d .exactly v h .1 (c .exactly v h .0 e)) (λ (e : d .ready v ≡ true). c .exactly v h .1 (d .exactly v h .0 e))) ∙ sym (d .many)
