@@ -106,7 +106,7 @@ enum ledger_clause {
     LEDGER_WRONG_LIMITS = 2,     /* limits out of range */
     LEDGER_TRANSACTOR_ZEROS = 3, /* in a transactor's place a zero bit that is set, or a place past those opened that is not zero */
     LEDGER_PLACE_ZEROS = 4,      /* in a message's place a zero bit that is set, or a free place that is not zero */
-    LEDGER_WRONG_MAP = 5,        /* in a map: the same; a history of a transactor that is not opened; or more checkpoints than the limit */
+    LEDGER_WRONG_MAP = 5,        /* in a map: a zero bit or an unused byte that is not zero; a history of one not opened; a list over the limit */
     LEDGER_OVER_LIMIT = 6,       /* more transactors opened, or more messages waiting, than the limits */
     LEDGER_NO_STATUS = 7,        /* an opened transactor with status 0 */
     LEDGER_NO_OWN_HISTORY = 8,   /* a live transactor without its own history */
@@ -156,20 +156,21 @@ struct ledger_resting ledger_dependents(const uint8_t *image, size_t image_lengt
 
 /* Why the group (its bits, transactor t counting 2^t) can't be checkpointed now: the first reason, LEDGER_NOTHING exactly if it can; *refusal
  * is 0. An unstable transactor comes first; then the maps are looked at, transactor by transactor and entry by entry. With
- * LEDGER_SUPERSEDED_OR_ANNIHILATED no group with that transactor can be checkpointed as long as it keeps its present incarnation. Refused:
+ * LEDGER_SUPERSEDED_OR_ANNIHILATED, in a session grown from a fresh one, no group with that transactor can be checkpointed as long as it keeps its
+ * present incarnation. Refused:
  * *refusal is 16, 19, or what the signing would get, 29, 21, 22 or 30, and all three numbers are 0. A number past 16 bits names a transactor that
  * no session opens: 21. */
 struct ledger_reason ledger_obstacle(const uint8_t *image, size_t image_length, size_t members, uint8_t *refusal);
 
 /* Why no group with the transactor could be checkpointed now: LEDGER_NO_IMPEDIMENT exactly if one could, that is, if ledger_smallest_group
  * gives one; *refusal is 0. The hopeless come first, then the exhausted, then the unstable; of each the lowest. Asked about next, the answer is
- * the same but for next, so a caller walks the chain to the one in the way by asking again. With LEDGER_HOPELESS no group with the asked
- * transactor can be checkpointed as long as it keeps its present incarnation. Refused: *refusal is 16, 19, 21 or 22, and all
+ * the same but for next, so a caller walks the chain to the one in the way by asking again. With LEDGER_HOPELESS or LEDGER_EXHAUSTED, in a
+ * session grown from a fresh one, no group with the asked transactor can be checkpointed as long as it keeps its present incarnation. Refused: *refusal is 16, 19, 21 or 22, and all
  * four numbers are 0. */
 struct ledger_cause ledger_impediment(const uint8_t *image, size_t image_length, size_t transactor, uint8_t *refusal);
 
 /* For whom the step, LEDGER_STEP bytes, acts on this image: whoever gives people rights asks it
- * before the step is run. Whether the step would be refused with more than 20 is not asked. A step
+ * before the step is run. Refusals other than those of LEDGER_NOBODY are not asked about. A step
  * changes no transactor that is opened before it and that it does not act for, refused or not.
  * *refusal is 0. Refused: *refusal is 16, 17 (step not LEDGER_STEP bytes) or 19, and both numbers
  * are 0. */
@@ -177,16 +178,16 @@ struct ledger_acting ledger_actor(const uint8_t *image, size_t image_length, con
 
 /* Where an image fails the form first: answers 0 if it is well-formed, with *at and *clause 0; 19
  * if it is not, with the byte in *at (where the field, map or place begins) and the clause in
- * *clause; 16, with both 0, if it has another length. So the answer is what every other call
- * refuses the image with. The head and the limits come first, then the transactors, then the places
- * of messages, each in the order of the bytes. */
+ * *clause; 16, with both 0, if it has another length. So it refuses exactly the images that
+ * ledger_offer refuses with 16 and 19. The head and the limits come first, then the transactors,
+ * then the places of messages; docs/RULES.md, section 9.13, has the tests of each in their order. */
 uint8_t ledger_fault(const uint8_t *image, size_t image_length, size_t *at, uint8_t *clause);
 
 /* What is left to do so that the transactor is checkpointed: the steps, eight bytes each, written to out
  * (LEDGER_PLAN bytes) with zero bytes after them; the answer is how many, and *refusal is 0. Run from the same
  * image, each is answered with outcome 0, and the last, a signing, checkpoints the transactor with all that it
- * rests on; no value changes, nobody rolls back, and no waiting message is touched. An idle transactor is woken
- * by an empty letter first. Where there are 0 steps, ledger_impediment on the same image tells why. It says
+ * rests on; no value changes, nobody rolls back, and no waiting message is touched. A transactor that is idle and
+ * not stable is woken by an empty letter first. Where there are 0 steps, ledger_impediment on the same image tells why. It says
  * hopeless or exhausted: then, in a session grown from a fresh one, the transactor can't be checkpointed any more
  * as long as it keeps its present incarnation. It says not stable: then a letter is needed for which there is no
  * place or no number. Refused: *refusal is 16, 19, 21, 22, or 18 if out has another length, no byte of out is

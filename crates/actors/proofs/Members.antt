@@ -1,6 +1,7 @@
 -- The one take that a step acts for has a number below 16, so it counts as one of a volume.
 use Prim.Native.Nat.{ℕ, _%_, _<_}
-use mathlib.Core.Path.{_≡_, subst}
+use mathlib.Core.Bool.{true}
+use mathlib.Core.Path.{_≡_, refl, subst}
 use mathlib.Core.List.{List}
 use native.Mathlib.Omega.{arith}
 use lib.ListN.{length, getD}
@@ -11,12 +12,12 @@ use Rattle.rules.specs.Layout.{base, messageAddress}
 use Rattle.rules.specs.State.{messageAt, placeOf}
 use Rattle.rules.specs.declared.Step.{Step}
 use Rattle.rules.specs.Step.{unpackStep, stepAt, receive, sign}
-use Rattle.rules.specs.Refusals.{acts, malformed}
+use Rattle.rules.specs.Refusals.{named, acts, malformed}
 use Rattle.rules.specs.Pack.{unpack}
 use Rattle.rules.proofs.Pack.Loads.{read-addressee, unpack-waiting}
 use Rattle.actors.specs.declared.Actor.{Actor}
 use Rattle.actors.specs.declared.Actor.the-variants.{Nobody, House, One, Group}
-use Rattle.actors.specs.Actor.{receiverOf, actorOf, actorRefusal, actorAnswer}
+use Rattle.actors.specs.Actor.{receiverOf, actorOf, actorRefusal, actorAnswer, ActsFor, alone, member}
 
 data Small : Actor → Type 0 where
   nobody : Small Nobody
@@ -51,3 +52,11 @@ module _ (img : List ℕ) where
     where
       go : Small (One t) → t < 16
       go (one h) = h
+
+-- A step acts for no other takes than those that its answer names: the one, or those of the group. So Others.others-kept speaks of all others.
+
+pub only-one : {t u : ℕ} → ActsFor (One t) u → t ≡ u
+only-one (alone t) = refl
+
+pub only-members : {v t : ℕ} → ActsFor (Group v) t → named v t ≡ true
+only-members (member v t e) = e

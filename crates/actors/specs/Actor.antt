@@ -32,12 +32,12 @@ actorNumbers (Group v) = record { kind = 3; takes = v }
 
 -- ---- by kind
 
--- the addressee of the waiting parcel with number n; nobody if it does not wait
+-- The addressee of the waiting parcel with number n, or nobody if no such parcel waits.
 unfoldable pub receiverOf : State → ℕ → Actor
 receiverOf s n = pick (leb (length (s .messages)) (placeOf s n)) Nobody (One (messageAt s (placeOf s n) .addressee))
 
 -- A receive acts for the addressee, a sign for the volume, kinds 3 to 10 for the take of the take field; root, letter and lose are the
--- house's. What is no step, and refused with 20, acts for nobody.
+-- house's. A step that is refused with 20 acts for nobody.
 unfoldable pub actorOf : State → Step → Actor
 actorOf s p =
     pick (malformed p) Nobody
@@ -47,24 +47,24 @@ actorOf s p =
 
 -- ---- the call
 
--- 16; 17: not the eight bytes of a step; 19
+-- Refused with 16 for the image's length, with 17 if the step has not eight bytes, with 19 if the image is ill-formed.
 unfoldable pub actorRefusal : Layout → List ℕ → List ℕ → ℕ
 actorRefusal y img step =
     pick (wrongLength y img) 16
     (pick (not (eqb (length step) stepBytes)) 17
     (pick (not (wellFormed y img)) 19 0))
 
--- refused: nobody
+-- For whom the step acts; where the call is refused the answer is nobody.
 unfoldable pub actorAnswer : Layout → List ℕ → List ℕ → Actor
 actorAnswer y img step = pick (eqb (actorRefusal y img step) 0) (actorOf (unpack y img) (stepAt step 0)) Nobody
 
--- what the call promises: r is what the lent number takes
+-- What the call promises: r is what the lent number takes, the refusal or 0; a is the answer.
 abbrev pub ActorPromise : Layout → (img step : List ℕ) (r : ℕ) → Actor → Type 0
 ActorPromise y img step r a = (r ≡ actorRefusal y img step) × (a ≡ actorAnswer y img step)
 
 -- ---- for theorems
 
--- take t is one that it acts for
+-- Take t is one of those for which the answer says that the step acts.
 pub data ActsFor : Actor → ℕ → Type 0 where
   alone : (t : ℕ) → ActsFor (One t) t
   member : (v t : ℕ) → named v t ≡ true → ActsFor (Group v) t

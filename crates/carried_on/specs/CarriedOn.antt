@@ -15,9 +15,9 @@ use Rattle.session.specs.Demand3.{Demand3}
 pub record CarriedOn (old : List ℕ) (τ : Trace narrow old) : Type 1 where
   -- The call forward writes it into any image of the new length.
   pub accepted : (new : List ℕ) → length new ≡ imageBytes base → (forwardAnswer old new ≡ 0) × (forwardImage old new ≡ forward old)
-  -- There is a session of the new form that leaves old carried forward,
+  -- There is a session of the new form that leaves the image old carried forward.
   pub session : Trace base (forward old)
-  -- with the book of the old one: the book that was fed the calls of τ.
+  -- Its book is that of the old session: the one that was fed the calls of τ.
   pub book : {b : Provenance} → ProvenanceOf narrow (callsOf τ) b → ProvenanceOf base (callsOf session) b
-  -- Whatever calls follow in the new form, demand 3 holds of it with them: at each of them, as before, by the one book that is fed them all.
+  -- Whatever calls follow in the new form, demand 3 holds of the session that has these calls at its end, by the one book that is fed all of them.
   pub demand3 : {P : List ℕ → Call → Type 0} {after : List ℕ} (k : CallsFrom base P (forward old) after) → Demand3 base after (extended session k)

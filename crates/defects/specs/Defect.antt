@@ -1,5 +1,5 @@
--- Where an image fails the form first, and by which of its clauses: part by part in the order of the bytes (the head and the limits, the takes, the
--- parcel places), and in each part test by test. Document 01, "Ill-formed: ..", and document 02, W7.
+-- Where an image fails the form first, and by which of its clauses. The parts are looked at in the order of the bytes: the head and the limits, the
+-- takes, the parcel places. In each part the tests are made in the order in which they stand below. Document 01, "Ill-formed: ..", and document 02, W7.
 use Prim.Native.Nat.{ℕ, zero, suc, _+_, _-_, _/_, _%_}
 use mathlib.Core.Bool.{Bool, not}
 use mathlib.Core.Path.{_≡_}
@@ -35,7 +35,7 @@ takeZeros = 3
 abbrev pub placeZeros : ℕ
 placeZeros = 4
 
--- the same in a map; or "a mark of an unopened take"; or more entries in a list than the session's signings
+-- the same in a map; or "a mark of an unopened take" in it; or a list with more entries than the session has signings
 abbrev pub wrongMap : ℕ
 wrongMap = 5
 
@@ -81,26 +81,26 @@ toUnopened = 15
 
 -- ---- one after the other
 
--- no clause fails: clause 0
+-- The answer where no clause fails: the clause is 0.
 abbrev pub sound : Defect
 sound = record { at = 0; clause = 0 }
 
--- clause c fails at byte at unless the test holds; then what comes after it
+-- If the test ok holds, the answer is that of the tests after it (rest); else clause c fails at byte at.
 abbrev pub check : Bool → ℕ → ℕ → Defect → Defect
 check ok at c rest = pick ok rest (record { at = at; clause = c })
 
--- the first that is one
+-- The answer d if a clause fails in it; else the answer e.
 abbrev pub orElse : Defect → Defect → Defect
 orElse d e = pick (eqb (d .clause) 0) e d
 
--- the first of f k, f (k + 1), .., n of them, that is one
+-- Of the n answers f k, f (k + 1), .. the first one in which a clause fails.
 unfoldable pub firstOf : (ℕ → Defect) → ℕ → ℕ → Defect
 firstOf f k zero = sound
 firstOf f k (suc n) = orElse (f k) (firstOf f (suc k) n)
 
 -- ---- the parts
 
--- takes opened 8, next parcel number 16, zero 8; the limits: takes, parcels waiting, signings, zero, 8 each
+-- The head (takes opened 8 bits, next parcel number 16, zero 8) and the limits (takes, parcels waiting, signings, zero, 8 bits each).
 unfoldable pub frontDefect : Layout → List ℕ → Defect
 frontDefect y img =
     check (eqb (getD img 3 0) 0) 3 frontZeros
@@ -109,20 +109,20 @@ frontDefect y img =
     (check (leb (unpack y img .opened) (unpack y img .limits .transactors)) 0 overLimit
     (check (leb (waitingIn y img) (unpack y img .limits .messages)) 5 overLimit sound))))
 
--- the behaviour map of take t, idle or at work
+-- The behaviour map of take t: of an idle take it is all zero, of one at work it is a well-formed map.
 unfoldable pub behaviourDefect : Layout → List ℕ → ℕ → Defect
 behaviourDefect y img t =
     pick (eqb (getD img (transactorAddress y t) 0 / 64) idle)
     (check (allZero (part (transactorAddress y t + behaviourAt y) (mapBytes y) img)) (transactorAddress y t + behaviourAt y) idleBehaviour sound)
     (check (mapFormed y (unpack y img) (transactorAddress y t + behaviourAt y) img) (transactorAddress y t + behaviourAt y) wrongMap sound)
 
--- take t was signed, or has no saved text
+-- Take t was signed, or it has no saved text.
 unfoldable pub savedRightAt : Layout → List ℕ → ℕ → Bool
 savedRightAt y img t =
     not (eqb (unpackHistory (y .width) (y .places) (part (ownAt y t) (historyBytes y) img) .count) 0)
     or eqb (ofBe 4 (part (transactorAddress y t + savedAt) 4 img)) 0
 
--- take t, idle or at work: state and creation map, own mark, saved text, behaviour map
+-- Take t, which is idle or at work: its state map, its creation map, its own mark, its saved text, its behaviour map.
 unfoldable pub liveDefect : Layout → List ℕ → ℕ → Defect
 liveDefect y img t =
     check (mapFormed y (unpack y img) (transactorAddress y t + stateAt) img) (transactorAddress y t + stateAt) wrongMap
@@ -130,7 +130,7 @@ liveDefect y img t =
     (check (presentIn (part (ownAt y t) (historyBytes y) img)) (ownAt y t) noOwnMark
     (check (savedRightAt y img t) (transactorAddress y t + savedAt) savedText (behaviourDefect y img t))))
 
--- take t: unopened, vanished, idle or at work
+-- Take t, which may be unopened, vanished, idle or at work.
 unfoldable pub transactorDefect : Layout → List ℕ → ℕ → Defect
 transactorDefect y img t =
     pick (leb (unpack y img .opened) t) (check (allZero (part (transactorAddress y t) (transactorBytes y) img)) (transactorAddress y t) takeZeros sound)
@@ -145,7 +145,7 @@ unfoldable pub leastNumber : Layout → List ℕ → ℕ → ℕ
 leastNumber y img zero = 0
 leastNumber y img (suc k) = ofBe 2 (part (messageAddress y k + 1) 2 img) + 1
 
--- place k, in which a parcel waits: the first byte, its addressee, its number, its map
+-- Place k, in which a parcel waits: the first byte, the addressee in it, the number, the map.
 unfoldable pub waitingDefect : Layout → List ℕ → ℕ → Defect
 waitingDefect y img k =
     check (eqb (getD img (messageAddress y k) 0 / 16) 8) (messageAddress y k) placeZeros
@@ -154,7 +154,7 @@ waitingDefect y img k =
     (check (leb (leastNumber y img k) (ofBe 2 (part (messageAddress y k + 1) 2 img))) (messageAddress y k + 1) outOfOrder
     (check (mapFormed y (unpack y img) (mapAt y k) img) (mapAt y k) wrongMap sound))))
 
--- place k: after the first in which none waits all are zero, and one that waits there leaves a gap
+-- Place k. From the first place on in which no parcel waits every place is zero; a parcel that waits in one of them leaves a gap before it.
 unfoldable pub messageDefect : Layout → List ℕ → ℕ → Defect
 messageDefect y img k =
     pick (leb (waitingIn y img) k)
@@ -168,14 +168,14 @@ defectOf y img =
 
 -- ---- the call
 
--- 16; 19 if a clause fails
+-- Refused with 16 for the image's length, with 19 if a clause fails.
 unfoldable pub defectRefusal : Layout → List ℕ → ℕ
 defectRefusal y img = pick (wrongLength y img) 16 (pick (eqb (defectOf y img .clause) 0) 0 19)
 
--- which, and where; with 16 none
+-- The clause that fails, and the byte; where the image has another length, that no clause fails.
 unfoldable pub defectAnswer : Layout → List ℕ → Defect
 defectAnswer y img = pick (wrongLength y img) sound (defectOf y img)
 
--- what the call promises: r is what the lent number takes
+-- What the call promises: r is what the lent number takes, the refusal or 0; d is the answer.
 abbrev pub DefectPromise : Layout → (img : List ℕ) (r : ℕ) → Defect → Type 0
 DefectPromise y img r d = (r ≡ defectRefusal y img) × (d ≡ defectAnswer y img)

@@ -1,4 +1,4 @@
--- Why a call or a step is refused, in words: once, for replies, for other languages and for people. They are documents 01 and 02's own
+-- The words of each refusal of a call or a step. They stand here once, for replies, other languages and people. They are documents 01 and 02's own
 -- where these are true for every call that refuses so and for every session's limits.
 use Prim.Native.Nat.{ℕ, _-_}
 use mathlib.Core.List.{List, [], _∷_}
@@ -7,7 +7,7 @@ use lib.ListN.{getD}
 use Rattle.octets.specs.Bytes.{pick}
 use Rattle.notation.specs.Notation.{bytes}
 
--- 16 to 35
+-- The words of 16, of 17, and so on up to 35.
 abbrev pub refusals : List (List ℕ)
 refusals =
     bytes "image not of the right length"

@@ -25,6 +25,7 @@ pub mod Onward
 pub mod Opening
 pub mod Plays
 pub mod Points
+pub mod Premises
 pub mod Promises
 pub mod Queries
 pub mod Reached

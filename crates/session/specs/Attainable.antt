@@ -31,30 +31,30 @@ pub record ExhaustedBelow (b : Provenance) (t : ℕ) : Type 0 where
   pub through : RestsThrough b transactor t
   pub full : b .limits .checkpoints ≤ length (b .holders transactor .history .incarnation .checkpoints)
 
--- There is room for the letters that wake the idle takes of volume g: none is needed; or one more parcel may wait (each is received before the next is
--- sent), and there is a number for each.
+-- There is room for the letters that wake those takes of volume g that are idle and not frozen: none is needed; or one more parcel may wait (each is
+-- received before the next is sent), and there is a number for each.
 pub data LettersFit (y : Layout) (s : State) (g : ℕ) : Type 0 where
   none-needed : letters y s g ≡ 0 → LettersFit y s g
   room : length (s .messages) < s .limits .messages → s .next + letters y s g ≤ lastNumber → LettersFit y s g
 
--- A live take t at a point with state s and book b.
+-- What `impediment` says of a live take t, at a point with state s and book b, and whether t can still be signed.
 pub record AttainableExactly (y : Layout) (s : State) (b : Provenance) (t : ℕ) : Type 0 where
   -- `impediment` says neither hopeless nor exhausted exactly if the take is not spoilt and rests on none that has all its signings.
   pub answered : (mendable (impedimentOf y s t) ≡ true) ↔ ((Spoilt b t → ⊥) × (ExhaustedBelow b t → ⊥))
   -- If so, and if the letters that are needed have room, it can be signed in the life that it has: the plan's steps lead there.
   pub attained : mendable (impedimentOf y s t) ≡ true → LettersFit y s (restingVolume y s t) → Attainable y s t
-  -- If it can, by whatever steps and whatever room there is, it is so.
+  -- If it can be signed in that life, by whatever steps and with whatever room, `impediment` says neither hopeless nor exhausted.
   pub needed : Attainable y s t → mendable (impedimentOf y s t) ≡ true
-  -- If not, it can't be signed any more in that life, whatever comes.
+  -- If `impediment` says hopeless or exhausted, it can't be signed any more in that life, whatever steps come.
   pub doomed : mendable (impedimentOf y s t) ≡ false → Doomed y s t
 
 -- What the call for a plan answers about take t between two calls of a session, if it is not refused.
 pub record PlanMeans (y : Layout) (img : List ℕ) (t : ℕ) (out : List ℕ) : Type 0 where
-  -- some steps: run on that image, they sign the take
+  -- If the answer has some steps: run on that image, they sign the take.
   pub steps : 0 < planAnswer y img t out → (lent : List ℕ) → length lent ≡ stepBytes * planAnswer y img t out → PlanRuns y img t out lent
-  -- if `impediment` says hopeless or exhausted of the same image: none, and the take can't be signed any more
-  -- in the life that it has, whatever comes
+  -- If `impediment` says hopeless or exhausted of the same image: there are no steps, and the take can't be
+  -- signed any more in the life that it has, whatever steps come.
   pub lasting : mendable (impedimentOf y (unpack y img) t) ≡ false → (planAnswer y img t out ≡ 0) × Doomed y (unpack y img) t
-  -- none, where `impediment` says anything else: a letter is needed for which there is no room
+  -- If `impediment` says anything else and there are no steps: a letter is needed for which there is no room.
   pub unfit : mendable (impedimentOf y (unpack y img) t) ≡ true → planAnswer y img t out ≡ 0
       → LettersFit y (unpack y img) (restingVolume y (unpack y img) t) → ⊥

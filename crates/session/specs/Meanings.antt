@@ -54,7 +54,7 @@ pub data SmallestMeans (b : Provenance) (t : ℕ) : Option ℕ → Type 0 where
   smallest : {v : ℕ} → named v t ≡ true → Signable b v → ((w : ℕ) → named w t ≡ true → Signable b w → (u : ℕ) → named v u ≡ true → named w u ≡ true)
       → SmallestMeans b t (some v)
 
--- W10: n volumes of just `size` takes could be signed: some test is true of just these, and of n of them
+-- W10: n volumes of just `size` takes could be signed: there is a test that is true of exactly these volumes, and of n volumes.
 pub record CountMeans (b : Provenance) (size n : ℕ) : Type 0 where
   pub ready : ℕ → Bool
   pub exactly : (v : ℕ) → v < bound 2 → (ready v ≡ true) ↔ ((sizeOf v ≡ size) × Signable b v)
@@ -70,15 +70,15 @@ pub record NewestStabilized (y : Layout) (img : List ℕ) (τ : Trace y img) (X 
   pub later : Precedes a newest
   pub stabilized : StabilizedIn y img τ u newest
 
--- Yes, about take t: of every other take the newest life in its state set was frozen at some earlier step, and so in its creation set. (No means
--- nothing in the book, which does not know what a take has heard.)
+-- What yes means about take t: of every other take the newest life in t's state set was frozen at some earlier step; and so was the newest in t's
+-- creation set. (No means nothing in the book, which does not know what a take has heard.)
 pub record HeardMeans (y : Layout) (img : List ℕ) (τ : Trace y img) (b : Provenance) (t : ℕ) : Type 1 where
   pub state : (u : ℕ) (a : Incarnation) → u ≢ t → In u a (b .holders t .state) → NewestStabilized y img τ (b .holders t .state) u a
   pub creation : (u : ℕ) (a : Incarnation) → u ≢ t → In u a (b .holders t .creation) → NewestStabilized y img τ (b .holders t .creation) u a
 
 -- ---- who rests on take t
 
--- n waiting parcels have take t's present life in their sets: some test is true of just these, and of n of them
+-- n waiting parcels have take t's present life in their sets: there is a test that is true of exactly these parcels, and of n places.
 pub record CarriedMeans (b : Provenance) (t n : ℕ) : Type 0 where
   pub carries : ℕ → Bool
   pub exactly : (i : ℕ) → i < length (b .messages) → (carries i ≡ true) ↔ In t (b .holders t .history .incarnation) (getD (b .messages) i noWaitingMessage .incarnations)

@@ -33,11 +33,11 @@ use Rattle.session.specs.Attainable.{PlanMeans}
 abbrev pub provenanceCountRefusal : ℕ → ℕ
 provenanceCountRefusal size = pick (not (leb 1 size and leb size groupBits)) 34 0
 
--- obstacle: what it would refuse the signing itself with
+-- Of obstacle: the refusal that the signing of the volume would get.
 abbrev pub provenanceSigningRefusal : Layout → Provenance → ℕ → ℕ
 provenanceSigningRefusal y b v = signingRefusal (provenanceRefusal y b) v
 
--- plan: 21 and 22, then 18: other bytes lent than the longest plan has
+-- Of plan: 21 and 22 as the others; then 18, unless as many bytes are lent as the longest plan has.
 abbrev pub provenancePlanRefusal : Layout → Provenance → ℕ → List ℕ → ℕ
 provenancePlanRefusal y b t lent =
     pick (eqb (provenanceQueryRefusal b t) 0) (pick (eqb (length lent) (planBytes y)) 0 18) (provenanceQueryRefusal b t)

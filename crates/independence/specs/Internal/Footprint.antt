@@ -1,5 +1,5 @@
 -- Whether one step sees what another changes (specs/Independent), as the code tests it: takes, the take that is opened, parcels, lists of
--- signings. On a well-formed state the two say the same (proofs/Independent/Footprint).
+-- signings. On a well-formed state the two say the same (proofs/Meeting).
 use Prim.Native.Nat.{ℕ}
 use mathlib.Core.Bool.{Bool, not}
 use lib.Dec.{eqb, leb}
@@ -21,8 +21,8 @@ use Rattle.rules.specs.Independent.{opens, takesAway, hasMark}
 unfoldable pub receiverOf : Layout → State → ℕ → ℕ
 receiverOf y s n = pick (leb (length (s .messages)) (placeOf s n)) (y .transactors) (messageAt s (placeOf s n) .addressee)
 
--- Step p sees take t whole: it signs t, receives by t, opens t, or t acts; o takes are opened, r is the receiver. Whatever it changes of takes is
--- among these.
+-- Step p sees take t as a whole: it is a signing that names t, a receipt by t, it opens t, or t is its acting take. There are o takes opened, and r
+-- receives. Every take that p changes is among these.
 unfoldable pub touches : (o r : ℕ) → Step → ℕ → Bool
 touches o r p t =
     pick (eqb (p .kind) sign) (named (p .message) t)
@@ -36,7 +36,7 @@ touchesIn y s p t = touches (s .opened) (receiverOf y s (p .message)) p t
 unfoldable pub leaves : Layout → State → Step → Bool
 leaves y s p = eqb (p .kind) send or (eqb (p .kind) sign and not (groupReady y s (p .message)))
 
--- the same by the outcome of p
+-- The same, told by the outcome of p.
 unfoldable pub leavesBy : Step → ℕ → Bool
 leavesBy p outcome = eqb (p .kind) send or (eqb (p .kind) sign and eqb outcome notReady)
 
