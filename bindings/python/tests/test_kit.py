@@ -62,6 +62,20 @@ def thin(file, test):
     assert len(kept) == 8 * test["answer"] and kept.ljust(end - start, b"\0") == words(test["out"], end - start)
 
 
+def plan(file, test):
+    if test.get("room", 392) != 392:
+        pytest.skip("the method lends the bytes itself")
+    steps = take_ledger.packed(Session.from_image(image_of(file, test)).plan(test["take"]))
+    assert len(steps) == 8 * test["answer"] and steps == words(test["out"], len(steps))
+
+
+def independent(file, test):
+    if test.get("lengths", [8, 8]) != [8, 8]:
+        pytest.skip("a Step has eight bytes")
+    first, second = take_ledger.unpacked(words(test["list"]))
+    assert Session.from_image(image_of(file, test)).independent(first, second) is test["answer"]
+
+
 def begin(file, test):
     if test.get("length", take_ledger.IMAGE) != take_ledger.IMAGE:
         pytest.skip("the class makes the image itself")
@@ -126,7 +140,8 @@ def impediment(session, test):
 
 
 QUERIES.update(show=show, dependents=dependents, obstacle=obstacle, impediment=impediment)
-CHECKS = {"run": run, "thin": thin, "begin": begin, "forward": convert, "back": convert, "worst_window": window, "play": play}
+CHECKS = {"run": run, "thin": thin, "plan": plan, "independent": independent, "begin": begin, "forward": convert, "back": convert,
+          "worst_window": window, "play": play}
 
 
 def query(file, test):
