@@ -73,7 +73,7 @@ FUNCTION(tl_acting) {
 FUNCTION(tl_dependents) {
     struct store_bytes image = BYTES(0);
     uint8_t refusal;
-    struct ledger_dependents d = ledger_dependents(image.at, image.length, NUMBER(1), &refusal);
+    struct ledger_resting d = ledger_dependents(image.at, image.length, NUMBER(1), &refusal);
     bool nulls[4] = {false};
     if (not_live(refusal)) PG_RETURN_NULL();
     Datum values[] = {Int32GetDatum(d.resting), Int32GetDatum(d.through), Int32GetDatum(d.unfinished),
@@ -84,7 +84,7 @@ FUNCTION(tl_dependents) {
 FUNCTION(tl_obstacle) {
     struct store_bytes image = BYTES(0);
     uint8_t refusal;
-    struct ledger_obstacle o = ledger_obstacle(image.at, image.length, NUMBER(1), &refusal);
+    struct ledger_reason o = ledger_obstacle(image.at, image.length, NUMBER(1), &refusal);
     bool nulls[4] = {false};
     refuse(refusal);
     Datum values[] = {Int32GetDatum(o.kind), Int32GetDatum(o.transactor), Int32GetDatum(o.ground),
@@ -95,7 +95,7 @@ FUNCTION(tl_obstacle) {
 FUNCTION(tl_impediment) {
     struct store_bytes image = BYTES(0);
     uint8_t refusal;
-    struct ledger_impediment m = ledger_impediment(image.at, image.length, NUMBER(1), &refusal);
+    struct ledger_cause m = ledger_impediment(image.at, image.length, NUMBER(1), &refusal);
     bool nulls[5] = {false};
     if (not_live(refusal)) PG_RETURN_NULL();
     Datum values[] = {Int32GetDatum(m.kind), Int32GetDatum(m.transactor), Int32GetDatum(m.ground), Int32GetDatum(m.next),

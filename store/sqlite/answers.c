@@ -44,7 +44,7 @@ static int dependents_fill(struct rows *rows, sqlite3_value **values, char **wro
     uint8_t refusal;
     int status = asked(values, "take", &image, &take, wrong);
     if (status != SQLITE_OK) return status;
-    struct ledger_dependents d = ledger_dependents(image.at, image.length, take, &refusal);
+    struct ledger_resting d = ledger_dependents(image.at, image.length, take, &refusal);
     rows->number[0] = d.resting;
     rows->number[1] = d.through;
     rows->number[2] = d.unfinished;
@@ -58,7 +58,7 @@ static int obstacle_fill(struct rows *rows, sqlite3_value **values, char **wrong
     uint8_t refusal;
     int status = asked(values, "volume", &image, &volume, wrong);
     if (status != SQLITE_OK) return status;
-    struct ledger_obstacle o = ledger_obstacle(image.at, image.length, volume, &refusal);
+    struct ledger_reason o = ledger_obstacle(image.at, image.length, volume, &refusal);
     rows->number[0] = o.kind;
     rows->number[1] = o.transactor;
     rows->number[2] = o.ground;
@@ -77,7 +77,7 @@ static int impediment_fill(struct rows *rows, sqlite3_value **values, char **wro
     uint8_t refusal;
     int status = asked(values, "take", &image, &take, wrong);
     if (status != SQLITE_OK) return status;
-    struct ledger_impediment i = ledger_impediment(image.at, image.length, take, &refusal);
+    struct ledger_cause i = ledger_impediment(image.at, image.length, take, &refusal);
     rows->number[0] = i.kind;
     rows->number[1] = i.transactor;
     rows->number[2] = i.ground;
