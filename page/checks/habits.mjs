@@ -3,9 +3,9 @@ import assert from "node:assert/strict";
 import { hands } from "./desk.mjs";
 
 async function fresh(browser, url) {
-  await browser.go(`${url}#view=desk`);
+  await browser.go(`${url}#view=details`);
   await browser.eval(`localStorage.clear()`);
-  await browser.go(`${url}#view=desk`);
+  await browser.go(`${url}#view=details`);
   return hands(browser);
 }
 
@@ -101,10 +101,10 @@ const setFrom = first => [...from(SET, first), ...from(ON, first + 2)];
 
 async function throughOthers({ browser, check, url }) {
   const shown = async steps => {
-    await browser.go(`${url}#view=desk`);
+    await browser.go(`${url}#view=details`);
     const file = { format: "take ledger desk", version: 1, steps, takes: ["names", "page 12", "page 40"] };
     await browser.eval(`localStorage.setItem("take-ledger.desk", ${JSON.stringify(JSON.stringify(file))})`);
-    await browser.go(`${url}#view=desk`);
+    await browser.go(`${url}#view=details`);
     return browser.text("#desk-board");
   };
   const signed = ["letter to 2 text 0", "receive 2", "freeze 2", "sign {2}"];

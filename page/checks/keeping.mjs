@@ -9,9 +9,9 @@ const store = (browser, key, text) => browser.eval(`localStorage.clear(), localS
 const FILL = `for (let size = 100000, n = 0; size >= 1; size >>= 1) try { for (;;) localStorage.setItem("fill" + n++, "y".repeat(size)); } catch {}`;
 
 async function fresh(browser, url) {
-  await browser.go(`${url}#view=desk`);
+  await browser.go(`${url}#view=details`);
   await browser.eval(`localStorage.clear()`);
-  await browser.go(`${url}#view=desk`);
+  await browser.go(`${url}#view=details`);
   return hands(browser);
 }
 
@@ -28,7 +28,7 @@ async function windows({ browser, check, url }) {
   await desk.open("names", "a");
   const other = await browser.another(), theirs = hands(other);
   await check("two windows: what one keeps, the other does not overwrite, and says so", async () => {
-    await other.go(`${url}#view=desk`);
+    await other.go(`${url}#view=details`);
     await theirs.open("page 12", "b");
     await browser.until(`document.querySelector("#desk-kept .elsewhere")`);
     await desk.open("page 40", "c");
@@ -65,7 +65,7 @@ async function full({ browser, check, url }) {
   await check("where what can't be restored fills the store, it stays in view; once removed, the hearing is kept", async () => {
     await store(browser, KEY, `garbage${"x".repeat(2400000)}`);
     await browser.eval(FILL);
-    await browser.go(`${url}#view=desk`);
+    await browser.go(`${url}#view=details`);
     await hands(browser).open("names", "a");
     assert.match(await browser.text("#desk-kept"), /can't be restored: it is no whole file of this desk .* It fills the browser's room: the present hearing is not kept\./);
     assert.match(await stored(browser), /^garbage/);
@@ -79,12 +79,12 @@ async function garbage({ browser, check, url }) {
   await check("garbage in the store is shown as it is, with the reason, and the desk goes on", async () => {
     for (const text of ["null", "[]", "", "{}", "\u0000\u0001", `{"format":"take ledger desk"`]) {
       await store(browser, KEY, text);
-      await browser.go(`${url}#view=desk`);
+      await browser.go(`${url}#view=details`);
       assert.match(await browser.text(".unrestored"), /can't be restored: it is no (whole )?file of this desk/);
       assert.equal(JSON.parse(await stored(browser, ASIDE))[0], text);
     }
     await store(browser, ASIDE, `[{"a":1}]`);
-    await browser.go(`${url}#view=desk`);
+    await browser.go(`${url}#view=details`);
     assert.equal(await browser.text(".unrestored pre"), `{"a":1}`);
     await hands(browser).open("names", "a");
     assert.equal(await browser.text(".unrestored pre"), `{"a":1}`);

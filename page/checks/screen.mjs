@@ -111,9 +111,9 @@ async function themes({ browser, check, url, shots }) {
 
 /** The desk with a kept hearing. */
 async function desk(browser, url, file) {
-  await browser.go(`${url}#view=desk`);
+  await browser.go(`${url}#view=details`);
   await browser.eval(`localStorage.setItem("take-ledger.desk", ${JSON.stringify(file)})`);
-  await browser.go(`${url}#view=desk`);
+  await browser.go(`${url}#view=details`);
 }
 
 async function faults({ browser, check, url }) {
@@ -148,7 +148,7 @@ async function faults({ browser, check, url }) {
 async function deskFaults({ browser, check, url }) {
   await check("a name of 100,000 letters makes no endless page", async () => {
     await desk(browser, url, deskFile(["W".repeat(100000), "page 12"]));
-    assert.ok(await browser.eval(`Math.max(...[...document.querySelectorAll("#desk section")].map(s => s.scrollHeight))`) < 30000);
+    assert.ok(await browser.eval(`Math.max(...[...document.querySelectorAll("#details section")].map(s => s.scrollHeight))`) < 30000);
     await browser.eval(`localStorage.clear()`);
   });
   await check("after a rename the cursor stays in its field", async () => {
