@@ -94,6 +94,11 @@ export class Browser {
     throw new Error(`never true: ${expression}`);
   }
 
+  /** Has the browser forget all that the page keeps. */
+  async forget() {
+    await this.eval(`localStorage.clear()`);
+  }
+
   /** The words that somebody sees there. */
   text(selector) {
     return this.eval(`document.querySelector(${quoted(selector)})?.innerText ?? null`);
@@ -129,8 +134,10 @@ export class Browser {
     return this.eval(`(e => { e.value = ${quoted(value)}; ${told} })(${found(selector)})`);
   }
 
-  async key(key) {
-    const pressed = { key, code: key, windowsVirtualKeyCode: CODES[key], ...(key === "Enter" ? { text: "\r" } : {}) };
+  /** Presses a key; modifiers: 2 control, 8 shift. */
+  async key(key, modifiers = 0) {
+    const text = key === "Enter" ? "\r" : key.length === 1 && !modifiers ? key : undefined;
+    const pressed = { key, code: key, modifiers, windowsVirtualKeyCode: CODES[key] ?? key.toUpperCase().charCodeAt(0), ...(text ? { text } : {}) };
     for (const type of ["keyDown", "keyUp"]) await this.send("Input.dispatchKeyEvent", { type, ...pressed });
   }
 

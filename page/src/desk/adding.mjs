@@ -75,7 +75,7 @@ function pageForm(front, adding) {
     front.add("page", name, said, grounds);
     byId("add-words")?.focus();
   });
-  return el("form", { class: "add page", "aria-label": "new page", onsubmit: submitted(go) }, title, words, el("span", { class: "soft" }, "set from"), chips, el("button", { class: "btn sm", id: "add-go" }, mark("plus", 12), "Page"));
+  return el("form", { class: "add page", "aria-label": "new page", onsubmit: submitted(go) }, title, words, el("span", { class: "from" }, el("span", { class: "soft" }, "set from"), chips), el("button", { class: "btn sm", id: "add-go" }, mark("plus", 12), "Page"));
 }
 
 /** A chip for each card that the page can be set from. */

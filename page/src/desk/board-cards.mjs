@@ -55,23 +55,29 @@ function byPage(names, pages, card) {
 
 /** One card: a button, whose name says all that is on it. */
 function cardOf(card, cards, light, pick) {
-  const lit = light.lit.has(card.take), torn = light.torn.has(card.take), state = torn ? "gone" : card.state, chosen = light.chosen === card.take;
+  const lit = light.lit.has(card.take), torn = light.torn.has(card.take), state = torn ? "gone" : card.withdrawn ? "vanished" : card.state, chosen = light.chosen === card.take;
   const classes = ["card", `s-${state}`, card.kind === "name" && "name-card", (lit || torn) && "lit", chosen && "picked", light.dim && !torn && !chosen && "dim"];
   const chips = chipsOf(card, cards, torn ? light.torn.get(card.take) : light.lit.get(card.take), torn), word = stateWord(card, state);
   const label = [card.title, card.kind === "page" && card.words, word, ...chips.map(c => c.textContent)].filter(Boolean).join(", ");
   const head = el("span", { class: "head" }, el("span", { class: "ttl", dir: "auto" }, shortened(card.title)), stateBadge(state, word));
-  const words = card.kind === "page" ? card.words || "no words yet" : [card.role, card.was[0] && `was ${card.was[0]}`].filter(Boolean).join(", ");
+  const words = card.kind === "page" ? card.words || "no words yet" : [card.role, card.was[0] && !card.withdrawn && `was ${card.was[0]}`].filter(Boolean).join(", ");
   return el("button", { type: "button", class: classes.filter(Boolean).join(" "), "data-card": card.take, "aria-label": label, "aria-pressed": String(chosen), onclick: () => pick(card.take) },
     head, el("span", { class: "txt", dir: "auto" }, isolated(shortened(words, 120))), el("span", { class: "chips" }, chips));
 }
 
 function stateWord(card, state) {
-  if (state !== "draft" || !card.blank) return STATE_WORDS[state];
-  return card.withdrawn ? "withdrawn" : "blank";
+  if (card.withdrawn) return "withdrawn";
+  return state === "draft" && card.blank ? "blank" : STATE_WORDS[state];
+}
+
+/** A card's state with its mark. */
+export function cardBadge(card) {
+  const state = card.withdrawn ? "vanished" : card.state;
+  return stateBadge(state, stateWord(card, state));
 }
 
 function stateBadge(state, word) {
-  return word === STATE_WORDS[state] ? badge(state, 16) : el("span", { class: "st s-vanished" }, mark(word === "withdrawn" ? "vanished" : "draft", 16), word);
+  return word === STATE_WORDS[state] ? badge(state, 16) : el("span", { class: `st s-${state}` }, mark(state, 16), word);
 }
 
 /** The chips of a card: what it was set from, what of that is old, and how it is reached. */

@@ -41,7 +41,7 @@ export class Front {
     showFrontBar(this);
     showAdding(this);
     this.draw();
-    focused(byId("add-name"));
+    focused(document.querySelector(`#desk-lanes [data-card="${this.ui.chosen}"]`) ?? byId("add-name") ?? byId("desk-fresh"));
   }
 
   /** Draws the board and the panel. */
@@ -133,7 +133,7 @@ export class Front {
 
   /** The steps by which a page is set from these; where one is left away, what it was set from before is withdrawn first. */
   settingList(card, grounds, text = this.desk.record.heads.at(-1)[card.take].text) {
-    const { state, grounds: had } = card, anew = state !== "gone" && had.some(g => !grounds.includes(g));
+    const { state, grounds: had } = card, anew = had.some(g => !grounds.includes(g));
     return grounds.length && state !== "vanished" ? settingFrom(this.session, card.take, grounds, text, anew) : null;
   }
 

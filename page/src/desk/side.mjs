@@ -1,7 +1,8 @@
 // The panel beside the board: what is left to do in all; or the chosen card, with what can be wished of it. Buttons keep their places: what
 // can't be done now is there, and says why.
 import { el, button } from "../shared/dom.mjs";
-import { mark, badge } from "../shared/marks.mjs";
+import { mark } from "../shared/marks.mjs";
+import { cardBadge } from "./board-cards.mjs";
 import { counted, isolated } from "../shared/names.mjs";
 import { toText } from "../../../bindings/js/notation.mjs";
 import { readTake, life } from "../../../bindings/js/image.mjs";
@@ -88,7 +89,7 @@ function todoList(front, open) {
 /** The chosen card. */
 export function cardPanel(front, card) {
   const back = el("button", { type: "button", class: "backward", onclick: () => front.choose(null) }, "\u2039 All that is left");
-  return el("div", { class: "desk-panel" }, back, el("h2", { dir: "auto" }, isolated(card.title)), el("p", { class: "desk-under" }, badge(card.state), card.role && el("span", { class: "soft" }, card.role)),
+  return el("div", { class: "desk-panel" }, back, el("h2", { dir: "auto" }, isolated(card.title)), el("p", { class: "desk-under" }, cardBadge(card), card.role && el("span", { class: "soft" }, card.role)),
     el("div", { class: "desk-told" }, wording(front, card), olderPart(front, card), card.kind === "page" ? fromPart(front, card) : null, pagesPart(front, card), leftPart(front, card), more(front, card)),
     acts(front, card));
 }
@@ -136,7 +137,7 @@ function pagesPart(front, card) {
 
 /** What is left to do until it is signed. */
 function leftPart(front, card) {
-  const list = card.state === "signed" || card.state === "vanished" ? null : signingOf(front.session, [card.take]);
+  const list = card.blank || card.state === "signed" || card.state === "vanished" ? null : signingOf(front.session, [card.take]);
   if (!list) return el("p", { class: "soft" }, unsigned(front, card));
   return el("div", {}, el("h3", {}, "Left to do until it is signed"), el("ol", { class: "desk-left" }, leftToDo(front.cards, list).map(w => el("li", {}, w))));
 }
@@ -145,13 +146,14 @@ function leftPart(front, card) {
 function unsigned(front, card) {
   if (card.state === "signed") return `Signed as \u201c${isolated(card.kind === "name" ? card.title : card.words)}\u201d. Nothing is left to do.`;
   if (card.state === "vanished") return "It was withdrawn before it was ever signed.";
+  if (card.blank) return card.withdrawn ? "It was withdrawn. It can be put back, or written anew." : "It has no words yet.";
   const { kind, take, ground } = front.session.impediment(card.take);
   if (kind === "withdrawn") return `It rests on ${inside(front.cards[ground])} as it was before the withdrawal${take === card.take ? "" : `, through ${inside(front.cards[take])}`}: it can't be signed before it is set again.`;
   return kind === "all signed" ? `${front.cards[take].title} has no signing left of ${roomOf(front.session).signings}: continue in a fresh session.` : "It can't be signed now.";
 }
 
 function acts(front, card) {
-  const { session } = front, plan = card.state === "signed" ? null : signingOf(session, [card.take]), frozen = freezing(session, card.take), withdrawn = withdrawingOf(session, card.take);
+  const { session } = front, plan = card.state === "signed" || card.blank ? null : signingOf(session, [card.take]), frozen = freezing(session, card.take), withdrawn = withdrawingOf(session, card.take);
   const held = card.state === "frozen" ? "It is frozen: it is held." : reason(front, card), signedOff = card.state === "signed" ? "It is signed." : unsigned(front, card);
   return el("div", { class: "desk-acts" },
     wish("Sign\u2026", () => front.askSign([card.take]), { class: "btn go", id: "card-sign", off: plan ? "" : signedOff }),

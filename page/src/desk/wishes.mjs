@@ -58,19 +58,6 @@ export const opening = (session, text, grounds = []) => deed(session, t => {
 });
 
 /**
- * A take set from these grounds; anew: with nothing of what it was set from before.
- * @param {Session} session
- * @param {number} take
- * @param {number[]} grounds
- * @param {number} text
- * @param {boolean} [anew]
- */
-export const settingFrom = (session, take, grounds, text, anew = false) => deed(session, t => {
-  if (anew) t.step("fail", { take }, [FALLEN_BACK]);
-  if (t.good) setOn(t, take, grounds, text);
-});
-
-/**
  * A withdrawal. A frozen take falls only by a parcel that shows it what became of its ground, where that was withdrawn.
  * @param {Session} session
  * @param {number} take
@@ -89,6 +76,31 @@ export function withdrawingOf(session, take) {
     if (shown) return shown;
   }
   return null;
+}
+
+/** Whether no volume with the take could be signed after these steps, for a ground of it was withdrawn. */
+function groundless(session, list, take) {
+  const copy = session.copy();
+  copy.runAll(list);
+  return copy.impediment(take).kind === "withdrawn";
+}
+
+/**
+ * A take set from these grounds; anew, or where its old ground was withdrawn: with nothing of what it was set from before.
+ * @param {Session} session
+ * @param {number} take
+ * @param {number[]} grounds
+ * @param {number} text
+ * @param {boolean} [anew]
+ */
+export function settingFrom(session, take, grounds, text, anew = false) {
+  const added = anew ? null : deed(session, t => setOn(t, take, grounds, text));
+  if (added && !groundless(session, added, take)) return added;
+  const fall = withdrawingOf(session, take), again = fall && deed(session, t => {
+    t.follow(fall, [0, FALLEN_BACK]);
+    if (t.good) setOn(t, take, grounds, text);
+  });
+  return again && !groundless(session, again, take) ? again : null;
 }
 
 /**

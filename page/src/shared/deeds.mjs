@@ -46,12 +46,13 @@ class Trial {
   }
 
   /**
-   * Runs steps that each are to be answered with done.
+   * Runs steps that each are to be answered with one of these outcomes.
    * @param {Uint8Array} list
+   * @param {number[]} [wanted]
    */
-  follow(list) {
+  follow(list, wanted = [0]) {
     const replies = this.copy.runAll(list);
-    for (let i = 0; 8 * i < list.length; i++) this.good = this.good && readReply(replies, i).outcome === 0;
+    for (let i = 0; 8 * i < list.length; i++) this.good = this.good && wanted.includes(readReply(replies, i).outcome);
     this.steps.push(list);
   }
 
