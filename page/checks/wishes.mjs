@@ -78,7 +78,7 @@ async function hearing({ browser, check, url, shots }) {
   await check("a page is withdrawn after its reach was shown, and all else is signed", async () => {
     await me.click(`[data-card="7"]`);
     await me.click("#card-withdraw");
-    assert.match(await browser.text("#desk-side"), /Withdraw page 5\? It goes back to a blank card, and can be put back\. 1 card loses its ground/s);
+    assert.match(await browser.text("#desk-side"), /Withdraw page 5\?\s+It goes back to a blank card, and can be put back\. 1 card loses its ground/s);
     assert.deepEqual((await states(browser)).flatMap((s, t) => (s === "gone" ? [t] : [])), [10]);
     await browser.shot(`${shots}desk-withdraw.png`);
     await me.click("#ask-yes");

@@ -14,6 +14,8 @@ import { showAdding } from "./adding.mjs";
 import { showFrontBar } from "./frontbar.mjs";
 import { keysOf } from "./keys.mjs";
 import { exampleHearing } from "./example.mjs";
+import { spreadsheetDialog } from "./spreadsheet.mjs";
+import { showRecord } from "./printing.mjs";
 
 // So long, in milliseconds, it is said what was done.
 const SHOWN = 8000;
@@ -26,6 +28,7 @@ export class Front {
     /** @type {import("./cards.mjs").Card[]} */
     this.cards = [];
     document.addEventListener("keydown", e => keysOf(this, e));
+    window.addEventListener("beforeprint", () => showRecord(this));
     new ResizeObserver(() => byId("desk-lanes").dataset.density && fit(byId("desk-lanes"))).observe(byId("desk-lanes"));
   }
 
@@ -85,7 +88,7 @@ export class Front {
 
   /** The deeds of the whole hearing. */
   tools() {
-    return [];
+    return [wish("Spreadsheet", () => spreadsheetDialog(this), { class: "btn bare", id: "front-sheet" }), wish("Print record", () => print(), { class: "btn bare", id: "front-print" })];
   }
 
   choose(take, focus = true) {
