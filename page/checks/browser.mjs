@@ -37,11 +37,12 @@ function pipe(child) {
 }
 
 export class Browser {
-  static async open(width = 1500, height = 950) {
+  /** A new browser, or one with what another one has left in its profile. */
+  static async open(width = 1500, height = 950, profile = mkdtempSync(join(tmpdir(), "page-"))) {
     const browser = new Browser();
-    browser.profile = mkdtempSync(join(tmpdir(), "page-"));
+    browser.profile = profile;
     browser.downloads = join(browser.profile, "downloads");
-    mkdirSync(browser.downloads);
+    mkdirSync(browser.downloads, { recursive: true });
     const flags = [...FLAGS, `--user-data-dir=${browser.profile}`, "about:blank"], stdio = ["ignore", "ignore", "ignore", "pipe", "pipe"];
     browser.child = spawn(process.env.CHROMIUM || "chromium", flags, { stdio });
     Object.assign(browser, pipe(browser.child));
@@ -96,7 +97,15 @@ export class Browser {
 
   /** Has the browser forget all that the page keeps. */
   async forget() {
-    await this.eval(`localStorage.clear()`);
+    await this.eval(`(async () => {
+      localStorage.clear();
+      if (!(await indexedDB.databases()).length) return;
+      const db = await new Promise(yes => { const ask = indexedDB.open("take-ledger"); ask.onsuccess = () => yes(ask.result); });
+      const all = db.transaction([...db.objectStoreNames], "readwrite");
+      for (const name of db.objectStoreNames) all.objectStore(name).clear();
+      await new Promise(yes => { all.oncomplete = yes; });
+      db.close();
+    })()`);
   }
 
   /** The words that somebody sees there. */
@@ -167,6 +176,12 @@ export class Browser {
       "Network.requestWillBeSent": ({ request }) => !/^(file|about|blob|data):/.test(request.url),
     };
     return this.events.filter(e => bad[e.method]?.(e.params)).map(e => JSON.stringify(e.params).slice(0, 500));
+  }
+
+  /** Has it die at once, as by a power cut. */
+  async kill() {
+    this.child.kill("SIGKILL");
+    await new Promise(r => (this.child.exitCode === null && this.child.signalCode === null ? this.child.once("exit", r) : r()));
   }
 
   async close() {

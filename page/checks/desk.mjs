@@ -30,7 +30,7 @@ export function hands(browser) {
 async function small(browser, url) {
   const desk = hands(browser);
   await browser.go(`${url}#view=details`);
-  await browser.eval(`localStorage.clear()`);
+  await browser.forget();
   await browser.go(`${url}#view=details`);
   await desk.open("speaker list", "names as heard");
   await desk.open("pages 1 to 30", "raw");

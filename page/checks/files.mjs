@@ -36,7 +36,7 @@ export async function filesChecks({ browser, check, url }) {
     return browser.text(host);
   };
   await browser.go(`${url}#view=details`);
-  await browser.eval(`localStorage.clear()`);
+  await browser.forget();
   await browser.go(`${url}#view=details`);
   await desk.open("names", "a");
   const before = await browser.eval(`localStorage.getItem("take-ledger.desk")`);

@@ -4,7 +4,7 @@ import { hands } from "./desk.mjs";
 
 async function fresh(browser, url) {
   await browser.go(`${url}#view=details`);
-  await browser.eval(`localStorage.clear()`);
+  await browser.forget();
   await browser.go(`${url}#view=details`);
   return hands(browser);
 }
@@ -116,7 +116,7 @@ async function throughOthers({ browser, check, url }) {
     const after = await shown([...THROUGH, ...signed, ...setFrom(3), "freeze 2", "fail 0"]);
     const way = "withdraw page 12; then start work on page 12, send from page 12 to page 40, press done for page 40, receive the parcel\\.";
     assert.match(after, new RegExp(`2 page 40\\s+Page 40 rests on page 12, which [^\\n]* What would help: ${way}`));
-    await browser.eval(`localStorage.clear()`);
+    await browser.forget();
   });
 }
 

@@ -10,7 +10,7 @@ const FILL = `for (let size = 100000, n = 0; size >= 1; size >>= 1) try { for (;
 
 async function fresh(browser, url) {
   await browser.go(`${url}#view=details`);
-  await browser.eval(`localStorage.clear()`);
+  await browser.forget();
   await browser.go(`${url}#view=details`);
   return hands(browser);
 }
@@ -20,7 +20,7 @@ export async function keepingChecks(context) {
   await full(context);
   await garbage(context);
   await back(context);
-  await context.browser.eval(`localStorage.clear()`);
+  await context.browser.forget();
 }
 
 async function windows({ browser, check, url }) {

@@ -47,7 +47,7 @@ async function hostile({ browser, check, url, shots }) {
     await browser.give("#compare-1", `${browser.profile}/none.steps`);
     await browser.until(`document.querySelector("#difference").textContent`);
     assert.match(await browser.text("#difference"), /text “\u2068\u202eturned\u2069”, done\. Right: “root text 9”/);
-    await browser.eval(`localStorage.clear()`);
+    await browser.forget();
   });
 }
 
@@ -134,7 +134,7 @@ async function widths({ browser, check, url, shots }) {
     const { y, height } = await browser.place("#desk-words");
     assert.ok(y >= 0 && y + height < 844, `${y}`);
     await browser.size(1500, 950);
-    await browser.eval(`localStorage.clear()`);
+    await browser.forget();
   });
   await check("five takes fit a window of 1,400 without scrolling sideways", async () => {
     await browser.size(1400, 900);

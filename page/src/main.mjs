@@ -120,6 +120,7 @@ export async function start(bundled) {
   views.steps = new Workbench(({ lesson, screen }) => go({ lesson, screen }));
   views.desk = new Desk();
   views.compare = new Compare(() => views.desk.hearing);
+  await views.desk.recover();
   tabs();
   follow();
   window.addEventListener("hashchange", follow);

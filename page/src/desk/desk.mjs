@@ -20,6 +20,8 @@ import { keepHearing, showKept } from "./keeping.mjs";
 import { confirmFall, confirmReceipt, confirmEmpty, confirmName, confirmOpening, hush, tell } from "./notices.mjs";
 import { recognize } from "../shared/files.mjs";
 import { Front } from "./front.mjs";
+import { Keeper } from "./keeper.mjs";
+import { freshDialog } from "./fresh.mjs";
 import { effect, verdict, kindOf, REFUSED, WITH_TEXT } from "../shared/words.mjs";
 
 function field(id, label, placeholder, list = null) {
@@ -48,7 +50,9 @@ export class Desk {
     /** What was done, newest last, each with the hearing before it; and what was taken back. */
     this.past = [];
     this.future = [];
-    this.face = "desk";
+    /** Which face is shown: desk, details, or none. */
+    this.face = null;
+    this.keeper = new Keeper(this);
     this.front = new Front(this);
     this.restore();
     window.addEventListener("storage", () => showKept(this));
@@ -90,14 +94,21 @@ export class Desk {
     this.names = new Names(this.hearing.takes, this.hearing.texts);
     timed(this.hearing, this.record.length);
     this.stood = this.copy();
+    if (this.keeping) this.keeper.keep(this.past.at(-1)?.words ?? "opened");
     this.show(count);
     keepHearing(this);
+  }
+
+  /** Finds what the browser's database has, once, at the start; from then on every deed is written there. */
+  async recover() {
+    await this.keeper.recover();
+    this.keeping = true;
   }
 
   /** Draws the face that is shown. */
   show(count) {
     if (this.face === "desk") this.front.refresh();
-    else this.bench(count);
+    if (this.face === "details") this.bench(count);
   }
 
   /** Draws the face with all steps. */
@@ -142,11 +153,29 @@ export class Desk {
     this.refresh(Infinity);
   }
 
-  /** Puts another hearing in the place of this one; it can be taken back. */
-  replaceBy(hearing, words) {
-    this.note(words);
+  /** Puts another hearing onto the desk, as a new one of the list; the one that was there stays in the list. */
+  begin(hearing, words) {
+    this.keeper.begin();
+    this.reset(hearing);
+    this.front.say(words, false);
+  }
+
+  /** Puts a hearing of the list onto the desk. */
+  reopen(id, rev, hearing) {
+    this.keeper.begin(id, rev, hearing);
+    this.reset(hearing);
+    this.front.say(`\u201c${isolated(hearing.title || "without a title")}\u201d is on the desk.`, false);
+  }
+
+  reset(hearing) {
+    this.past = [];
+    this.future = [];
+    this.front.ui.chosen = null;
     this.take(hearing);
-    this.front.say(words);
+  }
+
+  continueFresh() {
+    freshDialog(this.front);
   }
 
   /** What the last step did, beside the words, where the picture is out of view. */
@@ -277,7 +306,7 @@ export class Desk {
     return tell(`The second engine, which keeps no maps, gives ${same ? "the same" : "other"} replies.`);
   }
 
-  begin(limits) {
+  beginWith(limits) {
     confirmOpening(this, { ...emptyHearing(limits) }, "a new hearing", NEW);
   }
 

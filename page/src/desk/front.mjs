@@ -15,6 +15,7 @@ import { showFrontBar } from "./frontbar.mjs";
 import { keysOf } from "./keys.mjs";
 import { exampleHearing } from "./example.mjs";
 import { spreadsheetDialog } from "./spreadsheet.mjs";
+import { hearingsDialog } from "./hearings.mjs";
 import { showRecord } from "./printing.mjs";
 
 // So long, in milliseconds, it is said what was done.
@@ -73,7 +74,9 @@ export class Front {
   }
 
   example() {
-    this.desk.replaceBy(exampleHearing(), "The example hearing is open.");
+    this.desk.note("The example hearing is open.");
+    this.desk.take(exampleHearing());
+    this.say("The example hearing is open.");
   }
 
   order(name) {
@@ -88,7 +91,7 @@ export class Front {
 
   /** The deeds of the whole hearing. */
   tools() {
-    return [wish("Spreadsheet", () => spreadsheetDialog(this), { class: "btn bare", id: "front-sheet" }), wish("Print record", () => print(), { class: "btn bare", id: "front-print" })];
+    return [wish("Hearings", () => hearingsDialog(this), { class: "btn bare", id: "front-hearings" }), wish("Spreadsheet", () => spreadsheetDialog(this), { class: "btn bare", id: "front-sheet" }), wish("Print record", () => print(), { class: "btn bare", id: "front-print" })];
   }
 
   choose(take, focus = true) {
