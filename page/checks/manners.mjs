@@ -45,8 +45,8 @@ async function hostile({ browser, check, url, shots }) {
     }
     writeFileSync(`${browser.profile}/none.steps`, "root text 9\n");
     await browser.give("#compare-1", `${browser.profile}/none.steps`);
-    await browser.until(`document.querySelector("#difference").textContent`);
-    assert.match(await browser.text("#difference"), /text “\u2068\u202eturned\u2069”, done\. Right: “root text 9”/);
+    await browser.until(`document.querySelector(".verdict-line")`);
+    assert.match(await browser.content("#difference"), /Opened: a, with “\u2068\u202eturned\u2069”/);
     await browser.forget();
   });
 }

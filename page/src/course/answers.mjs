@@ -1,5 +1,5 @@
 // What is right, by the library: each kind of question has a call that answers it. No lesson says it itself.
-import { compare } from "../../../bindings/js/ledger.mjs";
+import { compare, worstWindow } from "../../../bindings/js/ledger.mjs";
 import { packMark, readHead } from "../../../bindings/js/image.mjs";
 import { readReply, sameBytes, volumeOf } from "../../../bindings/js/packed.mjs";
 import { toSteps } from "../../../bindings/js/notation.mjs";
@@ -47,6 +47,7 @@ const ANSWERS = {
   lives: ({ screen, record, count }) => lives(record, screen, count),
   door: ({ session, screen }) => [session.decision(screen.parcel).kind],
   order: ({ screen }) => inOrder(screen.marks.map(([list, n]) => ({ list, n, frozen: false }))),
+  hour: ({ screen, record, count }) => [worstWindow(record.packedReplies.subarray(0, 8 * count), screen.width).place],
   reply: ({ session, screen }) => [readReply(session.copy().run(toSteps(screen.step).steps), 0).outcome],
   same: ({ session, screen }) => [sameEnd(session, ...screen.orders) ? "same" : "other"],
 };

@@ -12,6 +12,7 @@ import { stepsOf } from "./lessons.mjs";
 import { check, choices, pick } from "./picking.mjs";
 import { door, lives, next, order } from "./lifekinds.mjs";
 import { goal } from "./goal.mjs";
+import { hour } from "./hour.mjs";
 
 const takes = {
   plays: true, picksTakes: true, several: true, stage: () => null, pick,
@@ -70,4 +71,4 @@ function endCard(record, head, t, names) {
     el("span", { class: "ttl" }, capital(names.take(t))), el("span", { class: "txt" }, text), badge(state, 18));
 }
 
-export const KINDS = { takes, future, sets, next, lives, door, order, goal, reply, same };
+export const KINDS = { takes, future, sets, next, lives, door, order, goal, hour, reply, same };

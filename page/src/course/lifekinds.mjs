@@ -19,6 +19,7 @@ function slot(player, { is, words }) {
 }
 
 export const next = {
+  plays: true,
   stage(player) {
     const { screen, solved, record, count } = player;
     if (solved) return stripStage(player, { lit: [livesOf(record, screen.take, count).length - 1] });
@@ -27,6 +28,7 @@ export const next = {
 };
 
 export const lives = {
+  plays: true,
   several: true,
   stage(player) {
     const { solved, right, picked, screen } = player;
@@ -36,6 +38,7 @@ export const lives = {
 };
 
 export const door = {
+  plays: true,
   keeps: true,
   stage(player) {
     const { screen, solved, names, codes } = player, { record, count } = player.scene, all = livesOf(record, screen.take, count);
