@@ -175,7 +175,7 @@ export class Browser {
       "Runtime.consoleAPICalled": ({ type }) => type === "error" || type === "assert",
       "Network.requestWillBeSent": ({ request }) => !/^(file|about|blob|data):/.test(request.url),
     };
-    return this.events.filter(e => bad[e.method]?.(e.params)).map(e => JSON.stringify(e.params).slice(0, 500));
+    return this.events.filter(e => bad[e.method]?.(e.params)).map(e => (e.params.exceptionDetails?.exception?.description ?? JSON.stringify(e.params)).slice(0, 500));
   }
 
   /** Has it die at once, as by a power cut. */

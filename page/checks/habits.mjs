@@ -102,6 +102,7 @@ const setFrom = first => [...from(SET, first), ...from(ON, first + 2)];
 async function throughOthers({ browser, check, url }) {
   const shown = async steps => {
     await browser.go(`${url}#view=details`);
+    await browser.forget();
     const file = { format: "take ledger desk", version: 1, steps, takes: ["names", "page 12", "page 40"] };
     await browser.eval(`localStorage.setItem("take-ledger.desk", ${JSON.stringify(JSON.stringify(file))})`);
     await browser.go(`${url}#view=details`);

@@ -4,7 +4,10 @@ import { hands } from "./desk.mjs";
 
 const KEY = "take-ledger.desk", ASIDE = `${KEY}.aside`;
 const stored = (browser, key = KEY) => browser.eval(`localStorage.getItem(${JSON.stringify(key)})`);
-const store = (browser, key, text) => browser.eval(`localStorage.clear(), localStorage.setItem(${JSON.stringify(key)}, ${JSON.stringify(text)})`);
+const store = async (browser, key, text) => {
+  await browser.forget();
+  await browser.eval(`localStorage.setItem(${JSON.stringify(key)}, ${JSON.stringify(text)})`);
+};
 // Fills what room the store has left.
 const FILL = `for (let size = 100000, n = 0; size >= 1; size >>= 1) try { for (;;) localStorage.setItem("fill" + n++, "y".repeat(size)); } catch {}`;
 

@@ -51,7 +51,7 @@ function nameForm(front, adding) {
     return mindful(front, () => {
       adding.name = "";
       front.add("name", words, words, []);
-      byId("add-name").focus();
+      byId("add-name")?.focus();
     });
   };
   return el("form", { class: "add", "aria-label": "new name", onsubmit: submitted(go) }, name, el("button", { class: "btn sm" }, mark("plus", 12), "Name"));

@@ -1,6 +1,6 @@
 // Keeps the desk's hearing in the browser's database, deed by deed, one after the other; and finds it again at the start.
 import { byId } from "../shared/dom.mjs";
-import { keptWord, keepWord, kept } from "../shared/store.mjs";
+import { keptWord, keepWord } from "../shared/store.mjs";
 import { toFile } from "../shared/hearing.mjs";
 import { Elsewhere, all, restore, write } from "./journal.mjs";
 import { tell } from "./notices.mjs";
@@ -11,8 +11,8 @@ const COPY = "Another window has changed this hearing since. This window goes on
 
 const newId = () => Array.from(crypto.getRandomValues(new Uint8Array(8)), b => b.toString(16).padStart(2, "0")).join("");
 
-/** Whether a list begins with all the steps of another, which has some. */
-const beginsWith = (list, other) => other.length > 0 && other.length <= list.length && other.every((b, i) => b === list[i]);
+/** Whether a list begins with all the steps of another. */
+const beginsWith = (list, other) => other.length <= list.length && other.every((b, i) => b === list[i]);
 
 export class Keeper {
   /** @param {any} desk */
@@ -34,14 +34,14 @@ export class Keeper {
     }
   }
 
-  /** At the start: the hearing of the database, where it is newer than what the page kept, or all that there is. */
+  /** At the start: the hearing of the database, where it goes on from what the page kept, or all that there is. */
   async recover() {
     try {
-      const mark = this.known(), first = mark ?? (kept() === null ? (await all())[0] : null), found = first && await restore(first.id);
+      const mark = this.known(), first = mark ?? (this.desk.hearing.list.length ? null : (await all())[0]), found = first && await restore(first.id);
       if (!found) return;
-      const newer = kept() === null || found.rev > (mark?.rev ?? 0), goesOn = beginsWith(this.desk.hearing.list, found.hearing.list);
+      const here = this.desk.hearing.list, there = found.hearing.list, newer = !here.length || found.rev > (mark?.rev ?? Infinity);
       if (newer) this.desk.take(found.hearing);
-      if (newer || goesOn) Object.assign(this, { id: first.id, rev: found.rev, written: found.hearing });
+      if (newer || (there.length && beginsWith(here, there))) Object.assign(this, { id: first.id, rev: found.rev, written: found.hearing });
     } catch (e) {
       console.warn(e);
     }
