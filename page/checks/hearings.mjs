@@ -1,6 +1,7 @@
-// Several hearings: the list, search, doubles, a file for another laptop; and that nothing is lost by two windows.
+// Several hearings: the list, search, doubles, a file for another laptop; and that nothing is lost by two windows or a browser that dies.
 import assert from "node:assert/strict";
 import { existsSync, readFileSync, rmSync } from "node:fs";
+import { Browser } from "./browser.mjs";
 import { freshDesk, states } from "./wishes.mjs";
 
 const rows = browser => browser.all("#desk-dialog .hearings b");
@@ -17,13 +18,14 @@ async function named(browser, name) {
   const before = await browser.eval(`document.querySelector("#desk").dataset.kept ?? "0"`);
   await browser.fill("#add-name", name);
   await browser.eval(`document.querySelector("#add-name").form.requestSubmit()`);
-  await browser.until(`document.querySelector("#desk").dataset.kept !== "${before}"`);
+  await browser.until(`(document.querySelector("#desk").dataset.kept ?? "0") !== "${before}"`);
 }
 
 export async function hearingsChecks(context) {
   await list(context);
   await fresh(context);
   await twoWindows(context);
+  await dying(context);
   await context.browser.forget();
 }
 
@@ -107,5 +109,24 @@ async function twoWindows({ browser, check, url }) {
     await browser.click("#hearings-close");
     assert.deepEqual([await browser.all("#desk-lanes .ttl"), await other.all("#desk-lanes .ttl")], [["Mr. Abara", "Judge Okoro"], ["Mr. Abara", "Ms. Lindqvist"]]);
     await other.shut();
+  });
+}
+
+async function dying({ check, url }) {
+  await check("a browser that is killed loses nothing that was written, and opens the hearing again", async () => {
+    const first = await Browser.open(1400, 900), speakers = [0, 1, 2, 3, 4].map(i => `Speaker ${i}`);
+    await first.go(`${url}#view=desk`);
+    for (const name of speakers) await named(first, name);
+    const steps = await first.eval(`document.querySelector("#desk").dataset.kept`);
+    await first.kill();
+    const second = await Browser.open(1400, 900, first.profile);
+    try {
+      await second.go(`${url}#view=desk`);
+      assert.deepEqual(await second.all("#desk-lanes .ttl"), speakers);
+      await named(second, "Speaker 5");
+      assert.ok(Number(await second.eval(`document.querySelector("#desk").dataset.kept`)) > Number(steps));
+    } finally {
+      await second.close();
+    }
   });
 }

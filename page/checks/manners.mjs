@@ -98,7 +98,7 @@ async function reading({ browser, check, url, shots }) {
     await browser.eval(`document.querySelector("#tab-course").focus()`);
     await browser.key("ArrowRight");
     assert.equal(await browser.eval(`document.activeElement.id`), "tab-desk");
-    assert.equal(await browser.eval(`document.querySelector("#desk").hidden`), false);
+    await browser.until(`!document.querySelector("#desk").hidden`);
     await browser.go(await browser.eval(`location.href`));
     assert.equal(await browser.eval(`document.querySelector("#desk").hidden`), false);
   });

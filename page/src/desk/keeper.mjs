@@ -14,6 +14,9 @@ const newId = () => Array.from(crypto.getRandomValues(new Uint8Array(8)), b => b
 /** Whether a list begins with all the steps of another. */
 const beginsWith = (list, other) => other.length <= list.length && other.every((b, i) => b === list[i]);
 
+/** A hearing that does not change when the desk's does. */
+const apart = hearing => hearing && { ...hearing, takes: [...hearing.takes], texts: { ...hearing.texts }, about: [...hearing.about], times: [...hearing.times] };
+
 export class Keeper {
   /** @param {any} desk */
   constructor(desk) {
@@ -37,10 +40,10 @@ export class Keeper {
   /** At the start: the hearing of the database, where it goes on from what the page kept, or all that there is. */
   async recover() {
     try {
-      const mark = this.known(), first = mark ?? (this.desk.hearing.list.length ? null : (await all())[0]), found = first && await restore(first.id);
+      const mark = this.known(), first = mark ?? (await all())[0], found = first && await restore(first.id);
       if (!found) return;
-      const here = this.desk.hearing.list, there = found.hearing.list, newer = !here.length || found.rev > (mark?.rev ?? Infinity);
-      if (newer) this.desk.take(found.hearing);
+      const here = this.desk.hearing.list, there = found.hearing.list, newer = beginsWith(there, here) || found.rev > (mark?.rev ?? Infinity);
+      if (newer) this.desk.take(apart(found.hearing));
       if (newer || (there.length && beginsWith(here, there))) Object.assign(this, { id: first.id, rev: found.rev, written: found.hearing });
     } catch (e) {
       console.warn(e);
@@ -49,7 +52,8 @@ export class Keeper {
 
   /** Another hearing is at the desk: by its id, or a new one. */
   begin(id = null, rev = 0, hearing = null) {
-    this.queue = this.queue.then(() => void Object.assign(this, { id, rev, written: hearing }));
+    const written = apart(hearing);
+    this.queue = this.queue.then(() => void Object.assign(this, { id, rev, written }));
   }
 
   /** Writes the hearing as it stands after a deed. */
