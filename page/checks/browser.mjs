@@ -37,11 +37,12 @@ function pipe(child) {
 }
 
 export class Browser {
-  static async open(width = 1500, height = 950) {
+  /** A new browser, or one with what another one has left in its profile. */
+  static async open(width = 1500, height = 950, profile = mkdtempSync(join(tmpdir(), "page-"))) {
     const browser = new Browser();
-    browser.profile = mkdtempSync(join(tmpdir(), "page-"));
+    browser.profile = profile;
     browser.downloads = join(browser.profile, "downloads");
-    mkdirSync(browser.downloads);
+    mkdirSync(browser.downloads, { recursive: true });
     const flags = [...FLAGS, `--user-data-dir=${browser.profile}`, "about:blank"], stdio = ["ignore", "ignore", "ignore", "pipe", "pipe"];
     browser.child = spawn(process.env.CHROMIUM || "chromium", flags, { stdio });
     Object.assign(browser, pipe(browser.child));
@@ -94,6 +95,19 @@ export class Browser {
     throw new Error(`never true: ${expression}`);
   }
 
+  /** Has the browser forget all that the page keeps. */
+  async forget() {
+    await this.eval(`(async () => {
+      localStorage.clear();
+      if (!(await indexedDB.databases()).length) return;
+      const db = await new Promise(yes => { const ask = indexedDB.open("take-ledger"); ask.onsuccess = () => yes(ask.result); });
+      const all = db.transaction([...db.objectStoreNames], "readwrite");
+      for (const name of db.objectStoreNames) all.objectStore(name).clear();
+      await new Promise(yes => { all.oncomplete = yes; });
+      db.close();
+    })()`);
+  }
+
   /** The words that somebody sees there. */
   text(selector) {
     return this.eval(`document.querySelector(${quoted(selector)})?.innerText ?? null`);
@@ -129,8 +143,10 @@ export class Browser {
     return this.eval(`(e => { e.value = ${quoted(value)}; ${told} })(${found(selector)})`);
   }
 
-  async key(key) {
-    const pressed = { key, code: key, windowsVirtualKeyCode: CODES[key], ...(key === "Enter" ? { text: "\r" } : {}) };
+  /** Presses a key; modifiers: 2 control, 8 shift. */
+  async key(key, modifiers = 0) {
+    const text = key === "Enter" ? "\r" : key.length === 1 && !modifiers ? key : undefined;
+    const pressed = { key, code: key, modifiers, windowsVirtualKeyCode: CODES[key] ?? key.toUpperCase().charCodeAt(0), ...(text ? { text } : {}) };
     for (const type of ["keyDown", "keyUp"]) await this.send("Input.dispatchKeyEvent", { type, ...pressed });
   }
 
@@ -159,7 +175,13 @@ export class Browser {
       "Runtime.consoleAPICalled": ({ type }) => type === "error" || type === "assert",
       "Network.requestWillBeSent": ({ request }) => !/^(file|about|blob|data):/.test(request.url),
     };
-    return this.events.filter(e => bad[e.method]?.(e.params)).map(e => JSON.stringify(e.params).slice(0, 500));
+    return this.events.filter(e => bad[e.method]?.(e.params)).map(e => (e.params.exceptionDetails?.exception?.description ?? JSON.stringify(e.params)).slice(0, 500));
+  }
+
+  /** Has it die at once, as by a power cut. */
+  async kill() {
+    this.child.kill("SIGKILL");
+    await new Promise(r => (this.child.exitCode === null && this.child.signalCode === null ? this.child.once("exit", r) : r()));
   }
 
   async close() {

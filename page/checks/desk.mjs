@@ -29,9 +29,9 @@ export function hands(browser) {
 
 async function small(browser, url) {
   const desk = hands(browser);
-  await browser.go(`${url}#view=desk`);
-  await browser.eval(`localStorage.clear()`);
-  await browser.go(`${url}#view=desk`);
+  await browser.go(`${url}#view=details`);
+  await browser.forget();
+  await browser.go(`${url}#view=details`);
   await desk.open("speaker list", "names as heard");
   await desk.open("pages 1 to 30", "raw");
   await desk.open("pages 31 to 60", "raw");
@@ -198,7 +198,7 @@ const NOTHING = [
 ];
 
 async function opening({ browser, check, url }) {
-  await browser.go(`${url}#view=desk`);
+  await browser.go(`${url}#view=details`);
   await check("a file that is nothing is named with its reason, and the hearing stays", async () => {
     const before = await browser.content("#desk-rows");
     for (const [name, bytes, words] of NOTHING) {
@@ -232,7 +232,7 @@ async function restoring({ browser, check, url, shots }) {
   await check("restored after a reload by playing the list", async () => {
     const desk = await small(browser, url), before = await browser.content("#desk-rows");
     const image = await saved(browser, "#save-image", "hearing.image");
-    await browser.go(`${url}#view=desk`);
+    await browser.go(`${url}#view=details`);
     assert.equal(await browser.content("#desk-rows"), before);
     assert.deepEqual(await saved(browser, "#save-image", "hearing.image"), image);
     assert.match(await desk.board(), /speaker list/);
@@ -240,15 +240,15 @@ async function restoring({ browser, check, url, shots }) {
   await check("what can't be restored is shown, can be saved as it is, and is dropped only when told so", async () => {
     const broken = deskFile(`"version":1,"limits":{"takes":16,"parcels":32,"signings":15},"steps":["root text 1","rot 2"]`);
     await browser.eval(`localStorage.setItem("take-ledger.desk", ${JSON.stringify(broken)})`);
-    await browser.go(`${url}#view=desk`);
+    await browser.go(`${url}#view=details`);
     assert.match(await browser.text(".unrestored"), /can't be restored/);
     assert.ok((await browser.text(".unrestored pre")).includes("rot 2"));
     await browser.shot(`${shots}unrestored.png`);
     assert.equal((await saved(browser, ".unrestored button", "kept-hearing.txt")).toString(), broken);
-    await browser.go(`${url}#view=desk`);
+    await browser.go(`${url}#view=details`);
     assert.ok((await browser.text(".unrestored pre")).includes("rot 2"));
     await browser.press(".unrestored", "remove");
-    await browser.go(`${url}#view=desk`);
+    await browser.go(`${url}#view=details`);
     assert.equal(await browser.text(".unrestored"), null);
   });
 }

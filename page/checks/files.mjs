@@ -35,9 +35,9 @@ export async function filesChecks({ browser, check, url }) {
     await browser.until(`document.querySelector("${host}").textContent`);
     return browser.text(host);
   };
-  await browser.go(`${url}#view=desk`);
-  await browser.eval(`localStorage.clear()`);
-  await browser.go(`${url}#view=desk`);
+  await browser.go(`${url}#view=details`);
+  await browser.forget();
+  await browser.go(`${url}#view=details`);
   await desk.open("names", "a");
   const before = await browser.eval(`localStorage.getItem("take-ledger.desk")`);
   for (const [name, bytes, words] of REASONS) {

@@ -3,9 +3,9 @@ import assert from "node:assert/strict";
 import { hands } from "./desk.mjs";
 
 async function fresh(browser, url) {
-  await browser.go(`${url}#view=desk`);
-  await browser.eval(`localStorage.clear()`);
-  await browser.go(`${url}#view=desk`);
+  await browser.go(`${url}#view=details`);
+  await browser.forget();
+  await browser.go(`${url}#view=details`);
   return hands(browser);
 }
 
@@ -101,10 +101,11 @@ const setFrom = first => [...from(SET, first), ...from(ON, first + 2)];
 
 async function throughOthers({ browser, check, url }) {
   const shown = async steps => {
-    await browser.go(`${url}#view=desk`);
+    await browser.go(`${url}#view=details`);
+    await browser.forget();
     const file = { format: "take ledger desk", version: 1, steps, takes: ["names", "page 12", "page 40"] };
     await browser.eval(`localStorage.setItem("take-ledger.desk", ${JSON.stringify(JSON.stringify(file))})`);
-    await browser.go(`${url}#view=desk`);
+    await browser.go(`${url}#view=details`);
     return browser.text("#desk-board");
   };
   const signed = ["letter to 2 text 0", "receive 2", "freeze 2", "sign {2}"];
@@ -116,7 +117,7 @@ async function throughOthers({ browser, check, url }) {
     const after = await shown([...THROUGH, ...signed, ...setFrom(3), "freeze 2", "fail 0"]);
     const way = "withdraw page 12; then start work on page 12, send from page 12 to page 40, press done for page 40, receive the parcel\\.";
     assert.match(after, new RegExp(`2 page 40\\s+Page 40 rests on page 12, which [^\\n]* What would help: ${way}`));
-    await browser.eval(`localStorage.clear()`);
+    await browser.forget();
   });
 }
 

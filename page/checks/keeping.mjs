@@ -4,14 +4,17 @@ import { hands } from "./desk.mjs";
 
 const KEY = "take-ledger.desk", ASIDE = `${KEY}.aside`;
 const stored = (browser, key = KEY) => browser.eval(`localStorage.getItem(${JSON.stringify(key)})`);
-const store = (browser, key, text) => browser.eval(`localStorage.clear(), localStorage.setItem(${JSON.stringify(key)}, ${JSON.stringify(text)})`);
+const store = async (browser, key, text) => {
+  await browser.forget();
+  await browser.eval(`localStorage.setItem(${JSON.stringify(key)}, ${JSON.stringify(text)})`);
+};
 // Fills what room the store has left.
 const FILL = `for (let size = 100000, n = 0; size >= 1; size >>= 1) try { for (;;) localStorage.setItem("fill" + n++, "y".repeat(size)); } catch {}`;
 
 async function fresh(browser, url) {
-  await browser.go(`${url}#view=desk`);
-  await browser.eval(`localStorage.clear()`);
-  await browser.go(`${url}#view=desk`);
+  await browser.go(`${url}#view=details`);
+  await browser.forget();
+  await browser.go(`${url}#view=details`);
   return hands(browser);
 }
 
@@ -20,7 +23,7 @@ export async function keepingChecks(context) {
   await full(context);
   await garbage(context);
   await back(context);
-  await context.browser.eval(`localStorage.clear()`);
+  await context.browser.forget();
 }
 
 async function windows({ browser, check, url }) {
@@ -28,7 +31,7 @@ async function windows({ browser, check, url }) {
   await desk.open("names", "a");
   const other = await browser.another(), theirs = hands(other);
   await check("two windows: what one keeps, the other does not overwrite, and says so", async () => {
-    await other.go(`${url}#view=desk`);
+    await other.go(`${url}#view=details`);
     await theirs.open("page 12", "b");
     await browser.until(`document.querySelector("#desk-kept .elsewhere")`);
     await desk.open("page 40", "c");
@@ -65,7 +68,7 @@ async function full({ browser, check, url }) {
   await check("where what can't be restored fills the store, it stays in view; once removed, the hearing is kept", async () => {
     await store(browser, KEY, `garbage${"x".repeat(2400000)}`);
     await browser.eval(FILL);
-    await browser.go(`${url}#view=desk`);
+    await browser.go(`${url}#view=details`);
     await hands(browser).open("names", "a");
     assert.match(await browser.text("#desk-kept"), /can't be restored: it is no whole file of this desk .* It fills the browser's room: the present hearing is not kept\./);
     assert.match(await stored(browser), /^garbage/);
@@ -79,12 +82,12 @@ async function garbage({ browser, check, url }) {
   await check("garbage in the store is shown as it is, with the reason, and the desk goes on", async () => {
     for (const text of ["null", "[]", "", "{}", "\u0000\u0001", `{"format":"take ledger desk"`]) {
       await store(browser, KEY, text);
-      await browser.go(`${url}#view=desk`);
+      await browser.go(`${url}#view=details`);
       assert.match(await browser.text(".unrestored"), /can't be restored: it is no (whole )?file of this desk/);
       assert.equal(JSON.parse(await stored(browser, ASIDE))[0], text);
     }
     await store(browser, ASIDE, `[{"a":1}]`);
-    await browser.go(`${url}#view=desk`);
+    await browser.go(`${url}#view=details`);
     assert.equal(await browser.text(".unrestored pre"), `{"a":1}`);
     await hands(browser).open("names", "a");
     assert.equal(await browser.text(".unrestored pre"), `{"a":1}`);

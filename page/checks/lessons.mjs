@@ -99,7 +99,7 @@ const plain = words => words.replaceAll("\u00a0", " ");
 async function students(context) {
   const { browser, check, url } = context;
   await browser.go(url);
-  await browser.eval(`localStorage.clear()`);
+  await browser.forget();
   for (const lesson of lessons) {
     await check(`a student goes through ${lesson.name} with every wrong answer`, async () => {
       await browser.go(`${url}#lesson=${lesson.name}`);
@@ -163,7 +163,7 @@ async function reach(browser, hands, screen) {
 async function manners(context) {
   const { browser, check, url } = context, hands = student(browser), two = "02-what-a-withdrawal-reaches";
   await check("two misses offer to show the answer, which can be tried again", async () => {
-    await browser.eval(`localStorage.clear()`);
+    await browser.forget();
     await browser.go(`${url}#lesson=${two}&screen=2`);
     for (let i = 0; i < 2; i++) {
       assert.equal(await hands.on(`[data-focus="show"]`), false);

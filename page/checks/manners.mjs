@@ -23,12 +23,12 @@ async function hostile({ browser, check, url, shots }) {
   await check("hostile names are shown as text", async () => {
     await browser.go(`${url}#text=${encodeURIComponent(`root text 1 # ${HOSTILE}\nletter to 0 text 1\nreceive 0\nfail 0\n`)}&step=3`);
     assert.ok((await browser.text("#course-moment")).includes(HOSTILE));
-    await browser.go(`${url}#view=desk`);
+    await browser.go(`${url}#view=details`);
     await browser.fill("#desk-name", HOSTILE);
     await browser.fill("#desk-words", HOSTILE);
     await browser.click("#desk-steps [data-kind=root]");
     assert.ok((await browser.text("#desk-moment")).includes(HOSTILE));
-    await browser.go(`${url}#view=desk`);
+    await browser.go(`${url}#view=details`);
     await browser.shot(`${shots}hostile.png`);
     assert.equal(await browser.eval(`window.hacked ?? 0`), 0);
     assert.equal(await browser.eval(`document.querySelectorAll("img, main script").length`), 0);
@@ -36,7 +36,7 @@ async function hostile({ browser, check, url, shots }) {
   await check("words that turn the direction keep it to themselves, and words without an end break", async () => {
     const wide = "W".repeat(3000), texts = { 1: "\u202eturned", 2: wide }, steps = ["root text 1", "root text 2", "letter to 0 text 2", "letter to 1 text 2", "receive 0", "send 0 to 1 text 2"];
     await browser.eval(`localStorage.setItem("take-ledger.desk", ${JSON.stringify(JSON.stringify({ format: "take ledger desk", version: 1, title: wide, steps, takes: ["a", wide], texts }))})`);
-    for (const room of [320, 1500]) for (const view of ["desk", "compare"]) {
+    for (const room of [320, 1500]) for (const view of ["desk", "details", "compare"]) {
       await browser.size(room, 950);
       await browser.go(`${url}#view=${view}`);
       if (view === "compare") await browser.eval(`document.querySelectorAll(".side button")[0].click()`);
@@ -47,7 +47,7 @@ async function hostile({ browser, check, url, shots }) {
     await browser.give("#compare-1", `${browser.profile}/none.steps`);
     await browser.until(`document.querySelector(".verdict-line")`);
     assert.match(await browser.content("#difference"), /Opened: a, with “\u2068\u202eturned\u2069”/);
-    await browser.eval(`localStorage.clear()`);
+    await browser.forget();
   });
 }
 
@@ -98,14 +98,14 @@ async function reading({ browser, check, url, shots }) {
     await browser.eval(`document.querySelector("#tab-course").focus()`);
     await browser.key("ArrowRight");
     assert.equal(await browser.eval(`document.activeElement.id`), "tab-desk");
-    assert.equal(await browser.eval(`document.querySelector("#desk").hidden`), false);
+    await browser.until(`!document.querySelector("#desk").hidden`);
     await browser.go(await browser.eval(`location.href`));
     assert.equal(await browser.eval(`document.querySelector("#desk").hidden`), false);
   });
 }
 
 const SIXTEEN = Array.from({ length: 16 }, (_, t) => `root text ${t} # pages ${30 * t + 1} to ${30 * t + 30}\nletter to ${t} text 1\nreceive ${t}\nfreeze ${t}\n`).join("");
-const VIEWS = { course: "", lesson: "lesson=02-what-a-withdrawal-reaches&screen=2", lives: "lesson=03-the-count-restarts&screen=4", steps: listed("10-frozen-is-not-signed", 26), desk: "view=desk", compare: "view=compare", words: "view=words", sixteen: `text=${encodeURIComponent(SIXTEEN)}` };
+const VIEWS = { course: "", lesson: "lesson=02-what-a-withdrawal-reaches&screen=2", lives: "lesson=03-the-count-restarts&screen=4", steps: listed("10-frozen-is-not-signed", 26), desk: "view=desk", details: "view=details", compare: "view=compare", words: "view=words", sixteen: `text=${encodeURIComponent(SIXTEEN)}` };
 
 async function widths({ browser, check, url, shots }) {
   for (const [name, view] of Object.entries(VIEWS)) {
@@ -129,12 +129,12 @@ async function widths({ browser, check, url, shots }) {
   });
   await check("on a phone the words stay in view beside the buttons of the last take", async () => {
     await browser.eval(`localStorage.setItem("take-ledger.desk", ${JSON.stringify(JSON.stringify({ format: "take ledger desk", version: 1, steps: SIXTEEN.split("\n") }))})`);
-    await browser.go(`${url}#view=desk`);
+    await browser.go(`${url}#view=details`);
     await browser.eval(`document.querySelector("#desk-steps [data-take='15']").scrollIntoView()`);
     const { y, height } = await browser.place("#desk-words");
     assert.ok(y >= 0 && y + height < 844, `${y}`);
     await browser.size(1500, 950);
-    await browser.eval(`localStorage.clear()`);
+    await browser.forget();
   });
   await check("five takes fit a window of 1,400 without scrolling sideways", async () => {
     await browser.size(1400, 900);

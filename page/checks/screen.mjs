@@ -79,7 +79,7 @@ async function themes({ browser, check, url, shots }) {
   const media = features => browser.send("Emulation.setEmulatedMedia", { features: Object.entries(features).map(([name, value]) => ({ name, value })) });
   const paper = () => browser.eval(`getComputedStyle(document.body).backgroundColor`);
   await check("dark as the system has it, until the button is pressed, which is kept", async () => {
-    await browser.eval(`localStorage.clear()`);
+    await browser.forget();
     await media({ "prefers-color-scheme": "dark" });
     await browser.go(url);
     assert.equal(await paper(), "rgb(21, 23, 28)");
@@ -88,7 +88,7 @@ async function themes({ browser, check, url, shots }) {
     assert.equal(await paper(), "rgb(250, 248, 243)");
     await browser.go(url);
     assert.equal(await paper(), "rgb(250, 248, 243)");
-    await browser.eval(`localStorage.clear()`);
+    await browser.forget();
   });
   await check("forced colours: the chosen tab, picks and states stay apart by line and shape", async () => {
     await media({ "forced-colors": "active" });
@@ -114,9 +114,9 @@ async function themes({ browser, check, url, shots }) {
 
 /** The desk with a kept hearing. */
 async function desk(browser, url, file) {
-  await browser.go(`${url}#view=desk`);
+  await browser.go(`${url}#view=details`);
   await browser.eval(`localStorage.setItem("take-ledger.desk", ${JSON.stringify(file)})`);
-  await browser.go(`${url}#view=desk`);
+  await browser.go(`${url}#view=details`);
 }
 
 async function faults({ browser, check, url }) {
@@ -151,8 +151,8 @@ async function faults({ browser, check, url }) {
 async function deskFaults({ browser, check, url }) {
   await check("a name of 100,000 letters makes no endless page", async () => {
     await desk(browser, url, deskFile(["W".repeat(100000), "page 12"]));
-    assert.ok(await browser.eval(`Math.max(...[...document.querySelectorAll("#desk section")].map(s => s.scrollHeight))`) < 30000);
-    await browser.eval(`localStorage.clear()`);
+    assert.ok(await browser.eval(`Math.max(...[...document.querySelectorAll("#details section")].map(s => s.scrollHeight))`) < 30000);
+    await browser.forget();
   });
   await check("after a rename the cursor stays in its field", async () => {
     await desk(browser, url, deskFile(["names", "page 12"]));
@@ -160,7 +160,7 @@ async function deskFaults({ browser, check, url }) {
     await browser.eval(`document.querySelector("[data-rename='1']").focus()`);
     await browser.fill("[data-rename='1']", "page 13");
     assert.equal(await browser.eval(`document.activeElement.dataset.rename ?? document.activeElement.tagName`), "1");
-    await browser.eval(`localStorage.clear()`);
+    await browser.forget();
   });
   await check("on paper no take is split from its maps", async () => {
     await browser.go(`${url}#text=${encodeURIComponent(steps.join("\n"))}`);

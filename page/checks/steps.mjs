@@ -187,7 +187,7 @@ async function own({ browser, check, url }) {
   await check("a list of one's own is kept, and the one before it", async () => {
     const text = "root text 7 # mine\n", value = () => browser.eval(`document.querySelector("#text").value`);
     await browser.go(`${url}#${listed("20-what-a-withdrawal-reaches")}`);
-    await browser.eval(`localStorage.clear()`);
+    await browser.forget();
     await browser.fill("#text", text);
     await browser.go(`${url}#view=steps`);
     assert.equal(await value(), text);

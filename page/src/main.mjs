@@ -11,13 +11,14 @@ import { address, readAddress, fromBase64 } from "./shared/address.mjs";
 import { toText } from "../../bindings/js/notation.mjs";
 import { isolated } from "./shared/names.mjs";
 
-// The views; the step view belongs to the course.
-const TABS = ["course", "desk", "compare", "words"], VIEWS = [...TABS, "steps"];
+// The views; the step view belongs to the course, the details to the desk.
+const TABS = ["course", "desk", "compare", "words"], VIEWS = [...TABS, "steps", "details"];
 const views = {};
 
 /** Shows one of the views. */
 function show(name) {
-  const tab = name === "steps" ? "course" : name;
+  const tab = { steps: "course", details: "desk" }[name] ?? name;
+  document.body.dataset.view = name;
   for (const view of VIEWS) byId(view).hidden = view !== name;
   for (const view of TABS) {
     byId(`tab-${view}`).setAttribute("aria-selected", String(view === tab));
@@ -52,6 +53,7 @@ function follow() {
   show(view);
   if (view === "course") course.open(known ? asked.lesson : null, asked.screen ?? 1);
   if (view === "steps") openSteps(asked, text);
+  if (view === "desk" || view === "details") views.desk.open(view);
   const sentences = troubles(asked, text, known);
   if (sentences.length && view === "steps") steps.say(sentences.join(" "));
   else if (sentences.length) replace(byId("course-trouble"), el("p", { class: "notice" }, sentences.join(" ")));
@@ -118,6 +120,7 @@ export async function start(bundled) {
   views.steps = new Workbench(({ lesson, screen }) => go({ lesson, screen }));
   views.desk = new Desk();
   views.compare = new Compare(() => views.desk.hearing);
+  await views.desk.recover();
   tabs();
   follow();
   window.addEventListener("hashchange", follow);

@@ -79,5 +79,5 @@ function fresh(desk) {
   const fields = Object.keys(GREATEST).map(name => [name, field(name)]);
   const limits = () => Object.fromEntries(fields.map(([name, input]) => [name, Math.trunc(Number(input.value))]));
   const labels = fields.map(([name, input]) => [el("label", {}, `${name} `, input), " "]);
-  return el("p", {}, labels, button("begin", () => desk.begin(limits()), { id: "desk-begin" }));
+  return el("p", {}, labels, button("begin", () => desk.beginWith(limits()), { id: "desk-begin" }));
 }

@@ -1,4 +1,5 @@
-// The desk: a hearing of one's own, kept by names and words, stepped by buttons.
+// The desk: a hearing of one's own, kept by names and words. It has two faces: cards and wishes in front, and behind "Details" every step,
+// with buttons for those that the ledger accepts.
 import { el, replace, byId, button, focusIn, announce, unpressed } from "../shared/dom.mjs";
 import { play, GREATEST, LONGEST } from "../../../bindings/js/ledger.mjs";
 import { joined, readReply, readStep, sameBytes } from "../../../bindings/js/packed.mjs";
@@ -18,6 +19,9 @@ import { kept, putAside } from "../shared/store.mjs";
 import { keepHearing, showKept } from "./keeping.mjs";
 import { confirmFall, confirmReceipt, confirmEmpty, confirmName, confirmOpening, hush, tell } from "./notices.mjs";
 import { recognize } from "../shared/files.mjs";
+import { Front } from "./front.mjs";
+import { Keeper } from "./keeper.mjs";
+import { freshDialog } from "./fresh.mjs";
 import { effect, verdict, kindOf, FALLEN_BACK, VANISHED, REFUSED, WITH_TEXT } from "../shared/words.mjs";
 
 function field(id, label, placeholder, list = null) {
@@ -43,6 +47,13 @@ export class Desk {
       labels: LABELS,
     });
     this.stuck = null;
+    /** What was done, newest last, each with the hearing before it; and what was taken back. */
+    this.past = [];
+    this.future = [];
+    /** Which face is shown: desk, details, or none. */
+    this.face = null;
+    this.keeper = new Keeper(this);
+    this.front = new Front(this);
     this.restore();
     window.addEventListener("storage", () => showKept(this));
   }
@@ -72,9 +83,36 @@ export class Desk {
     return new Set([...this.record.steps, ...takes, ...parcels].map(s => s.text).concat(takes.map(t => t.saved)));
   }
 
+  /** Shows one of the two faces. */
+  open(face) {
+    this.face = face;
+    this.show(Infinity);
+  }
+
   refresh(count) {
     this.record = new Record(begun(this.hearing), this.hearing.list);
     this.names = new Names(this.hearing.takes, this.hearing.texts);
+    timed(this.hearing, this.record.length);
+    this.stood = this.copy();
+    if (this.keeping) this.keeper.keep(this.past.at(-1)?.words ?? "opened");
+    this.show(count);
+    keepHearing(this);
+  }
+
+  /** Finds what the browser's database has, once, at the start; from then on every deed is written there. */
+  async recover() {
+    await this.keeper.recover();
+    this.keeping = true;
+  }
+
+  /** Draws the face that is shown. */
+  show(count) {
+    if (this.face === "desk") this.front.refresh();
+    if (this.face === "details") this.bench(count);
+  }
+
+  /** Draws the face with all steps. */
+  bench(count) {
     this.lines = this.record.steps.map((step, i) => this.said(step, this.record.replies[i], i));
     this.rows.show(this.record, this.lines, this.names, this.record.length);
     this.stepper.show(this.record.end, this.names);
@@ -85,7 +123,59 @@ export class Desk {
     showBar(this);
     byId("desk-heading").textContent = this.hearing.title;
     this.rows.pick(Math.min(count, this.record.length));
-    keepHearing(this);
+  }
+
+  /** Does something to the hearing, so that it can be taken back: adds steps, and edits what stands beside them. */
+  change(words, list, { edit = null, signs = false } = {}) {
+    this.note(words, { list, signs });
+    edit?.(this.hearing);
+    this.hearing.list = joined([this.hearing.list, list]);
+    this.refresh(Infinity);
+  }
+
+  /** Notes what is about to be done. */
+  note(words, { list = null, signs = false } = {}) {
+    this.past.push({ words, list, signs, hearing: this.stood });
+    this.future = [];
+  }
+
+  goBack() {
+    const step = this.past.pop();
+    this.future.push({ ...step, hearing: this.copy() });
+    this.hearing = copyOf(step.hearing);
+    this.refresh(Infinity);
+  }
+
+  goOn() {
+    const step = this.future.pop();
+    this.past.push({ ...step, hearing: this.copy() });
+    this.hearing = copyOf(step.hearing);
+    this.refresh(Infinity);
+  }
+
+  /** Puts another hearing onto the desk, as a new one of the list; the one that was there stays in the list. */
+  begin(hearing, words) {
+    this.keeper.begin();
+    this.reset(hearing);
+    this.front.say(words, false);
+  }
+
+  /** Puts a hearing of the list onto the desk. */
+  reopen(id, rev, hearing) {
+    this.keeper.begin(id, rev, hearing);
+    this.reset(hearing);
+    this.front.say(`\u201c${isolated(hearing.title || "without a title")}\u201d is on the desk.`, false);
+  }
+
+  reset(hearing) {
+    this.past = [];
+    this.future = [];
+    this.front.ui.chosen = null;
+    this.take(hearing);
+  }
+
+  continueFresh() {
+    freshDialog(this.front);
   }
 
   /** What the last step did, beside the words, where the picture is out of view. */
@@ -127,8 +217,9 @@ export class Desk {
       this.takeName.value = "";
     }
     if (WITH_TEXT.has(kindOf(step)) && reply.outcome === 0) this.words.value = "";
+    this.note(effect(step, reply, this.names), { list: bytes, signs: kindOf(step) === "sign" && reply.outcome === 0 });
     this.hearing.list = joined([this.hearing.list, bytes]);
-    const focused = focusIn(byId("desk"));
+    const focused = focusIn(byId("details"));
     hush();
     this.refresh(Infinity);
     focused(this.words);
@@ -140,9 +231,10 @@ export class Desk {
     const { steps, replies, length } = this.record, back = startsWork(this.record) ? 2 : 1, last = steps[length - 1], before = this.copy();
     const lines = this.lines.slice(-back).join("; ");
     const opened = ["root", "new"].includes(kindOf(last)) && replies[length - 1].outcome < REFUSED;
+    this.note(`Taken back: ${lines}.`);
     if (opened) this.hearing.takes.length = Math.min(this.hearing.takes.length, replies[length - 1].take);
     this.hearing.list = this.hearing.list.slice(0, -8 * back);
-    const focused = focusIn(byId("desk"));
+    const focused = focusIn(byId("details"));
     hush();
     this.refresh(Infinity);
     if (WITH_TEXT.has(kindOf(last)) && !this.used().has(last.text)) this.forget(last.text);
@@ -152,7 +244,7 @@ export class Desk {
 
   /** The hearing as it stands, whatever is done to it. */
   copy() {
-    return { ...this.hearing, takes: [...this.hearing.takes], texts: { ...this.hearing.texts } };
+    return copyOf(this.hearing);
   }
 
   /** Says what was done, under the button that did it, and offers the hearing as it was before. */
@@ -172,14 +264,16 @@ export class Desk {
   }
 
   entitle(title) {
+    this.note(`The hearing is called \u201c${isolated(title)}\u201d.`);
     this.hearing.title = title;
     unpressed(() => this.refresh(this.rows.count));
   }
 
   rename(take, name) {
+    this.note(`Renamed: ${isolated(name.trim())}.`);
     this.hearing.takes[take] = name.trim();
     unpressed(() => {
-      const focused = focusIn(byId("desk"));
+      const focused = focusIn(byId("details"));
       this.refresh(this.rows.count);
       focused(this.words);
     });
@@ -196,6 +290,7 @@ export class Desk {
 
   thin() {
     const before = this.copy(), short = this.thinned(), left = (before.list.length - short.length) / 8;
+    this.note(`${counted(left, "step")} left out.`);
     this.hearing.list = short;
     hush();
     this.refresh(Infinity);
@@ -211,7 +306,7 @@ export class Desk {
     return tell(`The second engine, which keeps no maps, gives ${same ? "the same" : "other"} replies.`);
   }
 
-  begin(limits) {
+  beginWith(limits) {
     confirmOpening(this, { ...emptyHearing(limits) }, "a new hearing", NEW);
   }
 
@@ -232,6 +327,17 @@ export class Desk {
     this.hearing = hearing;
     this.refresh(Infinity);
   }
+}
+
+/** A hearing as it stands, whatever is done to it. */
+function copyOf(hearing) {
+  return { ...hearing, takes: [...hearing.takes], texts: { ...hearing.texts }, about: [...hearing.about], times: [...hearing.times] };
+}
+
+/** Notes when the steps were made that have no time yet. */
+function timed(hearing, steps) {
+  if (hearing.times.length > steps) hearing.times.length = steps;
+  while (hearing.times.length < steps) hearing.times.push(Date.now());
 }
 
 /** Whether the last two steps are a letter without words and its receipt, as "start work" makes them. */

@@ -5,7 +5,7 @@ import { readHead } from "../../../bindings/js/image.mjs";
 import { trial } from "../shared/offered.mjs";
 import { costWords } from "../shared/withdrawal.mjs";
 import { save } from "../shared/files.mjs";
-import { toFile, Unreadable } from "../shared/hearing.mjs";
+import { begun, toFile, Unreadable } from "../shared/hearing.mjs";
 import { capital, isolated } from "../shared/names.mjs";
 import { verdict, tone, FALLEN_BACK, VANISHED } from "../shared/words.mjs";
 
@@ -92,7 +92,9 @@ function taken(desk, hearing, name) {
   const lacks = lacking(hearing);
   replace(byId("desk-notice"));
   try {
-    desk.take(hearing);
+    begun(hearing);
+    desk.keeper.begin();
+    desk.reset(hearing);
     if (lacks) tell(lacks);
   } catch (e) {
     if (!(e instanceof Unreadable)) throw e;

@@ -45,6 +45,17 @@ class Trial {
     if (readHead(this.copy.image, take).status === "at work") this.step("done", { take });
   }
 
+  /**
+   * Runs steps that each are to be answered with one of these outcomes.
+   * @param {Uint8Array} list
+   * @param {number[]} [wanted]
+   */
+  follow(list, wanted = [0]) {
+    const replies = this.copy.runAll(list);
+    for (let i = 0; 8 * i < list.length; i++) this.good = this.good && wanted.includes(readReply(replies, i).outcome);
+    this.steps.push(list);
+  }
+
   /** The steps, or null where one of them did not get the wanted reply. */
   get list() {
     return this.good ? joined(this.steps) : null;

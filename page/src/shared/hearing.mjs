@@ -1,5 +1,5 @@
 // A hearing kept at the desk: the list of steps, the limits or the image it starts from, and beside them names for takes and words for
-// texts. Its file is a JSON with a version.
+// texts, what each take is (a name or a page, a role, a first page), and when each step was made. Its file is a JSON with a version.
 import { GREATEST, Refusal } from "../../../bindings/js/ledger.mjs";
 import { toSteps, toText } from "../../../bindings/js/notation.mjs";
 import { toBase64, fromBase64 } from "./address.mjs";
@@ -9,14 +9,14 @@ const FORMAT = "take ledger desk";
 const VERSION = 1;
 
 export function emptyHearing(limits = GREATEST) {
-  return { title: "", limits: { ...limits }, image: null, list: new Uint8Array(0), takes: [], texts: {} };
+  return { title: "", limits: { ...limits }, image: null, list: new Uint8Array(0), takes: [], texts: {}, about: [], times: [] };
 }
 
 /** The hearing as its file. */
-export function toFile({ title, limits, image, list, takes, texts }) {
+export function toFile({ title, limits, image, list, takes, texts, about = [], times = [] }) {
   const steps = toText(list).split("\n").slice(0, -1);
   const file = { format: FORMAT, version: VERSION, title, limits, image: image && toBase64(image), steps };
-  const beside = { takes: Array.from(takes, t => t ?? ""), texts };
+  const beside = { takes: Array.from(takes, t => t ?? ""), texts, ...(about.length && { about: Array.from(about, a => a ?? {}) }), ...(times.length && { times }) };
   return `${JSON.stringify({ ...file, ...beside }, null, 1)}\n`;
 }
 
@@ -34,6 +34,11 @@ function parsed(text) {
 const isRecord = value => typeof value === "object" && value !== null && !Array.isArray(value);
 const strings = values => values.every(v => typeof v === "string");
 const LARGEST_TEXT = 4294967295;
+/** What a file says of its takes and times, where it says it well; the rest is left out. */
+function besides({ about, times }) {
+  const told = Array.isArray(about) && about.every(isRecord) ? about.map(a => Object.fromEntries(Object.entries(a).filter(([, v]) => typeof v === "string"))) : [];
+  return { about: told, times: Array.isArray(times) && times.every(t => t === null || Number.isFinite(t)) ? times : [] };
+}
 const isText = word => /^(0|[1-9]\d{0,9})$/.test(word) && Number(word) <= LARGEST_TEXT;
 
 /** The hearing of such a file; throws Unreadable. */
@@ -47,7 +52,7 @@ export function fromFile(text) {
   if (!named) throw new Unreadable("its names are no words");
   const odd = Object.keys(texts).find(word => !isText(word));
   if (odd !== undefined) throw new Unreadable(`it has words for \u201c${odd}\u201d, which is no text`);
-  const hearing = { title: String(title), limits, image: image ? imageOf(image) : null, list: listOf(steps), takes, texts };
+  const hearing = { title: String(title), limits, image: image ? imageOf(image) : null, list: listOf(steps), takes, texts, ...besides(file) };
   begun(hearing);
   return hearing;
 }

@@ -11,6 +11,7 @@ export function onPaper(rows) {
   let paper = null;
   window.addEventListener("beforeprint", () => {
     paper?.remove();
+    if (!rows.record) return;
     paper = table(rows);
     rows.scroller.append(paper);
   });
