@@ -72,6 +72,12 @@ async function board({ browser, check, shots }, desk) {
     await desk.take("send", 0, "one more", "2");
     assert.match(await desk.board(), /2 pages 31 to 60\s+3\s+speaker list\s+“one more”/);
   });
+  await check("a parcel is lost only after a question", async () => {
+    await browser.click(`#desk-steps [data-kind=lose][data-parcel="3"]`);
+    assert.match(await browser.text("#desk-confirm"), /Lose parcel 3\?/);
+    await browser.press("#desk-confirm", "leave it");
+    assert.match(await desk.board(), /“one more”/);
+  });
 }
 
 async function withdrawing({ browser, check }, desk) {
@@ -106,9 +112,12 @@ async function withdrawing({ browser, check }, desk) {
 async function signing({ browser, check, shots }, desk) {
   await check("sign by the board, undo, thin", async () => {
     await browser.click(`#desk-board [data-volume="3"]`);
+    await browser.click("#confirm-sign");
     assert.equal((await desk.replies()).at(-1), "done");
     assert.doesNotMatch(await desk.board(), /What stands in the way[^]*\d speaker list[^]*What is waiting/);
     await browser.click("#desk-undo");
+    assert.match(await browser.text("#desk-confirm"), /Take the signing of speaker list and pages 1 to 30 back\?/);
+    await browser.click("#confirm-undo");
     assert.equal((await desk.replies()).at(-1), "held");
     const read = await desk.replies();
     await desk.take("read", 0);

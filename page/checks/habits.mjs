@@ -53,7 +53,7 @@ async function deadEnd({ browser, check, url }) {
   const desk = await fresh(browser, url);
   for (const name of ["names", "page 12", "page 40"]) await desk.open(name, "raw");
   for (const t of [0, 1]) for (const kind of ["work", "freeze"]) await desk.take(kind, t);
-  for (const volume of [1, 2]) await browser.click(`#desk-board [data-volume="${volume}"]`);
+  for (const volume of [1, 2]) for (const selector of [`#desk-board [data-volume="${volume}"]`, "#confirm-sign"]) await browser.click(selector);
   await check("a signed take with nothing new is not in the way, whatever came before", async () => {
     assert.doesNotMatch(await desk.board(), /What stands in the way[^]*0 names[^]*What is waiting/);
   });

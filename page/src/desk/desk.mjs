@@ -17,7 +17,7 @@ import { readText, namesFrom } from "../shared/listing.mjs";
 import { emptyHearing, begun, toFile, fromFile, textNumber, Unreadable } from "../shared/hearing.mjs";
 import { kept, putAside } from "../shared/store.mjs";
 import { keepHearing, showKept } from "./keeping.mjs";
-import { confirmFall, confirmReceipt, confirmEmpty, confirmName, confirmOpening, hush, tell } from "./notices.mjs";
+import { confirmFall, confirmLoss, confirmReceipt, confirmEmpty, confirmName, confirmOpening, confirmSigning, confirmUndo, hush, tell } from "./notices.mjs";
 import { recognize } from "../shared/files.mjs";
 import { Front } from "./front.mjs";
 import { Keeper } from "./keeper.mjs";
@@ -42,7 +42,7 @@ export class Desk {
     this.stepper = new Stepper(byId("desk-steps"), {
       textField: this.words,
       textOf: () => textNumber(this.hearing, this.words.value, this.used()),
-      add: bytes => this.append(bytes),
+      add: bytes => this.offer(bytes),
       confirm: (kind, fields, go) => this.confirm(kind, fields, go),
       labels: LABELS,
     });
@@ -119,7 +119,7 @@ export class Desk {
     byId("desk-steps").prepend(el("p", { class: "fields" }, el("label", {}, "name ", this.takeName)), this.knownWords());
     this.words.closest("p").append(this.last());
     this.falls.show(this.record);
-    showBoard(byId("desk-board"), this.record, this.names, bytes => this.append(bytes));
+    showBoard(byId("desk-board"), this.record, this.names, bytes => this.offer(bytes));
     showBar(this);
     byId("desk-heading").textContent = this.hearing.title;
     this.rows.pick(Math.min(count, this.record.length));
@@ -161,8 +161,8 @@ export class Desk {
   }
 
   /** Puts a hearing of the list onto the desk. */
-  reopen(id, rev, hearing) {
-    this.keeper.begin(id, rev, hearing);
+  reopen({ id, rev, deeds }, hearing) {
+    this.keeper.begin(id, rev, hearing, deeds);
     this.reset(hearing);
     this.front.say(`\u201c${isolated(hearing.title || "without a title")}\u201d is on the desk.`, false);
   }
@@ -204,9 +204,17 @@ export class Desk {
     const name = this.takeName.value.trim(), known = name ? this.hearing.takes.indexOf(name) : -1;
     if (kind === "fall" || kind === "fail") confirmFall(this, kind, take, go);
     else if (kind === "receive" && [FALLEN_BACK, VANISHED].includes(this.record.end.decision(parcel).outcome)) confirmReceipt(this, parcel, go);
+    else if (kind === "lose") confirmLoss(parcel, go);
     else if (kind === "write" && this.words.value.trim() === "") confirmEmpty(this, take, go);
     else if (["root", "new"].includes(kind) && known >= 0) confirmName(name, known, go);
     else go();
+  }
+
+  /** Adds steps; before a signing it is asked. */
+  offer(bytes) {
+    const step = readStep(bytes, bytes.length / 8 - 1);
+    if (kindOf(step) === "sign") confirmSigning(this.names.volume(step.parcel), () => this.append(bytes));
+    else this.append(bytes);
   }
 
   /** Adds a step, or several; the last one's reply is told. */
@@ -226,8 +234,15 @@ export class Desk {
     announce(`${verdict(reply)}: ${effect(step, reply, this.names)}`);
   }
 
-  /** Takes back the last step, or a letter without words together with its receipt, and the names and words that came with it. */
+  /** Takes back the last step; before a signing is taken back it is asked. */
   undo() {
+    const { step, reply } = this.record.before(this.record.length);
+    if (kindOf(step) === "sign" && reply.outcome === 0) confirmUndo(this.names.volume(step.parcel), () => this.takeBack());
+    else this.takeBack();
+  }
+
+  /** Takes back the last step, or a letter without words together with its receipt, and the names and words that came with it. */
+  takeBack() {
     const { steps, replies, length } = this.record, back = startsWork(this.record) ? 2 : 1, last = steps[length - 1], before = this.copy();
     const lines = this.lines.slice(-back).join("; ");
     const opened = ["root", "new"].includes(kindOf(last)) && replies[length - 1].outcome < REFUSED;

@@ -59,5 +59,5 @@ function row(front, { head, hearing }) {
 
 function reopened(front, head, hearing) {
   byId("desk-dialog").close();
-  front.desk.reopen(head.id, head.rev, hearing);
+  front.desk.reopen(head, hearing);
 }

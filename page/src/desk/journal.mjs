@@ -62,22 +62,18 @@ function shared(a, b) {
   return n - (n % 8);
 }
 
-const headOf = (id, rev, { title, list, times }) => ({ id, rev, title, steps: list.length / 8, from: times.find(Boolean) ?? null, to: times.filter(Boolean).at(-1) ?? null, saved: Date.now() });
+const headOf = (id, rev, deeds, { title, list, times }) => ({ id, rev, deeds, title, steps: list.length / 8, from: times.find(Boolean) ?? null, to: times.filter(Boolean).at(-1) ?? null, saved: Date.now() });
 
 /**
- * Writes a hearing after a deed; before: as it was written last, or null. rev counts the deeds.
- * @param {string} id
- * @param {number} rev
- * @param {any} hearing
- * @param {any} before
- * @param {string} words
+ * Writes a hearing after a deed; before: as it was written last, or null. rev counts what was written of it, deeds what was done to it.
+ * @param {{id: string, rev: number, deeds: number, hearing: any, before: any, words: string}} what
  */
-export function write(id, rev, hearing, before, words) {
+export function write({ id, rev, deeds, hearing, before, words }) {
   return within("readwrite", async store => {
     const head = await answer(store("hearings").get(id));
     if ((head?.rev ?? 0) !== rev - 1) throw new Elsewhere();
     const keep = before ? shared(before.list, hearing.list) : 0, { title, takes, texts, about, times } = hearing;
-    store("hearings").put(headOf(id, rev, hearing));
+    store("hearings").put(headOf(id, rev, deeds, hearing));
     store("journal").put({ id, rev, at: Date.now(), words, keep, list: hearing.list.slice(keep), beside: { title, takes: Array.from(takes, t => t ?? ""), texts, about: Array.from(about, a => a ?? {}), times } });
     if (!before || rev % APART === 1) store("snapshots").put({ id, rev, file: toFile(hearing) });
   });
@@ -87,12 +83,12 @@ export function write(id, rev, hearing, before, words) {
 export async function restore(id) {
   const found = await within("readonly", async store => {
     const [head, snapshot, entries] = await Promise.all([answer(store("hearings").get(id)), answer(store("snapshots").get(id)), answer(store("journal").getAll(entriesOf(id)))]);
-    return head && snapshot ? { rev: head.rev, snapshot, entries } : null;
+    return head && snapshot ? { rev: head.rev, deeds: head.deeds, snapshot, entries } : null;
   });
   if (!found) return null;
   let hearing = fromFile(found.snapshot.file);
   for (const entry of found.entries.filter(e => e.rev > found.snapshot.rev)) hearing = { ...hearing, ...entry.beside, list: joined([hearing.list.slice(0, entry.keep), entry.list]) };
-  return { hearing, rev: found.rev };
+  return { hearing, rev: found.rev, deeds: found.deeds };
 }
 
 /** All hearings, the one written last first. */

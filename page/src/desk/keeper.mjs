@@ -21,64 +21,82 @@ export class Keeper {
   /** @param {any} desk */
   constructor(desk) {
     this.desk = desk;
+    /** The hearing on the desk, and how many deeds were done to it. */
     this.id = null;
-    this.rev = 0;
-    this.written = null;
+    this.deeds = 0;
+    /** @type {Map<string, {rev: number, written: any}>} what was written last of each hearing */
+    this.last = new Map();
     this.queue = Promise.resolve();
   }
 
-  /** What this window knows of the hearing that the page kept last. */
+  /** Which hearing the page kept last, and after how many deeds; noted at once with each deed, while the database takes its time. */
   known() {
     try {
-      const { id, rev } = JSON.parse(keptWord(KEY) ?? "{}");
-      return typeof id === "string" && Number.isInteger(rev) ? { id, rev } : null;
+      const { id, deeds } = JSON.parse(keptWord(KEY) ?? "{}");
+      return typeof id === "string" && Number.isInteger(deeds) ? { id, deeds } : null;
     } catch {
       return null;
     }
   }
 
-  /** At the start: the hearing of the database, where it goes on from what the page kept, or all that there is. */
+  /** At the start: the hearing of the database, where it has more deeds than what the page kept, or goes on from it. */
   async recover() {
     try {
       const mark = this.known(), first = mark ?? (await all())[0], found = first && await restore(first.id);
       if (!found) return;
-      const here = this.desk.hearing.list, there = found.hearing.list, newer = beginsWith(there, here) || found.rev > (mark?.rev ?? Infinity);
+      const here = this.desk.hearing.list, there = found.hearing.list, related = beginsWith(there, here) || beginsWith(here, there);
+      const newer = mark ? found.deeds > mark.deeds : beginsWith(there, here);
       if (newer) this.desk.take(apart(found.hearing));
-      if (newer || (there.length && beginsWith(here, there))) Object.assign(this, { id: first.id, rev: found.rev, written: found.hearing });
+      if (newer || related) this.begin(first.id, found.rev, found.hearing, Math.max(found.deeds, mark?.deeds ?? 0));
     } catch (e) {
       console.warn(e);
     }
   }
 
-  /** Another hearing is at the desk: by its id, or a new one. */
-  begin(id = null, rev = 0, hearing = null) {
-    const written = apart(hearing);
-    this.queue = this.queue.then(() => void Object.assign(this, { id, rev, written }));
+  /** Another hearing is at the desk: one of the database, or a new one. */
+  begin(id = null, rev = 0, hearing = null, deeds = 0) {
+    Object.assign(this, { id, deeds });
+    if (id) this.last.set(id, { rev, written: apart(hearing) });
   }
 
   /** Writes the hearing as it stands after a deed. */
   keep(words) {
-    const hearing = this.desk.copy();
-    this.queue = this.queue.then(() => this.put(hearing, words)).catch(e => this.failed(e));
+    this.id ??= newId();
+    this.deeds++;
+    this.note();
+    const { id, deeds } = this, hearing = this.desk.copy();
+    this.queue = this.queue.then(() => this.put(id, deeds, hearing, words)).catch(e => this.failed(e));
     return this.queue;
   }
 
-  async put(hearing, words) {
-    if (this.written && toFile(this.written) === toFile(hearing)) return;
-    const id = this.id ?? newId();
+  note() {
+    keepWord(KEY, JSON.stringify({ id: this.id, deeds: this.deeds }));
+  }
+
+  async put(id, deeds, hearing, words) {
+    const { rev, written } = this.last.get(id) ?? { rev: 0, written: null };
+    if (written && toFile(written) === toFile(hearing)) return;
     try {
-      await write(id, this.rev + 1, hearing, this.written, words);
+      await write({ id, rev: rev + 1, deeds, hearing, before: written, words });
     } catch (e) {
       if (!(e instanceof Elsewhere)) throw e;
-      tell(COPY);
-      Object.assign(this, { id: null, rev: 0, written: null });
-      this.desk.hearing.title = `${hearing.title || "hearing"} (copy)`;
-      return this.put({ ...hearing, title: this.desk.hearing.title }, words);
+      return this.copied(id, deeds, hearing, words);
     }
-    Object.assign(this, { id, rev: this.rev + 1, written: hearing });
-    keepWord(KEY, JSON.stringify({ id, rev: this.rev }));
+    this.last.set(id, { rev: rev + 1, written: hearing });
     byId("desk").dataset.kept = String(hearing.list.length / 8);
     return undefined;
+  }
+
+  /** Another window wrote this hearing first: this window goes on in a copy. */
+  copied(id, deeds, hearing, words) {
+    const other = newId(), title = `${hearing.title || "hearing"} (copy)`;
+    tell(COPY);
+    if (this.id === id) {
+      this.id = other;
+      this.desk.hearing.title = title;
+      this.note();
+    }
+    return this.put(other, deeds, { ...hearing, title }, words);
   }
 
   failed(e) {

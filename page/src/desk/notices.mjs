@@ -70,6 +70,21 @@ export function confirmReceipt(desk, parcel, go) {
   ask("what a receipt costs", words, "receive", go, "confirm-receipt");
 }
 
+/** Before a signing. */
+export function confirmSigning(takes, go) {
+  ask("a signing", el("p", {}, `Sign ${takes}? What is signed is kept for good.`), "sign", go, "confirm-sign");
+}
+
+/** Before a signing is taken back. */
+export function confirmUndo(takes, go) {
+  ask("a signing taken back", el("p", {}, `Take the signing of ${takes} back? Others may rely on what is signed.`), "take it back", go, "confirm-undo");
+}
+
+/** Before a parcel is lost. */
+export function confirmLoss(parcel, go) {
+  ask("a parcel lost", el("p", {}, `Lose parcel ${parcel}? It is gone for good, and nobody receives it.`), "lose it", go, "confirm-loss");
+}
+
 /** Before a text without words is written. */
 export function confirmEmpty(desk, take, go) {
   const words = el("p", {}, `No words are given. ${capital(desk.names.take(take))} would get text 0, which has none.`);
