@@ -176,15 +176,14 @@ export class Front {
   }
 
   mend(card) {
+    if (card.state !== "frozen") return this.mendAll(this.mendable().filter(c => c.take === card.take || card.below.has(c.take)));
     const list = mending(this.session, card.take, card.grounds, this.textFor(card));
-    if (card.state !== "frozen") return this.do(`${card.title} is set again.`, list);
     const words = ["It is frozen, so it can only be signed as it is. Then it is set again from what stands, and signed once more when you like."];
     return this.ask({ title: `Sign ${inside(card)} as it is?`, words: words.map(w => el("p", {}, w)), yes: "Sign and set again", list, said: `${card.title} is signed as it was, and set again.`, signs: true });
   }
 
-  /** Sets all that is old again, those below first; one deed. */
-  mendAll() {
-    const olds = this.mendable();
+  /** Sets all that is old again, or some of it, those below first; one deed. */
+  mendAll(olds = this.mendable()) {
     let list = new Uint8Array(0), session = this.session.copy();
     for (const card of olds) {
       const part = settingFrom(session, card.take, card.grounds, this.textFor(card));

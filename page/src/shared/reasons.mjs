@@ -43,7 +43,7 @@ function withdrawn(record, count, { path, ground = null }, names) {
   const at = fallOf(record, count, ground, path.at(-1)), when = at === null ? "withdrawn" : `withdrawn at step ${at}`;
   const why = [`${chain([...path, ground].map(t => names.take(t)))}, ${when}.`];
   const falls = fallsOf(record.at(count), ground, [...path].reverse(), names);
-  return { why, help: [...lost(falls, names).map(words => `${words}.`), ...wayOut(falls)] };
+  return { why, help: [...lost(falls, names).map(words => `${words}.`), ...wayOut(record.at(count), falls)] };
 }
 
 /** The step at which a life of the ground that the take rests on fell, or null. */

@@ -83,8 +83,10 @@ export function lost(falls, names) {
 }
 
 /** What would help the last of them: its own fall, after those of its grounds where it does not fall alone; or another take. */
-export function wayOut(falls) {
+export function wayOut(session, falls) {
   const { fall, gone } = falls.at(-1), needed = fall?.alone ? [fall] : falls.map(f => f.fall).filter(Boolean);
   if (fall?.outcome === FALLEN_BACK) return [`What would help: ${needed.map(f => f.words).join("; then ")}.`];
-  return fall || gone ? ["What would help: open another take for these pages."] : [];
+  const room = run(session.copy(), "root", {}).outcome === 0;
+  const help = room ? "open another take for these pages" : "continue in a fresh session, for this one has no take left";
+  return fall || gone ? [`What would help: ${help}.`] : [];
 }
