@@ -223,6 +223,7 @@ fn others_asked(b: &mut Builder) {
 fn engine(b: &mut Builder) {
     b.play("Three steps.", LIMITS, 24, 24);
     b.play("An empty list.", LIMITS, 0, 0);
+    b.play("The longest list, 1,024 steps.", LIMITS, 8_192, 8_192);
     b.play("17: no multiple of 8.", LIMITS, 20, 20);
     b.play("17: over 8,192 bytes.", LIMITS, 8_200, 8_200);
     b.play("17 comes before 18.", LIMITS, 20, 24);

@@ -39,6 +39,7 @@ struct Builder<'a> {
     suite: Suite,
     small: Vec<u8>,
     full: Vec<u8>,
+    fresh: Vec<u8>,
 }
 
 /// Takes 0 idle and signed, 1 at work, 2 vanished, 3 not opened; two parcels.
@@ -73,7 +74,11 @@ fn full() -> Image {
 impl Builder<'_> {
     fn case(&mut self, base: &str, clause: &str, kept: bool, comment: &str, change: &[(usize, &[u8])]) {
         assert!(CLAUSES.contains(&clause), "no clause: {clause}");
-        let mut image = if base == "small" { self.small.clone() } else { self.full.clone() };
+        let mut image = match base {
+            "small" => self.small.clone(),
+            "fresh" => self.fresh.clone(),
+            _ => self.full.clone(),
+        };
         for (at, bytes) in change {
             image[*at..*at + bytes.len()].copy_from_slice(bytes);
         }
@@ -108,6 +113,7 @@ fn head(b: &mut Builder) {
         b.ill(c, "0", &[(at, &[0])]);
         b.ill(c, "one over", &[(at, &[over])]);
         b.ill(c, "255", &[(at, &[255])]);
+        b.case("fresh", c, false, "0, and nothing else is wrong", &[(at, &[0])]);
     }
     b.ill("zero byte of the limits", "byte 7 is 1", &[(7, &[1])]);
     b.good("zero byte of the limits", "as it is", &[]);
@@ -361,10 +367,11 @@ pub fn suite(kit: &mut Kit) -> Suite {
         "images",
         "Images, well-formed or not, as changed bytes of a well-formed one. A run of an empty list tells: 0, or 19.",
     );
-    let (small, full) = (small().0, full().0);
+    let (small, full, fresh) = (small().0, full().0, Image::fresh(LIMITS).0);
     suite.good("small", "Take 0 idle and signed, 1 at work, 2 vanished, 3 not opened; parcels 3 and 7.", &small);
     suite.good("full", "All takes opened, all parcels waiting, a list of fifteen entries.", &full);
-    let mut b = Builder { kit, suite, small, full };
+    suite.good("fresh", "A fresh image.", &fresh);
+    let mut b = Builder { kit, suite, small, full, fresh };
     head(&mut b);
     takes(&mut b);
     unopened_take(&mut b);

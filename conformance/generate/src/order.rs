@@ -89,6 +89,7 @@ fn refused_ones() -> Asked {
             ("sign {1}", "send 1 to 2 text 9", Free, "Both see take 1, and neither changes it."),
             ("receive 9", "lose 9", Free, "Both are refused, whatever comes before: nothing is changed."),
             ("write 2 text 8", "write 2 text 9", Free, "Take 2 is idle: both are refused."),
+            ("letter to 3 text 8", "letter to 0 text 9", Meets, "A letter refused with 21 still sees the next number."),
             (
                 "write 2 text 8",
                 "receive 2",
@@ -119,6 +120,7 @@ fn places() -> Asked {
             ("send 0 to 1 text 9", "receive 2", Shows, "Or after the receipt."),
             ("lose 2", "lose 3", Free, "No step that makes a parcel: who frees the place is not seen."),
             ("send 0 to 1 text 8", "send 1 to 0 text 9", Free, "Both are refused with 26, and change nothing."),
+            ("letter to 3 text 8", "lose 3", Meets, "A letter refused with 21 still sees that no place is free."),
         ],
     }
 }
@@ -145,6 +147,29 @@ fn signings() -> Asked {
             ("sign {0,1}", "fail 2", Free, "Take 2 is not named, and nobody named rests on it."),
             ("sign {0}", "sign {2}", Free, "Volumes apart, of which none rests on the other's lives."),
         ],
+    }
+}
+
+const STALE: &str = "root text 1; root text 2; letter to 0 text 3; receive 0; freeze 0; sign {0}; letter to 0 text 4; receive 1; send 0 to 1 text 5; \
+    send 0 to 1 text 6; fail 0; letter to 0 text 7; receive 4; send 0 to 1 text 8; receive 5; write 1 text 9; done 1";
+
+fn dropped() -> Asked {
+    Asked {
+        name: "stale parcels",
+        told: "Parcels 2 and 3 have a withdrawn life of take 0, and take 1, to which they go, knows of the fall.",
+        image: grown(LIMITS, &list(STALE)),
+        pairs: vec![("receive 2", "receive 3", Meets, "Two receipts by one take, both dropped: each changes the take.")],
+    }
+}
+
+fn last_take() -> Asked {
+    let sixteen = (1..=16).map(|t| format!("root text {t}; ")).collect::<String>();
+    let rest = "letter to 15 text 1; receive 0; send 15 to 0 text 2; receive 1; write 0 text 3; freeze 0; freeze 15";
+    Asked {
+        name: "take 15",
+        told: "Sixteen takes; take 0 rests on take 15's present life, and both are frozen.",
+        image: grown(LIMITS, &list(&format!("{sixteen}{rest}"))),
+        pairs: vec![("sign {0}", "sign {15}", Shows, "Take 0 alone is ready only after take 15 is signed.")],
     }
 }
 
@@ -251,7 +276,7 @@ fn random(b: &mut Builder) {
 
 pub fn suite(kit: &mut Kit) -> Suite {
     let mut b = Builder { kit, suite: Suite::new("order", ABOUT), shown: BTreeSet::new() };
-    let all = [takes_and_parcels(), refused_ones(), places(), signings(), strange()];
+    let all = [takes_and_parcels(), refused_ones(), places(), signings(), dropped(), last_take(), strange()];
     all.iter().for_each(|asked| b.asked(asked));
     let clauses = CHANGES.iter().map(|c| format!("changes {c}")).chain(SEES.iter().map(|c| format!("sees {c}")));
     let missing: Vec<String> = clauses.filter(|c| !b.shown.contains(c)).collect();
