@@ -86,7 +86,13 @@ fn thinned(
 // The engine on a whole list, with replies of which every byte was 255: prints the answer, and so many bytes of the replies.
 fn chained(list: &[u8], replies: &mut [u8], n: &[u8]) -> u8 {
     bytes::fill(replies, 255);
-    let answer = engine::play(list, replies, numbers::at(n, 1), numbers::at(n, 2), numbers::at(n, 3));
+    let answer = engine::play(
+        list,
+        replies,
+        numbers::at(n, 1),
+        numbers::at(n, 2),
+        numbers::at(n, 3),
+    );
     print::number(answer as usize);
     print::row(replies, 0, numbers::at(n, 6));
     PRINTED

@@ -41,7 +41,7 @@ unfolding lettersFit
 letters-fit y s g e = ⊎-elim
     (λ (a : eqb (letters y s g) 0 ≡ true). none-needed (eqb-true (letters y s g) 0 a))
     (λ (a : _). let b = both (ltb (length (s .messages)) (s .limits .messages)) (leb (s .next + letters y s g) lastNumber) a in
-        room (ltb-true (length (s .messages)) (s .limits .messages) (b .0)) (leb-true (s .next + letters y s g) lastNumber (b .1)))
+    room (ltb-true (length (s .messages)) (s .limits .messages) (b .0)) (leb-true (s .next + letters y s g) lastNumber (b .1)))
     (or-to (eqb (letters y s g) 0) _ e)
 
 -- ---- a reply that says 3 or 4 is of a take that fell (specs/Withdrawal)
