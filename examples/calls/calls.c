@@ -105,7 +105,8 @@ static void ledger_plan_example(void) {
     uint8_t plan[LEDGER_PLAN], replies[LEDGER_PLAN];
     hearing();
     size_t steps = ledger_plan(image, sizeof image, 1, plan, sizeof plan, &refusal); /* freeze 0, sign {0,1} */
-    assert(steps == 2 && ledger_run(image, sizeof image, plan, sizeof plan, 0, LEDGER_STEP * steps, replies, LEDGER_STEP * steps) == 0);
+    size_t end = LEDGER_STEP * steps;
+    assert(steps == 2 && ledger_run(image, sizeof image, plan, sizeof plan, 0, end, replies, end) == 0);
     assert(ledger_reply_outcome(replies) == 0 && ledger_reply_outcome(replies + LEDGER_STEP) == 0);
 }
 
@@ -230,5 +231,6 @@ static void notation_reply_example(void) {
 static void notation_image_example(void) {
     uint8_t out[NOTATION_LINE];
     hearing();
-    assert(says(out, notation_image(image, sizeof image, 0, out, sizeof out), "limits: takes 16, parcels 32, signings 15\n"));
+    struct notation_given given = notation_image(image, sizeof image, 0, out, sizeof out);
+    assert(says(out, given, "limits: takes 16, parcels 32, signings 15\n"));
 }
