@@ -36,7 +36,7 @@ use Rattle.rules.proofs.ByKind.Applied.{applies}
 use Rattle.rules.proofs.ByKind.Outcomes.{Judged, judged, apply-outcome}
 use Rattle.rules.proofs.Independent.Steps.{decided}
 use Rattle.rules.proofs.Pack.Loads.{held-at, read-state, read-creation, unpack-waiting}
-use Rattle.independence.specs.Internal.Footprint.{receiverOf, touches, touchesIn, leaves, leavesBy, takesMeet, addresses, handles, handled, parcelsMeet, headsMeet, relisted, hasMarks, listsMeet, meets}
+use Rattle.independence.specs.Internal.Footprint.{receiverOf, touches, touchesIn, leaves, leavesBy, transactorsMeet, addresses, handles, handled, parcelsMeet, headsMeet, relisted, hasMarks, listsMeet, meets}
 
 -- ---- a test that fails at the first k
 
@@ -263,7 +263,7 @@ module _ (s : State) (p q : Step) where
   not-ready false = refl
 
   abbrev tests : Bool
-  tests = headsMeet s p q or (not (leaves base s p) and takesMeet base s p q) or listsMeet base s (stepOf base s p .state) q
+  tests = headsMeet s p q or (not (leaves base s p) and transactorsMeet base s p q) or listsMeet base s (stepOf base s p .state) q
 
   pub meets-malformed : malformed q ≡ true → false ≡ meets base s p q
   unfolding meets
@@ -309,18 +309,18 @@ module _ (s : State) (p q : Step) where
           go false k = refl
 
       pub meets-heads : headsMeet s p q ≡ true → true ≡ meets base s p q
-      meets-heads h = sym (tested ∙ ap (λ (c : Bool). c or (not (leaves base s p) and takesMeet base s p q) or listsMeet base s (stepOf base s p .state) q) h)
+      meets-heads h = sym (tested ∙ ap (λ (c : Bool). c or (not (leaves base s p) and transactorsMeet base s p q) or listsMeet base s (stepOf base s p .state) q) h)
 
       module _ (h : headsMeet s p q ≡ false) where
-        rest : meets base s p q ≡ (not (leavesBy p o) and takesMeet base s p q) or listsMeet base s (stepOf base s p .state) q
+        rest : meets base s p q ≡ (not (leavesBy p o) and transactorsMeet base s p q) or listsMeet base s (stepOf base s p .state) q
         rest =
-            tested ∙ ap (λ (c : Bool). c or (not (leaves base s p) and takesMeet base s p q) or listsMeet base s (stepOf base s p .state) q) h
-            ∙ sym (ap (λ (c : Bool). (not c and takesMeet base s p q) or listsMeet base s (stepOf base s p .state) q) leaves-is)
+            tested ∙ ap (λ (c : Bool). c or (not (leaves base s p) and transactorsMeet base s p q) or listsMeet base s (stepOf base s p .state) q) h
+            ∙ sym (ap (λ (c : Bool). (not c and transactorsMeet base s p q) or listsMeet base s (stepOf base s p .state) q) leaves-is)
 
-        pub meets-takes : not (leavesBy p o) and takesMeet base s p q ≡ true → true ≡ meets base s p q
-        meets-takes t = sym (rest ∙ ap (λ (c : Bool). c or listsMeet base s (stepOf base s p .state) q) t)
+        pub meets-transactors : not (leavesBy p o) and transactorsMeet base s p q ≡ true → true ≡ meets base s p q
+        meets-transactors t = sym (rest ∙ ap (λ (c : Bool). c or listsMeet base s (stepOf base s p .state) q) t)
 
-        pub meets-lists : not (leavesBy p o) and takesMeet base s p q ≡ false → (x : State) → x ≡ stepOf base s p .state → (b : Bool) → b ≡ listsMeet base s x q → b ≡ meets base s p q
+        pub meets-lists : not (leavesBy p o) and transactorsMeet base s p q ≡ false → (x : State) → x ≡ stepOf base s p .state → (b : Bool) → b ≡ listsMeet base s x q → b ≡ meets base s p q
         meets-lists t x i b g = g ∙ ap (λ (y : State). listsMeet base s y q) i ∙ sym (rest ∙ ap (λ (c : Bool). c or listsMeet base s (stepOf base s p .state) q) t)
 
 -- ---- refusals

@@ -38,7 +38,7 @@ use Rattle.rules.proofs.Keep.Run.{stepOk-unpack}
 use Rattle.rules.proofs.Keep.Step.{fitting-base, keeps}
 use Rattle.rules.proofs.Independent.Effects.{waits-for}
 use Rattle.rules.proofs.Independent.Steps.{whole-seen}
-use Rattle.independence.specs.Internal.Footprint.{receiverOf, touchesIn, leaves, takesMeet, addresses, handles, handled, parcelsMeet, isCrowded, headsMeet, relisted, hasMarks, listsMeet, meets}
+use Rattle.independence.specs.Internal.Footprint.{receiverOf, touchesIn, leaves, transactorsMeet, addresses, handles, handled, parcelsMeet, isCrowded, headsMeet, relisted, hasMarks, listsMeet, meets}
 use Rattle.independence.proofs.Clauses.{touch-sign, touch-receive, touch-else, handled-sent, handled-other}
 use Rattle.independence.proofs.Signing.{same-signed, other-signed}
 
@@ -288,11 +288,11 @@ module _ {s : State} (w : WellFormed base s) (p q : Step) (ok : StepOk p) (ok' :
   s' = stepOf base s p .state
 
   abbrev tests : Bool
-  tests = headsMeet s p q or (not (leaves base s p) and takesMeet base s p q) or listsMeet base s s' q
+  tests = headsMeet s p q or (not (leaves base s p) and transactorsMeet base s p q) or listsMeet base s s' q
 
   record Off : Type 0 where
     heads : headsMeet s p q ≡ false
-    takes : not (leaves base s p) and takesMeet base s p q ≡ false
+    takes : not (leaves base s p) and transactorsMeet base s p q ≡ false
     lists : listsMeet base s s' q ≡ false
 
   off : meets base s p q ≡ false → refusal base s p ≡ 0 → malformed q ≡ false → Off
@@ -301,7 +301,7 @@ module _ {s : State} (w : WellFormed base s) (p q : Step) (ok : StepOk p) (ok' :
       let a : eqb (refusal base s p) 0 and tests ≡ false = and-off (not (malformed q)) _ e (ap not f) in
       let b : tests ≡ false = and-off (eqb (refusal base s p) 0) tests a (eq-eqb (refusal base s p) 0 z) in
       let h = or-off (headsMeet s p q) _ b in
-      let t = or-off (not (leaves base s p) and takesMeet base s p q) _ (h .1) in
+      let t = or-off (not (leaves base s p) and transactorsMeet base s p q) _ (h .1) in
       record { heads = h .0; takes = t .0; lists = t .1 }
 
   abbrev freed : Bool
@@ -322,9 +322,9 @@ module _ {s : State} (w : WellFormed base s) (p q : Step) (ok : StepOk p) (ok' :
         never (sym (and-of (handles (p .kind)) _ k (and-of (handles (q .kind)) _ (r .0) (eq-eqb (handled (s .next) p) (handled (s .next) q) (e ∙ sym (r .1))))) ∙ parcels-off h o .1)
 
     wholes : Off → {t : ℕ} → Changes base s p (whole t) → Sees s q (whole t) → ⊥
-    unfolding takesMeet
+    unfolding transactorsMeet
     wholes o {t} k v =
-        let none : takesMeet base s p q ≡ false = and-off (not (leaves base s p)) _ (o .takes) (ap not (changes-moves w p ok z k)) in
+        let none : transactorsMeet base s p q ≡ false = and-off (not (leaves base s p)) _ (o .takes) (ap not (changes-moves w p ok z k)) in
         never (sym (and-of (touchesIn base s p t) (touchesIn base s q t) (sees-touch w p (whole-seen k)) (sees-touch w q v))
         ∙ any-at (λ u. touchesIn base s p u and touchesIn base s q u) 16 t none (changes-low w p ok z k))
 
@@ -378,9 +378,9 @@ module _ {s : State} (w : WellFormed base s) (p q : Step) (ok : StepOk p) (ok' :
             (λ k. subst (λ (n : ℕ). Changes base s p (parcel n)) (handled-sent (s .next) p k) (Changes.making k))
             (or-to (takesAway (p .kind)) (sends (p .kind)) h)
 
-    seen-takes : not (leaves base s p) and takesMeet base s p q ≡ true → ⊥
-    unfolding takesMeet
-    seen-takes e =
+    seen-transactors : not (leaves base s p) and transactorsMeet base s p q ≡ true → ⊥
+    unfolding transactorsMeet
+    seen-transactors e =
         let a = both (not (leaves base s p)) _ e in
         let r = any-within (λ t. touchesIn base s p t and touchesIn base s q t) 16 (a .1) in
         let h = both (touchesIn base s p (r .0)) (touchesIn base s q (r .0)) (r .2) in
@@ -403,7 +403,7 @@ module _ {s : State} (w : WellFormed base s) (p q : Step) (ok : StepOk p) (ok' :
       let z : refusal base s p ≡ 0 = eqb-true (refusal base s p) 0 (b .0) in
       ⊎-elim
       (λ h. seen-heads z f u h)
-      (λ h. ⊎-elim (λ g. seen-takes z f u g) (λ g. seen-lists z f u g) (or-to (not (leaves base s p) and takesMeet base s p q) (listsMeet base s s' q) h))
+      (λ h. ⊎-elim (λ g. seen-transactors z f u g) (λ g. seen-lists z f u g) (or-to (not (leaves base s p) and transactorsMeet base s p q) (listsMeet base s s' q) h))
       (or-to (headsMeet s p q) _ (b .1))
 
 -- ---- the call's answer

@@ -58,7 +58,7 @@ fn sends(kind: u8) -> bool
 }
 
 // receive, lose
-fn takes_away(kind: u8) -> bool
+fn consumes(kind: u8) -> bool
     ensures { λ r. ⌜ r ≡ clauses.takesAway kind ⌝ }
 {
     kind == numbers::RECEIVE || kind == numbers::LOSE
@@ -122,9 +122,9 @@ fn both_touch(p: Step, q: Step, opened: usize, first: usize, second: usize, t: u
 }
 
 // Whether both see some transactor whole.
-fn takes_meet(image: &[u8], p: Step, q: Step) -> bool
+fn transactors_meet(image: &[u8], p: Step, q: Step) -> bool
     requires { ⌜ Good (now image) ⌝ }
-    ensures { λ r. ⌜ r ≡ footprint.takesMeet base (unpack base (now (image .entry))) p q ⌝ }
+    ensures { λ r. ⌜ r ≡ footprint.transactorsMeet base (unpack base (now (image .entry))) p q ⌝ }
 {
     let opened = head::opened(image) as usize;
     let first = receiver(image, p.message);
@@ -169,7 +169,7 @@ fn handled(next: u16, p: Step) -> u16
 fn handles(kind: u8) -> bool
     ensures { λ r. ⌜ r ≡ footprint.handles kind ⌝ }
 {
-    if takes_away(kind) {
+    if consumes(kind) {
         return true;
     }
     sends(kind)
@@ -182,7 +182,7 @@ fn frees(full: bool, p: Step, q: Step) -> bool
     if !full {
         return false;
     }
-    if !takes_away(p.kind) {
+    if !consumes(p.kind) {
         return false;
     }
     sends(q.kind)
@@ -328,12 +328,12 @@ fn leaves(p: Step, outcome: u8) -> bool
 // Whether p, which has this outcome, changes a transactor that q sees whole.
 fn changes_meet(image: &[u8], p: Step, q: Step, outcome: u8) -> bool
     requires { ⌜ Good (now image) ⌝ }
-    ensures { λ r. ⌜ r ≡ not (footprint.leavesBy p outcome) and footprint.takesMeet base (unpack base (now (image .entry))) p q ⌝ }
+    ensures { λ r. ⌜ r ≡ not (footprint.leavesBy p outcome) and footprint.transactorsMeet base (unpack base (now (image .entry))) p q ⌝ }
 {
     if leaves(p, outcome) {
         return false;
     }
-    takes_meet(image, p, q)
+    transactors_meet(image, p, q)
 }
 
 // Whether q sees something that p changes. The copy is for the play.

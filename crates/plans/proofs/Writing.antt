@@ -264,10 +264,10 @@ pub rows-end : {f : ℕ → Bool} {n u v : ℕ} → Names f u v → u ≤ n → 
 rows-end {f} {n} {u} {v} k h l = let e : u ≡ n = omega arith in subst (λ (i : ℕ). Names f i v) e k
 
 -- and they are the rows of who rests on each
-pub volume-is : (s : State) (t : ℕ) {rows nexts : List ℕ} → Reached base s (base .transactors) t rows nexts → t < base .transactors → (v : ℕ) → Names (rowNames rows t) (base .transactors) v
+pub resting-group-is : (s : State) (t : ℕ) {rows nexts : List ℕ} → Reached base s (base .transactors) t rows nexts → t < base .transactors → (v : ℕ) → Names (rowNames rows t) (base .transactors) v
     → v ≡ restingVolume base s t
 unfolding restingVolume rowNames
-volume-is s t r l v k = names-end (record { bits = k .bits; exactly = λ c h. k .exactly c h ∙ ap (λ (x : ℕ). named x t) (r .through .is c h) ∙ in-group (base .transactors) (throughAt s (base .transactors) c) t l }) (omega arith) (omega arith)
+resting-group-is s t r l v k = names-end (record { bits = k .bits; exactly = λ c h. k .exactly c h ∙ ap (λ (x : ℕ). named x t) (r .through .is c h) ∙ in-group (base .transactors) (throughAt s (base .transactors) c) t l }) (omega arith) (omega arith)
 
 -- ---- the call's returns
 

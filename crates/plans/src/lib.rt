@@ -50,7 +50,7 @@ fn is_mendable(o: Impediment) -> bool
 
 // The group that is to be signed: all that transactor t rests on through present incarnations (document 01:
 // lives), itself among them. These are the ones whose rows name t.
-fn volume(reach: Reach, t: usize) -> u16
+fn resting_group(reach: Reach, t: usize) -> u16
     requires { ⌜ t < base .transactors ⌝ }
     ensures { λ r. ⌜ Names (rowNames (reach .through) t) (base .transactors) r ⌝ }
 {
@@ -228,6 +228,6 @@ pub fn plan(image: &[u8], transactor: usize, out: &mut [u8], refusal: &mut u8) -
     if !is_mendable(o) {
         return 0;
     }
-    let group = volume(reach, transactor);
+    let group = resting_group(reach, transactor);
     store_plan(image, group, out)
 }

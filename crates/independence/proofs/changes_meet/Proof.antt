@@ -11,4 +11,4 @@ changes-meet-spec =
     (λ c κs. search needs)
     (λ c. rw (sym (c .before .leaves .ensures) ∙ c .if1 .taken))
     (λ c κs. search needs)
-    (λ c. c .takes-meet .ensures ∙ rw (sym (c .before .before .leaves .ensures) ∙ c .before .if1 .left)))
+    (λ c. c .transactors-meet .ensures ∙ rw (sym (c .before .before .leaves .ensures) ∙ c .before .if1 .left)))

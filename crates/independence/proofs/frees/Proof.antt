@@ -7,10 +7,10 @@ use Rattle.independence.proofs.frees.Statement.{statement}
 use Rattle.independence.proofs.frees.Tie as tie
 
 returns-2 : tie.Need-returns-2
-returns-2 c = let s = c .before .before .before .args in freed-first (s .p) (s .q) (s .full) (c .before .before .if1 .left) (failed (c .before .takes-away .ensures) (c .if2 .taken))
+returns-2 c = let s = c .before .before .before .args in freed-first (s .p) (s .q) (s .full) (c .before .before .if1 .left) (failed (c .before .consumes .ensures) (c .if2 .taken))
 
 returns-3 : tie.Need-returns-3
-returns-3 c = let s = c .before .before .before .before .args in c .sends .ensures ∙ freed-both (s .p) (s .q) (s .full) (c .before .before .before .if1 .left) (passed (c .before .before .takes-away .ensures) (c .before .if2 .left))
+returns-3 c = let s = c .before .before .before .before .args in c .sends .ensures ∙ freed-both (s .p) (s .q) (s .full) (c .before .before .before .if1 .left) (passed (c .before .before .consumes .ensures) (c .before .if2 .left))
 
 pub frees-spec : {M : Type 1} → statement M
 frees-spec =

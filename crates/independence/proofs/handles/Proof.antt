@@ -9,6 +9,6 @@ handles-spec =
     tie.close
     (tie.spec
     (λ c κs. search needs)
-    (λ c. rw (sym (c .before .takes-away .ensures) ∙ c .if1 .taken))
+    (λ c. rw (sym (c .before .consumes .ensures) ∙ c .if1 .taken))
     (λ c κs. search needs)
-    (λ c. c .sends .ensures ∙ rw (sym (c .before .before .takes-away .ensures) ∙ c .before .if1 .left)))
+    (λ c. c .sends .ensures ∙ rw (sym (c .before .before .consumes .ensures) ∙ c .before .if1 .left)))

@@ -7,7 +7,7 @@ use lib.ListN.{length}
 use Rattle.rules.specs.Layout.{base, imageBytes}
 use Rattle.rules.specs.Refusals.{malformed}
 use Rattle.rules.specs.Internal.Good.{Good}
-use Rattle.independence.proofs.Clauses.{played-good, played-says, meets-malformed, meets-refused, meets-heads, meets-takes, meets-lists}
+use Rattle.independence.proofs.Clauses.{played-good, played-says, meets-malformed, meets-refused, meets-heads, meets-transactors, meets-lists}
 use Rattle.independence.proofs.meets.Statement.{statement}
 use Rattle.independence.proofs.meets.Tie as tie
 
@@ -33,7 +33,7 @@ returns-4 c =
     let h = c .before .before in
     let y = h .before .before .before .before .before .before in
     let n = y .before .before .before .before .before .before .pre in (
-      meets-takes _ _ _ (sym (y .before .before .before .malformed .ensures) ∙ y .before .before .if1 .left) _ (y .play .ensures .0)
+      meets-transactors _ _ _ (sym (y .before .before .before .malformed .ensures) ∙ y .before .before .if1 .left) _ (y .play .ensures .0)
           (sym (h .before .before .before .is-refusal .ensures) ∙ h .before .before .if2 .left) (sym (h .before .heads-meet .ensures) ∙ h .if3 .left)
           (sym (c .before .changes-meet .ensures) ∙ c .if4 .taken),
       played-good _ _ _ (n .0) (n .2) (y .play .ensures .1) .long,

@@ -41,8 +41,8 @@ unfoldable pub leavesBy : Step → ℕ → Bool
 leavesBy p outcome = eqb (p .kind) send or (eqb (p .kind) sign and eqb outcome notReady)
 
 -- some take is seen by both
-unfoldable pub takesMeet : Layout → State → Step → Step → Bool
-takesMeet y s p q = any (y .transactors) (λ t. touchesIn y s p t and touchesIn y s q t)
+unfoldable pub transactorsMeet : Layout → State → Step → Step → Bool
+transactorsMeet y s p q = any (y .transactors) (λ t. touchesIn y s p t and touchesIn y s q t)
 
 -- ---- the take that p opens
 
@@ -95,5 +95,5 @@ unfoldable pub meets : Layout → State → Step → Step → Bool
 meets y s p q =
     not (malformed q) and eqb (refusal y s p) 0
     and (headsMeet s p q
-    or (not (leaves y s p) and takesMeet y s p q)
+    or (not (leaves y s p) and transactorsMeet y s p q)
     or listsMeet y s (stepOf y s p .state) q)

@@ -7,7 +7,7 @@ use Rattle.rules.specs.Layout.{base}
 use Rattle.rules.specs.Plan.{mendable}
 use Rattle.rules.proofs.Good.{good-formed}
 use Rattle.rules.proofs.Calls.Query.{query-accepted}
-use Rattle.plans.proofs.Writing.{volume-is, plan-refused, plan-room, plan-lasting, plan-some, cleared}
+use Rattle.plans.proofs.Writing.{resting-group-is, plan-refused, plan-room, plan-lasting, plan-some, cleared}
 use Rattle.plans.proofs.plan.Statement.{statement}
 use Rattle.plans.proofs.plan.Tie as tie
 
@@ -30,8 +30,8 @@ returns-3 c =
     plan-lasting _ _ _ _ (n .before .query-refusal .ensures) (n .if1 .left) (m .before .before .if2 .left) _ (m .clear .ensures)
     (sym (ap mendable (c .before .before .impediment-in .ensures)) ∙ failed (c .before .is-mendable .ensures) (c .if3 .taken))
 
-volume-requires : tie.Need-volume-requires
-volume-requires c κs =
+resting-group-requires : tie.Need-resting-group-requires
+resting-group-requires c κs =
     let m = c .before .before .before .before .before .before .before .before .before in
     query-accepted base _ _ (sym (m .before .query-refusal .ensures) ∙ m .if1 .left) .below
 
@@ -49,7 +49,7 @@ returns-4 c =
     let n = m .before .before .before in
     let a = query-accepted base _ _ (sym (n .before .query-refusal .ensures) ∙ n .if1 .left) in
     plan-some _ _ _ _ (n .before .query-refusal .ensures) (n .if1 .left) (m .before .before .if2 .left) _
-    (volume-is _ _ (v .before .before .before .before .reach-of .ensures) (a .below) _ (v .volume .ensures)) _ _ (c .before .before .store-plan .ensures)
+    (resting-group-is _ _ (v .before .before .before .before .reach-of .ensures) (a .below) _ (v .resting-group .ensures)) _ _ (c .before .before .store-plan .ensures)
     (sym (ap mendable (v .before .before .before .impediment-in .ensures)) ∙ passed (v .before .before .is-mendable .ensures) (v .before .if3 .left))
 
 pub plan-spec : {M : Type 1} → statement M
@@ -65,7 +65,7 @@ plan-spec =
     (λ c κs. search needs)
     (λ c. search needs)
     returns-3
-    volume-requires
+    resting-group-requires
     store-plan-requires
     (λ c. search needs)
     returns-4)

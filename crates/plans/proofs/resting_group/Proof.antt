@@ -10,8 +10,8 @@ use Rattle.rules.specs.Internal.Closure.{Names}
 use Rattle.rules.proofs.Bits.{shifted, names-none, word-fits, names-on, names-off}
 use Rattle.plans.specs.Internal.Written.{rowNames}
 use Rattle.plans.proofs.Writing.{row-is, rows-end}
-use Rattle.plans.proofs.volume.Statement.{statement}
-use Rattle.plans.proofs.volume.Tie as tie
+use Rattle.plans.proofs.resting_group.Statement.{statement}
+use Rattle.plans.proofs.resting_group.Tie as tie
 
 abbrev Inv-loop : tie.InvT-loop
 Inv-loop t reach group₀ c₀ group c = Names (rowNames (reach .through) t) c group × (c ≤ base .transactors)
@@ -33,8 +33,8 @@ loop-again c =
     (λ w. (subst (Names (rowNames _ _) _) (sym (w .1)) (names-off (b .inv .0) (n ∙ w .0 .left)), search needs))
     (c .if1 .came)
 
-pub volume-spec : {M : Type 1} → statement M
-volume-spec =
+pub resting-group-spec : {M : Type 1} → statement M
+resting-group-spec =
     tie.close
     (tie.spec
     Inv-loop
