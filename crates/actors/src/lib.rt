@@ -10,7 +10,7 @@ use lists::{STEP, fields, packed};
 use rules::{Step, numbers};
 
 // For whom a step acts.
-#[derive(Drop)]
+#[derive(Clone, Copy)]
 pub enum Actor {
     // No one: no step does it, or the message that it receives does not wait.
     Nobody,

@@ -158,7 +158,7 @@ fn field(at: usize) -> u8 {
     print::number(f.kind as usize);
     print::number(f.holder as usize);
     print::number(f.map as usize);
-    print::number(f.ground as usize);
+    print::number(f.support as usize);
     print::number(f.entry as usize);
     print::number(f.byte as usize);
     PRINTED

@@ -11,7 +11,7 @@ use rules::numbers;
 
 // The comparison's answer in numbers: the relation's; which of the two a join keeps, 0 the left one, 1 the right one.
 #[repr(C)]
-#[derive(Drop)]
+#[derive(Clone, Copy)]
 pub struct Compared {
     pub relation: u8,
     pub newer: u8,
@@ -20,14 +20,14 @@ pub struct Compared {
 // What a receipt would reply: its outcome, 0 done, 2 dropped, 3 fallen back, 4 vanished; and the first transactor whose histories decide it:
 // dropped, the message's is superseded by the receiver's; fallen back or vanished, the receiver's by the message's. Done: 0.
 #[repr(C)]
-#[derive(Drop)]
+#[derive(Clone, Copy)]
 pub struct Decision {
     pub outcome: usize,
     pub transactor: usize,
 }
 
 // A receipt's refusal, or 0, and what decides it.
-#[derive(Drop)]
+#[derive(Clone, Copy)]
 pub struct Judged {
     pub refusal: u8,
     pub decision: Decision,

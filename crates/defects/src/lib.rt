@@ -15,7 +15,7 @@ use image::{head, limits, messages};
 use rules::numbers;
 
 // A clause that fails, by its number, and the byte where it does; clause 0: none.
-#[derive(Drop)]
+#[derive(Clone, Copy)]
 pub struct Defect {
     pub at: usize,
     pub clause: u8,

@@ -314,10 +314,10 @@ named-all : (u : ℕ) → u < group_bits → named 65535 u ≡ true
 unfolding named every
 named-all u h = every-at (named 65535) group_bits u refl h
 
-follows-start : (ground found allowed : ℕ) (l : List ℕ) (Q R : Places) (M A : ℕ → Bool) → places_in (trail_from 0 found).places (followed_on on_left l) ≡ Q → places_in (trail_from ground 0).places (followed_on on_right l) ≡ R → Names found M → Names allowed A → length l ≡ 1024
-    → Follows (following (walker_from ground found allowed) l) (start_from Q R M A)
+follows-start : (support found allowed : ℕ) (l : List ℕ) (Q R : Places) (M A : ℕ → Bool) → places_in (trail_from 0 found).places (followed_on on_left l) ≡ Q → places_in (trail_from support 0).places (followed_on on_right l) ≡ R → Names found M → Names allowed A → length l ≡ 1024
+    → Follows (following (walker_from support found allowed) l) (start_from Q R M A)
 unfolding walker_from
-follows-start ground found allowed l Q R M A q p m a h = record {
+follows-start support found allowed l Q R M A q p m a h = record {
   left = q;
   right = p;
   left_met = m;
@@ -333,8 +333,8 @@ follows-start ground found allowed l Q R M A q p m a h = record {
 }
 
 -- state and creation of the takes G, no parcel
-ground-places : (m : ℕ → Bool) (ground found : ℕ) (G : ℕ → Bool) → ((u : ℕ) → named ground u ≡ G u) → ((n : ℕ) → m n ≡ false) → places_in (trail_from ground found).places m ≡ ground_of G
-ground-places m ground found G h k = same-places (places_in (trail_from ground found).places m) (ground_of G) h h (λ u. named-zero u) k
+ground-places : (m : ℕ → Bool) (support found : ℕ) (G : ℕ → Bool) → ((u : ℕ) → named support u ≡ G u) → ((n : ℕ) → m n ≡ false) → places_in (trail_from support found).places m ≡ ground_of G
+ground-places m support found G h k = same-places (places_in (trail_from support found).places m) (ground_of G) h h (λ u. named-zero u) k
 
 message-places : (m : ℕ → Bool) (n found : ℕ) → ((k : ℕ) → m k ≡ eqb k n) → places_in (trail_from 0 found).places m ≡ message_alone n
 message-places m n found h = same-places (places_in (trail_from 0 found).places m) (message_alone n) named-zero named-zero named-zero h

@@ -1,7 +1,7 @@
 // A walk back over the steps: sets of transactors are words of 16 bits, transactor t counting 2^t, as in a group.
 
 // What a step did to the places at which incarnations stand: the numbers of messages, and transactors as words.
-#[derive(Drop)]
+#[derive(Clone, Copy)]
 pub enum Event {
     Nothing,
     Cleared(u16),
@@ -18,7 +18,7 @@ pub enum Event {
 }
 
 // The transactors whose state, creation and behaviour are followed.
-#[derive(Drop)]
+#[derive(Clone, Copy)]
 pub struct Side {
     pub state: u16,
     pub creation: u16,
@@ -26,7 +26,7 @@ pub struct Side {
 }
 
 // Both sides after a step, and the transactors met at it on the left and on the right.
-#[derive(Drop)]
+#[derive(Clone, Copy)]
 pub struct Passed {
     pub left: Side,
     pub right: Side,
@@ -35,7 +35,7 @@ pub struct Passed {
 }
 
 // One side of a walk.
-#[derive(Drop)]
+#[derive(Clone, Copy)]
 pub struct Trail {
     pub places: Side,
     // Transactors of which an incarnation was met.
@@ -45,7 +45,7 @@ pub struct Trail {
 }
 
 // A walk, but for the messages followed. Of the last three each is a set of transactors, and only whether it is empty counts.
-#[derive(Drop)]
+#[derive(Clone, Copy)]
 pub struct Walker {
     pub left: Trail,
     pub right: Trail,

@@ -5,7 +5,7 @@ ghost use Rattle.engine_tables.specs.Internal.Register.{fresh_register, with_ope
 
 // The session's limits (transactors opened, messages waiting, checkpoints of one transactor), transactors opened, the next message
 // number, messages waiting.
-#[derive(Drop)]
+#[derive(Clone, Copy)]
 pub struct Register {
     pub transactors: u8,
     pub messages: u8,

@@ -1,7 +1,7 @@
 // What the engine keeps of a transactor and of a message number; the rules on them are definitions: specs/Internal/Tables.antt.
 
 // Document 01: a take, without its maps.
-#[derive(Drop)]
+#[derive(Clone, Copy)]
 pub struct Row {
     pub status: u8,
     // frozen
@@ -16,7 +16,7 @@ pub struct Row {
 }
 
 // Document 01: a parcel number.
-#[derive(Drop)]
+#[derive(Clone, Copy)]
 pub struct Slot {
     // no parcel waits with it
     pub missing: bool,
@@ -28,7 +28,7 @@ pub struct Slot {
 }
 
 // What a step on one transactor replies and leaves.
-#[derive(Drop)]
+#[derive(Clone, Copy)]
 pub struct RowEffect {
     pub outcome: u8,
     // the text read

@@ -14,7 +14,7 @@ use lists::refusals;
 use rules::{Reply, Step, numbers};
 
 // What a step but a signing looks at, and what it leaves: the register, a transactor, and the slot of a message number.
-#[derive(Drop)]
+#[derive(Clone, Copy)]
 pub struct Operands {
     pub register: Register,
     // Which transactor: after a root or a new the one that was opened.
@@ -24,14 +24,14 @@ pub struct Operands {
 }
 
 // A step's reply, and what it leaves.
-#[derive(Drop)]
+#[derive(Clone, Copy)]
 pub struct Turn {
     pub reply: Reply,
     pub operands: Operands,
 }
 
 // A signing's, which looks at all transactors and at no message.
-#[derive(Drop)]
+#[derive(Clone, Copy)]
 pub struct GroupTurn {
     pub reply: Reply,
     pub rows: [Row; 16],

@@ -17,7 +17,7 @@ use lists::{NUMBERS, STEP, packed};
 const ALL: u16 = 65535;
 
 // What a receipt finds: a history of the message is superseded (stale); one that the receiver holds is.
-#[derive(Drop)]
+#[derive(Clone, Copy)]
 pub struct Compared {
     pub dropped: bool,
     pub rolls: bool,
@@ -84,11 +84,11 @@ fn walked(list: &[u8], replies: &[u8], i: usize, x: Walker, messages: &mut [u16;
 }
 
 // Nothing met yet: state and creation of the transactors ground are followed on the right.
-fn start(ground: u16, found: u16, allowed: u16) -> Walker
-    ensures { result ≡ walker_from ground found allowed }
+fn start(support: u16, found: u16, allowed: u16) -> Walker
+    ensures { result ≡ walker_from support found allowed }
 {
     let left = sides::trail(0, found);
-    let right = sides::trail(ground, 0);
+    let right = sides::trail(support, 0);
     Walker {
         left,
         right,

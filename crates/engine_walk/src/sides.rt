@@ -224,13 +224,13 @@ fn trail_over(x: Trail, places: Side, met: u16, changed: u16) -> Trail
 }
 
 // At the start of a walk: state and creation of the transactors ground, and those found.
-pub fn trail(ground: u16, found: u16) -> Trail
-    ensures { result ≡ trail_from ground found }
+pub fn trail(support: u16, found: u16) -> Trail
+    ensures { result ≡ trail_from support found }
 {
     Trail {
         places: Side {
-            state: ground,
-            creation: ground,
+            state: support,
+            creation: support,
             behaviour: 0,
         },
         found,

@@ -20,16 +20,16 @@ module _ (o : ℕ) {r : Field} where
   unfolding front_field
   front_rest g e = rw (le-ltb o 1 (omega arith), le-ltb o 3 g) e
 
-module _ (map holder ground o : ℕ) {r : Field} where
-  pub history-flags : o < 1 → r ≡ in_history 14 holder map ground 0 0 → r ≡ history_field base map holder ground o
+module _ (map holder support o : ℕ) {r : Field} where
+  pub history-flags : o < 1 → r ≡ in_history 14 holder map support 0 0 → r ≡ history_field base map holder support o
   unfolding history_field
   history-flags h e = rw (lt-ltb o 1 h) e
 
-  pub history-number : 1 ≤ o → o < 3 → r ≡ in_history 15 holder map ground 0 (o - 1) → r ≡ history_field base map holder ground o
+  pub history-number : 1 ≤ o → o < 3 → r ≡ in_history 15 holder map support 0 (o - 1) → r ≡ history_field base map holder support o
   unfolding history_field
   history-number g h e = rw (le-ltb o 1 g, lt-ltb o 3 h) e
 
-  pub history-entry : 3 ≤ o → r ≡ in_history 16 holder map ground ((o - 3) / 2) ((o - 3) % 2) → r ≡ history_field base map holder ground o
+  pub history-entry : 3 ≤ o → r ≡ in_history 16 holder map support ((o - 3) / 2) ((o - 3) % 2) → r ≡ history_field base map holder support o
   unfolding history_field
   history-entry g e = rw (le-ltb o 1 (omega arith), le-ltb o 3 g) e
 

@@ -12,11 +12,11 @@ use Rattle.fields.specs.declared.Field.{Field}
 
 -- a field that is no part of a map
 abbrev pub plain : (kind holder byte : ℕ) → Field
-plain kind holder byte = record { kind = kind; holder = holder; map = 0; ground = 0; entry = 0; byte = byte }
+plain kind holder byte = record { kind = kind; holder = holder; map = 0; support = 0; entry = 0; byte = byte }
 
 -- a field of the mark of take ground in a map
-abbrev pub in_history : (kind holder map ground entry byte : ℕ) → Field
-in_history kind holder map ground entry byte = record { kind = kind; holder = holder; map = map; ground = ground; entry = entry; byte = byte }
+abbrev pub in_history : (kind holder map support entry byte : ℕ) → Field
+in_history kind holder map support entry byte = record { kind = kind; holder = holder; map = map; support = support; entry = entry; byte = byte }
 
 -- ---- the field of byte o
 
@@ -25,11 +25,11 @@ unfoldable pub front_field : ℕ → Field
 front_field o = pick (ltb o 1) (plain 1 0 0) (pick (ltb o 3) (plain 2 0 (o - 1)) (plain o 0 0))
 
 -- "present 1, frozen 1, zero 2, count 4, n 16, list 15 times 16"
-unfoldable pub history_field : Layout → (map holder ground o : ℕ) → Field
-history_field y map holder ground o =
-    pick (ltb o 1) (in_history 14 holder map ground 0 0)
-    (pick (ltb o (1 + y.width)) (in_history 15 holder map ground 0 (o - 1))
-    (in_history 16 holder map ground ((o - (1 + y.width)) / y.width) ((o - (1 + y.width)) % y.width)))
+unfoldable pub history_field : Layout → (map holder support o : ℕ) → Field
+history_field y map holder support o =
+    pick (ltb o 1) (in_history 14 holder map support 0 0)
+    (pick (ltb o (1 + y.width)) (in_history 15 holder map support 0 (o - 1))
+    (in_history 16 holder map support ((o - (1 + y.width)) / y.width) ((o - (1 + y.width)) % y.width)))
 
 -- the marks of a map, take by take
 unfoldable pub map_field : Layout → (map holder o : ℕ) → Field
@@ -86,9 +86,9 @@ of_history p w n = pick p (be w n) (zeros w)
 -- a field of a mark
 unfoldable pub history_place : Layout → DependenceMap → (at : ℕ) → Field → Place
 history_place y m at f =
-    pick (eqb f.kind 14) (from at (of_history (held_at m f.ground) 1 (128 + 64 * bit (history_at m f.ground).stable + (history_at m f.ground).count)))
-    (pick (eqb f.kind 15) (from (at + 1) (of_history (held_at m f.ground) y.width (history_at m f.ground).incarnation))
-    (from (at + (1 + y.width + y.width * f.entry)) (of_history (held_at m f.ground) y.width (get_or (history_at m f.ground).checkpoints f.entry 0))))
+    pick (eqb f.kind 14) (from at (of_history (held_at m f.support) 1 (128 + 64 * bit (history_at m f.support).stable + (history_at m f.support).count)))
+    (pick (eqb f.kind 15) (from (at + 1) (of_history (held_at m f.support) y.width (history_at m f.support).incarnation))
+    (from (at + (1 + y.width + y.width * f.entry)) (of_history (held_at m f.support) y.width (get_or (history_at m f.support).checkpoints f.entry 0))))
 
 -- a field of a parcel place: waiting bit and addressee, number, text
 unfoldable pub message_place : Layout → State → Field → Place
@@ -97,7 +97,7 @@ message_place y s f =
     pick (eqb f.kind 11) (from (message_address y k) (of_history (ltb k (length s.messages)) 1 (128 + (message_at s k).addressee)))
     (pick (eqb f.kind 12) (from (message_address y k + 1) (be 2 (message_at s k).number))
     (pick (eqb f.kind 13) (from (message_address y k + 3) (be 4 (message_at s k).value))
-    (history_place y (map_of s f.map k) (map_address y f.map k + history_bytes y * f.ground) f)))
+    (history_place y (map_of s f.map k) (map_address y f.map k + history_bytes y * f.support) f)))
 
 -- a field of a take: status, text, saved text
 unfoldable pub transactor_place : Layout → State → Field → Place

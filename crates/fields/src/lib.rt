@@ -10,7 +10,7 @@ use image::layout::{
 
 // A field, and which of its bytes.
 #[repr(C)]
-#[derive(Drop)]
+#[derive(Clone, Copy)]
 pub struct Field {
     // what stands there: the numbers of specs/Field.antt
     pub kind: u8,
@@ -19,7 +19,7 @@ pub struct Field {
     // of a history, in which map: 0 state, 1 creation, 2 behaviour, 3 the message's
     pub map: u8,
     // of a history, whose it is
-    pub ground: u8,
+    pub support: u8,
     // of a history's list, which entry, from 0
     pub entry: u8,
     // which byte, from 0, the most significant one
@@ -46,13 +46,13 @@ const CHECKPOINT_KIND: u8 = 16;
 
 // A field that is no part of a map.
 fn plain(kind: u8, holder: u8, byte: u8) -> Field
-    ensures { result ≡ record { kind = kind; holder = holder; map = 0; ground = 0; entry = 0; byte = byte } }
+    ensures { result ≡ record { kind = kind; holder = holder; map = 0; support = 0; entry = 0; byte = byte } }
 {
     Field {
         kind,
         holder,
         map: 0,
-        ground: 0,
+        support: 0,
         entry: 0,
         byte,
     }
@@ -72,15 +72,15 @@ fn of_front(at: u8) -> Field
 }
 
 // Byte at of the history of that transactor in a map.
-fn of_history(map: u8, holder: u8, ground: u8, at: u8) -> Field
-    ensures { result ≡ history_field base map holder ground at }
+fn of_history(map: u8, holder: u8, support: u8, at: u8) -> Field
+    ensures { result ≡ history_field base map holder support at }
 {
     if at < 1 {
         return Field {
             kind: FLAGS_KIND,
             holder,
             map,
-            ground,
+            support,
             entry: 0,
             byte: 0,
         };
@@ -90,7 +90,7 @@ fn of_history(map: u8, holder: u8, ground: u8, at: u8) -> Field
             kind: INCARNATION_KIND,
             holder,
             map,
-            ground,
+            support,
             entry: 0,
             byte: at - 1,
         };
@@ -100,7 +100,7 @@ fn of_history(map: u8, holder: u8, ground: u8, at: u8) -> Field
         kind: CHECKPOINT_KIND,
         holder,
         map,
-        ground,
+        support,
         entry: rest / 2,
         byte: rest % 2,
     }
@@ -111,9 +111,9 @@ fn of_map(map: u8, holder: u8, at: usize) -> Field
     requires { at < map_bytes base }
     ensures { result ≡ map_field base map holder at }
 {
-    let ground = at / marks::SIZE;
+    let support = at / marks::SIZE;
     let rest = at % marks::SIZE;
-    of_history(map, holder, ground as u8, rest as u8)
+    of_history(map, holder, support as u8, rest as u8)
 }
 
 // Byte at of a transactor.

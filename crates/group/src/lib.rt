@@ -90,7 +90,7 @@ pub fn is_live(image: &[u8], u: usize) -> bool
 // ---- the test of a group, with what is kept of its members
 
 // What is kept of a group's transactors: their own histories, and which of them are stable.
-#[derive(Drop)]
+#[derive(Clone, Copy)]
 pub struct Present {
     pub own: [History; 16],
     pub stable: u16,

@@ -100,8 +100,8 @@ pub fn impediment_in(image: &[u8], reach: Reach, t: usize) -> Impediment
 {
     let hopeless = lowest(image, reach, HOPELESS, t);
     if hopeless < TRANSACTORS {
-        let ground = lost_ground(image, hopeless);
-        return Impediment::Hopeless(hopeless as u8, ground as u8, reach.next[hopeless]);
+        let support = lost_ground(image, hopeless);
+        return Impediment::Hopeless(hopeless as u8, support as u8, reach.next[hopeless]);
     }
     let exhausted = lowest(image, reach, EXHAUSTED, t);
     if exhausted < TRANSACTORS {

@@ -14,7 +14,7 @@ use image::layout::TRANSACTORS;
 use lists::groups::{Needs, is_named};
 
 // For each transactor: who rests on it, and the next one on a chain to it.
-#[derive(Drop)]
+#[derive(Clone, Copy)]
 pub struct Reach {
     // Who rests on it, directly or through others; itself among them, a bit each.
     pub through: [u16; 16],

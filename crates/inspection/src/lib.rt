@@ -26,7 +26,7 @@ const FIRST_MESSAGE_LINE: usize = FIRST_TRANSACTOR_LINE + TRANSACTOR_LINES * 16;
 pub const LINES: usize = FIRST_MESSAGE_LINE + MESSAGE_LINES * 32;
 
 // What a call answers: the refusal or 0, whether there are no more lines, and the line, which is empty where nothing is to be said.
-#[derive(Drop)]
+#[derive(Clone, Copy)]
 pub struct Inspected {
     pub refusal: u8,
     pub end: bool,

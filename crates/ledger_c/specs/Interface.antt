@@ -48,11 +48,11 @@ number_for false = 0
 
 -- The numbers of obstacle's answer, as the struct for other languages has them.
 abbrev pub reason_numbers : Reason → ObstacleNumbers
-reason_numbers r = record { kind = r.kind; transactor = r.transactor; ground = r.ground }
+reason_numbers r = record { kind = r.kind; transactor = r.transactor; support = r.support }
 
 -- And those of impediment's answer.
 abbrev pub cause_numbers : Cause → ImpedimentNumbers
-cause_numbers r = record { kind = r.kind; transactor = r.transactor; ground = r.ground; next = r.next }
+cause_numbers r = record { kind = r.kind; transactor = r.transactor; support = r.support; next = r.next }
 
 -- The numbers that stand for an answer of actor.
 abbrev pub acting_for : Actor → Acting

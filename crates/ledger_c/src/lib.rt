@@ -38,7 +38,7 @@ const GROUP: usize = 3;
 
 // A part of the image.
 #[repr(C)]
-#[derive(Drop)]
+#[derive(Clone, Copy)]
 pub struct Part {
     pub offset: usize,
     pub length: usize,
@@ -47,27 +47,27 @@ pub struct Part {
 // Why a group can't be checkpointed, in numbers: the kind, 0 nothing, 1 unstable, 2 outside, 3 superseded or annihilated; the named transactor; and
 // the one that it rests on.
 #[repr(C)]
-#[derive(Drop)]
+#[derive(Clone, Copy)]
 pub struct Reason {
     pub kind: u8,
     pub transactor: u8,
-    pub ground: u8,
+    pub support: u8,
 }
 
 // Why no group with a transactor could be checkpointed, in numbers: the kind, 0 nothing, 1 hopeless, 2 exhausted, 3 unstable; the transactor that
 // is in the way; the one of which it has a history that is superseded or annihilated; and the next from the asked one to the one in the way.
 #[repr(C)]
-#[derive(Drop)]
+#[derive(Clone, Copy)]
 pub struct Cause {
     pub kind: u8,
     pub transactor: u8,
-    pub ground: u8,
+    pub support: u8,
     pub next: u8,
 }
 
 // For whom a step acts, in numbers: the kind, 0 nobody, 1 the house, 2 one transactor, 3 a group; and the transactors, their bits.
 #[repr(C)]
-#[derive(Drop)]
+#[derive(Clone, Copy)]
 pub struct Acting {
     pub kind: usize,
     pub takes: usize,
@@ -172,22 +172,22 @@ pub extern "C" fn ledger_obstacle(image: &[u8], members: usize, refusal: &mut u8
         Obstacle::Nothing => Reason {
             kind: 0,
             transactor: 0,
-            ground: 0,
+            support: 0,
         },
         Obstacle::Unstable(t) => Reason {
             kind: 1,
             transactor: t,
-            ground: 0,
+            support: 0,
         },
         Obstacle::Outside(t, u) => Reason {
             kind: 2,
             transactor: t,
-            ground: u,
+            support: u,
         },
         Obstacle::SupersededOrAnnihilated(t, u) => Reason {
             kind: 3,
             transactor: t,
-            ground: u,
+            support: u,
         },
     }
 }
@@ -202,25 +202,25 @@ pub extern "C" fn ledger_impediment(image: &[u8], transactor: usize, refusal: &m
         Impediment::Nothing => Cause {
             kind: 0,
             transactor: 0,
-            ground: 0,
+            support: 0,
             next: 0,
         },
         Impediment::Hopeless(c, u, x) => Cause {
             kind: HOPELESS,
             transactor: c,
-            ground: u,
+            support: u,
             next: x,
         },
         Impediment::Exhausted(c, x) => Cause {
             kind: EXHAUSTED,
             transactor: c,
-            ground: 0,
+            support: 0,
             next: x,
         },
         Impediment::Unstable(c, x) => Cause {
             kind: NOT_STABLE,
             transactor: c,
-            ground: 0,
+            support: 0,
             next: x,
         },
     }

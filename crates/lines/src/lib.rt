@@ -11,7 +11,7 @@ pub const ROOM: usize = 256;
 
 // A line by value: what is said in it are the first len bytes. It takes no more than it has room for, so that no function that adds
 // to it asks for room.
-#[derive(Drop)]
+#[derive(Clone, Copy)]
 pub struct Line {
     pub bytes: [u8; 256],
     pub len: usize,

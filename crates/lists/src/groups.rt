@@ -7,7 +7,7 @@ ghost use Rattle.rules.specs.Internal.Closure.{inside};
 use crate::limits::TRANSACTORS;
 
 // A group for each transactor, and one more: in `needs` whom each needs, and who can be in a group that is ready; in `grounds` who rests on each.
-#[derive(Drop)]
+#[derive(Clone, Copy)]
 pub struct Needs {
     pub need: [u16; 16],
     pub able: u16,

@@ -12,14 +12,14 @@ pub const ENTRIES: usize = 16;
 pub const SIZE: usize = marks::SIZE * ENTRIES;
 
 // Document 01: a map. A history whose place is not held is the initial one.
-#[derive(Drop)]
+#[derive(Clone, Copy)]
 pub struct DependenceMap {
     pub held: [bool; 16],
     pub histories: [History; 16],
 }
 
 // A comparison's answer: the first transactor whose history is superseded, or none.
-#[derive(Drop)]
+#[derive(Clone, Copy)]
 pub enum Comparison {
     Superseded(usize),
     Current,
@@ -27,7 +27,7 @@ pub enum Comparison {
 
 // A packed map and a map, compared both ways: whether some transactor has unrelated histories in the two, the first whose history
 // in the packed one is superseded, and the first whose own is.
-#[derive(Drop)]
+#[derive(Clone, Copy)]
 pub struct Comparisons {
     pub unrelated: bool,
     pub packed: Comparison,

@@ -26,6 +26,7 @@ beq-to false false e = refl
 
 -- what the test says of each row
 row : (c : Case) (cs : List Case) → all_right cs ≡ true → Memᴰ c cs → answer c ≡ c.superseded
+row c [] e m = elim m [ ]
 row c (d ∷ ds) e (Memᴰ.head p) =
     subst (λ z. answer z ≡ z.superseded) (sym p) (beq-to (answer d) d.superseded (both (right d) (all_right ds) e).0)
 row c (d ∷ ds) e (Memᴰ.tail m) = row c ds (both (right d) (all_right ds) e).1 m

@@ -18,12 +18,23 @@ module _ {E N E' N' : ℕ → ℕ → Type 0} where
   weaken f g (next h) = next (g _ _ h)
   weaken f g (more h) = more (weaken f g h)
 
+-- what a trail of each form is
+of_same : {E N : ℕ → ℕ → Type 0} {n m : ℕ} → Along E N [] n [] m → E n m
+of_same (same h) = h
+
+of_next : {E N : ℕ → ℕ → Type 0} {n y m : ℕ} {r : List ℕ} → Along E N [] n (y ∷ r) m → N n y
+of_next (next h) = h
+
+of_more : {E N : ℕ → ℕ → Type 0} {x y n m : ℕ} {p q : List ℕ} → Along E N (x ∷ p) n (y ∷ q) m → Along E N p n q m
+of_more (more h) = h
+
+module _ {E N E' N' : ℕ → ℕ → Type 0} where
   -- not both
   pub clash : ((n m : ℕ) → E n m → E' n m → ⊥) → ((n m : ℕ) → N n m → N' n m → ⊥)
       → {p q : List ℕ} {n m : ℕ} → Along E N p n q m → Along E' N' p n q m → ⊥
-  clash f g (same h) (same k) = f _ _ h k
-  clash f g (next h) (next k) = g _ _ h k
-  clash f g (more h) (more k) = clash f g h k
+  clash f g (same h) k = f _ _ h (of_same k)
+  clash f g (next h) k = g _ _ h (of_next k)
+  clash f g (more h) k = clash f g h (of_more k)
 
 -- ---- three relations
 

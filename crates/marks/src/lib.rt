@@ -14,7 +14,7 @@ pub const PLACES: usize = 15;
 pub const SIZE: usize = 1 + WIDTH + WIDTH * PLACES;
 
 // Document 01: a mark.
-#[derive(Drop)]
+#[derive(Clone, Copy)]
 pub struct History {
     // frozen
     pub stable: bool,
@@ -27,7 +27,7 @@ pub struct History {
 }
 
 // Document 02, W3: what the comparison of two histories says; of the middle four the named one is the earlier.
-#[derive(Drop)]
+#[derive(Clone, Copy)]
 pub enum Relation {
     // the same life
     Same,

@@ -24,7 +24,7 @@ const MORE: u8 = 2;
 const ALL: u16 = 65535;
 
 // Of one transactor: whether it can be in a group that is ready, and whom it needs in it.
-#[derive(Drop)]
+#[derive(Clone, Copy)]
 struct Need {
     need: u16,
     able: bool,

@@ -2,7 +2,7 @@
 use rules::Step;
 
 // Where a line's reader stands (a column from 0), the step so far, and what is missing there (0: nothing; else what was expected).
-#[derive(Drop)]
+#[derive(Clone, Copy)]
 pub struct Reader {
     pub at: usize,
     pub step: Step,
@@ -10,7 +10,7 @@ pub struct Reader {
 }
 
 // What a text lacks where it has a fault.
-#[derive(Drop)]
+#[derive(Clone, Copy)]
 pub enum Expected {
     // A take, 0 to 15.
     Transactor,
@@ -37,7 +37,7 @@ pub enum Expected {
     Room,
 }
 
-#[derive(Drop)]
+#[derive(Clone, Copy)]
 pub enum Parsed {
     // How many steps.
     Steps(usize),

@@ -22,7 +22,7 @@ use rules::numbers;
 
 // How many bytes were written, and the refusal or 0.
 #[repr(C)]
-#[derive(Drop)]
+#[derive(Clone, Copy)]
 pub struct Given {
     pub length: usize,
     pub refusal: u8,

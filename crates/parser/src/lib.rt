@@ -10,7 +10,7 @@ use notation::Parsed;
 use rules::Step;
 
 // What a line gives: a step, nothing, or a fault.
-#[derive(Drop)]
+#[derive(Clone, Copy)]
 pub struct Line {
     pub said: bool,
     pub step: Step,
@@ -19,7 +19,7 @@ pub struct Line {
 }
 
 // How far the lines were read: the length of the list, the line, and the fault there.
-#[derive(Drop)]
+#[derive(Clone, Copy)]
 pub struct Lines {
     pub length: usize,
     pub line: usize,

@@ -16,7 +16,7 @@ use rules::{Step, numbers};
 const RAW: u8 = 13;
 
 // What print and text_length answer.
-#[derive(Drop)]
+#[derive(Clone, Copy)]
 pub enum Printed {
     // How many bytes the text has.
     Length(usize),

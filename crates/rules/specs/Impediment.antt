@@ -24,15 +24,15 @@ pub record ImpedimentNumbers : Type 0 where
   -- the take that is in the way
   pub transactor : ℕ
   -- the take of which it has a mark that can't be signed
-  pub ground : ℕ
+  pub support : ℕ
   -- the next take from the one asked about to the one in the way
   pub next : ℕ
 
 abbrev pub impediment_numbers : Impediment → ImpedimentNumbers
-impediment_numbers Nothing = record { kind = 0; transactor = 0; ground = 0; next = 0 }
-impediment_numbers (Hopeless c u x) = record { kind = 1; transactor = c; ground = u; next = x }
-impediment_numbers (Exhausted c x) = record { kind = 2; transactor = c; ground = 0; next = x }
-impediment_numbers (Unstable c x) = record { kind = 3; transactor = c; ground = 0; next = x }
+impediment_numbers Nothing = record { kind = 0; transactor = 0; support = 0; next = 0 }
+impediment_numbers (Hopeless c u x) = record { kind = 1; transactor = c; support = u; next = x }
+impediment_numbers (Exhausted c x) = record { kind = 2; transactor = c; support = 0; next = x }
+impediment_numbers (Unstable c x) = record { kind = 3; transactor = c; support = 0; next = x }
 
 -- ---- what is in the way
 

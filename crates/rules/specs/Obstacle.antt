@@ -26,13 +26,13 @@ pub record ObstacleNumbers : Type 0 where
   -- the named take
   pub transactor : ℕ
   -- the take that it rests on
-  pub ground : ℕ
+  pub support : ℕ
 
 abbrev pub obstacle_numbers : Obstacle → ObstacleNumbers
-obstacle_numbers Nothing = record { kind = 0; transactor = 0; ground = 0 }
-obstacle_numbers (Unstable t) = record { kind = 1; transactor = t; ground = 0 }
-obstacle_numbers (Outside t u) = record { kind = 2; transactor = t; ground = u }
-obstacle_numbers (SupersededOrAnnihilated t u) = record { kind = 3; transactor = t; ground = u }
+obstacle_numbers Nothing = record { kind = 0; transactor = 0; support = 0 }
+obstacle_numbers (Unstable t) = record { kind = 1; transactor = t; support = 0 }
+obstacle_numbers (Outside t u) = record { kind = 2; transactor = t; support = u }
+obstacle_numbers (SupersededOrAnnihilated t u) = record { kind = 3; transactor = t; support = u }
 
 -- ---- the first that is one
 

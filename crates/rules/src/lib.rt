@@ -2,7 +2,7 @@
 pub mod numbers;
 
 // A step of a list, as document 01 packs it.
-#[derive(Drop)]
+#[derive(Clone, Copy)]
 pub struct Step {
     pub kind: u8,
     // Document 01: the take; of a letter, its addressee.
@@ -18,7 +18,7 @@ pub struct Step {
 }
 
 // A reply to a step.
-#[derive(Drop)]
+#[derive(Clone, Copy)]
 pub struct Reply {
     // The outcome or the refusal.
     pub outcome: u8,
@@ -31,7 +31,7 @@ pub struct Reply {
 }
 
 // Of a reply, what a walk back over the steps looks at.
-#[derive(Drop)]
+#[derive(Clone, Copy)]
 pub struct Told {
     // The outcome or the refusal.
     pub outcome: u8,
@@ -42,14 +42,14 @@ pub struct Told {
 }
 
 // What offer gives: the number of a waiting message, or nothing.
-#[derive(Drop)]
+#[derive(Clone, Copy)]
 pub enum Offered {
     Message(u16),
     Nothing,
 }
 
 // Which transactors to put in a group: their bits, or none.
-#[derive(Drop)]
+#[derive(Clone, Copy)]
 pub enum Grouped {
     Group(u16),
     NoGroup,
@@ -57,7 +57,7 @@ pub enum Grouped {
 
 // What rests on the present incarnation of a transactor.
 #[repr(C)]
-#[derive(Drop)]
+#[derive(Clone, Copy)]
 pub struct Dependents {
     // The live transactors whose state or creation map has it, a bit each; itself among them.
     pub resting: u16,
@@ -70,7 +70,7 @@ pub struct Dependents {
 }
 
 // Why a group can't be checkpointed now: by the transactor whose maps are looked at first, and the one whose history is found there.
-#[derive(Drop)]
+#[derive(Clone, Copy)]
 pub enum Obstacle {
     // It can.
     Nothing,
@@ -84,7 +84,7 @@ pub enum Obstacle {
 
 // Why no group with a transactor could be checkpointed: the transactor that is in the way, the asked one or one that it rests on; and last, the
 // next on a chain from the asked one to that, each resting on the present incarnation of the next: asked about, it has the same in its way.
-#[derive(Drop)]
+#[derive(Clone, Copy)]
 pub enum Impediment {
     // One could.
     Nothing,

@@ -92,7 +92,7 @@ fn number(w: &[u8], most: u64) -> u64
 }
 
 // A word's end, and the number that it is.
-#[derive(Drop)]
+#[derive(Clone, Copy)]
 pub struct Numeral {
     pub end: usize,
     pub value: u64,

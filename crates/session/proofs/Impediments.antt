@@ -47,7 +47,7 @@ use Rattle.session.proofs.Relation as relation
 use Rattle.session.proofs.Sign.{checkpointed-stands, present-stands}
 use Rattle.session.proofs.ViewState.{own_view}
 use Rattle.session.proofs.ViewSeen.{seen-checkpoints}
-use Rattle.session.proofs.Resting.{rests-below, ground-live, rests-ground, rests-exactly, through-live, through-to, live_below}
+use Rattle.session.proofs.Resting.{rests-below, ground-live, rests-support, rests-exactly, through-live, through-to, live_below}
 use Rattle.session.proofs.Reached.{related, well}
 use Rattle.session.proofs.Obstacles.{life-is, live_to, live_of, stands-rests, withdrawn-mark}
 use Rattle.session.proofs.Withdrawal.{held-opened, spoilt-doomed, query-live}
@@ -99,7 +99,7 @@ module _ {y : Layout} {s : State} (w : WellFormed y s) {b : Provenance} (r : Rel
 
   mark : {x u : ℕ} {a : Incarnation} → RestsOn b x u a → SupersededOrAnnihilated b u a → Mark x u
   unfolding view
-  mark {x} {u} {a} rests wd = go (⊎_elim (λ g. g) (λ c. absurd (checkpointed-stands b c wd)) (rests-ground (view s) b r rests))
+  mark {x} {u} {a} rests wd = go (⊎_elim (λ g. g) (λ c. absurd (checkpointed-stands b c wd)) (rests-support (view s) b r rests))
     where
       go : Ground (b.holders x) u a → Mark x u
       go (in-state i) =
@@ -112,7 +112,7 @@ module _ {y : Layout} {s : State} (w : WellFormed y s) {b : Provenance} (r : Rel
   -- a mark is of a take of the layout
   mark-low : {x u : ℕ} {a : Incarnation} → RestsOn b x u a → SupersededOrAnnihilated b u a → u < y.transactors
   unfolding view
-  mark-low {x} {u} {a} rests wd = go (⊎_elim (λ g. g) (λ c. absurd (checkpointed-stands b c wd)) (rests-ground (view s) b r rests))
+  mark-low {x} {u} {a} rests wd = go (⊎_elim (λ g. g) (λ c. absurd (checkpointed-stands b c wd)) (rests-support (view s) b r rests))
     where
       low : u < s.opened → u < y.transactors
       low h = omega (arith, w.opened, w.limits.transactors-high)
@@ -122,7 +122,7 @@ module _ {y : Layout} {s : State} (w : WellFormed y s) {b : Provenance} (r : Rel
       go (in-creation i) = let k = cell-some a i ((r.holders x).creation u) in low (held-opened w r x u k.0 (inr k.1))
 
   rests-low : {x u : ℕ} {a : Incarnation} → RestsOn b x u a → SupersededOrAnnihilated b u a → x < y.transactors
-  rests-low {x} rests wd = go (⊎_elim (λ g. g) (λ c. absurd (checkpointed-stands b c wd)) (rests-ground (view s) b r rests))
+  rests-low {x} rests wd = go (⊎_elim (λ g. g) (λ c. absurd (checkpointed-stands b c wd)) (rests-support (view s) b r rests))
     where
       go : {u : ℕ} {a : Incarnation} → Ground (b.holders x) u a → x < y.transactors
       go g = live_below w r x (ground-live (view s) b r g)
@@ -131,16 +131,16 @@ module _ {y : Layout} {s : State} (w : WellFormed y s) {b : Provenance} (r : Rel
 
   record LostIn (t : ℕ) : Type 0 where
     at : ℕ
-    ground : ℕ
+    support : ℕ
     below : at < y.transactors
-    ground-below : ground < y.transactors
+    ground-below : support < y.transactors
     through : through_at s y.transactors at t ≡ true
-    lost : withdrawn_by s at ground ≡ true
+    lost : withdrawn_by s at support ≡ true
 
   directly : {x u : ℕ} {a : Incarnation} → RestsOn b x u a → SupersededOrAnnihilated b u a → LostIn x
   directly {x} {u} rests wd =
       let m = mark rests wd in
-      record { at = x; ground = u; below = rests-low rests wd; ground-below = mark-low rests wd; through = through-self s y.transactors x; lost = stands-lost s m.stands m.withdrawn }
+      record { at = x; support = u; below = rests-low rests wd; ground-below = mark-low rests wd; through = through-self s y.transactors x; lost = stands-lost s m.stands m.withdrawn }
 
   lost-in : {t : ℕ} → Spoilt b t → LostIn t
   lost-in (on-withdrawn rests wd) = directly rests wd
@@ -149,7 +149,7 @@ module _ {y : Layout} {s : State} (w : WellFormed y s) {b : Provenance} (r : Rel
       go : Live (b.holders u).status ⊎ (Live (b.holders u).status → ⊥) → LostIn u → LostIn t
       go (inl l) k = record {
         at = k.at;
-        ground = k.ground;
+        support = k.support;
         below = k.below;
         ground-below = k.ground-below;
         through = through-trans s y.transactors k.at u t (live_below w r u l) k.through (through-rests s y.transactors u t ((rests-exactly w r u l t).1 rests));
@@ -210,7 +210,7 @@ module _ {y : Layout} (z : Fitting y) {img : List ℕ} {τ : Trace y img} {s : S
   pub spoilt-hopeless : {t : ℕ} → Spoilt b t → (c : ℕ) × (u : ℕ) × (x : ℕ) × (impediment_of y s t ≡ Hopeless c u x)
   spoilt-hopeless {t} q =
       let l = lost-in (well z k) (related z k) q in
-      (_, _, _, hopeless-some y s t l.at l.ground l.below l.ground-below l.through l.lost)
+      (_, _, _, hopeless-some y s t l.at l.support l.below l.ground-below l.through l.lost)
 
   -- And then no volume with the take is ready, after whatever steps, as long as it keeps its life.
   pub hopeless-doomed : {t c u x : ℕ} → impediment_of y s t ≡ Hopeless c u x → Doomed y s t

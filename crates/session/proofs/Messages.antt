@@ -107,28 +107,28 @@ module _ (l : Ledger) (b : Provenance) (r : Rel l b) where
 -- ---- receive
 
 module _ {now : ℕ → HistoryView} {t : ℕ} {x : Node} {h : Holder} (r : HolderRel now t x h) {m : MessageView} {q : WaitingMessage} (p : MessageRel now m q) where
-  abbrev ground : Incarnations
-  ground = h.state ++ h.creation
+  abbrev support : Incarnations
+  support = h.state ++ h.creation
 
-  ground-rel : SetRel now (known_map x) ground
+  ground-rel : SetRel now (known_map x) support
   ground-rel = set-join now x.state x.creation h.state h.creation r.state r.creation
 
-  ground-coherent : Coherent (Members ground)
-  ground-coherent = coherent-part (Whole h) (Members ground) (λ u a z. ⊎_elim in-state in-creation (Memᴰ.append_cases h.state z)) r.coherent
+  ground-coherent : Coherent (Members support)
+  ground-coherent = coherent-part (Whole h) (Members support) (λ u a z. ⊎_elim in-state in-creation (Memᴰ.append_cases h.state z)) r.coherent
 
   -- the book's tests say what the ledger's maps do
   pub dropped-is : (is_dropped h q ≡ true) ↔ SupersededView m.dependences (known_map x)
   unfolding is_dropped
   dropped-is =
-      let k = superseded_set-same now m.dependences (known_map x) q.incarnations ground p.incarnations ground-rel p.coherent in
-      let j = superseded_set-test q.incarnations ground in
+      let k = superseded_set-same now m.dependences (known_map x) q.incarnations support p.incarnations ground-rel p.coherent in
+      let j = superseded_set-test q.incarnations support in
       (λ e. k.0 (j.0 e), λ s. j.1 (k.1 s))
 
   pub rolled_back-is : (is_rolled_back h q ≡ true) ↔ SupersededView (known_map x) m.dependences
   unfolding is_rolled_back
   rolled_back-is =
-      let k = superseded_set-same now (known_map x) m.dependences ground q.incarnations ground-rel p.incarnations ground-coherent in
-      let j = superseded_set-test ground q.incarnations in
+      let k = superseded_set-same now (known_map x) m.dependences support q.incarnations ground-rel p.incarnations ground-coherent in
+      let j = superseded_set-test support q.incarnations in
       (λ e. k.0 (j.0 e), λ s. j.1 (k.1 s))
 
   -- so the ledger's tests, whatever Bools stand for them, give what the book's give
@@ -155,7 +155,7 @@ module _ {now : ℕ → HistoryView} {t : ℕ} {x : Node} {h : Holder} (r : Hold
     first = r.first;
   }
     where
-      part : (u : ℕ) (a : Incarnation) → Whole busy_holder u a → In u a ground ⊎ In u a q.incarnations
+      part : (u : ℕ) (a : Incarnation) → Whole busy_holder u a → In u a support ⊎ In u a q.incarnations
       part u a (in-state z) = inl (Memᴰ.append_left h.creation z)
       part u a (in-creation z) = inl (Memᴰ.append_right h.state z)
       part u a (in-behaviour z) = inr z
@@ -166,10 +166,10 @@ module _ {now : ℕ → HistoryView} {t : ℕ} {x : Node} {h : Holder} (r : Hold
       coherent : Coherent (Whole busy_holder)
       coherent u a c y z s = go (part u a y) (part u c z)
         where
-          go : In u a ground ⊎ In u a q.incarnations → In u c ground ⊎ In u c q.incarnations → ⊥
+          go : In u a support ⊎ In u a q.incarnations → In u c support ⊎ In u c q.incarnations → ⊥
           go (inl i) (inl j) = ground-coherent u a c i j s
-          go (inl i) (inr j) = none ground q.incarnations e (superseded-set u a c i j s)
-          go (inr i) (inl j) = none q.incarnations ground d (superseded-set u a c i j s)
+          go (inl i) (inr j) = none support q.incarnations e (superseded-set u a c i j s)
+          go (inr i) (inl j) = none q.incarnations support d (superseded-set u a c i j s)
           go (inr i) (inr j) = p.coherent u a c i j s
 
 -- d and e stand for the ledger's two tests where the take of node x receives mail m

@@ -118,15 +118,15 @@ pub pair-equal : {b : Provenance} {g i j : ℕ} {h k : Holder} → ((t : ℕ) �
     → StableAs b i h → StableAs b j k
     → ((u : ℕ) (a : Incarnation) → Ground h u a ⊎ Ground k u a → ((u ≡ i) × (a ≡ h.history.incarnation)) ⊎ ((u ≡ j) × (a ≡ k.history.incarnation))) → Equal b g
 pair-equal {b} {g} {i} {j} {h} {k} only named-i named-j noted p q rests = settled-equal b g
-    (λ t n. settle b g noted (ground t (only t n)))
+    (λ t n. settle b g noted (support t (only t n)))
     (λ t n l. own t (only t n))
   where
     own-incarnation : (u : ℕ) (a : Incarnation) → ((u ≡ i) × (a ≡ h.history.incarnation)) ⊎ ((u ≡ j) × (a ≡ k.history.incarnation)) → Settled b g u a
     own-incarnation u a = ⊎_elim (stable-at p.is named-i p.live p.stable u a) (stable-at q.is named-j q.live q.stable u a)
 
-    ground : (t : ℕ) → (t ≡ i) ⊎ (t ≡ j) → (u : ℕ) (a : Incarnation) → Ground (b.holders t) u a → Settled b g u a
-    ground t (inl e) u a x = own-incarnation u a (rests u a (inl (rw (e, p.is) at x)))
-    ground t (inr e) u a x = own-incarnation u a (rests u a (inr (rw (e, q.is) at x)))
+    support : (t : ℕ) → (t ≡ i) ⊎ (t ≡ j) → (u : ℕ) (a : Incarnation) → Ground (b.holders t) u a → Settled b g u a
+    support t (inl e) u a x = own-incarnation u a (rests u a (inl (rw (e, p.is) at x)))
+    support t (inr e) u a x = own-incarnation u a (rests u a (inr (rw (e, q.is) at x)))
 
     own : (t : ℕ) → (t ≡ i) ⊎ (t ≡ j) → In t (b.holders t).history.incarnation (b.holders t).state
     own t (inl e) = rw (e, p.is) p.own

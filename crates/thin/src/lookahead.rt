@@ -12,7 +12,7 @@ use lists::refusals::is_refusal;
 use rules::{Step, numbers};
 
 // For each transactor, whether the next step that touches it empties its map.
-#[derive(Drop)]
+#[derive(Clone, Copy)]
 pub struct Lookahead {
     pub emptied: [bool; 16],
 }

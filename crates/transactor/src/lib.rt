@@ -18,7 +18,7 @@ use marks::History;
 use rules::numbers;
 
 // An outcome or a refusal, and the value read.
-#[derive(Drop)]
+#[derive(Clone, Copy)]
 pub struct Acted {
     pub outcome: u8,
     pub value: u32,

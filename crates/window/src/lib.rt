@@ -12,7 +12,7 @@ const WIDEST: usize = 256;
 
 // The greatest count of outcomes 3 and 4 in a window, and the place of the first window that has it, in replies from 0.
 #[repr(C)]
-#[derive(Drop)]
+#[derive(Clone, Copy)]
 pub struct Worst {
     pub count: usize,
     pub place: usize,

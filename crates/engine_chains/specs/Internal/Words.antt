@@ -213,12 +213,12 @@ follow_back steps replies (suc i) x = follow_back steps replies i (follower_step
 
 -- At the start of a walk state and creation of the takes ground are followed; of the takes found a life was met.
 abbrev pub trail_from : ℕ → ℕ → Trail
-trail_from ground found = record { places = record { state = ground; creation = ground; behaviour = 0 }; found = found; past = 0 }
+trail_from support found = record { places = record { state = support; creation = support; behaviour = 0 }; found = found; past = 0 }
 
 unfoldable pub walker_from : ℕ → ℕ → ℕ → Walker
-walker_from ground found allowed = record {
+walker_from support found allowed = record {
   left = trail_from 0 found;
-  right = trail_from ground 0;
+  right = trail_from support 0;
   ended = 0;
   allowed = allowed;
   left_superseded = 0;

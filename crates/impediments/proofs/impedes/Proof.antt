@@ -7,7 +7,7 @@ use Rattle.impediments.proofs.impedes.Statement.{statement}
 use Rattle.impediments.proofs.impedes.Tie as tie
 
 returns : tie.Need-returns
-returns c = impedes-hopeless base _ _ c.before.if1.true c.lost-ground.ensures.0
+returns c = impedes-hopeless base _ _ c.before.if1.true c.lost-support.ensures.0
 
 returns-2 : tie.Need-returns-2
 returns-2 c = c.is-full.ensures ∙ impedes-exhausted base _ _ c.before.before.if1.false c.before.if2.true

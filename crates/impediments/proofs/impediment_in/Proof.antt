@@ -9,7 +9,7 @@ use Rattle.impediments.proofs.impediment_in.Tie as tie
 returns : tie.Need-returns
 returns c =
     let n = c.before.before in
-    answer-hopeless base _ _ n.before.before.before.requires.2 n.before.lowest.ensures.0 n.if1.true c.before.lost-ground.ensures.0 refl
+    answer-hopeless base _ _ n.before.before.before.requires.2 n.before.lowest.ensures.0 n.if1.true c.before.lost-support.ensures.0 refl
 
 returns-2 : tie.Need-returns-2
 returns-2 c =
