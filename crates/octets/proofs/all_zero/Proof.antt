@@ -9,14 +9,14 @@ use borrow.Author.Rules.{rules}
 use Rattle.octets.proofs.all_zero.Statement.{statement}
 use Rattle.octets.proofs.all_zero.Tie as tie
 
-abbrev invariant-loop : tie.invariant-loop
+abbrev invariant-loop : tie.invariant-loop-i
 invariant-loop s at n any₀ i₀ any i = (i ≤ n) × (eqb any 0 ≡ all_zero (part at i s))
 
-abbrev decreases-loop : tie.decreases-loop
+abbrev decreases-loop : tie.decreases-loop-i
 decreases-loop s at n any₀ i₀ any i = n - i
 
-loop-again : tie.Need-loop-preserved invariant-loop decreases-loop
-loop-again c = (search rules, zero_more _ _ c.before.before.loop.any _ c.before.before.loop.invariant.1 (omega arith))
+loop-again : tie.Need-loop-i-preserved invariant-loop decreases-loop
+loop-again c = (search rules, zero_more _ _ c.before.before.loop-i.any _ c.before.before.loop-i.invariant.1 (omega arith))
 
 pub all_zero_spec : {M : Type 1} → statement M
 all_zero_spec =
@@ -30,4 +30,4 @@ all_zero_spec =
     (λ c. search rules)
     (λ c. search rules)
     loop-again
-    (λ c. zero-end _ _ _ _ _ c.before.loop.invariant.1 (omega arith)))
+    (λ c. zero-end _ _ _ _ _ c.before.loop-i.invariant.1 (omega arith)))

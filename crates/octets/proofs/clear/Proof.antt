@@ -9,10 +9,10 @@ use borrow.Author.Rules.{rules}
 use Rattle.octets.proofs.clear.Statement.{statement}
 use Rattle.octets.proofs.clear.Tie as tie
 
-abbrev invariant-loop : tie.invariant-loop
+abbrev invariant-loop : tie.invariant-loop-i
 invariant-loop image₀ at n i₀ image i = (i ≤ n) × (image ≡ put at (zeros i) image₀) × (length image ≡ length image₀)
 
-abbrev decreases-loop : tie.decreases-loop
+abbrev decreases-loop : tie.decreases-loop-i
 decreases-loop image₀ at n i₀ image i = n - i
 
 pub clear_spec : {M : Type 1} → statement M
@@ -26,6 +26,6 @@ clear_spec =
     (λ c. search rules)
     (λ c. search rules)
     (λ c. search rules)
-    (λ c. (search rules, clear-more _ _ _ _ c.before.loop.invariant.1 (omega arith), search rules))
+    (λ c. (search rules, clear-more _ _ _ _ c.before.loop-i.invariant.1 (omega arith), search rules))
     (λ c. search rules)
-    (λ c. clear-all _ _ _ _ _ c.before.loop.invariant.1 (omega arith)))
+    (λ c. clear-all _ _ _ _ _ c.before.loop-i.invariant.1 (omega arith)))

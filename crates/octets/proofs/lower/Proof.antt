@@ -9,14 +9,14 @@ use borrow.Author.Rules.{rules}
 use Rattle.octets.proofs.lower.Statement.{statement}
 use Rattle.octets.proofs.lower.Tie as tie
 
-abbrev invariant-loop : tie.invariant-loop
+abbrev invariant-loop : tie.invariant-loop-i
 invariant-loop image₀ at gap n i₀ image i = (i ≤ n) × (image ≡ put at (part (at + gap) i image₀) image₀) × (length image ≡ length image₀)
 
-abbrev decreases-loop : tie.decreases-loop
+abbrev decreases-loop : tie.decreases-loop-i
 decreases-loop image₀ at gap n i₀ image i = n - i
 
-loop-again : tie.Need-loop-preserved invariant-loop decreases-loop
-loop-again c = (search rules, lower-more _ _ _ _ _ c.before.before.loop.invariant.1 (omega arith), search rules)
+loop-again : tie.Need-loop-i-preserved invariant-loop decreases-loop
+loop-again c = (search rules, lower-more _ _ _ _ _ c.before.before.loop-i.invariant.1 (omega arith), search rules)
 
 pub lower_spec : {M : Type 1} → statement M
 lower_spec =
@@ -34,4 +34,4 @@ lower_spec =
     (λ c. search rules)
     loop-again
     (λ c. search rules)
-    (λ c. lower-all _ _ _ _ _ _ c.before.loop.invariant.1 (omega arith)))
+    (λ c. lower-all _ _ _ _ _ _ c.before.loop-i.invariant.1 (omega arith)))

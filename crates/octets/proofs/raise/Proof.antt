@@ -9,14 +9,14 @@ use borrow.Author.Rules.{rules}
 use Rattle.octets.proofs.raise.Statement.{statement}
 use Rattle.octets.proofs.raise.Tie as tie
 
-abbrev invariant-loop : tie.invariant-loop
+abbrev invariant-loop : tie.invariant-loop-i
 invariant-loop image₀ from to n i₀ image i = (i ≤ n) × (image ≡ put to (part from i image₀) image₀) × (length image ≡ length image₀)
 
-abbrev decreases-loop : tie.decreases-loop
+abbrev decreases-loop : tie.decreases-loop-i
 decreases-loop image₀ from to n i₀ image i = n - i
 
-loop-again : tie.Need-loop-preserved invariant-loop decreases-loop
-loop-again c = (search rules, raise-more _ _ _ _ _ c.before.before.loop.invariant.1 (omega arith) (omega arith), search rules)
+loop-again : tie.Need-loop-i-preserved invariant-loop decreases-loop
+loop-again c = (search rules, raise-more _ _ _ _ _ c.before.before.loop-i.invariant.1 (omega arith) (omega arith), search rules)
 
 pub raise_spec : {M : Type 1} → statement M
 raise_spec =
@@ -33,4 +33,4 @@ raise_spec =
     (λ c. search rules)
     loop-again
     (λ c. search rules)
-    (λ c. raise-all _ _ _ _ _ _ c.before.loop.invariant.1 (omega arith)))
+    (λ c. raise-all _ _ _ _ _ _ c.before.loop-i.invariant.1 (omega arith)))

@@ -6,7 +6,7 @@ use Rattle.octets.proofs.same8.Statement.{statement}
 use Rattle.octets.proofs.same8.Tie as tie
 
 returns : tie.Need-returns
-returns c = same-8 _ (octets-of _ c.before.before.shared-slice-known.given) _ _ _ _ c.before.little64.ensures c.little642.ensures
+returns c = same-8 _ (octets-of _ c.before.before.shared_slice_known-1.given) _ _ _ _ c.before.little64.ensures c.little64-2.ensures
 
 pub same8_spec : {M : Type 1} → statement M
 same8_spec =

@@ -11,28 +11,28 @@ use borrow.Author.Rules.{rules}
 use Rattle.marks.proofs.History.agrees.Statement.{statement}
 use Rattle.marks.proofs.History.agrees.Tie as tie
 
-abbrev invariant-loop : tie.invariant-loop
+abbrev invariant-loop : tie.invariant-loop-i
 invariant-loop n self other i₀ i = (i ≤ n) × (same_list (take i self.checkpoints) (take i other.checkpoints) ≡ true)
 
-abbrev decreases-loop : tie.decreases-loop
+abbrev decreases-loop : tie.decreases-loop-i
 decreases-loop n self other i₀ i = n - i
 
-returns : tie.Need-returns invariant-loop decreases-loop
+returns : tie.Need-returns-then-self-i invariant-loop decreases-loop
 returns c =
     let h = c.before.before.before.before in
-    sym (same-off h.before.args.t1.checkpoints h.before.args.t2.checkpoints h.before.args.n h.loop.i (omega arith) c.if1.true)
+    sym (same-off h.before.args.self.checkpoints h.before.args.other.checkpoints h.before.args.n h.loop-i.i (omega arith) c.if-self-i.true)
 
-loop-again : tie.Need-loop-preserved invariant-loop decreases-loop
+loop-again : tie.Need-loop-i-preserved invariant-loop decreases-loop
 loop-again c =
     let h = c.before.before.before.before in
-    let p : length h.before.args.t1.checkpoints ≡ places = search rules in
-    let q : length h.before.args.t2.checkpoints ≡ places = search rules in
-    (search rules, same_next h.before.args.t1.checkpoints h.before.args.t2.checkpoints h.loop.i (omega arith) (omega arith) c.if1.false h.loop.invariant.1)
+    let p : length h.before.args.self.checkpoints ≡ places = search rules in
+    let q : length h.before.args.other.checkpoints ≡ places = search rules in
+    (search rules, same_next h.before.args.self.checkpoints h.before.args.other.checkpoints h.loop-i.i (omega arith) (omega arith) c.if-self-i.false h.loop-i.invariant.1)
 
-returns-2 : tie.Need-returns-2 invariant-loop decreases-loop
+returns-2 : tie.Need-returns invariant-loop decreases-loop
 returns-2 c =
     let h = c.before in
-    sym (same-all h.before.args.t1.checkpoints h.before.args.t2.checkpoints h.loop.i h.before.args.n h.loop.invariant.1 (omega arith))
+    sym (same-all h.before.args.self.checkpoints h.before.args.other.checkpoints h.loop-i.i h.before.args.n h.loop-i.invariant.1 (omega arith))
 
 pub agrees_spec : {M : Type 1} → statement M
 agrees_spec =
@@ -40,7 +40,7 @@ agrees_spec =
     (tie.spec
     invariant-loop
     decreases-loop
-    (λ c. (search rules, same_none c.args.t1.checkpoints c.args.t2.checkpoints))
+    (λ c. (search rules, same_none c.args.self.checkpoints c.args.other.checkpoints))
     (λ c. search rules)
     (λ c. search rules)
     (λ c. search rules)

@@ -7,20 +7,20 @@ use borrow.Author.Rules.{rules}
 use Rattle.marks.proofs.History.checkpointed_in.Statement.{statement}
 use Rattle.marks.proofs.History.checkpointed_in.Tie as tie
 
-returns : tie.Need-returns
+returns : tie.Need-returns-then-m-n
 returns c =
     let a = c.before.before.args in
-    checkpointed-short places a.self a.t2 (search rules) (search rules) (omega arith) (omega arith) (omega arith)
+    checkpointed-short places a.self a.other (search rules) (search rules) (omega arith) (omega arith) (omega arith)
 
-returns-2 : tie.Need-returns-2
+returns-2 : tie.Need-returns-then-self-other
 returns-2 c =
     let a = c.before.before.before.before.before.args in
-    checkpointed-off places a.self a.t2 (search rules) (search rules) (omega arith) (omega arith) (omega arith) (search rules)
+    checkpointed-off places a.self a.other (search rules) (search rules) (omega arith) (omega arith) (omega arith) (search rules)
 
-returns-3 : tie.Need-returns-3
+returns-3 : tie.Need-returns
 returns-3 c =
     let a = c.before.before.before.before.before.before.args in
-    c.agrees.ensures ∙ checkpointed-entry places a.self a.t2 (search rules) (search rules) (omega arith) (omega arith) (omega arith) (search rules)
+    c.agrees.ensures ∙ checkpointed-entry places a.self a.other (search rules) (search rules) (omega arith) (omega arith) (omega arith) (search rules)
 
 pub checkpointed_in_spec : {M : Type 1} → statement M
 checkpointed_in_spec =

@@ -10,22 +10,22 @@ use borrow.Author.Rules.{rules}
 use Rattle.marks.proofs.History.compare.Statement.{statement}
 use Rattle.marks.proofs.History.compare.Tie as tie
 
-returns-3 : tie.Need-returns-3
+returns-3 : tie.Need-returns-then-not-agrees
 returns-3 c =
     let a = c.before.before.before.before.before.before.before.before.before.args in
-    ap relation_number (relation-apart-even places a.self a.other (search rules) (search rules) (omega arith) (omega arith) (omega arith) (sym c.before.agrees.ensures ∙ not-true _ c.if3.true))
+    ap relation_number (relation-apart-even places a.self a.other (search rules) (search rules) (omega arith) (omega arith) (omega arith) (sym c.before.agrees.ensures ∙ not-true _ c.if-not-agrees.true-raw))
 
-returns-4 : tie.Need-returns-4
+returns-4 : tie.Need-returns-then-self-other-2
 returns-4 c = ap relation_number (relation-left places c.before.before.before.before.before.before.before.before.before.before.before.before.args.self c.before.before.before.before.before.before.before.before.before.before.before.before.args.other (search rules) (search rules) (omega arith) (omega arith) (omega arith)
-    (sym c.before.before.before.before.agrees.ensures ∙ not-false _ c.before.before.before.if3.false) (omega arith))
+    (sym c.before.before.before.before.agrees.ensures ∙ not-false _ c.before.before.before.if-not-agrees.false-raw) (omega arith))
 
-returns-5 : tie.Need-returns-5
+returns-5 : tie.Need-returns-then-other-self-2
 returns-5 c = ap relation_number (relation-right places c.before.before.before.before.before.before.before.before.before.before.before.before.before.before.before.args.self c.before.before.before.before.before.before.before.before.before.before.before.before.before.before.before.args.other (search rules) (search rules) (omega arith) (omega arith) (omega arith)
-    (sym c.before.before.before.before.before.before.before.agrees.ensures ∙ not-false _ c.before.before.before.before.before.before.if3.false) (omega arith))
+    (sym c.before.before.before.before.before.before.before.agrees.ensures ∙ not-false _ c.before.before.before.before.before.before.if-not-agrees.false-raw) (omega arith))
 
-returns-6 : tie.Need-returns-6
+returns-6 : tie.Need-returns
 returns-6 c = ap relation_number (relation-same places c.before.before.before.before.before.before.before.before.before.before.before.before.before.before.before.args.self c.before.before.before.before.before.before.before.before.before.before.before.before.before.before.before.args.other (search rules) (search rules) (omega arith) (omega arith) (omega arith)
-    (sym c.before.before.before.before.before.before.before.agrees.ensures ∙ not-false _ c.before.before.before.before.before.before.if3.false) (omega arith))
+    (sym c.before.before.before.before.before.before.before.agrees.ensures ∙ not-false _ c.before.before.before.before.before.before.if-not-agrees.false-raw) (omega arith))
 
 pub compare_spec : {M : Type 1} → statement M
 compare_spec =
@@ -33,9 +33,9 @@ compare_spec =
     (tie.spec
     (λ c κs. search rules)
     (λ c κs. search rules)
-    (λ c. ap relation_number (c.turned.ensures ∙ ap turned c.before.compare-longer.ensures ∙ sym (relation-turned _ _)))
+    (λ c. ap relation_number (c.turned.ensures ∙ ap turned c.before.compare_longer.ensures ∙ sym (relation-turned _ _)))
     (λ c κs. search rules)
-    (λ c. ap relation_number c.compare-longer2.ensures)
+    (λ c. ap relation_number c.compare_longer-then-self-other.ensures)
     (λ c. search rules)
     (λ c κs. search rules)
     returns-3

@@ -6,18 +6,18 @@ use Rattle.marks.proofs.News.{shows-list, shows-unstable, shows_same}
 use Rattle.marks.proofs.History.shown_stable.Statement.{statement}
 use Rattle.marks.proofs.History.shown_stable.Tie as tie
 
-returns : tie.Need-returns
-returns c = shows-list _ _ (sym c.before.checkpointed-in.ensures ∙ c.if1.true)
+returns : tie.Need-returns-then-checkpointed_in
+returns c = shows-list _ _ (sym c.before.checkpointed_in.ensures ∙ c.if-checkpointed_in.true)
 
-returns-2 : tie.Need-returns-2
+returns-2 : tie.Need-returns-then-not-other
 returns-2 c =
     let b = c.before.before in
-    shows-unstable _ _ (sym b.before.checkpointed-in.ensures ∙ b.if1.false) (not-true _ c.if2.true)
+    shows-unstable _ _ (sym b.before.checkpointed_in.ensures ∙ b.if-checkpointed_in.false) (not-true _ c.if-not-other.true)
 
-returns-3 : tie.Need-returns-3
+returns-3 : tie.Need-returns
 returns-3 c =
     let b = c.before.before.before in
-    c.same-incarnation.ensures ∙ shows_same _ _ (sym b.before.checkpointed-in.ensures ∙ b.if1.false) (not-false _ c.before.if2.false)
+    c.same_incarnation.ensures ∙ shows_same _ _ (sym b.before.checkpointed_in.ensures ∙ b.if-checkpointed_in.false) (not-false _ c.before.if-not-other.false)
 
 pub shown_stable_spec : {M : Type 1} → statement M
 shown_stable_spec =
