@@ -77,7 +77,7 @@ within-join {l} {n} {a} {b} p q = record { below = below; roomy = λ u e. go u e
     below : (u : ℕ) → held_at (join_of n a b) u ≡ true → u < n
     below = held_below (sized-join n a b)
 
-    go : {c : Bool} {h : History} (u : ℕ) → c ≡ true → Joined (held_at a u) (history_at a u) (held_at b u) (history_at b u) c h → Roomy l h
+    go : (u : ℕ) {c : Bool} {h : History} → c ≡ true → Joined (held_at a u) (history_at a u) (held_at b u) (history_at b u) c h → Roomy l h
     go u e (both f g v) = roomy-newer (p.roomy u f) (q.roomy u g) v
     go u e (left f g) = p.roomy u f
     go u e (right f g) = q.roomy u g

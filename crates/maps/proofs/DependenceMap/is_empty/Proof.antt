@@ -10,10 +10,10 @@ use borrow.Author.Rules.{rules}
 use Rattle.maps.proofs.DependenceMap.is_empty.Statement.{statement}
 use Rattle.maps.proofs.DependenceMap.is_empty.Tie as tie
 
-abbrev invariant-loop : tie.invariant-loop
+abbrev invariant-loop : tie.invariant-loop-i
 invariant-loop self i₀ i = (i ≤ entries) × (is_empty i self ≡ true)
 
-abbrev decreases-loop : tie.decreases-loop
+abbrev decreases-loop : tie.decreases-loop-i
 decreases-loop self i₀ i = entries - i
 
 pub is_empty_spec : {M : Type 1} → statement M
@@ -24,8 +24,8 @@ is_empty_spec =
     decreases-loop
     (λ c. (search rules, is_empty-none _))
     (λ c. search rules)
-    (λ c. sym (is_empty-off _ entries _ (omega arith) c.if1.true))
+    (λ c. sym (is_empty-off _ entries _ (omega arith) c.if-self-i.true))
     (λ c. search rules)
     (λ c. search rules)
-    (λ c. (omega arith, is_empty-more _ _ c.before.before.before.loop.invariant.1 c.if1.false))
-    (λ c. sym (is_empty-all _ entries _ c.before.loop.invariant.1 (omega arith))))
+    (λ c. (omega arith, is_empty-more _ _ c.before.before.before.loop-i.invariant.1 c.if-self-i.false))
+    (λ c. sym (is_empty-all _ entries _ c.before.loop-i.invariant.1 (omega arith))))

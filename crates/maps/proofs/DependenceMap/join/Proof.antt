@@ -10,28 +10,28 @@ use Rattle.maps.proofs.DependenceMap.join.Statement.{statement}
 use Rattle.maps.proofs.DependenceMap.join.Tie as tie
 use Rattle.octets.proofs.Chunks.{length-of-map}
 
-abbrev invariant-loop : tie.invariant-loop
+abbrev invariant-loop : tie.invariant-loop-i
 invariant-loop self₀ other i₀ self i = (i ≤ entries) × Joining entries self₀ other i self
 
-abbrev decreases-loop : tie.decreases-loop
+abbrev decreases-loop : tie.decreases-loop-i
 decreases-loop self₀ other i₀ self i = entries - i
 
-loop-holds : tie.Need-loop-init invariant-loop decreases-loop
+loop-holds : tie.Need-loop-i-init invariant-loop decreases-loop
 loop-holds c = (search rules, joining-none _ _ (record { helds = search (rules, length-of-map); histories = search (rules, length-of-map) }))
 
-loop-again : tie.Need-loop-preserved invariant-loop decreases-loop
+loop-again : tie.Need-loop-i-preserved invariant-loop decreases-loop
 loop-again c =
-    let b = c.before.before.before.before.before.before.before.loop in (
+    let b = c.before.before.before.before.before.before.before.loop-i in (
       omega arith,
       let P = Joining entries _ _ (b.i + 1) in
           ⊎_elim
-          (λ w. subst P (sym w.1) (joining-right _ _ b.i b.invariant.1 (record { held = refl; history = refl }) (omega arith) (sym w.0.taken ∙ c.before.chooses-right.ensures)))
-          (λ w. subst P (sym w.1) (joining-left _ _ b.i b.invariant.1 (record { held = refl; history = refl }) (sym w.0.left ∙ c.before.chooses-right.ensures)))
-          c.if1.branch,
+          (λ w. subst P (sym w.self-is) (joining-right _ _ b.i b.invariant.1 (record { held = refl; history = refl }) (omega arith) (sym w.if-chooses_right.true ∙ c.before.chooses_right.ensures)))
+          (λ w. subst P (sym w.self-is) (joining-left _ _ b.i b.invariant.1 (record { held = refl; history = refl }) (sym w.if-chooses_right.false ∙ c.before.chooses_right.ensures)))
+          c.if-chooses_right.branch-raw,
     )
 
 returns : tie.Need-returns invariant-loop decreases-loop
-returns c = let b = c.before.loop in joining-all _ _ b.i b.invariant.1 (λ j p h. absurd (omega arith))
+returns c = let b = c.before.loop-i in joining-all _ _ b.i b.invariant.1 (λ j p h. absurd (omega arith))
 
 pub join_spec : {M : Type 1} → statement M
 join_spec =

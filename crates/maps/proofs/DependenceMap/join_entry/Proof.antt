@@ -8,16 +8,16 @@ use Rattle.maps.proofs.DependenceMap.join_entry.Statement.{statement}
 use Rattle.maps.proofs.DependenceMap.join_entry.Tie as tie
 use Rattle.octets.proofs.Chunks.{length-of-map}
 
-returns : tie.Need-returns
+returns : tie.Need-returns-then-chooses_right
 unfolding with_entry
 returns c =
     let b = c.before.before.before.before in
-    one_set places (record { helds = search (rules, length-of-map); histories = search (rules, length-of-map) }) b.args.i b.args.h b.requires (sym c.before.chooses-right.ensures ∙ c.if1.true)
+    one_set places (record { helds = search (rules, length-of-map); histories = search (rules, length-of-map) }) b.args.i b.args.h b.requires (sym c.before.chooses_right.ensures ∙ c.if-chooses_right.true)
 
-returns-2 : tie.Need-returns-2
+returns-2 : tie.Need-returns-else-chooses_right
 returns-2 c =
     let b = c.before.before.before.before in
-    one_kept places (record { helds = search (rules, length-of-map); histories = search (rules, length-of-map) }) b.args.i b.args.h b.requires (sym c.before.chooses-right.ensures ∙ c.if1.false)
+    one_kept places (record { helds = search (rules, length-of-map); histories = search (rules, length-of-map) }) b.args.i b.args.h b.requires (sym c.before.chooses_right.ensures ∙ c.if-chooses_right.false)
 
 pub join_entry_spec : {M : Type 1} → statement M
 join_entry_spec =
