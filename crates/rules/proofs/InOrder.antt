@@ -315,6 +315,7 @@ module _ {y : Layout} (z : Fitting y) (t : ℕ) {img : List ℕ} where
 
 -- rising: every number is above all that were received before it
 pub rising-all : {n : ℕ} {ns : List ℕ} → Rising (n ∷ ns) → (k : ℕ) → Memᴰ k ns → k < n
+rising-all (single {n = n}) k x5 = elim x5 [ ]
 rising-all (above h r) k (Memᴰ.head e) = omega (arith, h, e)
 rising-all (above h r) k (Memᴰ.tail d) = let l = rising-all r k d in omega (arith, h, l)
 

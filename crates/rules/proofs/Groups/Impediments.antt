@@ -777,6 +777,7 @@ module _ (y : Layout) (few : y.transactors ≤ group_bits) (img : List ℕ) (t :
   answer-again n = go answer-impedes (asked-again y (unpack y img) t accepted.below (sym answer-is) n)
     where
       go : {o : Impediment} → Impedes y (unpack y img) t o → SameAgain y (unpack y img) o → Again y img o
+      go (is-nothing {v = v} _) x5 = elim x5 [ ]
       go (is-hopeless {x = x} l h stands m) (same-hopeless e) = again-hopeless (next-asked l) (answer-as x (next-asked l) ∙ e)
       go (is-exhausted {x = x} l h) (same-exhausted e) = again-exhausted (next-asked l) (answer-as x (next-asked l) ∙ e)
       go (is-unstable {x = x} l h) (same-unstable e) = again-unstable (next-asked l) (answer-as x (next-asked l) ∙ e)
