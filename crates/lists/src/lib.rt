@@ -1,4 +1,6 @@
 // Lists of steps and of replies, and what ledger and engine ask of a step before they look at their own tables.
+#![tactic(auto)]
+
 pub mod fields;
 pub mod groups;
 pub mod limits;

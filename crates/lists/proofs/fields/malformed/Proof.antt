@@ -8,33 +8,33 @@ use Rattle.lists.proofs.fields.malformed.Statement.{statement}
 use Rattle.lists.proofs.fields.malformed.Tie as tie
 
 -- past the tests of the first two fields
-abbrev else2 : tie.Else3 → tie.Else2
+abbrev else2 : tie.Else-stray-2 → tie.Else-stray
 else2 c = c.before.before.before
 
-abbrev else3 : tie.Else4 → tie.Else3
+abbrev else3 : tie.Else-p-ne0 → tie.Else-stray-2
 else3 c = c.before.before
 
-abbrev step : tie.Else2 → Step
+abbrev step : tie.Else-stray → Step
 step c = c.before.before.before.before.before.args.p
 
-first : (c : tie.Else2) → transactor (step c) ≡ false
-first c = cc (c.before.stray.ensures, c.before.before.before.uses-transactor.ensures, c.if2.false)
+first : (c : tie.Else-stray) → transactor (step c) ≡ false
+first c = cc (c.before.stray.ensures, c.before.before.before.uses_transactor.ensures, c.if-stray.false)
 
-second : (c : tie.Else3) → other (step (else2 c)) ≡ false
-second c = cc (c.before.stray2.ensures, c.if3.false)
+second : (c : tie.Else-stray-2) → other (step (else2 c)) ≡ false
+second c = cc (c.before.stray-2.ensures, c.if-stray-2.false)
 
-returns-5 : tie.Need-returns-5
+returns-5 : tie.Need-returns-then-stray-3
 returns-5 c =
     let d = else3 c.before.before.before.before in
-    stray-message _ (search rules) (first (else2 d)) (second d) (search rules) (cc (c.before.stray3.ensures, c.before.before.before.uses-message.ensures, c.if5.true))
+    stray-message _ (search rules) (first (else2 d)) (second d) (search rules) (cc (c.before.stray-3.ensures, c.before.before.before.uses_message.ensures, c.if-stray-3.true))
 
-returns-6 : tie.Need-returns-6
+returns-6 : tie.Need-returns
 returns-6 c =
     let m = c.before.before in
     let d = else3 m.before.before.before.before in
-    c.stray4.ensures
-    ∙ rw c.before.uses-value.ensures
-    (stray-value _ (search rules) (first (else2 d)) (second d) (search rules) (cc (m.before.stray3.ensures, m.before.before.before.uses-message.ensures, m.if5.false)))
+    c.stray-4.ensures
+    ∙ rw c.before.uses_value.ensures
+    (stray-value _ (search rules) (first (else2 d)) (second d) (search rules) (cc (m.before.stray-3.ensures, m.before.before.before.uses_message.ensures, m.if-stray-3.false)))
 
 pub malformed_spec : {M : Type 1} → statement M
 malformed_spec =
@@ -44,10 +44,10 @@ malformed_spec =
     (λ c κs. search rules)
     (λ c. search rules)
     (λ c κs. search rules)
-    (λ c. stray-transactor _ (search rules) (cc (c.before.stray.ensures, c.before.before.before.uses-transactor.ensures, c.if2.true)))
+    (λ c. stray-transactor _ (search rules) (cc (c.before.stray.ensures, c.before.before.before.uses_transactor.ensures, c.if-stray.true)))
     (λ c. search rules)
     (λ c κs. search rules)
-    (λ c. stray-other _ (search rules) (first c.before.before.before) (cc (c.before.stray2.ensures, c.if3.true)))
+    (λ c. stray-other _ (search rules) (first c.before.before.before) (cc (c.before.stray-2.ensures, c.if-stray-2.true)))
     (λ c. stray-zero _ (search rules) (first (else2 c.before.before)) (second c.before.before) (search rules))
     (λ c κs. search rules)
     (λ c. search rules)

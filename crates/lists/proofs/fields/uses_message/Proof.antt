@@ -7,6 +7,6 @@ pub uses_message_spec : {M : Type 1} → statement M
 uses_message_spec =
     tie.close
     (tie.spec
-    (λ c. rw c.if1.true)
-    (λ c. rw c.if2.true)
-    (λ c. rw (ne_eqb _ 2 c.before.if1.false, ne_eqb _ 11 c.if2.false)))
+    (λ c. rw c.if-kind-eq-RECEIVE.true)
+    (λ c. rw c.if-kind-eq-LOSE.true)
+    (λ c. rw (ne_eqb _ 2 c.before.if-kind-eq-RECEIVE.false, ne_eqb _ 11 c.if-kind-eq-LOSE.false)))

@@ -7,6 +7,6 @@ pub uses_transactor_spec : {M : Type 1} → statement M
 uses_transactor_spec =
     tie.close
     (tie.spec
-    (λ c. rw c.if1.true)
-    (λ c. rw (ne_eqb _ 1 c.before.if1.false, lt-leb 3 _ c.if2.true))
-    (λ c. rw (ne_eqb _ 1 c.before.if1.false, le-leb 3 _ c.if2.false)))
+    (λ c. rw c.if-kind-eq-LETTER.true)
+    (λ c. rw (ne_eqb _ 1 c.before.if-kind-eq-LETTER.false, lt-leb 3 _ c.if-kind-lt-NEW.true))
+    (λ c. rw (ne_eqb _ 1 c.before.if-kind-eq-LETTER.false, le-leb 3 _ c.if-kind-lt-NEW.false)))

@@ -7,8 +7,8 @@ pub uses_value_spec : {M : Type 1} → statement M
 uses_value_spec =
     tie.close
     (tie.spec
-    (λ c. rw c.if1.true)
-    (λ c. rw c.if2.true)
-    (λ c. rw c.if3.true)
-    (λ c. rw c.if4.true)
-    (λ c. rw (ne_eqb _ 0 c.before.before.before.if1.false, ne_eqb _ 1 c.before.before.if2.false, ne_eqb _ 3 c.before.if3.false, ne_eqb _ 4 c.if4.false)))
+    (λ c. rw c.if-kind-eq-ROOT.true)
+    (λ c. rw c.if-kind-eq-LETTER.true)
+    (λ c. rw c.if-kind-eq-NEW.true)
+    (λ c. rw c.if-kind-eq-SEND.true)
+    (λ c. rw (ne_eqb _ 0 c.before.before.before.if-kind-eq-ROOT.false, ne_eqb _ 1 c.before.before.if-kind-eq-LETTER.false, ne_eqb _ 3 c.before.if-kind-eq-NEW.false, ne_eqb _ 4 c.if-kind-eq-SEND.false)))

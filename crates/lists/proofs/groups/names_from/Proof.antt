@@ -4,7 +4,7 @@ use Rattle.rules.proofs.Bits.{named-from, named-from-none}
 use Rattle.lists.proofs.groups.names_from.Statement.{statement}
 use Rattle.lists.proofs.groups.names_from.Tie as tie
 
-returns-2 : tie.Need-returns-2
+returns-2 : tie.Need-returns
 returns-2 c = named-from _ _ (search rules)
 
 pub names_from_spec : {M : Type 1} → statement M

@@ -15,4 +15,4 @@ decode_spec =
     (λ c κs. search rules)
     (λ c. search rules)
     (λ c κs. search rules)
-    (λ c. step-fields _ _ _ _ c.before.load16.ensures c.load32.ensures))
+    (λ c. step-fields _ _ _ _ c.before.load16-message.ensures c.load32-value.ensures))

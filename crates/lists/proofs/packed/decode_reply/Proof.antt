@@ -5,7 +5,7 @@ use Rattle.lists.proofs.packed.decode_reply.Statement.{statement}
 use Rattle.lists.proofs.packed.decode_reply.Tie as tie
 
 returns : tie.Need-returns
-returns c = reply-fields _ _ _ _ c.before.load16.ensures c.load32.ensures
+returns c = reply-fields _ _ _ _ c.before.load16-message.ensures c.load32-value.ensures
 
 pub decode_reply_spec : {M : Type 1} → statement M
 decode_reply_spec =

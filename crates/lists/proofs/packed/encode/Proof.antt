@@ -10,8 +10,8 @@ use Rattle.lists.proofs.packed.encode.Tie as tie
 abbrev message : tie.After-store32 → tie.After-store16
 message c = c.before.before.before.before
 
-same_length : tie.Need-same-length
-same_length c = c.before.before.store32.auto.0 ∙ simp length-set at (message c.before.before).store16.auto.0
+same_length : tie.Need-shape_of-replies
+same_length c = c.before.before.store32.auto.image ∙ simp length-set at (message c.before.before).store16.auto.image
 
 returns : tie.Need-returns
 returns c =
@@ -29,6 +29,6 @@ encode_spec =
     (λ c. search rules)
     (λ c κs. simp length-set (omega arith))
     (λ c. search rules)
-    (λ c κs. omega (arith, simp length-set at c.before.before.before.store16.auto.0))
+    (λ c κs. omega (arith, simp length-set at c.before.before.before.store16.auto.image))
     same_length
     returns)

@@ -5,7 +5,7 @@ use Rattle.lists.proofs.packed.told.Statement.{statement}
 use Rattle.lists.proofs.packed.told.Tie as tie
 
 returns : tie.Need-returns
-returns c = told-fields _ _ _ c.load16.ensures
+returns c = told-fields _ _ _ c.load16-message.ensures
 
 pub told_spec : {M : Type 1} → statement M
 told_spec =

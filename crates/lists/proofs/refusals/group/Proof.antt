@@ -10,5 +10,5 @@ group_spec =
     (tie.spec
     (λ c. names-empty _ _ (search rules))
     (λ c κs. search rules)
-    (λ c. names-unopened _ _ (search rules) _ c.before.names-from.ensures (search rules))
-    (λ c. names-none _ _ (search rules) _ c.before.names-from.ensures (search rules)))
+    (λ c. names-unopened _ _ (search rules) _ c.before.names_from.ensures (search rules))
+    (λ c. names-none _ _ (search rules) _ c.before.names_from.ensures (search rules)))
