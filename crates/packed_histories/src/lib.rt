@@ -1,4 +1,6 @@
 // Histories (document 01: marks) in their packed form: stored, loaded, tested for form.
+#![tactic(auto)]
+
 pub mod in_place;
 
 ghost use Rattle.std.specs.Prelude.{◌≡◌, ◌+◌, ◌-◌, ◌*◌, ◌≤◌, length};

@@ -8,14 +8,14 @@ use borrow.Author.Rules.{rules}
 use Rattle.packed_histories.proofs.formed.Statement.{statement}
 use Rattle.packed_histories.proofs.formed.Tie as tie
 
-rest-zero-requires : tie.Need-rest-zero-requires
-rest-zero-requires c κs = (search rules, ⊎_elim (λ w. omega (arith, w.2)) (λ w. omega (arith, w.2)) c.if1.branch, search rules)
+rest-zero-requires : tie.Need-rest_zero-requires
+rest-zero-requires c κs = (search rules, ⊎_elim (λ w. omega (arith, w.used-is)) (λ w. omega (arith, w.used-is)) c.if-head-ge128.branch-raw, search rules)
 
-returns-3 : tie.Need-returns-3
-returns-3 c = c.rest-zero.ensures ∙ ⊎_elim
-    (λ w. formed-list width places _ _ (omega arith) _ _ w.2 (omega arith) (omega arith) (omega arith) (omega arith))
-    (λ w. formed-zero width places _ _ (omega arith) _ _ w.2 (omega arith))
-    c.before.if1.branch
+returns-3 : tie.Need-returns
+returns-3 c = c.rest_zero.ensures ∙ ⊎_elim
+    (λ w. formed-list width places _ _ (omega arith) _ _ w.used-is (omega arith) (omega arith) (omega arith) (omega arith))
+    (λ w. formed-zero width places _ _ (omega arith) _ _ w.used-is (omega arith))
+    c.before.if-head-ge128.branch-raw
 
 pub formed_spec : {M : Type 1} → statement M
 formed_spec =

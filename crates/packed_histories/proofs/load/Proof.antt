@@ -7,7 +7,7 @@ use Rattle.packed_histories.proofs.load.Statement.{statement}
 use Rattle.packed_histories.proofs.load.Tie as tie
 
 returns : tie.Need-returns
-returns c = load-history width places _ _ (omega arith) _ _ c.before.load-number.ensures c.load-numbers.ensures
+returns c = load-history width places _ _ (omega arith) _ _ c.before.load_number-n.ensures c.load_numbers-list.ensures
 
 pub load_spec : {M : Type 1} → statement M
 load_spec =

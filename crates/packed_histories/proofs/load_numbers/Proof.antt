@@ -11,14 +11,14 @@ use borrow.Author.Rules.{rules}
 use Rattle.packed_histories.proofs.load_numbers.Statement.{statement}
 use Rattle.packed_histories.proofs.load_numbers.Tie as tie
 
-abbrev invariant-loop : tie.invariant-loop
+abbrev invariant-loop : tie.invariant-loop-i
 invariant-loop s at list₀ i₀ list i = (i ≤ places) × (take i list ≡ tabulate i (load_number_at width s at)) × (length list ≡ places)
 
-abbrev decreases-loop : tie.decreases-loop
+abbrev decreases-loop : tie.decreases-loop-i
 decreases-loop s at list₀ i₀ list i = places - i
 
-loop-again : tie.Need-loop-preserved invariant-loop decreases-loop
-loop-again c = (search rules, number-filled _ _ _ _ _ _ c.before.before.loop.invariant.1 c.load-number.ensures (omega arith), search rules)
+loop-again : tie.Need-loop-i-preserved invariant-loop decreases-loop
+loop-again c = (search rules, number-filled _ _ _ _ _ _ c.before.before.loop-i.invariant.1 c.load_number-n.ensures (omega arith), search rules)
 
 pub load_numbers_spec : {M : Type 1} → statement M
 load_numbers_spec =
@@ -35,4 +35,4 @@ load_numbers_spec =
     (λ c. search rules)
     (λ c. search rules)
     loop-again
-    (λ c. numbers-filled _ _ _ _ _ _ c.before.loop.invariant.1 (omega arith) (omega arith)))
+    (λ c. numbers-filled _ _ _ _ _ _ c.before.loop-i.invariant.1 (omega arith) (omega arith)))

@@ -12,22 +12,22 @@ use borrow.Author.Rules.{rules}
 use Rattle.packed_histories.proofs.rest_zero.Statement.{statement}
 use Rattle.packed_histories.proofs.rest_zero.Tie as tie
 
-abbrev invariant-loop : tie.invariant-loop
+abbrev invariant-loop : tie.invariant-loop-i
 invariant-loop s at used ramp from any₀ i₀ any i = (i ≤ rest_size width places) × (eqb any 0 ≡ all_zero (part (at + used) (i - used) s))
 
-abbrev decreases-loop : tie.decreases-loop
+abbrev decreases-loop : tie.decreases-loop-i
 decreases-loop s at used ramp from any₀ i₀ any i = rest_size width places - i
 
-shared-slice-read-any-2 : tie.Need-shared-slice-read-any-2 invariant-loop decreases-loop
+shared-slice-read-any-2 : tie.Need-bounds-ramp-from invariant-loop decreases-loop
 shared-slice-read-any-2 c = omega (arith, ap length c.before.before.before.before.requires.2, length-ramp (rest_size width places))
 
-loop-again : tie.Need-loop-preserved invariant-loop decreases-loop
+loop-again : tie.Need-loop-i-preserved invariant-loop decreases-loop
 loop-again c =
-    let b = c.before.before.before.loop in
+    let b = c.before.before.before.loop-i in
     let a = c.before.before.before.before in (
       search rules,
       masked-more (rest_size width places) _ a.args.at b.i b.any _ _ a.requires.2 (omega arith) (omega arith) (omega arith)
-          (omega (arith, c.before.shared-slice-known.given (a.args.at + b.i))) b.invariant.1,
+          (omega (arith, c.before.shared_slice_known-1.given (a.args.at + b.i))) b.invariant.1,
     )
 
 pub rest_zero_spec : {M : Type 1} → statement M
@@ -45,4 +45,4 @@ rest_zero_spec =
     (λ c. search rules)
     (λ c. search rules)
     loop-again
-    (λ c. zero-end _ _ _ _ _ c.before.loop.invariant.1 (omega arith)))
+    (λ c. zero-end _ _ _ _ _ c.before.loop-i.invariant.1 (omega arith)))

@@ -8,14 +8,14 @@ use borrow.Author.Rules.{rules}
 use Rattle.packed_histories.proofs.store.Statement.{statement}
 use Rattle.packed_histories.proofs.store.Tie as tie
 
-same_length : tie.Need-same-length
-same_length c = c.before.before.store-numbers.auto.0 ∙ simp length-set at c.before.before.before.before.before.before.before.store-number.auto.0
+same_length : tie.Need-shape_of-image
+same_length c = c.before.before.store_numbers.auto.image ∙ simp length-set at c.before.before.before.before.before.before.before.store_number.auto.image
 
 returns : tie.Need-returns
 returns c =
     let s = c.before.before.before.before.before.before.before.before.before.before in
     let a = s.before.before.args in
-    put-history width places a.at a.h s.flag.result a.image.now _ _ (omega arith) s.flag.ensures.0 (omega arith) c.before.before.before.before.before.before.before.store-number.ensures c.before.before.store-numbers.ensures
+    put-history width places a.at a.h s.flag.result a.image.now _ _ (omega arith) s.flag.ensures.0 (omega arith) c.before.before.before.before.before.before.before.store_number.ensures c.before.before.store_numbers.ensures
 
 pub store_spec : {M : Type 1} → statement M
 store_spec =
@@ -30,6 +30,6 @@ store_spec =
     (λ c κs. simp length-set (omega arith))
     (λ c. search rules)
     (λ c. search rules)
-    (λ c κs. omega (arith, simp length-set at c.before.before.before.before.store-number.auto.0))
+    (λ c κs. omega (arith, simp length-set at c.before.before.before.before.store_number.auto.image))
     same_length
     returns)

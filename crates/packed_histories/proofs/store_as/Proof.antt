@@ -8,15 +8,15 @@ use borrow.Author.Rules.{rules}
 use Rattle.packed_histories.proofs.store_as.Statement.{statement}
 use Rattle.packed_histories.proofs.store_as.Tie as tie
 
-same_length : tie.Need-same-length
-same_length c = c.before.before.store-numbers.auto.0 ∙ simp length-set at c.before.before.before.before.before.before.before.store-number.auto.0
+same_length : tie.Need-shape_of-image
+same_length c = c.before.before.store_numbers.auto.image ∙ simp length-set at c.before.before.before.before.before.before.before.store_number.auto.image
 
 returns : tie.Need-returns
 returns c =
     let s = c.before.before.before.before.before.before.before.before.before.before in
     let f = s.before in
     let a = f.before.before.args in
-    put_as width places a.at a.present a.h f.flag.result s.flag2.result a.image.now _ _ (omega arith) f.flag.ensures.0 s.flag2.ensures.0 (omega arith) c.before.before.before.before.before.before.before.store-number.ensures c.before.before.store-numbers.ensures
+    put_as width places a.at a.present a.h f.flag.result s.flag-2.result a.image.now _ _ (omega arith) f.flag.ensures.0 s.flag-2.ensures.0 (omega arith) c.before.before.before.before.before.before.before.store_number.ensures c.before.before.store_numbers.ensures
 
 pub store_as_spec : {M : Type 1} → statement M
 store_as_spec =
@@ -33,6 +33,6 @@ store_as_spec =
     (λ c κs. simp length-set (omega arith))
     (λ c. search rules)
     (λ c. search rules)
-    (λ c κs. omega (arith, simp length-set at c.before.before.before.before.store-number.auto.0))
+    (λ c κs. omega (arith, simp length-set at c.before.before.before.before.store_number.auto.image))
     same_length
     returns)

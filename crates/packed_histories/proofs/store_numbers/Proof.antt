@@ -11,14 +11,14 @@ use borrow.Author.Rules.{rules}
 use Rattle.packed_histories.proofs.store_numbers.Statement.{statement}
 use Rattle.packed_histories.proofs.store_numbers.Tie as tie
 
-abbrev invariant-loop : tie.invariant-loop
+abbrev invariant-loop : tie.invariant-loop-i
 invariant-loop image₀ at list i₀ image i = (i ≤ places) × (image ≡ put at (chunks i (pack_number_at width list)) image₀) × (length image ≡ length image₀)
 
-abbrev decreases-loop : tie.decreases-loop
+abbrev decreases-loop : tie.decreases-loop-i
 decreases-loop image₀ at list i₀ image i = places - i
 
-loop-again : tie.Need-loop-preserved invariant-loop decreases-loop
-loop-again c = (search rules, number_put _ _ _ _ _ _ _ c.before.before.before.before.before.loop.invariant.1 c.before.before.store-number.ensures (omega arith), search rules)
+loop-again : tie.Need-loop-i-preserved invariant-loop decreases-loop
+loop-again c = (search rules, number_put _ _ _ _ _ _ _ c.before.before.before.before.before.loop-i.invariant.1 c.before.before.store_number.ensures (omega arith), search rules)
 
 pub store_numbers_spec : {M : Type 1} → statement M
 store_numbers_spec =
@@ -36,4 +36,4 @@ store_numbers_spec =
     (λ c. search rules)
     loop-again
     (λ c. search rules)
-    (λ c. numbers-put _ _ _ _ _ _ _ c.before.loop.invariant.1 (omega arith)))
+    (λ c. numbers-put _ _ _ _ _ _ _ c.before.loop-i.invariant.1 (omega arith)))

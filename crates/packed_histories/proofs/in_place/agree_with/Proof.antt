@@ -12,37 +12,37 @@ use borrow.Author.Rules.{rules}
 use Rattle.packed_histories.proofs.in_place.agree_with.Statement.{statement}
 use Rattle.packed_histories.proofs.in_place.agree_with.Tie as tie
 
-abbrev invariant-loop : tie.invariant-loop
+abbrev invariant-loop : tie.invariant-loop-i
 invariant-loop s at n h i₀ i = (i ≤ n) × (same_list (take i (history_in width places s at).checkpoints) (take i h.checkpoints) ≡ true)
 
-abbrev decreases-loop : tie.decreases-loop
+abbrev decreases-loop : tie.decreases-loop-i
 decreases-loop s at n h i₀ i = n - i
 
-loop-holds : tie.Need-loop-init invariant-loop decreases-loop
-loop-holds c = let a = c.before.args in (search rules, same_none (history_in width places a.s.now a.at).checkpoints a.t3.checkpoints)
+loop-holds : tie.Need-loop-i-init invariant-loop decreases-loop
+loop-holds c = let a = c.before.args in (search rules, same_none (history_in width places a.s.now a.at).checkpoints a.h.checkpoints)
 
-returns : tie.Need-returns invariant-loop decreases-loop
+returns : tie.Need-returns-then-x-h invariant-loop decreases-loop
 returns c =
     let h = c.before.before.before.before in
     let a = h.before.before.args in
-    sym (same-off (history_in width places a.s.now a.at).checkpoints a.t3.checkpoints a.n h.loop.i (omega arith) (λ e. c.if1.true (c.before.before.place.ensures ∙ e)))
+    sym (same-off (history_in width places a.s.now a.at).checkpoints a.h.checkpoints a.n h.loop-i.i (omega arith) (λ e. c.if-x-h.true (c.before.before.place-x.ensures ∙ e)))
 
-loop-again : tie.Need-loop-preserved invariant-loop decreases-loop
+loop-again : tie.Need-loop-i-preserved invariant-loop decreases-loop
 loop-again c =
     let h = c.before.before.before.before in
     let a = h.before.before.args in
     let p : length (history_in width places a.s.now a.at).checkpoints ≡ places = length-unpack width places _ in
-    let q : length a.t3.checkpoints ≡ places = search rules in (
+    let q : length a.h.checkpoints ≡ places = search rules in (
       search rules,
-      same_next (history_in width places a.s.now a.at).checkpoints a.t3.checkpoints h.loop.i (omega arith) (omega arith)
-          (sym c.before.before.place.ensures ∙ c.if1.false) h.loop.invariant.1,
+      same_next (history_in width places a.s.now a.at).checkpoints a.h.checkpoints h.loop-i.i (omega arith) (omega arith)
+          (sym c.before.before.place-x.ensures ∙ c.if-x-h.false) h.loop-i.invariant.1,
     )
 
-returns-2 : tie.Need-returns-2 invariant-loop decreases-loop
+returns-2 : tie.Need-returns invariant-loop decreases-loop
 returns-2 c =
     let h = c.before in
     let a = h.before.before.args in
-    sym (same-all (history_in width places a.s.now a.at).checkpoints a.t3.checkpoints h.loop.i a.n h.loop.invariant.1 (omega arith))
+    sym (same-all (history_in width places a.s.now a.at).checkpoints a.h.checkpoints h.loop-i.i a.n h.loop-i.invariant.1 (omega arith))
 
 pub agree_with_spec : {M : Type 1} → statement M
 agree_with_spec =

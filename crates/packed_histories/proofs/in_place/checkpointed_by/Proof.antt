@@ -7,24 +7,24 @@ use borrow.Author.Rules.{rules}
 use Rattle.packed_histories.proofs.in_place.checkpointed_by.Statement.{statement}
 use Rattle.packed_histories.proofs.in_place.checkpointed_by.Tie as tie
 
-returns : tie.Need-returns
+returns : tie.Need-returns-then-m-n
 returns c =
-    let n = c.before.count.ensures in
-    no_longer width places _ c.before.before.before.args.t3 (search rules) _ _ n.0 refl n.1 (search rules) c.if1.true
+    let n = c.before.count-n.ensures in
+    no_longer width places _ c.before.before.before.args.h (search rules) _ _ n.0 refl n.1 (search rules) c.if-m-n.true
 
-returns-2 : tie.Need-returns-2
+returns-2 : tie.Need-returns-then-x-h
 returns-2 c =
     let h = c.before.before.before.before in
-    let n = h.count.ensures in
-    other-entry width places _ h.before.before.args.t3 (search rules) _ _ n.0 refl n.1 (search rules) _ _ c.before.before.number.ensures refl (omega arith) c.if2.true
+    let n = h.count-n.ensures in
+    other-entry width places _ h.before.before.args.h (search rules) _ _ n.0 refl n.1 (search rules) _ _ c.before.before.number-x.ensures refl (omega arith) c.if-x-h.true
 
-returns-3 : tie.Need-returns-3
+returns-3 : tie.Need-returns
 returns-3 c =
     let h = c.before.before.before.before.before in
-    let n = h.count.ensures in
-    c.agree-with.ensures
-    ∙ first-places width places _ h.before.before.args.t3 (search rules) _ _ n.0 refl n.1 (search rules) _ _ c.before.before.before.number.ensures refl (omega arith)
-    c.before.if2.false
+    let n = h.count-n.ensures in
+    c.agree_with.ensures
+    ∙ first-places width places _ h.before.before.args.h (search rules) _ _ n.0 refl n.1 (search rules) _ _ c.before.before.before.number-x.ensures refl (omega arith)
+    c.before.if-x-h.false
 
 pub checkpointed_by_spec : {M : Type 1} → statement M
 checkpointed_by_spec =

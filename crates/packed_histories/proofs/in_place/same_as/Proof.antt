@@ -6,24 +6,24 @@ use borrow.Author.Rules.{rules}
 use Rattle.packed_histories.proofs.in_place.same_as.Statement.{statement}
 use Rattle.packed_histories.proofs.in_place.same_as.Tie as tie
 
-returns : tie.Need-returns
+returns : tie.Need-returns-then-n-m
 returns c =
-    let n = c.before.before.count.ensures in
-    other-counts width places _ c.before.before.before.before.args.h (search rules) _ _ n.0 refl n.1 (search rules) c.if1.true
+    let n = c.before.before.count-n.ensures in
+    other-counts width places _ c.before.before.before.before.args.h (search rules) _ _ n.0 refl n.1 (search rules) c.if-n-m.true
 
-returns-2 : tie.Need-returns-2
+returns-2 : tie.Need-returns-then-x-h
 returns-2 c =
     let h = c.before.before.before.before.before in
-    let n = h.count.ensures in
-    other-numbers width places _ h.before.before.args.h (search rules) _ _ n.0 refl n.1 (search rules) _ _ c.before.before.number.ensures refl c.if2.true
+    let n = h.count-n.ensures in
+    other-numbers width places _ h.before.before.args.h (search rules) _ _ n.0 refl n.1 (search rules) _ _ c.before.before.number-x.ensures refl c.if-x-h.true
 
-returns-3 : tie.Need-returns-3
+returns-3 : tie.Need-returns
 returns-3 c =
     let h = c.before.before.before.before.before.before in
-    let n = h.count.ensures in
-    c.agree-with.ensures
-    ∙ same-places width places _ h.before.before.args.h (search rules) _ _ n.0 refl n.1 (search rules) _ _ c.before.before.before.number.ensures refl
-    c.before.before.before.before.if1.false c.before.if2.false
+    let n = h.count-n.ensures in
+    c.agree_with.ensures
+    ∙ same-places width places _ h.before.before.args.h (search rules) _ _ n.0 refl n.1 (search rules) _ _ c.before.before.before.number-x.ensures refl
+    c.before.before.before.before.if-n-m.false c.before.if-x-h.false
 
 pub same_as_spec : {M : Type 1} → statement M
 same_as_spec =
