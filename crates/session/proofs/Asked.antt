@@ -1,20 +1,19 @@
 -- What offer and the queries answer after the calls of a session: refused exactly where the book refuses, and what the answer means in it (specs/Queries).
 use Prim.Native.Nat.{ℕ, zero, suc, ◌≤◌, ◌<◌}
-use mathlib.Core.Bool.{Bool, true, false, not, false≢true}
+use mathlib.Core.Bool.{true, false, not, false≢true}
 use mathlib.Core.Path.{◌≡◌, refl, ap, sym, ◌∙◌, subst}
 use mathlib.Core.List.{List, [], ◌∷◌, Memᴰ}
-use mathlib.Core.Logic.{◌⊎◌, ⊎_elim, ◌↔◌, ◌≢◌}
+use mathlib.Core.Logic.{⊎_elim}
 use mathlib.Core.Option.{Option}
 use native.Mathlib.Omega.{arith}
 use lib.Dec.{eqb, leb}
 use lib.ListN.{length, get_or}
 use borrow.Author.Tests.{eq-eqb, ne_eqb, eqb-true, lt-leb, leb-true, not-false}
-use Rattle.octets.specs.Bytes.{pick, ◌and◌}
+use Rattle.octets.specs.Bytes.{◌and◌}
 use Rattle.octets.specs.Numbers.{bound}
 use Rattle.octets.proofs.Chunks.{sides}
 use Rattle.octets.proofs.Tests.{pick-zero, and-of}
 use Rattle.octets.proofs.Zero.{both}
-use Rattle.marks.specs.Incarnation.{Incarnation}
 use Rattle.rules.specs.Layout.{Layout, Fitting, base}
 use Rattle.rules.specs.Status as number
 use Rattle.rules.specs.State.{State, message_at}
@@ -29,20 +28,19 @@ use Rattle.rules.specs.Groups.{signing, Checkpointable, Within, Smallest}
 use Rattle.rules.specs.Groups as groups
 use Rattle.rules.specs.Heard.{heard_answer}
 use Rattle.rules.specs.Heard as heard
-use Rattle.rules.specs.ReadyGroups.{size_of, how_many, ready_group, ready_count, ready_refusal, ready_answer}
+use Rattle.rules.specs.ReadyGroups.{size_of, ready_group, ready_count, ready_refusal, ready_answer}
 use Rattle.rules.specs.Internal.Well.{WellFormed}
 use Rattle.rules.proofs.Bits.{named-zero, unnamed-all}
 use Rattle.rules.proofs.Groups.Counting.{zero-size}
 use Rattle.rules.proofs.Keep.Accepted.{named-room}
 use Rattle.rules.proofs.Keep.Step.{fitting-base}
-use Rattle.session.specs.Provenance.{Status, unused, idle, busy, annihilated, status_number, Live, is-idle, is-busy, In, WaitingMessage, Provenance, no_waiting_message}
+use Rattle.session.specs.Provenance.{status_number, Live, WaitingMessage, Provenance, no_waiting_message}
 use Rattle.session.specs.Steps.{provenance_seen, provenance_refusal}
 use Rattle.session.specs.Fed.{ProvenanceOf}
 use Rattle.session.specs.Trace.{Trace, calls_of}
-use Rattle.session.specs.Point.{Point, at-end}
 use Rattle.rules.specs.Obstacle.{obstacle_answer}
 use Rattle.rules.specs.Impediment.{impediment_answer}
-use Rattle.session.specs.Meanings.{WaitsIn, OfferMeans, no-message, lowest, Signable, SmallestMeans, no-group, smallest, CountMeans, NewestStabilized, HeardMeans, DependentsMean}
+use Rattle.session.specs.Meanings.{WaitsIn, OfferMeans, no-message, lowest, Signable, SmallestMeans, no-group, smallest, CountMeans, HeardMeans, DependentsMean}
 use Rattle.session.specs.Queries.{Asked}
 use Rattle.session.proofs.Model.{view}
 use Rattle.session.proofs.Sets.{cell-some}

@@ -14,7 +14,6 @@ use Rattle.octets.proofs.Chunks.{sides}
 use Rattle.octets.proofs.Tests.{or-of, and-of}
 use Rattle.marks.specs.Incarnation.{Incarnation}
 use Rattle.rules.specs.declared.Impediment.{Impediment}
-use Rattle.rules.specs.declared.Impediment.TheVariants.{Exhausted}
 use Rattle.rules.specs.Layout.{Layout, Limits, last_number, Fitting, base}
 use Rattle.rules.specs.State.{State, transactor_at, own_history, live}
 use Rattle.rules.specs.Step.{step_at, done}

@@ -1,5 +1,5 @@
 -- A step that is no signing carries a volume on: equal sets stay equal, and no refusal of its signing arises.
-use Prim.Native.Nat.{ℕ, zero, ◌<◌}
+use Prim.Native.Nat.{ℕ, ◌<◌}
 use mathlib.Core.Bool.{true, false}
 use mathlib.Core.Path.{◌≡◌, refl, ap, sym, ◌∙◌}
 use mathlib.Core.Logic.{◌⊎◌, inl, inr}
@@ -19,7 +19,6 @@ use Rattle.rules.specs.Step.{sign}
 use Rattle.rules.specs.Refusals.{named, any_named}
 use Rattle.rules.specs.Groups as groups
 use Rattle.rules.proofs.Bits.{named-at, unnamed-all}
-use Rattle.rules.proofs.ByKind.Applied.{applies}
 use Rattle.session.specs.Provenance.{Status, Live, is-idle, is-busy, status_number, Provenance, find}
 use Rattle.session.specs.Grounds.{from_start, from-noted, from_list, Ground, in-state, in-creation, RestsOn, CheckpointedNow, StablePresent, Equal}
 use Rattle.session.specs.Steps.{is_rolled_back, provenance_seen, provenance_refusal, ProvenanceStep, refuses, signing, not-ready}
@@ -130,9 +129,9 @@ module _ (l : Ledger) (b : Provenance) (r : Rel l b) (y : Layout) (v : ℕ) (liv
   stood : (t : ℕ) → named v t ≡ true → (n : ℕ) → is_rolled_back (b.holders t) (find n b.messages) ≡ false
   stood t n = stands-book l b r (named v) t (lives t n) (λ u x z. ok.state t n u x) (λ u x z. ok.creation t n u x)
 
-  carried : {c : Provenance} (p : Step) → (p.kind ≡ sign → ⊥) → ProvenanceStep y b p c → Carried b c v
+  carried : (p : Step) {c : Provenance} → (p.kind ≡ sign → ⊥) → ProvenanceStep y b p c → Carried b c v
   carried p other (refuses z) = record { limits = refl; stay = λ t n. stays-refl (lives t n); same = same }
-  carried {c} p other (book.applies z n) =
+  carried p {c} other (book.applies z n) =
       let o = onward l b r y p z (named v) lives flags stood other in
       record { limits = limits-stay b p; stay = o.same; same = equal-on b c v lives o (notes b p) same }
   carried p other (signing z n e) = absurd (other n)

@@ -8,7 +8,7 @@ use Rattle.marks.specs.Incarnation.{Incarnation, Checkpointed, begins}
 use Rattle.rules.specs.Layout.{Layout, Fitting}
 use Rattle.rules.specs.State.{State}
 use Rattle.session.specs.Provenance.{Provenance}
-use Rattle.session.specs.Grounds.{Brought, from_start, from-noted, from_list, RestsOn, ValueRestsOn, CheckpointedNow}
+use Rattle.session.specs.Grounds.{Brought, from-noted, from_list, RestsOn, ValueRestsOn, CheckpointedNow}
 use Rattle.session.specs.Trace.{Trace}
 use Rattle.session.specs.Point.{Point}
 use Rattle.session.proofs.Reached.{checkpointed-rests}

@@ -96,9 +96,9 @@ module _ (l : Ledger) (b : Provenance) (r : Rel l b) (g : ℕ) (same : Equal b g
 -- ---- at every later step
 
 -- every step keeps what was noted
-step-notes : {y : Layout} {b d : Provenance} {p : Step} → ProvenanceStep y b p d → (t : ℕ) (a : Incarnation) (u : ℕ) (c : Incarnation) → b.noted t a u c → d.noted t a u c
+step-notes : {y : Layout} {p : Step} {b d : Provenance} → ProvenanceStep y b p d → (t : ℕ) (a : Incarnation) (u : ℕ) (c : Incarnation) → b.noted t a u c → d.noted t a u c
 step-notes (refuses e) t a u c k = k
-step-notes {b = b} {p = p} (applies e f) t a u c k = (notes b p t a u c).1 k
+step-notes {p = p} {b = b} (applies e f) t a u c k = (notes b p t a u c).1 k
 step-notes (signing e f q) t a u c k = before k
 step-notes (not-ready e f q) t a u c k = k
 
@@ -115,7 +115,7 @@ module _ (l : Ledger) (b : Provenance) (r : Rel l b) where
       from-noted q (checkpointed-noted g w c u a (value-checkpointed l b r t n w c q) k)
   signed_back g t n s u a (from_list {a = c} x e) = from_list (signed_back g t n s u c x) e
 
-  step_back : {y : Layout} {d : Provenance} {p : Step} → ProvenanceStep y b p d → (t : ℕ) (n : Incarnation) → CheckpointedNow b t n → (u : ℕ) (a : Incarnation) → ValueRestsOn d t n u a → ValueRestsOn b t n u a
+  step_back : {y : Layout} {p : Step} {d : Provenance} → ProvenanceStep y b p d → (t : ℕ) (n : Incarnation) → CheckpointedNow b t n → (u : ℕ) (a : Incarnation) → ValueRestsOn d t n u a → ValueRestsOn b t n u a
   step_back (refuses e) t n s u a x = x
   step_back {p = p} (applies e f) t n s u a x = brought-more (λ t a u c. (notes b p t a u c).0) (λ u a. (notes b p t n u a).0) u a x
   step_back {p = p} (signing e f q) t n s u a x = signed_back p.message t n s u a x

@@ -131,7 +131,7 @@ module _ (w : News) (law : NewsLaw w) (l : Ledger) (b : Provenance) (r : Rel l b
 
 -- ---- the book is determined by the steps it is fed
 
-pub provenance-determined : {y : Layout} {b c c' : Provenance} {p : Step} → ProvenanceStep y b p c → ProvenanceStep y b p c' → c ≡ c'
+pub provenance-determined : {y : Layout} {p : Step} {b c c' : Provenance} → ProvenanceStep y b p c → ProvenanceStep y b p c' → c ≡ c'
 provenance-determined (refuses z) (refuses z') = refl
 provenance-determined (refuses z) (applies z' k') = absurd (z z')
 provenance-determined (refuses z) (signing z' k' q') = absurd (z z')

@@ -38,7 +38,7 @@ use Rattle.session.specs.Steps.{freezes, acted, applied, ProvenanceStep, refuses
 use Rattle.session.specs.Fed as book
 use Rattle.session.specs.Fed.{Call, begin, run, offer, show, call_refusal, ProvenanceSteps, ProvenanceCall, provenance-refuses, provenance-begins, provenance-runs, provenance-offers, provenance-shows, ProvenanceOf, new-provenance, fed}
 use Rattle.session.specs.Trace.{Answer, Performed, beginning, running, offering, showing, Trace, opened, called, calls_of, GoesOn}
-use Rattle.session.specs.Point.{StepIn, last-run, earlier-run, Point}
+use Rattle.session.specs.Point.{last-run, earlier-run, Point}
 use Rattle.session.specs.Since.{SinceBegin}
 use Rattle.session.specs.Withdrawal.{ProvenanceFurther}
 use Rattle.session.specs.Stabilized.{Stabilizes, StabilizedIn}
@@ -312,10 +312,10 @@ yes-means-base τ {t} c = yes-means fitting-base τ t (sym c.1)
 
 module _ {y : Layout} {u : ℕ} {a : Incarnation} where
   -- after it the take is frozen, in that life
-  pub stabilizes-sets : {b c : Provenance} {p : Step} → Stabilizes y b p u a → ProvenanceStep y b p c → (c.holders u).history ≡ record { stable = true; incarnation = a }
+  pub stabilizes-sets : {p : Step} {b c : Provenance} → Stabilizes y b p u a → ProvenanceStep y b p c → (c.holders u).history ≡ record { stable = true; incarnation = a }
   unfolding applied acted freezes
   stabilizes-sets k (refuses n) = absurd (n k.accepted)
-  stabilizes-sets {b} {p = p} k (applies e n) = rw (k.transactor, k.incarnation, k.kind, updated-same b.holders p.transactor (freezes (b.holders p.transactor)))
+  stabilizes-sets {p = p} {b} k (applies e n) = rw (k.transactor, k.incarnation, k.kind, updated-same b.holders p.transactor (freezes (b.holders p.transactor)))
   stabilizes-sets k (signing e i f) = absurd (omega (arith, k.kind, i))
   stabilizes-sets k (not-ready e i f) = absurd (omega (arith, k.kind, i))
 

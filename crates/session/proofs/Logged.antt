@@ -21,7 +21,7 @@ use Rattle.rules.proofs.Keep.Accepted.{kind-known}
 use Rattle.rules.proofs.Keep.Kinds.{acts-between}
 use Rattle.session.specs.Provenance.{Status, idle, busy, annihilated, Live, is-idle, is-busy, Holder, WaitingMessage, Provenance, blank, find}
 use Rattle.session.specs.Steps.{anew, is_nil, rolled_back_holder, reads, writes, freezes, finishes, rolls_back_or_finishes, rolls_back_or_stays, acted, is_dropped, is_rolled_back, received, receives, opens_root, opens_child, applied, checkpointed_at, provenance_refusal, ProvenanceStep, refuses, applies, signing, not-ready}
-use Rattle.session.proofs.Model.{News, Ledger, own}
+use Rattle.session.proofs.Model.{News, Ledger}
 use Rattle.session.proofs.Tables.{pick-view}
 use Rattle.session.proofs.Sets.{cell-has}
 use Rattle.session.proofs.Relation.{present_of, present, present-live, nothing-checkpointed, Rel, own-history}

@@ -13,7 +13,7 @@ use Rattle.marks.proofs.Histories.{⊑_refl}
 use Rattle.maps.specs.Internal.View.{MapView, join_view, empty_view, singleton_view, SupersededView}
 use Rattle.session.specs.Provenance.{busy, Live, is-busy, Incarnations, In, one, Holder, WaitingMessage, Provenance, with_holder, with_waiting_message, remove, without_waiting_message, find, is_missing, any_superseded}
 use Rattle.session.specs.Steps.{carried, rolled_back_holder, is_dropped, is_rolled_back, received, receives}
-use Rattle.session.proofs.Model.{Node, MessageView, Ledger, own, with_node, with_message_view, remove_message, without_message_view, find_message, missing_message, rollback_node, News, known_map, sent_map, busy_node}
+use Rattle.session.proofs.Model.{Node, MessageView, Ledger, with_node, with_message_view, remove_message, without_message_view, find_message, missing_message, rollback_node, News, known_map, sent_map, busy_node}
 use Rattle.session.proofs.Tables.{pick-both, same_test}
 use Rattle.session.proofs.Sets.{SetRel, set-join, none-rel, only-rel, in_one, cell-has, Coherent, Members, coherent-part, SupersededSet, superseded-set, superseded_set-same, superseded_set-test}
 use Rattle.session.proofs.News.{NewsLaw, cell-informed}

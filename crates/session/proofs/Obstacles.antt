@@ -20,7 +20,6 @@ use Rattle.rules.specs.Layout.{Layout, Fitting, base}
 use Rattle.rules.specs.State.{State, transactor_at, own_history, live}
 use Rattle.rules.specs.Refusals.{group_bits, named}
 use Rattle.rules.specs.Rules.{refusal}
-use Rattle.rules.specs.Pack.{unpack}
 use Rattle.rules.specs.Form.{well_formed}
 use Rattle.rules.specs.Calls.{wrong_length}
 use Rattle.rules.specs.Groups.{signing, signing_refusal}

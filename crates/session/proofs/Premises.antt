@@ -1,6 +1,6 @@
 -- What theorems ask for is no more than their words say, and what an answer means leaves no second answer: laws that say when a premise holds
 -- and that a meaning has one answer. An edit of a definition that makes a theorem say less, with its proof still passing, is refused here.
-use Prim.Native.Nat.{ℕ, ◌≤◌, ◌<◌, ◌-◌, ◌+◌}
+use Prim.Native.Nat.{ℕ, ◌<◌, ◌-◌, ◌+◌}
 use mathlib.Core.Bool.{Bool, true, false}
 use mathlib.Core.Path.{◌≡◌, refl, ap, sym, ◌∙◌, subst}
 use mathlib.Core.List.{List}
@@ -21,7 +21,6 @@ use Rattle.rules.specs.Refusals.{named}
 use Rattle.rules.specs.Rules.{step_of}
 use Rattle.rules.specs.Pack.{unpack}
 use Rattle.rules.specs.Calls.{state_after, steps_in, begin_answer}
-use Rattle.rules.specs.ReadyGroups.{how_many}
 use Rattle.rules.specs.Plan.{letters, letters_fit}
 use Rattle.rules.proofs.Calls.Begin.{begin-accepted}
 use Rattle.rules.proofs.Groups.Counting.{many-same}
@@ -29,7 +28,7 @@ use Rattle.session.specs.Provenance.{Provenance}
 use Rattle.session.specs.Fed.{Call, begin, run, offer, show}
 use Rattle.session.specs.Trace.{Trace, opened, called, calls_of, Started, first, later}
 use Rattle.session.specs.Point.{outcome_in}
-use Rattle.session.specs.Waiting.{Waits, CheckpointsTransactor, Leaves}
+use Rattle.session.specs.Waiting.{Waits, Leaves}
 use Rattle.session.specs.Withdrawal.{RolledBackIn, rolled-back, annihilated-in}
 use Rattle.session.specs.Meanings.{OfferMeans, no-message, lowest, SmallestMeans, no-group, smallest, CountMeans}
 use Rattle.session.specs.Attainable.{LettersFit, none_needed, room}

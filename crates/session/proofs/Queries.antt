@@ -1,45 +1,23 @@
 -- Offer has an answer on every image; what a signing is refused with.
-use Prim.Native.Nat.{ℕ, zero, suc, ◌+◌, ◌^◌, ◌≤◌, ◌<◌}
-use mathlib.Core.Bool.{Bool, true, false, false≢true}
-use mathlib.Core.Path.{◌≡◌, refl, ap, sym, ◌∙◌, subst}
+use Prim.Native.Nat.{ℕ, zero, suc, ◌≤◌, ◌<◌}
+use mathlib.Core.Path.{◌≡◌, refl, sym, subst}
 use mathlib.Core.List.{List}
-use mathlib.Core.Logic.{◌⊎◌, inl, inr, ⊎_elim}
+use mathlib.Core.Logic.{⊎_elim}
 use mathlib.Core.Option.{Option, none, some}
-use native.Mathlib.Decide.{ℕ_discrete, dec_le, dec_lt}
-use native.Mathlib.Nat.{pow-le-pow_right}
+use native.Mathlib.Decide.{ℕ_discrete, dec_le}
 use native.Mathlib.Omega.{arith}
 use lib.Dec.{eqb, leb}
 use lib.ListN.{length}
-use borrow.Author.Tests.{eq-eqb, ne_eqb}
-use Rattle.octets.specs.Bytes.{pick, ◌and◌}
-use Rattle.octets.specs.Numbers.{bound}
+use Rattle.octets.specs.Bytes.{pick}
 use Rattle.octets.proofs.Chunks.{cases}
-use Rattle.octets.proofs.Tests.{pick-zero, or-none, and-off}
-use Rattle.octets.proofs.Zero.{both}
-use Rattle.marks.specs.Incarnation.{Checkpointed}
-use Rattle.marks.specs.History.{HistoryView}
 use Rattle.rules.specs.Layout.{Layout}
 use Rattle.rules.specs.Status.{annihilated}
 use Rattle.rules.specs.State.{State, message_at}
-use Rattle.rules.specs.Step.{done, not_ready}
-use Rattle.rules.specs.Refusals.{Seen, group_bits, named, any_named, malformed, not_waiting, empty_group, unopened, is_gone, wrong_status, unrelated_receipt, all_opened, all_waiting, all_numbered, all_checkpointed, last_rolls_back, refusal_of}
-use Rattle.rules.specs.Rules.{Result, seen, refusal, group_ready, apply_sign, step_of}
+use Rattle.rules.specs.Refusals.{Seen, any_named, malformed, not_waiting, empty_group, unopened, is_gone, wrong_status, unrelated_receipt, all_opened, all_waiting, all_numbered, all_checkpointed, last_rolls_back, refusal_of}
 use Rattle.rules.specs.Pack.{unpack}
-use Rattle.rules.specs.Internal.Well.{WellFormed}
 use Rattle.rules.specs.Calls.{query_refusal, Offers}
 use Rattle.rules.specs.Calls as offering
-use Rattle.rules.specs.Groups.{signing, Checkpointable, Within, Smallest}
-use Rattle.rules.specs.Groups as grouping
-use Rattle.octets.proofs.Zero.{any_at, any-off}
-use Rattle.rules.proofs.Bits.{named-zero, named-add, add-fits}
-use Rattle.rules.proofs.Keep.Accepted.{accepted, named-opened}
-use Rattle.rules.proofs.Keep.Step.{refused-same, applied-same}
-use Rattle.session.proofs.Model.{own, view}
-use Rattle.session.proofs.Tables.{pick-view, and-of}
-use Rattle.session.proofs.Accepted.{named-within, named-below}
-use Rattle.session.proofs.Sign.{EntryReady, Ready}
-use Rattle.session.proofs.ViewStep.{ready-at, ready-same}
-use Rattle.session.proofs.Step.{apply-sign}
+use Rattle.rules.specs.Groups.{signing}
 
 -- ---- offer: the lowest number among the parcels that wait for the take
 

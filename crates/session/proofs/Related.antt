@@ -42,6 +42,7 @@ map-known now m X r u e = (cell-has (view-held m u e) (r u)).known.incarnation
 message-known : (now : ℕ → HistoryView) (ms : List Message) (qs : List WaitingMessage) → All2 (MessageRel now) (map view_message ms) qs → (k u : ℕ)
     → held_at (get_or ms k no_message).dependences u ≡ true → Precedes (incarnation_of (history_at (get_or ms k no_message).dependences u)) (now u).incarnation
 message-known now [] qs h k u e = absurd (false≢true e)
+message-known now (m ∷ ms) [] h k u e = elim h [ ]
 message-known now (m ∷ ms) (q ∷ qs) (cons2 r h) zero u e = map-known now m.dependences q.incarnations r.incarnations u e
 message-known now (m ∷ ms) (q ∷ qs) (cons2 r h) (suc k) u e = message-known now ms qs h k u e
 

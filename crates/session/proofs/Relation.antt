@@ -51,8 +51,10 @@ present H t = present_of (H t).status (H t).history
 
 pub present-live : (s : Status) (m : HistoryView) → Live s → present_of s m ≡ m
 unfolding present_of
+present-live unused m h = elim h [ ]
 present-live idle m is-idle = refl
 present-live busy m is-busy = refl
+present-live annihilated m h = elim h [ ]
 
 pub present-unused : (m : HistoryView) → present_of unused m ≡ initial_view
 unfolding present_of

@@ -111,12 +111,12 @@ module _ (l : Ledger) (b : Provenance) (r : Rel l b) (y : Layout) (t : ℕ) (now
   pub beside_same : Rel k b → Beside k t
   beside_same r2 = record { group = v; own = now.own; rule = equal-ready k b r2 v (ready-live l b r v now.rule) (ready-equal l b r v now.rule) }
 
-  pub beside-on : {c : Provenance} → Rel k c → (p : Step) → p.message < bound 2
+  beside-by : (p : Step) {c : Provenance} → Rel k c → p.message < bound 2
       → (provenance_refusal y b p ≡ 0 → p.kind ≡ sign → Equal b p.message → named p.message t ≡ true → ⊥) → ProvenanceStep y b p c → Beside k t
-  beside-on r2 p bits unsigned (refuses z) = beside_same r2
-  beside-on r2 p bits unsigned (applies z n) = record { group = v; own = now.own; rule = rule-on l b r y v now.rule k r2 p n (applies z n) }
-  beside-on r2 p bits unsigned (not-ready z n e) = beside_same r2
-  beside-on r2 p bits unsigned (signing z n e) =
+  beside-by p r2 bits unsigned (refuses z) = beside_same r2
+  beside-by p r2 bits unsigned (applies z n) = record { group = v; own = now.own; rule = rule-on l b r y v now.rule k r2 p n (applies z n) }
+  beside-by p r2 bits unsigned (not-ready z n e) = beside_same r2
+  beside-by p r2 bits unsigned (signing z n e) =
       let g : ℕ = p.message in
       let ok : Ready l (named g) = equal-ready l b r g (named_live l b r y p z n bits) e in
       let s : Rel (sign_ledger l (named g)) (signs b g) = step-sign l b r g ok in
@@ -130,3 +130,7 @@ module _ (l : Ledger) (b : Provenance) (r : Rel l b) (y : Layout) (t : ℕ) (now
       unnamed : (x : Bool) → (x ≡ true → ⊥) → x ≡ false
       unnamed true f = absurd (f refl)
       unnamed false f = refl
+
+  pub beside-on : {c : Provenance} → Rel k c → (p : Step) → p.message < bound 2
+      → (provenance_refusal y b p ≡ 0 → p.kind ≡ sign → Equal b p.message → named p.message t ≡ true → ⊥) → ProvenanceStep y b p c → Beside k t
+  beside-on r2 p = beside-by p r2

@@ -8,7 +8,7 @@ use native.Mathlib.Decide.{ℕ_discrete}
 use native.Mathlib.Omega.{arith}
 use lib.ListN.{get_or, set, replicate, length-replicate, get_or-replicate, get_or-eq_default}
 use lib.Dec.{eqb}
-use borrow.Author.Tests.{eq-eqb, ne_eqb, eqb-true, eqb-false}
+use borrow.Author.Tests.{eq-eqb, ne_eqb, eqb-true}
 use Rattle.octets.specs.Bytes.{pick, ◌and◌, part, tabulate, Octets}
 use Rattle.octets.proofs.Put.{octets-part}
 use Rattle.octets.proofs.Chunks.{sides, length-tabulate, get_d_tabulate}
@@ -16,7 +16,7 @@ use Rattle.rules.specs.Layout.{Layout, Limits, in_range, base, Fitting}
 use Rattle.rules.specs.Status.{unused}
 use Rattle.rules.specs.State.{fresh, Transactor, State, Message, bare, no_transactor, transactor_at, message_at, own_history, with_transactor, with_opened, with_message, without_message, place_of}
 use Rattle.rules.specs.declared.Step.{Step}
-use Rattle.rules.specs.Step.{step_at, root, letter, receive, new, send, read, write, freeze, finish, fall, lose, sign, done, fallen_back}
+use Rattle.rules.specs.Step.{step_at, root, letter, receive, new, send, read, write, freeze, finish, fall, lose, sign, done}
 use Rattle.rules.specs.Refusals.{named}
 use Rattle.rules.specs.Rules.{Effect, Result, rollback, local_by, read_by, write_by, freeze_by, finish_by, fall_by, fail_by, receive_by, message_superseded, receiver_superseded, group_ready, checkpoint_by, checkpoint_at, checkpoint_group, apply_root, apply_letter, apply_receive, apply_new, apply_send, apply_local, apply_lose, apply_sign, apply, answer, refusal, step_of}
 use Rattle.rules.specs.Rules as rules

@@ -75,6 +75,7 @@ use Rattle.session.proofs.Withdrawal.{past-withdrawn, resting-means}
 -- two lists alike, at place k
 pub at_place : {R : MessageView → WaitingMessage → Type 0} (xs : List Message) (ys : List WaitingMessage) → All2 R (map view_message xs) ys → (k : ℕ) → k < length xs → R (view_message (get_or xs k no_message)) (get_or ys k no_waiting_message)
 at_place [] ys h k l = absurd (omega arith)
+at_place (x ∷ xs) [] h k l = elim h [ ]
 at_place (x ∷ xs) (z ∷ ys) (cons2 r h) zero l = r
 at_place (x ∷ xs) (z ∷ ys) (cons2 r h) (suc k) l = at_place xs ys h k (omega arith)
 
@@ -438,9 +439,9 @@ module _ {y : Layout} where
   further-trans o (further q steps octets i next) = further (further-trans o q) steps octets i next
 
   -- from any step of a part to any later one
-  pub further-steps : {b c d : Provenance} (steps : List ℕ) → Octets steps → {i j : ℕ} → ProvenanceSteps y b steps i c → ProvenanceSteps y b steps j d → i ≤ j → ProvenanceFurther y c d
-  further-steps {b} {c} steps octets {i} from provenance.none l = let e : i ≡ 0 = omega arith in subst (ProvenanceFurther y c) (steps-determined (subst (λ (n : ℕ). ProvenanceSteps y b steps n c) e from) provenance.none) no-further
-  further-steps {b} {c} {d} steps octets {i} from (provenance.more {i = m} {c = now} q next) l = go (ℕ_discrete i (suc m)) (λ n. further-steps steps octets from q n)
+  pub further-steps : (steps : List ℕ) {b c d : Provenance} → Octets steps → {i j : ℕ} → ProvenanceSteps y b steps i c → ProvenanceSteps y b steps j d → i ≤ j → ProvenanceFurther y c d
+  further-steps steps {b} {c} octets {i} from provenance.none l = let e : i ≡ 0 = omega arith in subst (ProvenanceFurther y c) (steps-determined (subst (λ (n : ℕ). ProvenanceSteps y b steps n c) e from) provenance.none) no-further
+  further-steps steps {b} {c} {d} octets {i} from (provenance.more {i = m} {c = now} q next) l = go (ℕ_discrete i (suc m)) (λ n. further-steps steps octets from q n)
     where
       go : Dec (i ≡ suc m) → (i ≤ m → ProvenanceFurther y c now) → ProvenanceFurther y c d
       go (yes e) o = subst (ProvenanceFurther y c) (steps-determined (subst (λ (n : ℕ). ProvenanceSteps y b steps n c) e from) (provenance.more q next)) no-further

@@ -20,7 +20,6 @@ use Rattle.maps.specs.Internal.View.{MapView, join_entry, SupersededView, supers
 use Rattle.rules.specs.Refusals.{group_bits, named}
 use Rattle.rules.proofs.Bits.{named-add, add-fits}
 use Rattle.session.specs.Provenance.{Live, Incarnations, In, Provenance, find}
-use Rattle.session.specs.Grounds.{in-state, in-creation}
 use Rattle.session.specs.Steps.{is_rolled_back}
 use Rattle.session.proofs.Model.{Ledger, own, find_message, known_map}
 use Rattle.session.proofs.Tables.{or-to, or-of}

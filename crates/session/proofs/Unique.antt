@@ -10,9 +10,9 @@ use Rattle.session.specs.Fed as provenance
 use Rattle.session.specs.Fed.{Call, ProvenanceSteps, ProvenanceCall, provenance-refuses, provenance-begins, provenance-runs, provenance-offers, provenance-shows, ProvenanceOf, new-provenance, fed}
 use Rattle.session.proofs.Kept.{provenance-determined}
 
-pub steps-determined : {y : Layout} {b c d : Provenance} {steps : List ℕ} {i : ℕ} → ProvenanceSteps y b steps i c → ProvenanceSteps y b steps i d → c ≡ d
+pub steps-determined : {y : Layout} {b : Provenance} {steps : List ℕ} {c d : Provenance} {i : ℕ} → ProvenanceSteps y b steps i c → ProvenanceSteps y b steps i d → c ≡ d
 steps-determined provenance.none provenance.none = refl
-steps-determined {y} {b} {c} {d} {steps} (provenance.more {i} p q) (provenance.more r s) =
+steps-determined {y} {b} {steps} {c} {d} (provenance.more {i} p q) (provenance.more r s) =
     provenance-determined (subst (λ x. ProvenanceStep y x (step_at steps i) c) (steps-determined p r) q) s
 
 call-determined : {y : Layout} {b d e : Provenance} {c : Call} → ProvenanceCall y b c d → ProvenanceCall y b c e → d ≡ e

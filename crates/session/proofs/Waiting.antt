@@ -35,11 +35,11 @@ use Rattle.rules.proofs.Keep.Run.{step_ok-at}
 use Rattle.rules.proofs.Keep.Step.{refused-same, applied-same, keeps, keeps-after, fitting-base}
 use Rattle.session.specs.Provenance.{Live, Holder, Provenance}
 use Rattle.session.specs.Grounds.{Equal}
-use Rattle.session.specs.Steps.{provenance_refusal, signing}
+use Rattle.session.specs.Steps.{provenance_refusal}
 use Rattle.session.specs.Fed.{Call, run}
 use Rattle.session.specs.Trace.{Answer, Performed, beginning, running, offering, showing, Trace, none, one_more, extended, GoesOn}
 use Rattle.session.specs.Waiting.{ReadyGroup, Grounded, Rolls, rolls-back, annihilates, rolls-last, Stands, NoSigning, Waits, Waiting, CheckpointsTransactor, Uncheckpointed, Leaves, Leaving}
-use Rattle.session.proofs.Model.{MessageView, own, find_message, known_map, view}
+use Rattle.session.proofs.Model.{MessageView, find_message, known_map, view}
 use Rattle.session.proofs.Tables.{pick-view}
 use Rattle.session.proofs.Relation.{live-or-not, Rel, own-history}
 use Rattle.session.proofs.Accepted.{named_live}
