@@ -1,4 +1,6 @@
 // The table of the notation: the names of the kinds of step, and what stands after each. Reader and printer use it.
+#![tactic(auto)]
+
 ghost use Rattle.std.specs.Prelude.{◌≡◌, ◌≤◌, ◌<◌, length, get_or};
 ghost use Rattle.marks.specs.Incarnation.{same_list};
 ghost use Rattle.notation.specs.Notation.{template_of};

@@ -15,7 +15,7 @@ use Rattle.rules.specs.declared.Step.{Step}
 use Rattle.rules.specs.Step.{unpack_step}
 use Rattle.notation.specs.Notation.{bytes, message_field, group_field, name_of, template_of}
 use Rattle.notation.specs.Reading.{Reader, blank, in_word, all, next, word_at, is_digit, is_hex, is_number, of_decimal, of_hex, most_of, fits, with_field, with_member, good, reached, word_item, member_at, comma_next, more_members, closed, members_at, group_at, item as item_of, items, ended, row_named, empty_step, line_at}
-use Rattle.notation.specs.Grammar.{Blanks, Digits, More, close, comma, Group, empty, transactors, Item, field, group, to, text, whole, brace, blanks, Items, none, item, Says, line}
+use Rattle.notation.specs.Grammar.{Blanks, Digits, More, close, comma, Group, empty, transactors, Item, field, group, to, text, whole, blanks, Items, none, item, Says, line}
 use Rattle.notation.specs.Faults.{Next, last_or}
 use Rattle.notation.proofs.Words.{stops}
 use Rattle.notation.proofs.Parting.{space-out, comma-out, open-out, close-out, last-blanks, last_out, parted-last, parted-head}

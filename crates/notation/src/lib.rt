@@ -1,4 +1,6 @@
 // Step lists as text: definitions, laws, and the types that both name. No code.
+#![tactic(auto)]
+
 use rules::Step;
 
 // Where a line's reader stands (a column from 0), the step so far, and what is missing there (0: nothing; else what was expected).

@@ -10,20 +10,20 @@ use borrow.Author.Rules.{rules}
 use Rattle.kinds.proofs.row_named.Statement.{statement}
 use Rattle.kinds.proofs.row_named.Tie as tie
 
-abbrev invariant-loop : tie.invariant-loop
+abbrev invariant-loop : tie.invariant-loop-k
 invariant-loop w k₀ k = (k ≤ 14) × (row_named w ≡ row_from w (drop k names) k)
 
-abbrev decreases-loop : tie.decreases-loop
+abbrev decreases-loop : tie.decreases-loop-k
 decreases-loop w k₀ k = 14 - k
 
-returns : tie.Need-returns invariant-loop decreases-loop
-returns c = let l = c.before.before.before.loop in row-found _ l.k (omega arith) (sym c.if1.true ∙ c.before.is_row.ensures) l.invariant.1
+returns : tie.Need-returns-then-is_row invariant-loop decreases-loop
+returns c = let l = c.before.before.before.loop-k in row-found _ l.k (omega arith) (sym c.if-is_row.true ∙ c.before.is_row.ensures) l.invariant.1
 
-loop-again : tie.Need-loop-preserved invariant-loop decreases-loop
-loop-again c = let l = c.before.before.before.loop in (omega arith, row_more _ l.k (omega arith) (sym c.if1.false ∙ c.before.is_row.ensures) l.invariant.1)
+loop-again : tie.Need-loop-k-preserved invariant-loop decreases-loop
+loop-again c = let l = c.before.before.before.loop-k in (omega arith, row_more _ l.k (omega arith) (sym c.if-is_row.false ∙ c.before.is_row.ensures) l.invariant.1)
 
-returns-2 : tie.Need-returns-2 invariant-loop decreases-loop
-returns-2 c = let l = c.before.loop in row_last _ l.k (omega arith) (omega arith) l.invariant.1
+returns-2 : tie.Need-returns invariant-loop decreases-loop
+returns-2 c = let l = c.before.loop-k in row_last _ l.k (omega arith) (omega arith) l.invariant.1
 
 pub row_named_spec : {M : Type 1} → statement M
 row_named_spec =
