@@ -1,4 +1,6 @@
 // The worst window of a list of replies (document 02, W13). No call on an image: it reads replies alone.
+#![tactic(auto)]
+
 ghost use Rattle.std.specs.Prelude.{◌≡◌, ◌-◌, ◌*◌, ◌≤◌, ◌<◌, length};
 ghost use Rattle.rules.specs.Step.{step_bytes};
 ghost use Rattle.rules.specs.Calls.{steps_in, longest};

@@ -5,24 +5,24 @@ use borrow.Author.Rules.{rules}
 use Rattle.window.proofs.worst_window.Statement.{statement}
 use Rattle.window.proofs.worst_window.Tie as tie
 
-returns : tie.Need-returns
-returns c = (c.before.window-refusal.ensures, worst-refused _ _ _ c.before.window-refusal.ensures c.if1.true)
+returns : tie.Need-returns-then-number-ne0
+returns c = (c.before.window_refusal-number.ensures, worst-refused _ _ _ c.before.window_refusal-number.ensures c.if-number-ne0.true)
 
 slide-requires : tie.Need-slide-requires
-slide-requires c κs = let r = c.before.before in (omega arith, accepted-short _ _ _ r.window-refusal.ensures c.before.if1.false)
+slide-requires c κs = let r = c.before.before in (omega arith, accepted-short _ _ _ r.window_refusal-number.ensures c.before.if-number-ne0.false)
 
-returns-2 : tie.Need-returns-2
+returns-2 : tie.Need-returns-then-n-width
 returns-2 c =
-    let r = c.before.before.before.window-refusal.ensures in
-    (r, worst-narrow _ _ _ r c.before.before.if1.false _ (omega arith) c.slide.ensures)
+    let r = c.before.before.before.window_refusal-number.ensures in
+    (r, worst-narrow _ _ _ r c.before.before.if-number-ne0.false _ (omega arith) c.slide.ensures)
 
 slide-requires-2 : tie.Need-slide-requires-2
-slide-requires-2 c κs = let r = c.before.before in (omega arith, accepted-short _ _ _ r.window-refusal.ensures c.before.if1.false)
+slide-requires-2 c κs = let r = c.before.before in (omega arith, accepted-short _ _ _ r.window_refusal-number.ensures c.before.if-number-ne0.false)
 
-returns-3 : tie.Need-returns-3
+returns-3 : tie.Need-returns
 returns-3 c =
-    let r = c.before.before.before.window-refusal.ensures in
-    (r, worst-wide _ _ _ r c.before.before.if1.false _ (omega arith) c.slide2.ensures)
+    let r = c.before.before.before.window_refusal-number.ensures in
+    (r, worst-wide _ _ _ r c.before.before.if-number-ne0.false _ (omega arith) c.slide-2.ensures)
 
 pub worst_window_spec : {M : Type 1} → statement M
 worst_window_spec =
