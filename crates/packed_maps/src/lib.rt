@@ -1,4 +1,6 @@
 // Dependence maps (document 01: maps) in their packed form: loaded, joined by value, compared, tested for form.
+#![tactic(auto)]
+
 ghost use Rattle.std.specs.Prelude.{◌≡◌, ◌+◌, ◌≤◌, length};
 ghost use Rattle.octets.specs.Bytes.{part};
 ghost use Rattle.marks.specs.Packed.{width, places, history_size, rest_size, ramp_of, history_in, present_in};

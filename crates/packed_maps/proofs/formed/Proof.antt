@@ -12,27 +12,27 @@ use borrow.Author.Rules.{rules}
 use Rattle.packed_maps.proofs.formed.Statement.{statement}
 use Rattle.packed_maps.proofs.formed.Tie as tie
 
-abbrev invariant-loop : tie.invariant-loop
+abbrev invariant-loop : tie.invariant-loop-i
 invariant-loop s at opened limit end ramp i₀ i = (i ≤ end) × (formed_map width places i limit opened (part at (map_size width places entries) s) ≡ true)
 
-abbrev decreases-loop : tie.decreases-loop
+abbrev decreases-loop : tie.decreases-loop-i
 decreases-loop s at opened limit end ramp i₀ i = end - i
 
-returns : tie.Need-returns invariant-loop decreases-loop
+returns : tie.Need-returns-then-not-formed_entry invariant-loop decreases-loop
 returns c =
-    let b = c.before.before.before.before.loop in
-    sym (formed-off width places entries _ _ b.i (omega arith) _ _ _ c.before.formed-entry.ensures (not-true _ c.if1.true))
+    let b = c.before.before.before.before.loop-i in
+    sym (formed-off width places entries _ _ b.i (omega arith) _ _ _ c.before.formed_entry.ensures (not-true _ c.if-not-formed_entry.true-raw))
 
-loop-again : tie.Need-loop-preserved invariant-loop decreases-loop
+loop-again : tie.Need-loop-i-preserved invariant-loop decreases-loop
 loop-again c =
-    let b = c.before.before.before.before.loop in
-    (omega arith, formed-more width places entries _ _ b.i (omega arith) _ _ _ c.before.formed-entry.ensures b.invariant.1 (not-false _ c.if1.false))
+    let b = c.before.before.before.before.loop-i in
+    (omega arith, formed-more width places entries _ _ b.i (omega arith) _ _ _ c.before.formed_entry.ensures b.invariant.1 (not-false _ c.if-not-formed_entry.false-raw))
 
-returns-2 : tie.Need-returns-2 invariant-loop decreases-loop
+returns-2 : tie.Need-returns invariant-loop decreases-loop
 returns-2 c =
-    let b = c.before.loop in
+    let b = c.before.loop-i in
     let d = c.before.before.before in
-    sym (formed-all width places entries _ _ d.before.before.requires.0 _ d.looked-at.ensures.0 _ _ b.i b.invariant.1 (omega arith))
+    sym (formed-all width places entries _ _ d.before.before.requires.0 _ d.looked_at-end.ensures.0 _ _ b.i b.invariant.1 (omega arith))
 
 pub formed_spec : {M : Type 1} → statement M
 formed_spec =
