@@ -88,7 +88,7 @@ applied-numbered b p h =
     pick-view NumberedBook (eqb p.kind send) _ _ (λ e. rising-append (λ q. q.number) _ refl h) λ e.
     pick-view NumberedBook (eqb p.kind lose) _ _ (λ e. rising-remove p.message h) (λ e. h)
 
-pub step-numbered : {y : Layout} {b c : Provenance} {p : Step} → ProvenanceStep y b p c → NumberedBook b → NumberedBook c
+pub step-numbered : {y : Layout} {b : Provenance} {p : Step} {c : Provenance} → ProvenanceStep y b p c → NumberedBook b → NumberedBook c
 step-numbered (refuses z) h = h
 step-numbered {b = b} {p = p} (applies z k) h = applied-numbered b p h
 step-numbered (signing z k e) h = h
@@ -257,7 +257,7 @@ sign-sets b g =
     same-sets (sets_of (signs b g)) (change (sign_event b g) (sets_of b))
     (λ t. pick-ap (λ z. z.state) (named g t) (w t) (b.holders t)) (λ t. pick-ap (λ z. z.creation) (named g t) (w t) (b.holders t)) (λ t. pick-ap (λ z. z.behaviour) (named g t) (w t) (b.holders t)) (λ n. refl)
 
-pub step-sets : {y : Layout} {b c : Provenance} {p : Step} (k : ProvenanceStep y b p c) → NumberedBook b → sets_of c ≡ change (step_event k) (sets_of b)
+pub step-sets : {y : Layout} {b : Provenance} {p : Step} {c : Provenance} (k : ProvenanceStep y b p c) → NumberedBook b → sets_of c ≡ change (step_event k) (sets_of b)
 unfolding change
 step-sets (refuses z) r = refl
 step-sets {b = b} {p = p} (applies z k) r = applied-sets b p r

@@ -173,6 +173,13 @@ module _ (u : ℕ) (a : Incarnation) where
 
 met-reached : (e : Event) (S : Sets) (Q : Places) {u : ℕ} {a : Incarnation} → Met e Q u a → Reached (change e S) Q u a
 unfolding change
+met-reached nothing S Q x = elim x [ ]
+met-reached (cleared n) S Q x = elim x [ ]
+met-reached (taken n t) S Q x = elim x [ ]
+met-reached (reads t) S Q x = elim x [ ]
+met-reached (writes t) S Q x = elim x [ ]
+met-reached (finishes t) S Q x = elim x [ ]
+met-reached (annihilated t) S Q x = elim x [ ]
 met-reached (sent n t c) S Q (sender q) = by-message n q (rw (updated-same S.message n (S.creation t ++ S.behaviour t ++ one t c)) (Memᴰ.append_right (S.creation t ++ S.behaviour t) (Memᴰ.head refl)))
 met-reached (opens t o c) S Q (opener q) = by-creation o q (rw (updated-same S.creation o (S.creation t ++ S.behaviour t ++ one t c)) (Memᴰ.append_right (S.creation t ++ S.behaviour t) (Memᴰ.head refl)))
 met-reached (opens t o c) S Q (child q) = by_state o q (rw (updated-same S.state o (one o initial_incarnation)) (Memᴰ.head refl))

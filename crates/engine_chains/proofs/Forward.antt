@@ -143,7 +143,7 @@ module _ (l : Ledger) (b : Provenance) (r : Rel l b) where
         pick-both P (eqb k lose) (eqb k lose) refl (without_waiting_message b p.message) (with_holder b t (acted k t h)) (chain.cleared p.message) (acted_event k t h) (λ e. record { meets = λ Q u a x. elim x [ ] })
         (λ e5. put-forward t (acted k t h) (acted_event k t h) (acted-moves t h k))
 
-pub step-forward : (l : Ledger) {y : Layout} {b c : Provenance} {p : Step} → Rel l b → (k : ProvenanceStep y b p c) → Forward c.holders (step_event k)
+pub step-forward : (l : Ledger) {y : Layout} {b : Provenance} {p : Step} {c : Provenance} → Rel l b → (k : ProvenanceStep y b p c) → Forward c.holders (step_event k)
 step-forward l r (refuses z) = record { meets = λ Q u a x. elim x [ ] }
 step-forward l {y} {b = b} {p = p} r (applies z k) = applied-forward l b r y p z
 step-forward l {b = b} {p = p} r (signing z k e) = sign-forward l b r p.message
@@ -161,7 +161,7 @@ applied-opened b p =
     pick-view P (eqb p.kind send) _ _ (λ e. omega arith) λ e.
     pick-view P (eqb p.kind lose) _ _ (λ e. omega arith) (λ e. omega arith)
 
-pub step-opened : {y : Layout} {b c : Provenance} {p : Step} → ProvenanceStep y b p c → b.opened ≤ c.opened
+pub step-opened : {y : Layout} {b : Provenance} {p : Step} {c : Provenance} → ProvenanceStep y b p c → b.opened ≤ c.opened
 step-opened (refuses z) = omega arith
 step-opened {b = b} {p = p} (applies z k) = applied-opened b p
 step-opened (signing z k e) = omega arith

@@ -6,7 +6,6 @@ use mathlib.Core.Path.{◌≡◌, refl, subst}
 use mathlib.Core.List.Memᴰ
 use mathlib.Core.List.{List, ◌∷◌, ◌++◌}
 use mathlib.Core.Logic.{◌⊎◌, inl, inr, ⊎_elim, ◌↔◌}
-use mathlib.Core.Option.{none}
 use native.Mathlib.Omega.{arith}
 use lib.Dec.{eqb}
 use borrow.Author.Tests.{eqb-true, eq-eqb}
@@ -33,7 +32,7 @@ use Rattle.engine_chains.specs.Internal.Sets.{Reached, by_state, by-creation, by
 use Rattle.engine_chains.specs.Internal.Book.{events_of}
 use Rattle.session.proofs.Model.{Ledger, own, view}
 use Rattle.session.proofs.Sets.{cell-has}
-use Rattle.session.proofs.Relation.{present, Rel, own-history}
+use Rattle.session.proofs.Relation.{Rel, own-history}
 use Rattle.session.proofs.Locals.{live-opened}
 use Rattle.session.proofs.Sign.{EntryReady, Ready, Settled, settled}
 use Rattle.session.proofs.Step.{Stepped, step_right}

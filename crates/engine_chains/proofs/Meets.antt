@@ -72,6 +72,13 @@ met_some (chain.successive e f) Q u a h = ⊎_elim (λ z. in-later (met_some f Q
 
 pub met-none : (e : Event) (Q : Places) (u : ℕ) (a : Incarnation) → met_of e Q u ≡ none → Met e Q u a → ⊥
 unfolding met_of
+met-none chain.nothing Q u a h x = elim x [ ]
+met-none (chain.cleared n) Q u a h x = elim x [ ]
+met-none (chain.taken n t) Q u a h x = elim x [ ]
+met-none (chain.reads t) Q u a h x = elim x [ ]
+met-none (chain.writes t) Q u a h x = elim x [ ]
+met-none (chain.finishes t) Q u a h x = elim x [ ]
+met-none (chain.annihilated t) Q u a h x = elim x [ ]
 met-none (chain.sent n t c) Q u a h (sender q) = false≢true (sym (pick-none (Q.message n and eqb t u) c none h).0 ∙ and-of (Q.message n) (eqb t u) q (eq-eqb t u refl))
 met-none (chain.opens t o c) Q u a h (opener q) = false≢true (sym (pick-none (Q.creation o and eqb t u) c _ h).0 ∙ and-of (Q.creation o) (eqb t u) q (eq-eqb t u refl))
 met-none (chain.opens t o c) Q u a h (child q) =

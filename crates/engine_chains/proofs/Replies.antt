@@ -20,7 +20,6 @@ use Rattle.rules.specs.Refusals.{named}
 use Rattle.session.specs.Provenance.{idle, annihilated, one, Holder, WaitingMessage, Provenance, blank, find, with_holder, with_waiting_message, without_waiting_message}
 use Rattle.session.specs.Steps.{anew, carried, is_nil, rolled_back_holder, reads, writes, freezes, finishes, rolls_back_or_finishes, rolls_back_or_stays, acted, is_dropped, is_rolled_back, received, receives, opens_root, opens_child, checkpointed_at, applied, signs}
 use Rattle.engine_chains.specs.Chain as chain
-use Rattle.engine_chains.specs.Internal.Sets as sets
 use Rattle.engine_chains.specs.Chain.{Places, Event, back, met_of}
 use Rattle.engine_chains.specs.Back.{rollback_from, receipt_from, local_from, event_from}
 use Rattle.engine_chains.specs.Internal.Walk.{was_rolled_back, was_checkpointed}

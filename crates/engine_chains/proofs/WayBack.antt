@@ -4,17 +4,13 @@ use mathlib.Core.Bool.{Bool, false, true}
 use mathlib.Core.Path.{◌≡◌, refl, ap, sym, ◌∙◌, subst}
 use mathlib.Core.List.{List}
 use mathlib.Core.Logic.{⊎_elim}
-use mathlib.Core.Option.{none}
 use native.Mathlib.Omega.{arith}
 use lib.Dec.{eqb}
 use borrow.Author.Tests.{ne_eqb, lt-leb, le-leb}
 use Rattle.octets.specs.Bytes.{pick, ◌and◌}
 use Rattle.marks.specs.Incarnation.{initial_incarnation}
-use Rattle.marks.proofs.Tests as marks
 use Rattle.rules.specs.Layout.{Layout}
 use Rattle.rules.specs.State.{State}
-use Rattle.rules.specs.State as state
-use Rattle.rules.specs.Status as number
 use Rattle.rules.specs.declared.Step.{Step}
 use Rattle.rules.specs.declared.Reply.{Reply}
 use Rattle.rules.specs.declared.Told.{Told}

@@ -48,7 +48,7 @@ applied_event b p =
 unfoldable pub sign_event : Provenance → ℕ → Event
 sign_event b g = renewed (named g) (λ t. checkpoint_incarnation (b.holders t).history.incarnation)
 
-abbrev pub step_event : {y : Layout} {b c : Provenance} {p : Step} → ProvenanceStep y b p c → Event
+abbrev pub step_event : {y : Layout} {b : Provenance} {p : Step} {c : Provenance} → ProvenanceStep y b p c → Event
 step_event (refuses z) = nothing
 step_event {b = b} {p = p} (applies z k) = applied_event b p
 step_event {b = b} {p = p} (signing z k e) = sign_event b p.message
