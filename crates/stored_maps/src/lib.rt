@@ -1,4 +1,6 @@
 // Dependence maps (document 01: maps) written into an image: whole, empty, joined where they stand.
+#![tactic(auto)]
+
 ghost use Rattle.std.specs.Prelude.{◌≡◌, ◌+◌, ◌≤◌, ◌<◌, length};
 ghost use Rattle.octets.specs.Bytes.{put, part};
 ghost use Rattle.marks.specs.Packed.{width, places, history_size, history_in};

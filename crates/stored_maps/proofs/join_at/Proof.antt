@@ -7,24 +7,18 @@ use borrow.Author.Rules.{rules}
 use Rattle.stored_maps.proofs.join_at.Statement.{statement}
 use Rattle.stored_maps.proofs.join_at.Tie as tie
 
-returns : tie.Need-returns
-returns c = let p = c.before.before.requires in stays-absent width places _ _ _ _ p.0 p.2 (not-true _ c.if1.true)
+returns : tie.Need-returns-then-not-p
+returns c = let p = c.requires in stays-absent width places _ _ _ _ p.0 p.2 (not-true _ c.if-not-p.true-raw)
 
-returns-2 : tie.Need-returns-2
+returns-2 : tie.Need-returns-then-chooses_right
 returns-2 c =
-    let b = c.before.before in
-    let d = b.before.before in
-    let p = d.before.before.before.before.requires in
-    stays-right width places _ _ _ _ p.0 p.2 _ _ d.present.ensures b.load.ensures (sym c.before.chooses-right.ensures ∙ c.if2.true)
+    let p = c.requires in
+    stays-right width places _ _ _ _ p.0 p.2 _ _ c.present-q.ensures c.load-y.ensures (sym c.chooses_right.ensures ∙ c.if-chooses_right.true)
 
-returns-3 : tie.Need-returns-3
+returns-3 : tie.Need-returns
 returns-3 c =
-    let e = c.before.before.before.before in
-    let b = e.before.before in
-    let d = b.before.before in
-    let f = d.before.before in
-    let p = f.before.before.requires in
-    stored-left width places _ _ _ _ p.0 p.2 _ _ d.present.ensures b.load.ensures (not-false _ f.if1.false) (sym e.before.chooses-right.ensures ∙ e.if2.false) _ c.before.before.store.ensures
+    let p = c.requires in
+    stored-left width places _ _ _ _ p.0 p.2 _ _ c.present-q.ensures c.load-y.ensures (not-false _ c.if-not-p.false-raw) (sym c.chooses_right.ensures ∙ c.if-chooses_right.false) _ c.store.ensures
 
 pub join_at_spec : {M : Type 1} → statement M
 join_at_spec =

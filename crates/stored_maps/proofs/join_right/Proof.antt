@@ -7,21 +7,17 @@ use borrow.Author.Rules.{rules}
 use Rattle.stored_maps.proofs.join_right.Statement.{statement}
 use Rattle.stored_maps.proofs.join_right.Tie as tie
 
-returns : tie.Need-returns
+returns : tie.Need-returns-then-chooses_right
 returns c =
-    let stored = c.before.before in
-    let branch = stored.before.before in
-    let d = branch.before in
-    let p = d.before.before.before.before.before.before.requires in
-    right-set width places entries _ _ p.0 p.3 _ p.1 _ _ _ d.before.before.before.present.ensures d.before.load.ensures
-    (sym d.chooses-right.ensures ∙ branch.if1.true) _ stored.store.ensures
+    let p = c.requires in
+    right-set width places entries _ _ p.0 p.3 _ p.1 _ _ _ c.present-p.ensures c.load-x.ensures
+    (sym c.chooses_right.ensures ∙ c.if-chooses_right.true) _ c.store.ensures
 
-returns-2 : tie.Need-returns-2
+returns-2 : tie.Need-returns-else-chooses_right
 returns-2 c =
-    let d = c.before in
-    let p = d.before.before.before.before.before.before.requires in
-    right_kept width places entries _ _ p.0 p.3 _ p.1 _ _ _ d.before.before.before.present.ensures d.before.load.ensures
-    (sym d.chooses-right.ensures ∙ c.if1.false)
+    let p = c.requires in
+    right_kept width places entries _ _ p.0 p.3 _ p.1 _ _ _ c.present-p.ensures c.load-x.ensures
+    (sym c.chooses_right.ensures ∙ c.if-chooses_right.false)
 
 pub join_right_spec : {M : Type 1} → statement M
 join_right_spec =

@@ -8,31 +8,24 @@ use borrow.Author.Rules.{rules}
 use Rattle.stored_maps.proofs.join_to.Statement.{statement}
 use Rattle.stored_maps.proofs.join_to.Tie as tie
 
-join-into-requires : tie.Need-join-into-requires
+join-into-requires : tie.Need-join_into-requires
 join-into-requires c κs =
-    let r = c.before.before.before in
-    let p = r.before.before.before.requires in
-    (search rules, search rules, raised-exact width places entries _ _ _ _ p.3 p.0 p.1 _ r.raise.ensures p.7)
+    let p = c.requires in
+    (search rules, search rules, raised-exact width places entries _ _ _ _ p.3 p.0 p.1 _ c.raise.ensures p.7)
 
-join-right-requires : tie.Need-join-right-requires
+join-right-requires : tie.Need-join_right-requires
 join-right-requires c κs =
-    let j = c.before.before.before.before.before in
-    let r = j.before.before.before.before in
-    let p = r.before.before.before.requires in (
+    let p = c.requires in (
       search rules,
       search rules,
-      loaded-count width places _ _ (omega arith) c.before.load.ensures,
-      joined-exact width places entries _ _ _ _ p.3 p.0 p.1 _ r.raise.ensures _ j.join-into.ensures p.5 p.6,
+      loaded-count width places _ _ (omega arith) c.load-h.ensures,
+      joined-exact width places entries _ _ _ _ p.3 p.0 p.1 _ c.raise.ensures _ c.join_into.ensures p.5 p.6,
     )
 
 returns : tie.Need-returns
 returns c =
-    let last = c.before.before in
-    let loaded = last.before.before in
-    let j = loaded.before.before.before.before in
-    let r = j.before.before.before.before in
-    let p = r.before.before.before.requires in
-    joined-all width places entries _ _ _ _ p.3 p.0 p.1 _ r.raise.ensures _ j.join-into.ensures p.5 p.6 _ _ _ _ p.2 loaded.load.ensures last.join-right.ensures
+    let p = c.requires in
+    joined-all width places entries _ _ _ _ p.3 p.0 p.1 _ c.raise.ensures _ c.join_into.ensures p.5 p.6 _ _ _ _ p.2 c.load-h.ensures c.join_right.ensures
 
 pub join_to_spec : {M : Type 1} → statement M
 join_to_spec =

@@ -12,23 +12,23 @@ use borrow.Author.Rules.{rules}
 use Rattle.stored_maps.proofs.store.Statement.{statement}
 use Rattle.stored_maps.proofs.store.Tie as tie
 
-abbrev invariant-loop : tie.invariant-loop
+abbrev invariant-loop : tie.invariant-loop-i
 invariant-loop image₀ at self i₀ image i = (i ≤ entries) × (image ≡ put at (pack_map width places i self) image₀) × (length image ≡ length image₀)
 
-abbrev decreases-loop : tie.decreases-loop
+abbrev decreases-loop : tie.decreases-loop-i
 decreases-loop image₀ at self i₀ image i = entries - i
 
-returns : tie.Need-returns invariant-loop decreases-loop
+returns : tie.Need-returns-then-is_empty invariant-loop decreases-loop
 returns c =
     let b = c.before.before.before.before in
-    put-map-zeros width places _ _ entries _ _ (sym b.before.is-empty.ensures ∙ b.if1.true) c.before.before.clear.ensures
+    put-map-zeros width places _ _ entries _ _ (sym b.before.is_empty.ensures ∙ b.if-is_empty.true) c.before.before.clear.ensures
 
-store-entry-requires : tie.Need-store-entry-requires invariant-loop decreases-loop
-store-entry-requires c κs = let s = c.before.before.before.before in (search rules, bounded_at _ _ s.before.before.before.before.requires.1 s.loop.i)
+store-entry-requires : tie.Need-store_entry-requires invariant-loop decreases-loop
+store-entry-requires c κs = let s = c.before.before.before.before in (search rules, bounded_at _ _ s.before.before.before.before.requires.1 s.loop-i.i)
 
-loop-again : tie.Need-loop-preserved invariant-loop decreases-loop
+loop-again : tie.Need-loop-i-preserved invariant-loop decreases-loop
 loop-again c =
-    let b = c.before.before.before.before.before.before.before.loop in
+    let b = c.before.before.before.before.before.before.before.loop-i in
     (omega arith, put-map-more width places _ _ b.i _ _ _ b.invariant.1 c.before.before.store_entry.ensures (omega arith), search rules)
 
 pub store_spec : {M : Type 1} → statement M
@@ -52,4 +52,4 @@ store_spec =
     (λ c. search rules)
     loop-again
     (λ c. search rules)
-    (λ c. put-map-all width places _ _ _ _ _ _ c.before.loop.invariant.1 (omega arith)))
+    (λ c. put-map-all width places _ _ _ _ _ _ c.before.loop-i.invariant.1 (omega arith)))

@@ -15,17 +15,17 @@ use borrow.Author.Rules.{rules}
 use Rattle.stored_maps.proofs.store_empty.Statement.{statement}
 use Rattle.stored_maps.proofs.store_empty.Tie as tie
 
-abbrev invariant-loop : tie.invariant-loop
+abbrev invariant-loop : tie.invariant-loop-i
 invariant-loop image₀ at i₀ image i = (i ≤ entries) × (image ≡ put at (pack_map width places i (empty_map places entries)) image₀) × (length image ≡ length image₀)
 
-abbrev decreases-loop : tie.decreases-loop
+abbrev decreases-loop : tie.decreases-loop-i
 decreases-loop image₀ at i₀ image i = entries - i
 
-loop-again : tie.Need-loop-preserved invariant-loop decreases-loop
+loop-again : tie.Need-loop-i-preserved invariant-loop decreases-loop
 unfolding zeros
 loop-again c =
-    let b = c.before.before.before.before.before.loop in
-    let e = put-absent width places _ false (initial_history places) _ _ refl (put-initial _ _ _ c.before.before.store-as.ensures) in
+    let b = c.before.before.before.before.before.loop-i in
+    let e = put-absent width places _ false (initial_history places) _ _ refl (put-initial _ _ _ c.before.before.store_as.ensures) in
     (omega arith, put-empty-more width places _ entries b.i _ _ _ _ b.invariant.1 e (omega arith), search rules)
 
 pub store_empty_spec : {M : Type 1} → statement M
@@ -42,4 +42,4 @@ store_empty_spec =
     (λ c. search rules)
     loop-again
     (λ c. search rules)
-    (λ c. put-map-all width places _ _ _ _ _ _ c.before.loop.invariant.1 (omega arith)))
+    (λ c. put-map-all width places _ _ _ _ _ _ c.before.loop-i.invariant.1 (omega arith)))
