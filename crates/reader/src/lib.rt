@@ -1,4 +1,6 @@
 // A line's reader: early returns in the order of the definitions' tests.
+#![tactic(auto)]
+
 ghost use Rattle.std.specs.Prelude.{◌≡◌, true, ◌+◌, ◌≤◌, ◌<◌, length};
 ghost use Rattle.notation.specs.Notation.{template_of};
 ghost use Rattle.notation.specs.Reading.{word_item, member_at, comma_next, one_more, more_members, closed, members_at, group_at, item, items, ended, line_at};

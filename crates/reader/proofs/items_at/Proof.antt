@@ -7,22 +7,22 @@ use borrow.Author.Rules.{rules}
 use Rattle.reader.proofs.items_at.Statement.{statement}
 use Rattle.reader.proofs.items_at.Tie as tie
 
-abbrev invariant-loop : tie.invariant-loop
+abbrev invariant-loop : tie.invariant-loop-i
 invariant-loop s row n r₀ i₀ r i = Rest s (template_of row) r₀ r i
 
-abbrev decreases-loop : tie.decreases-loop
+abbrev decreases-loop : tie.decreases-loop-i
 decreases-loop s row n r₀ i₀ r i = n - i
 
-item-of-requires : tie.Need-item-of-requires invariant-loop decreases-loop
-item-of-requires c κs = let n = c.before.before.items_of.ensures in (search rules, omega arith)
+item-of-requires : tie.Need-item_of-c-requires invariant-loop decreases-loop
+item-of-requires c κs = let n = c.before.before.items_of-n.ensures in (search rules, omega arith)
 
-loop-again : tie.Need-loop-preserved invariant-loop decreases-loop
+loop-again : tie.Need-loop-i-preserved invariant-loop decreases-loop
 loop-again c =
     let b = c.before.before.before in
-    items-again _ _ _ b.loop.i b.loop.r _ _ (let n = b.before.items_of.ensures.0 in omega arith) b.loop.invariant c.before.item_of.ensures c.item-at.ensures
+    items-again _ _ _ b.loop-i.i b.loop-i.r _ _ (let n = b.before.items_of-n.ensures.0 in omega arith) b.loop-i.invariant c.before.item_of-c.ensures c.item_at-r.ensures
 
 returns : tie.Need-returns invariant-loop decreases-loop
-returns c = let b = c.before in items-end _ _ _ b.loop.i _ (let n = b.before.items_of.ensures.0 in omega arith) b.loop.invariant
+returns c = let b = c.before in items-end _ _ _ b.loop-i.i _ (let n = b.before.items_of-n.ensures.0 in omega arith) b.loop-i.invariant
 
 pub items_at_spec : {M : Type 1} → statement M
 items_at_spec =
@@ -33,7 +33,7 @@ items_at_spec =
     (λ c κs. search rules)
     (λ c. items-start _ _ _ c.before.before.requires.0)
     item-of-requires
-    (λ c κs. c.before.before.loop.invariant.1)
+    (λ c κs. c.before.before.loop-i.invariant.1)
     (λ c. search rules)
     (λ c. search rules)
     loop-again

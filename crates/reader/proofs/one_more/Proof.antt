@@ -5,17 +5,17 @@ use borrow.Author.Rules.{rules}
 use Rattle.reader.proofs.one_more.Statement.{statement}
 use Rattle.reader.proofs.one_more.Tie as tie
 
-add-skip : tie.Need-overflow-add-skip
-add-skip c = omega (arith, comma-inside _ _ c.before.before.before.requires.1, c.skip.ensures)
+add-skip : tie.Need-overflow_add-comma
+add-skip c = omega (arith, comma-inside _ _ c.before.before.before.requires.1, c.skip-comma.ensures)
 
-member-at-requires : tie.Need-member-at-requires
+member-at-requires : tie.Need-member_at-requires
 member-at-requires c κs =
     let k = comma-inside _ _ c.before.before.before.before.requires.1 in
-    let f = c.before.skip.ensures in
-    next-inside _ _ _ (omega arith) c.skip2.ensures
+    let f = c.before.skip-comma.ensures in
+    next-inside _ _ _ (omega arith) c.skip-at.ensures
 
 returns : tie.Need-returns
-returns c = more-is _ _ c.before.before.before.before.before.requires.1 _ _ _ c.before.before.skip.ensures c.before.skip2.ensures c.member-at.ensures
+returns c = more-is _ _ c.before.before.before.before.before.requires.1 _ _ _ c.before.before.skip-comma.ensures c.before.skip-at.ensures c.member_at.ensures
 
 pub one_more_spec : {M : Type 1} → statement M
 one_more_spec =

@@ -5,7 +5,7 @@ use borrow.Author.Rules.{rules}
 use Rattle.scan.proofs.byte_at.Statement.{statement}
 use Rattle.scan.proofs.byte_at.Tie as tie
 
-returns-2 : tie.Need-returns-2
+returns-2 : tie.Need-returns
 returns-2 c = let a = c.before.args in sym (get_or-eq_default a.s.now 0 {n = a.at} (search rules))
 
 pub byte_at_spec : {M : Type 1} → statement M

@@ -9,17 +9,17 @@ use borrow.Author.Rules.{rules}
 use Rattle.scan.proofs.skip.Statement.{statement}
 use Rattle.scan.proofs.skip.Tie as tie
 
-abbrev invariant-loop : tie.invariant-loop
+abbrev invariant-loop : tie.invariant-loop-at
 invariant-loop s from at₀ at = end_of blank s from ≡ end_of blank s at
 
-abbrev decreases-loop : tie.decreases-loop
+abbrev decreases-loop : tie.decreases-loop-at
 decreases-loop s from at₀ at = length s - at
 
-loop-again : tie.Need-loop-preserved invariant-loop decreases-loop
-loop-again c = c.before.before.before.before.loop.invariant ∙ run_more blank _ _ (omega arith) (sym c.before.is-blank.ensures ∙ c.if1.true)
+loop-again : tie.Need-loop-at-preserved invariant-loop decreases-loop
+loop-again c = c.before.before.before.before.loop-at.invariant ∙ run_more blank _ _ (omega arith) (sym c.before.is_blank.ensures ∙ c.if-is_blank.true)
 
-returns : tie.Need-returns invariant-loop decreases-loop
-returns c = sym (run-stop blank _ _ (omega arith) (sym c.before.is-blank.ensures ∙ c.if1.false)) ∙ sym c.before.before.before.before.loop.invariant ∙ next-def _ _
+returns : tie.Need-returns-else-is_blank invariant-loop decreases-loop
+returns c = sym (run-stop blank _ _ (omega arith) (sym c.before.is_blank.ensures ∙ c.if-is_blank.false)) ∙ sym c.before.before.before.before.loop-at.invariant ∙ next-def _ _
 
 pub skip_spec : {M : Type 1} → statement M
 skip_spec =
@@ -34,4 +34,4 @@ skip_spec =
     (λ c. search rules)
     loop-again
     returns
-    (λ c. sym (run_end blank _ _ (omega arith)) ∙ sym c.before.loop.invariant ∙ next-def _ _))
+    (λ c. sym (run_end blank _ _ (omega arith)) ∙ sym c.before.loop-at.invariant ∙ next-def _ _))

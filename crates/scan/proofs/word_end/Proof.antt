@@ -9,17 +9,17 @@ use borrow.Author.Rules.{rules}
 use Rattle.scan.proofs.word_end.Statement.{statement}
 use Rattle.scan.proofs.word_end.Tie as tie
 
-abbrev invariant-loop : tie.invariant-loop
+abbrev invariant-loop : tie.invariant-loop-at
 invariant-loop s from at₀ at = end_of in_word s from ≡ end_of in_word s at
 
-abbrev decreases-loop : tie.decreases-loop
+abbrev decreases-loop : tie.decreases-loop-at
 decreases-loop s from at₀ at = length s - at
 
-loop-again : tie.Need-loop-preserved invariant-loop decreases-loop
-loop-again c = c.before.before.before.before.loop.invariant ∙ run_more in_word _ _ (omega arith) (sym c.before.is_IsWord.ensures ∙ c.if1.true)
+loop-again : tie.Need-loop-at-preserved invariant-loop decreases-loop
+loop-again c = c.before.before.before.before.loop-at.invariant ∙ run_more in_word _ _ (omega arith) (sym c.before.is_word.ensures ∙ c.if-is_word.true)
 
-returns : tie.Need-returns invariant-loop decreases-loop
-returns c = sym (run-stop in_word _ _ (omega arith) (sym c.before.is_IsWord.ensures ∙ c.if1.false)) ∙ sym c.before.before.before.before.loop.invariant ∙ end_of-def _ _ _
+returns : tie.Need-returns-else-is_word invariant-loop decreases-loop
+returns c = sym (run-stop in_word _ _ (omega arith) (sym c.before.is_word.ensures ∙ c.if-is_word.false)) ∙ sym c.before.before.before.before.loop-at.invariant ∙ end_of-def _ _ _
 
 pub word_end_spec : {M : Type 1} → statement M
 word_end_spec =
@@ -34,4 +34,4 @@ word_end_spec =
     (λ c. search rules)
     loop-again
     returns
-    (λ c. sym (run_end in_word _ _ (omega arith)) ∙ sym c.before.loop.invariant ∙ end_of-def _ _ _))
+    (λ c. sym (run_end in_word _ _ (omega arith)) ∙ sym c.before.loop-at.invariant ∙ end_of-def _ _ _))

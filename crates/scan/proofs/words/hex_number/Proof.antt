@@ -8,22 +8,22 @@ use borrow.Author.Rules.{rules}
 use Rattle.scan.proofs.words.hex_number.Statement.{statement}
 use Rattle.scan.proofs.words.hex_number.Tie as tie
 
-abbrev invariant-loop : tie.invariant-loop
+abbrev invariant-loop : tie.invariant-loop-i
 invariant-loop w at n x₀ i₀ x i = (i ≤ n) × ((x ≡ hex_value w at i) × (x < 16 ^ i))
 
-abbrev decreases-loop : tie.decreases-loop
+abbrev decreases-loop : tie.decreases-loop-i
 decreases-loop w at n x₀ i₀ x i = n - i
 
-mul-x : tie.Need-overflow-mul-x invariant-loop decreases-loop
-mul-x c = let l = c.before.before.before in let h = hex-fits _ l.before.before.requires.0 0 l.loop.i l.loop.x (omega arith) l.loop.invariant.1.1 in omega arith
+mul-x : tie.Need-overflow_mul-x invariant-loop decreases-loop
+mul-x c = let l = c.before.before.before in let h = hex-fits _ l.before.before.requires.0 0 l.loop-i.i l.loop-i.x (omega arith) l.loop-i.invariant.1.1 in omega arith
 
-add-x : tie.Need-overflow-add-x invariant-loop decreases-loop
-add-x c = let l = c.before.before.before in let h = hex-fits _ l.before.before.requires.0 0 l.loop.i l.loop.x (omega arith) l.loop.invariant.1.1 in omega arith
+add-x : tie.Need-overflow_add-x invariant-loop decreases-loop
+add-x c = let l = c.before.before.before in let h = hex-fits _ l.before.before.requires.0 0 l.loop-i.i l.loop-i.x (omega arith) l.loop-i.invariant.1.1 in omega arith
 
-loop-again : tie.Need-loop-preserved invariant-loop decreases-loop
+loop-again : tie.Need-loop-i-preserved invariant-loop decreases-loop
 loop-again c =
     let l = c.before.before.before in
-    (omega arith, hex-more _ l.before.before.requires.0 _ l.loop.i l.loop.x l.loop.invariant.1.0 l.loop.invariant.1.1 _ c.digit.ensures.0 c.digit.ensures.1)
+    (omega arith, hex-more _ l.before.before.requires.0 _ l.loop-i.i l.loop-i.x l.loop-i.invariant.1.0 l.loop-i.invariant.1.1 _ c.digit-d.ensures.0 c.digit-d.ensures.1)
 
 pub hex_number_spec : {M : Type 1} → statement M
 hex_number_spec =
@@ -40,4 +40,4 @@ hex_number_spec =
     (λ c. search rules)
     (λ c. search rules)
     loop-again
-    (λ c. hex-end _ _ c.before.loop.i _ _ (omega arith) c.before.loop.invariant.1))
+    (λ c. hex-end _ _ c.before.loop-i.i _ _ (omega arith) c.before.loop-i.invariant.1))

@@ -7,8 +7,8 @@ use Rattle.scan.proofs.words.whole.Tie as tie
 returns : tie.Need-returns
 returns c =
     let a = c.before.before.before.before.before in
-    whole_is _ a.before.before.requires _ _ _ _ _ _ a.hex-number.ensures.0 c.before.before.before.before.hex-number2.ensures.0 c.before.before.before.hex-number3.ensures.0
-    c.before.before.hex-number4.ensures.0 c.before.hex-number5.ensures.0 c.hex-number6.ensures.0
+    whole_is _ a.before.before.requires _ _ _ _ _ _ a.hex_number-kind.ensures.0 c.before.before.before.before.hex_number-transactor.ensures.0 c.before.before.before.hex_number-other.ensures.0
+    c.before.before.hex_number-zero.ensures.0 c.before.hex_number-message.ensures.0 c.hex_number-value.ensures.0
 
 pub whole_spec : {M : Type 1} → statement M
 whole_spec =

@@ -10,8 +10,8 @@ with_member_spec =
     (tie.spec
     (λ c. search rules)
     (λ c. search rules)
-    (λ c. member-on _ _ c.if1.true)
+    (λ c. member-on _ _ c.if-g-t-eq1.true)
     (λ c. search rules)
     (λ c. search rules)
-    (λ c. record { fits = member-fits _ _ c.if1.false (search rules) (search rules) })
-    (λ c. member-off _ _ c.if1.false (search rules)))
+    (λ c. record { fits = member-fits _ _ c.if-g-t-eq1.false (search rules) (search rules) })
+    (λ c. member-off _ _ c.if-g-t-eq1.false (search rules)))
