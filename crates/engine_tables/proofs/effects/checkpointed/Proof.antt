@@ -10,6 +10,6 @@ pub checkpointed_spec : {M : Type 1} → statement M
 checkpointed_spec =
     tie.close
     (tie.spec
-    (λ c. checkpointed-not _ _ (not-true _ c.if1.true))
-    (λ c. omega (arith, fits-named _ _ c.before.before.requires (not-false _ c.before.if1.false)))
-    (λ c. checkpointed-named _ _ (not-false _ c.before.if1.false) _ refl))
+    (λ c. checkpointed-not _ _ (not-true _ c.if-not-named.true-raw))
+    (λ c. omega (arith, fits-named _ _ c.before.before.requires (not-false _ c.before.if-not-named.false-raw)))
+    (λ c. checkpointed-named _ _ (not-false _ c.before.if-not-named.false-raw) _ refl))

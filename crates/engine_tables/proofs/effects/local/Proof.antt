@@ -11,9 +11,9 @@ local_spec =
     (tie.spec
     (λ c κs. search rules)
     (λ c. search rules)
-    (λ c κs. local-below _ _ 0 c.before.before.if1.false (search rules) (not-true _ c.if2.true))
-    (λ c. local-rollback _ _ _ (search rules) (not-true _ c.before.if2.true) _ c.rollback.ensures)
+    (λ c κs. local-below _ _ 0 c.before.before.if-kind-lt-FALL.false (search rules) (not-true _ c.if-not-x.true))
+    (λ c. local-rollback _ _ _ (search rules) (not-true _ c.before.if-not-x.true) _ c.rollback.ensures)
     (λ c κs. search rules)
-    (λ c. local-stays _ _ _ (search rules) (search rules) (not-false _ c.before.before.if2.false) _ c.stays.ensures)
+    (λ c. local-stays _ _ _ (search rules) (search rules) (not-false _ c.before.before.if-not-x.false) _ c.stays.ensures)
     (λ c κs. search rules)
-    (λ c. local-ends _ _ _ (search rules) (search rules) (not-false _ c.before.before.if2.false) _ c.stays2.ensures))
+    (λ c. local-ends _ _ _ (search rules) (search rules) (not-false _ c.before.before.if-not-x.false) _ c.stays-2.ensures))

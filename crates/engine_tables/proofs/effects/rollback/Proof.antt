@@ -5,8 +5,8 @@ use Rattle.engine_tables.proofs.Rows.{last-below, rollback-gone, rollback-next}
 use Rattle.engine_tables.proofs.effects.rollback.Statement.{statement}
 use Rattle.engine_tables.proofs.effects.rollback.Tie as tie
 
-add-t4 : tie.Need-overflow-add-t4
-add-t4 c = omega (arith, last-below c.before.before.before.args.x c.before.before.before.requires c.before.if1.false)
+add-t4 : tie.Need-overflow_add-x
+add-t4 c = omega (arith, last-below c.before.before.before.args.x c.before.before.before.requires c.before.if-x-eq0.false)
 
 pub rollback_spec : {M : Type 1} → statement M
 rollback_spec =

@@ -9,28 +9,28 @@ use Rattle.engine_tables.specs.Internal.Register.{row_at}
 use Rattle.engine_tables.proofs.guards.blocked.Statement.{statement}
 use Rattle.engine_tables.proofs.guards.blocked.Tie as tie
 
-abbrev invariant-loop : tie.invariant-loop
+abbrev invariant-loop : tie.invariant-loop-t
 invariant-loop most group rows number₀ t₀ number t = Roomy most (λ t. (row_at rows t).status) (λ t. (row_at rows t).checkpoints) group t number
 
-abbrev decreases-loop : tie.decreases-loop
+abbrev decreases-loop : tie.decreases-loop-t
 decreases-loop most group rows number₀ t₀ number t = group_bits - t
 
-returns : tie.Need-returns invariant-loop decreases-loop
+returns : tie.Need-returns-then-r-eq-GONE invariant-loop decreases-loop
 returns c =
     let m = c.before in
     let n = m.before.before in
-    roomy-gone _ _ _ _ n.before.before.before.loop.invariant (search rules) (sym n.before.is-named.ensures ∙ n.if1.true) _ m.member.ensures c.if2.true
+    roomy-gone _ _ _ _ n.before.before.before.loop-t.invariant (search rules) (sym n.before.is_named.ensures ∙ n.if-is_named.true) _ m.member-r.ensures c.if-r-eq-GONE.true
 
-loop-again : tie.Need-loop-preserved invariant-loop decreases-loop
+loop-again : tie.Need-loop-t-preserved invariant-loop decreases-loop
 loop-again c =
-    let b = c.before.before.before.loop in
-    let n = c.before.is-named.ensures in
+    let b = c.before.before.before.loop-t in
+    let n = c.before.is_named.ensures in
     ⊎_elim
-    (λ w. roomy-full _ _ _ _ b.invariant (search rules) (sym n ∙ w.0.taken) _ w.2.ensures w.3.left _ w.4.taken w.5)
+    (λ w. roomy-full _ _ _ _ b.invariant (search rules) (sym n ∙ w.if-is_named.true) _ w.member-r.ensures w.if-r-eq-GONE.false _ w.if-r-ne0.true w.number-is)
     (⊎_elim
-    (λ w. roomy-more _ _ _ _ b.invariant (search rules) (sym n ∙ w.0.taken) _ w.2.ensures w.3.left _ w.4.left w.5)
-    (λ w. roomy-unnamed _ _ _ _ b.invariant (search rules) (sym n ∙ w.0.left) _ w.1))
-    c.if1.branch
+    (λ w. roomy-more _ _ _ _ b.invariant (search rules) (sym n ∙ w.if-is_named.true) _ w.member-r.ensures w.if-r-eq-GONE.false _ w.if-r-ne0.false w.number-is)
+    (λ w. roomy-unnamed _ _ _ _ b.invariant (search rules) (sym n ∙ w.if-is_named.false) _ w.number-is))
+    c.if-is_named.branch-raw
 
 pub blocked_spec : {M : Type 1} → statement M
 blocked_spec =
@@ -47,4 +47,4 @@ blocked_spec =
     (λ c. search rules)
     (λ c. search rules)
     loop-again
-    (λ c. roomy-end _ _ _ _ c.before.loop.invariant (search rules)))
+    (λ c. roomy-end _ _ _ _ c.before.loop-t.invariant (search rules)))

@@ -10,6 +10,6 @@ group_spec =
     tie.close
     (tie.spec
     (λ c κs. search rules)
-    (λ c. group-names _ _ _ _ _ _ c.before.group.ensures c.if1.true)
+    (λ c. group-names _ _ _ _ _ _ c.before.group-r.ensures c.if-r-ne0.true)
     (λ c κs. search rules)
-    (λ c. c.blocked.ensures ∙ group-named _ _ _ _ _ _ c.before.before.group.ensures c.before.if1.false))
+    (λ c. c.blocked.ensures ∙ group-named _ _ _ _ _ _ c.before.before.group-r.ensures c.before.if-r-ne0.false))

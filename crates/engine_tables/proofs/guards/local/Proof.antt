@@ -9,9 +9,9 @@ local_spec =
     tie.close
     (tie.spec
     (λ c κs. search rules)
-    (λ c. local-refused _ _ _ c.before.local.ensures (search rules))
-    (λ c. local-early _ _ _ c.before.before.local.ensures (search rules) (search rules))
-    (λ c. local-stable _ _ _ c.before.before.before.local.ensures (search rules) (search rules) (search rules))
+    (λ c. local-refused _ _ _ c.before.local-r.ensures (search rules))
+    (λ c. local-early _ _ _ c.before.before.local-r.ensures (search rules) (search rules))
+    (λ c. local-stable _ _ _ c.before.before.before.local-r.ensures (search rules) (search rules) (search rules))
     (λ c κs. search rules)
-    (λ c. local-last _ _ _ c.before.before.before.before.before.local.ensures (search rules) (search rules) (search rules) _ c.before.is_last.ensures (search rules))
-    (λ c. local_free _ _ _ c.before.before.before.before.before.local.ensures (search rules) (search rules) (search rules) _ c.before.is_last.ensures (search rules)))
+    (λ c. local-last _ _ _ c.before.before.before.before.before.local-r.ensures (search rules) (search rules) (search rules) _ c.before.is_last.ensures (search rules))
+    (λ c. local_free _ _ _ c.before.before.before.before.before.local-r.ensures (search rules) (search rules) (search rules) _ c.before.is_last.ensures (search rules)))

@@ -10,4 +10,4 @@ receipt_spec =
     (tie.spec
     (λ c. receipt-missing _ _ (search rules))
     (λ c κs. search rules)
-    (λ c. receipt-found _ _ c.before.if1.false _ c.receiver.ensures))
+    (λ c. receipt-found _ _ c.before.if-slot.false _ c.receiver.ensures))

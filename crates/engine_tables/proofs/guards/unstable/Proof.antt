@@ -9,25 +9,25 @@ use Rattle.engine_tables.proofs.Guarding.{Tight, tight-first, tight-end, tight-u
 use Rattle.engine_tables.proofs.guards.unstable.Statement.{statement}
 use Rattle.engine_tables.proofs.guards.unstable.Tie as tie
 
-abbrev invariant-loop : tie.invariant-loop
+abbrev invariant-loop : tie.invariant-loop-t
 invariant-loop group rows t₀ t = Tight (row_at rows) group t
 
-abbrev decreases-loop : tie.decreases-loop
+abbrev decreases-loop : tie.decreases-loop-t
 decreases-loop group rows t₀ t = group_bits - t
 
-returns : tie.Need-returns invariant-loop decreases-loop
+returns : tie.Need-returns-then-not-row invariant-loop decreases-loop
 returns c =
     let n = c.before.before.before in
-    tight-found n.before.before.before.loop.invariant (search rules) (sym n.before.is-named.ensures ∙ n.if1.true) c.if2.true
+    tight-found n.before.before.before.loop-t.invariant (search rules) (sym n.before.is_named.ensures ∙ n.if-is_named.true) c.if-not-row.true
 
-loop-again : tie.Need-loop-preserved invariant-loop decreases-loop
+loop-again : tie.Need-loop-t-preserved invariant-loop decreases-loop
 loop-again c =
-    let b = c.before.before.before.loop in
-    let n = c.before.is-named.ensures in
+    let b = c.before.before.before.loop-t in
+    let n = c.before.is_named.ensures in
     ⊎_elim
-    (λ w. tight-more b.invariant (search rules) (sym n ∙ w.0.taken) w.3.left)
-    (λ w. tight-unnamed b.invariant (search rules) (sym n ∙ w.left))
-    c.if1.branch
+    (λ w. tight-more b.invariant (search rules) (sym n ∙ w.if-is_named.true) w.if-not-row.false)
+    (λ w. tight-unnamed b.invariant (search rules) (sym n ∙ w.if-is_named.false))
+    c.if-is_named.branch-raw
 
 pub unstable_spec : {M : Type 1} → statement M
 unstable_spec =
@@ -43,4 +43,4 @@ unstable_spec =
     (λ c. search rules)
     (λ c. search rules)
     loop-again
-    (λ c. tight-end c.before.loop.invariant (search rules)))
+    (λ c. tight-end c.before.loop-t.invariant (search rules)))

@@ -10,8 +10,8 @@ place_spec =
     tie.close
     (tie.spec
     (λ c κs. search rules)
-    (λ c. c.within.ensures ∙ rw c.before.if1.true)
+    (λ c. c.within.ensures ∙ rw c.before.if-kind-eq-LETTER.true)
     (λ c κs. search rules)
-    (λ c. c.within2.ensures ∙ rw c.before.if2.true)
+    (λ c. c.within-then-kind-eq-SEND.ensures ∙ rw c.before.if-kind-eq-SEND.true)
     (λ c κs. search rules)
-    (λ c. c.within3.ensures ∙ rw (ne_eqb _ 1 c.before.before.if1.false, ne_eqb _ 4 c.before.if2.false)))
+    (λ c. c.within-2.ensures ∙ rw (ne_eqb _ 1 c.before.before.if-kind-eq-LETTER.false, ne_eqb _ 4 c.before.if-kind-eq-SEND.false)))

@@ -7,21 +7,21 @@ use Rattle.engine_tables.proofs.Outcomes.{letter-unopened, letter-full, letter-d
 use Rattle.engine_tables.proofs.turns.letter.Statement.{statement}
 use Rattle.engine_tables.proofs.turns.letter.Tie as tie
 
-returns-2 : tie.Need-returns-2
+returns-2 : tie.Need-returns-then-r-ne0
 returns-2 c =
     let b = c.before.before in
-    letter-full b.before.before.before.before.before.before.requires (search rules) _ b.room.ensures (search rules) _ c.answered2.ensures
+    letter-full b.before.before.before.before.before.before.requires (search rules) _ b.room-r.ensures (search rules) _ c.answered-then-r-ne0.ensures
 
 sending-requires : tie.Need-sending-requires
 sending-requires c κs =
-    let r = free _ _ _ (sym c.before.room.ensures ∙ c.if2.false) in
+    let r = free _ _ _ (sym c.before.room-r.ensures ∙ c.if-r-ne0.false) in
     let s = c.before.before.before.before.before in
     (omega (arith, r.room, r.number), omega (arith, r.room))
 
-returns-3 : tie.Need-returns-3
+returns-3 : tie.Need-returns
 returns-3 c =
     let b = c.before.before in
-    letter-done b.before.before.before.before.before.before.requires (search rules) _ b.room.ensures (search rules) _ c.sending.ensures
+    letter-done b.before.before.before.before.before.before.requires (search rules) _ b.room-r.ensures (search rules) _ c.sending.ensures
 
 pub letter_spec : {M : Type 1} → statement M
 letter_spec =

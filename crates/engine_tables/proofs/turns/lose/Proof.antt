@@ -11,4 +11,4 @@ lose_spec =
     (λ c κs. search rules)
     (λ c. lose-missing c.before.before.before.requires (search rules) _ c.answered.ensures)
     (λ c κs. search rules)
-    (λ c. lose-done c.before.before.before.before.before.requires (search rules) _ c.without-number.ensures))
+    (λ c. lose-done c.before.before.before.before.before.requires (search rules) _ c.without_number-register.ensures))

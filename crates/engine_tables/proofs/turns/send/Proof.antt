@@ -7,26 +7,26 @@ use Rattle.engine_tables.proofs.Outcomes.{send-unopened, send-idle, send-full, s
 use Rattle.engine_tables.proofs.turns.send.Statement.{statement}
 use Rattle.engine_tables.proofs.turns.send.Tie as tie
 
-returns-2 : tie.Need-returns-2
+returns-2 : tie.Need-returns-then-w-ne0
 returns-2 c =
     let b = c.before.before in
-    send-idle b.before.before.before.before.before.before.requires b.before.before.if1.false _ b.busy.ensures (search rules) _ c.answered2.ensures
+    send-idle b.before.before.before.before.before.before.requires b.before.before.if-register-p.false _ b.busy-w.ensures (search rules) _ c.answered-then-w-ne0.ensures
 
-returns-3 : tie.Need-returns-3
+returns-3 : tie.Need-returns-then-r-ne0
 returns-3 c =
     let b = c.before.before.before.before.before.before in
-    send-full b.before.before.before.before.before.before.requires b.before.before.if1.false _ b.busy.ensures (search rules) _ c.before.before.room.ensures (search rules) _ c.answered3.ensures
+    send-full b.before.before.before.before.before.before.requires b.before.before.if-register-p.false _ b.busy-w.ensures (search rules) _ c.before.before.room-r.ensures (search rules) _ c.answered-then-r-ne0.ensures
 
 sending-requires : tie.Need-sending-requires
 sending-requires c κs =
-    let r = free _ _ _ (sym c.before.room.ensures ∙ c.if3.false) in
+    let r = free _ _ _ (sym c.before.room-r.ensures ∙ c.if-r-ne0.false) in
     let s = c.before.before.before.before.before.before.before.before.before in
     (omega (arith, r.room, r.number), omega (arith, r.room))
 
-returns-4 : tie.Need-returns-4
+returns-4 : tie.Need-returns
 returns-4 c =
     let b = c.before.before.before.before.before.before in
-    send-done b.before.before.before.before.before.before.requires b.before.before.if1.false _ b.busy.ensures (search rules) _ c.before.before.room.ensures (search rules) _ c.sending.ensures
+    send-done b.before.before.before.before.before.before.requires b.before.before.if-register-p.false _ b.busy-w.ensures (search rules) _ c.before.before.room-r.ensures (search rules) _ c.sending.ensures
 
 pub send_spec : {M : Type 1} → statement M
 send_spec =
