@@ -1,4 +1,6 @@
 // Stable histories in packed maps (document 02, W4): whether all but one are, and what a message's map shows of them.
+#![tactic(auto)]
+
 ghost use Rattle.std.specs.Prelude.{◌≡◌, ◌+◌, ◌≤◌, length};
 ghost use Rattle.octets.specs.Bytes.{put, part};
 ghost use Rattle.marks.specs.Packed.{width, places, history_size, unpack_history, present_in};

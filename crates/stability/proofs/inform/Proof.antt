@@ -13,21 +13,21 @@ use borrow.Author.Rules.{rules}
 use Rattle.stability.proofs.inform.Statement.{statement}
 use Rattle.stability.proofs.inform.Tie as tie
 
-abbrev invariant-loop : tie.invariant-loop
+abbrev invariant-loop : tie.invariant-loop-i
 invariant-loop image₀ from at t i₀ image i =
     (i ≤ entries)
     × (image ≡ put at (pack_map width places i (informed_of entries t (map_in width places entries image₀ at) (map_in width places entries image₀ from))) image₀)
     × (length image ≡ length image₀)
 
-abbrev decreases-loop : tie.decreases-loop
+abbrev decreases-loop : tie.decreases-loop-i
 decreases-loop image₀ from at t i₀ image i = entries - i
 
-loop-again : tie.Need-loop-preserved invariant-loop decreases-loop
+loop-again : tie.Need-loop-i-preserved invariant-loop decreases-loop
 loop-again c =
     let b = c.before.before.before.before.before in
     let a = b.before.before in (
       omega arith,
-      informed-more width places entries _ _ _ a.args.from _ _ b.loop.i (omega arith) a.requires.2 a.requires.3 (omega arith) b.loop.invariant.1 c.before.before.inform-at.ensures,
+      informed-more width places entries _ _ _ a.args.from _ _ b.loop-i.i (omega arith) a.requires.2 a.requires.3 (omega arith) b.loop-i.invariant.1 c.before.before.inform_at.ensures,
       search rules,
     )
 
@@ -46,4 +46,4 @@ inform_spec =
     (λ c. search rules)
     loop-again
     (λ c. search rules)
-    (λ c. put-map-all width places _ _ _ _ _ _ c.before.loop.invariant.1 (omega arith)))
+    (λ c. put-map-all width places _ _ _ _ _ _ c.before.loop-i.invariant.1 (omega arith)))

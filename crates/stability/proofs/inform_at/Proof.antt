@@ -10,19 +10,17 @@ use borrow.Author.Rules.{rules}
 use Rattle.stability.proofs.inform_at.Statement.{statement}
 use Rattle.stability.proofs.inform_at.Tie as tie
 
-returns : tie.Need-returns
-returns c = informed-kept width places _ _ _ _ _ (sym c.before.shows.ensures ∙ not-true _ c.if1.true)
+returns : tie.Need-returns-then-not-shows
+returns c = informed-kept width places _ _ _ _ _ (sym c.shows.ensures ∙ not-true _ c.if-not-shows.true-raw)
 
 store-requires : tie.Need-store-requires
 store-requires c κs =
-    (search rules, omega (arith, ap (λ (h : History). h.count) c.before.stabilize.ensures, loaded-count width places _ _ (omega arith) c.before.before.load.ensures))
+    (search rules, omega (arith, ap (λ (h : History). h.count) c.stabilize-h.ensures, loaded-count width places _ _ (omega arith) c.load.ensures))
 
-returns-3 : tie.Need-returns-3
+returns-3 : tie.Need-returns
 returns-3 c =
-    let e = c.before.before.before.before in
-    let d = e.before.before.before in
-    informed-set width places _ _ _ _ _ d.if2.false (sym d.before.before.shows.ensures ∙ not-false _ d.before.if1.false)
-    _ _ e.before.load.ensures e.stabilize.ensures _ c.before.before.store.ensures
+    informed-set width places _ _ _ _ _ c.if-own.false (sym c.shows.ensures ∙ not-false _ c.if-not-shows.false-raw)
+    _ _ c.load.ensures c.stabilize-h.ensures _ c.store.ensures
 
 pub inform_at_spec : {M : Type 1} → statement M
 inform_at_spec =
@@ -32,7 +30,7 @@ inform_at_spec =
     (λ c. search rules)
     returns
     (λ c. search rules)
-    (λ c. informed-own width places _ _ _ _ _ c.if2.true)
+    (λ c. informed-own width places _ _ _ _ _ c.if-own.true)
     (λ c κs. search rules)
     (λ c κs. search rules)
     store-requires
