@@ -1,4 +1,6 @@
 // An image: where everything stands in it, its head, its limits, its messages.
+#![tactic(auto)]
+
 pub mod head;
 pub mod layout;
 pub mod limits;

@@ -8,37 +8,31 @@ use Rattle.rules.proofs.Pack.Messages.{fields-before, append-image}
 use Rattle.image.proofs.messages.append.Statement.{statement}
 use Rattle.image.proofs.messages.append.Tie as tie
 
-join-to-requires : tie.Need-join-to-requires
+join-to-requires : tie.Need-join_to-requires
 join-to-requires c κs =
-    let f = c.before.before.before.before in
-    let s = f.before.before.before.before.before in
-    let a = message_address base s.args.n in
-    let good = s.requires.0 in
-    let same = fields-before base _ good.long good.back _ s.requires.1 _ _ _ _ s.requires.2 s.requires.3 f.store-fields.ensures in
-    let ok = good.well.packable.transactors s.args.t s.requires.5 in (
+    let a = message_address base c.args.n in
+    let good = c.requires.0 in
+    let same = fields-before base _ good.long good.back _ c.requires.1 _ _ _ _ c.requires.2 c.requires.3 c.store_fields.ensures in
+    let ok = good.well.packable.transactors c.args.t c.requires.5 in (
       omega arith,
       omega arith,
       omega arith,
-      omega (arith, f.store-fields.auto.0, good.long),
-      s.requires.5,
-      creation-ok base _ good.back s.args.t s.requires.5 _ a (omega arith) same ok.creation,
-      behaviour-ok base _ good.back s.args.t s.requires.5 _ a (omega arith) same ok.behaviour,
-      behaviour-exact-there base _ good.back s.args.t s.requires.5 _ a (omega arith) same,
+      omega (arith, c.store_fields.auto.image, good.long),
+      c.requires.5,
+      creation-ok base _ good.back c.args.t c.requires.5 _ a (omega arith) same ok.creation,
+      behaviour-ok base _ good.back c.args.t c.requires.5 _ a (omega arith) same ok.behaviour,
+      behaviour-exact-there base _ good.back c.args.t c.requires.5 _ a (omega arith) same,
     )
 
 returns : tie.Need-returns
 returns c =
-    let next = c.before.before in
-    let m = next.before.before.before.before in
-    let f = m.before.before.before.before.before in
-    let s = f.before.before.before.before.before in
-    let a = message_address base s.args.n in
-    let good = s.requires.0 in
-    let same = fields-before base _ good.long good.back _ s.requires.1 _ _ _ _ s.requires.2 s.requires.3 f.store-fields.ensures in
-    append-image base _ good.long good.back _ s.requires.1 _ _ _ _ _ _ _ _ s.requires.2 s.requires.3
-    f.before.before.next.ensures refl f.store-fields.ensures
-    (m.join-to.ensures ∙ rw (m.before.before.own_at.ensures, carried-there base _ good.back s.args.t s.requires.5 _ a (omega arith) same (omega arith)))
-    next.store16.ensures
+    let a = message_address base c.args.n in
+    let good = c.requires.0 in
+    let same = fields-before base _ good.long good.back _ c.requires.1 _ _ _ _ c.requires.2 c.requires.3 c.store_fields.ensures in
+    append-image base _ good.long good.back _ c.requires.1 _ _ _ _ _ _ _ _ c.requires.2 c.requires.3
+    c.next-number.ensures refl c.store_fields.ensures
+    (c.join_to.ensures ∙ rw (c.own_at-own.ensures, carried-there base _ good.back c.args.t c.requires.5 _ a (omega arith) same (omega arith)))
+    c.store16.ensures
 
 pub append_spec : {M : Type 1} → statement M
 append_spec =

@@ -6,13 +6,13 @@ use Rattle.rules.proofs.Pack.Loads.{waiting_few, read-text}
 use Rattle.image.proofs.messages.content.Statement.{statement}
 use Rattle.image.proofs.messages.content.Tie as tie
 
-mul-load32 : tie.Need-overflow-mul-load32
+mul-load32 : tie.Need-overflow_mul-k
 mul-load32 c = omega (arith, waiting_few base c.before.args.image.now)
 
-add-load32 : tie.Need-overflow-add-load32
+add-load32 : tie.Need-overflow_add-k
 add-load32 c = omega (arith, waiting_few base c.before.args.image.now)
 
-add-load32-2 : tie.Need-overflow-add-load32-2
+add-load32-2 : tie.Need-overflow_add-k-2
 add-load32-2 c = omega (arith, waiting_few base c.before.args.image.now)
 
 load32-requires : tie.Need-load32-requires

@@ -6,13 +6,13 @@ use Rattle.rules.proofs.Pack.Loads.{waiting_few, read_number}
 use Rattle.image.proofs.messages.number_of.Statement.{statement}
 use Rattle.image.proofs.messages.number_of.Tie as tie
 
-mul-load16 : tie.Need-overflow-mul-load16
+mul-load16 : tie.Need-overflow_mul-k
 mul-load16 c = omega (arith, waiting_few base c.before.args.image.now)
 
-add-load16 : tie.Need-overflow-add-load16
+add-load16 : tie.Need-overflow_add-k
 add-load16 c = omega (arith, waiting_few base c.before.args.image.now)
 
-add-load16-2 : tie.Need-overflow-add-load16-2
+add-load16-2 : tie.Need-overflow_add-k-2
 add-load16-2 c = omega (arith, waiting_few base c.before.args.image.now)
 
 load16-requires : tie.Need-load16-requires

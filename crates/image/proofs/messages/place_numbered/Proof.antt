@@ -10,23 +10,23 @@ use Rattle.rules.proofs.Pack.Messages.{place_of-among, numbered-so, numbered-not
 use Rattle.image.proofs.messages.place_numbered.Statement.{statement}
 use Rattle.image.proofs.messages.place_numbered.Tie as tie
 
-abbrev invariant-loop : tie.invariant-loop
+abbrev invariant-loop : tie.invariant-loop-k
 invariant-loop image n number k₀ k = Passed (numbered (unpack base image) number) n k
 
-abbrev decreases-loop : tie.decreases-loop
+abbrev decreases-loop : tie.decreases-loop-k
 decreases-loop image n number k₀ k = n - k
 
-returns : tie.Need-returns invariant-loop decreases-loop
+returns : tie.Need-returns-then-number_of-number invariant-loop decreases-loop
 returns c =
-    let r = passed-found c.before.before.before.loop.invariant (search rules) (numbered-so _ _ _ (search rules)) in
+    let r = passed-found c.before.before.before.loop-k.invariant (search rules) (numbered-so _ _ _ (search rules)) in
     (r.0 ∙ place_of-among base _ _ _ (search rules), r.1)
 
-loop-again : tie.Need-loop-preserved invariant-loop decreases-loop
+loop-again : tie.Need-loop-k-preserved invariant-loop decreases-loop
 loop-again c = passed-more (search rules) (search rules) (numbered-not _ _ _ (search rules))
 
-returns-2 : tie.Need-returns-2 invariant-loop decreases-loop
+returns-2 : tie.Need-returns invariant-loop decreases-loop
 returns-2 c =
-    let r = passed-all c.before.loop.invariant (search rules) in
+    let r = passed-all c.before.loop-k.invariant (search rules) in
     (r.0 ∙ place_of-among base _ _ _ (search rules), r.1)
 
 pub place_numbered_spec : {M : Type 1} → statement M

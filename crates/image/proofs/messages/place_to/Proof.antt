@@ -9,10 +9,10 @@ use Rattle.rules.proofs.Pack.Messages.{addressed-so, addressed-not}
 use Rattle.image.proofs.messages.place_to.Statement.{statement}
 use Rattle.image.proofs.messages.place_to.Tie as tie
 
-abbrev invariant-loop : tie.invariant-loop
+abbrev invariant-loop : tie.invariant-loop-k
 invariant-loop image n t k₀ k = Passed (addressed_to (unpack base image) t) n k
 
-abbrev decreases-loop : tie.decreases-loop
+abbrev decreases-loop : tie.decreases-loop-k
 decreases-loop image n t k₀ k = n - k
 
 pub place_to_spec : {M : Type 1} → statement M

@@ -7,13 +7,13 @@ use Rattle.image.proofs.messages.store_fields.Statement.{statement}
 use Rattle.image.proofs.messages.store_fields.Tie as tie
 
 store32-requires : tie.Need-store32-requires
-store32-requires c κs = omega (arith, simp length-set at c.before.before.before.store16.auto.0)
+store32-requires c κs = omega (arith, simp length-set at c.store16.auto.image)
 
-same_length : tie.Need-same-length
-same_length c = c.before.before.store32.auto.0 ∙ simp length-set at c.before.before.before.before.before.before.store16.auto.0
+same_length : tie.Need-shape_of-image
+same_length c = c.store32.auto.image ∙ simp length-set at c.store16.auto.image
 
 returns : tie.Need-returns
-returns c = c.before.before.store32.ensures ∙ rw c.before.before.before.before.before.before.store16.ensures
+returns c = c.store32.ensures ∙ rw c.store16.ensures
 
 pub store_fields_spec : {M : Type 1} → statement M
 store_fields_spec =
