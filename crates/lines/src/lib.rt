@@ -1,4 +1,6 @@
 // A line of text, byte by byte: words, numbers, groups, hexadecimal digits.
+#![tactic(auto)]
+
 ghost use Rattle.std.specs.Prelude.{◌≡◌, ◌+◌, ◌*◌, ◌≤◌, ◌<◌, [], ◌∷◌, length, drop};
 ghost use Rattle.octets.specs.Bytes.{pick};
 ghost use Rattle.rules.specs.Refusals.{named, group_bits};

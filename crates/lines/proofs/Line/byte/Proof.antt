@@ -4,10 +4,10 @@ use Rattle.lines.proofs.Lining.{plus-full, plus-byte}
 use Rattle.lines.proofs.Line.byte.Statement.{statement}
 use Rattle.lines.proofs.Line.byte.Tie as tie
 
-returns : tie.Need-returns
+returns : tie.Need-returns-then-at-ge-ROOM
 returns c = plus-full _ (search rules) _ (search rules)
 
-returns-2 : tie.Need-returns-2
+returns-2 : tie.Need-returns
 returns-2 c = plus-byte _ (search rules) _ (search rules)
 
 pub byte_spec : {M : Type 1} → statement M

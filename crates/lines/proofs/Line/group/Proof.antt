@@ -5,10 +5,10 @@ use Rattle.lines.proofs.Line.group.Statement.{statement}
 use Rattle.lines.proofs.Line.group.Tie as tie
 
 rest-requires : tie.Need-rest-requires
-rest-requires c κs = members-fit _ _ _ (search rules) c.before.members.ensures (written-empty _)
+rest-requires c κs = members-fit _ _ _ (search rules) c.before.members-named.ensures (written-empty _)
 
 returns : tie.Need-returns
-returns c = group-said _ _ _ _ _ _ _ c.before.before.before.members.ensures (written-empty _) c.before.before.byte.ensures c.before.rest.ensures c.byte2.ensures
+returns c = group-said _ _ _ _ _ _ _ c.before.before.before.members-named.ensures (written-empty _) c.before.before.byte.ensures c.before.rest.ensures c.byte-2.ensures
 
 pub group_spec : {M : Type 1} → statement M
 group_spec =

@@ -4,11 +4,11 @@ use Rattle.lines.proofs.Lining.{member-said, member-none}
 use Rattle.lines.proofs.Line.member.Statement.{statement}
 use Rattle.lines.proofs.Line.member.Tie as tie
 
-returns : tie.Need-returns
-returns c = member-said _ _ _ _ _ _ c.before.before.before.is-named.ensures c.before.before.if1.true c.before.byte.ensures c.number.ensures
+returns : tie.Need-returns-then-is_named
+returns c = member-said _ _ _ _ _ _ c.before.before.before.is_named.ensures c.before.before.if-is_named.true c.before.byte.ensures c.number.ensures
 
-returns-2 : tie.Need-returns-2
-returns-2 c = member-none _ (search rules) _ _ _ c.before.is-named.ensures c.if1.false
+returns-2 : tie.Need-returns
+returns-2 c = member-none _ (search rules) _ _ _ c.before.is_named.ensures c.if-is_named.false
 
 pub member_spec : {M : Type 1} → statement M
 member_spec =

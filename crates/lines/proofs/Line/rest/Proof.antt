@@ -8,18 +8,17 @@ use Rattle.lines.proofs.Lining.{rest-none, rest_some}
 use Rattle.lines.proofs.Line.rest.Statement.{statement}
 use Rattle.lines.proofs.Line.rest.Tie as tie
 
-returns : tie.Need-returns
+returns : tie.Need-returns-then-n-eq0
 returns c = rest-none _ _ (search rules) (search rules)
 
-part-word-end : tie.Need-slice-bounds-word-end
-part-word-end c = let h : length c.before.before.before.args.other.bytes ≡ line_room = search rules in omega arith
+part-word-end : tie.Need-slice_bounds-word-end
+part-word-end c = let h : length c.args.other.bytes ≡ line_room = search rules in omega arith
 
-returns-2 : tie.Need-returns-2
+returns-2 : tie.Need-returns
 unfolding written
 returns-2 c =
-    let b = c.before.before.before.before.before in
-    let h : length b.args.other.bytes ≡ line_room = search rules in
-    rest_some _ _ b.args.other.bytes b.args.other.len c.word.ensures (omega arith) (omega arith)
+    let h : length c.args.other.bytes ≡ line_room = search rules in
+    rest_some _ _ c.args.other.bytes c.args.other.len c.word.ensures (omega arith) (omega arith)
 
 pub rest_spec : {M : Type 1} → statement M
 rest_spec =

@@ -9,21 +9,21 @@ use Rattle.lines.proofs.Lining.{letters-start, letters-more}
 use Rattle.lines.proofs.Line.row.Statement.{statement}
 use Rattle.lines.proofs.Line.row.Tie as tie
 
-abbrev invariant-loop : tie.invariant-loop
+abbrev invariant-loop : tie.invariant-loop-i
 invariant-loop table width k from r₀ i₀ r i = (i ≤ width) × (written r ≡ plus (written r₀) (letters (part from i table)))
 
-abbrev decreases-loop : tie.decreases-loop
+abbrev decreases-loop : tie.decreases-loop-i
 decreases-loop table width k from r₀ i₀ r i = width - i
 
-loop-again : tie.Need-loop-preserved invariant-loop decreases-loop
-loop-again c = (search rules, letters-more _ _ _ _ _ _ c.before.before.before.loop.invariant.1 c.letter.ensures (omega arith))
+loop-again : tie.Need-loop-i-preserved invariant-loop decreases-loop
+loop-again c = (search rules, letters-more _ _ _ _ _ _ c.before.before.before.loop-i.invariant.1 c.letter-r.ensures (omega arith))
 
 returns : tie.Need-returns invariant-loop decreases-loop
 unfolding row_in
 returns c =
     let b = c.before in
-    let e : b.loop.i ≡ b.before.before.args.width = omega arith in
-    b.loop.invariant.1 ∙ ap (λ n. plus (written b.before.before.args.self) (letters (part (b.before.before.args.width * b.before.before.args.k) n b.before.before.args.table.now))) e
+    let e : b.loop-i.i ≡ b.before.before.args.width = omega arith in
+    b.loop-i.invariant.1 ∙ ap (λ n. plus (written b.before.before.args.self) (letters (part (b.before.before.args.width * b.before.before.args.k) n b.before.before.args.table.now))) e
 
 pub row_spec : {M : Type 1} → statement M
 row_spec =

@@ -10,14 +10,14 @@ use Rattle.lines.proofs.Lining.{plus-start, word_more, plus-all}
 use Rattle.lines.proofs.Line.word.Statement.{statement}
 use Rattle.lines.proofs.Line.word.Tie as tie
 
-abbrev invariant-loop : tie.invariant-loop
+abbrev invariant-loop : tie.invariant-loop-i
 invariant-loop w r₀ i₀ r i = (i ≤ length w) × (written r ≡ plus (written r₀) (part 0 i w))
 
-abbrev decreases-loop : tie.decreases-loop
+abbrev decreases-loop : tie.decreases-loop-i
 decreases-loop w r₀ i₀ r i = length w - i
 
-loop-again : tie.Need-loop-preserved invariant-loop decreases-loop
-loop-again c = (search rules, word_more _ _ _ _ _ c.before.before.before.loop.invariant.1 c.byte.ensures (omega arith))
+loop-again : tie.Need-loop-i-preserved invariant-loop decreases-loop
+loop-again c = (search rules, word_more _ _ _ _ _ c.before.before.before.loop-i.invariant.1 c.byte-r.ensures (omega arith))
 
 pub word_spec : {M : Type 1} → statement M
 word_spec =
@@ -31,4 +31,4 @@ word_spec =
     (λ c. search rules)
     (λ c. search rules)
     loop-again
-    (λ c. plus-all (λ x. x) _ _ _ _ c.before.loop.invariant.1 (omega arith)))
+    (λ c. plus-all (λ x. x) _ _ _ _ c.before.loop-i.invariant.1 (omega arith)))
