@@ -1,4 +1,6 @@
 // Whether an image is well-formed, transactor by transactor, message by message; and what a call refuses any image for (16, 19), and a query (21, 22).
+#![tactic(auto)]
+
 ghost use Rattle.std.specs.Prelude.{◌≡◌, ◌/◌, ◌<◌, length, get_or};
 ghost use Rattle.octets.specs.Bytes.{every};
 ghost use Rattle.rules.specs.Layout.{base, transactor_address, image_bytes};

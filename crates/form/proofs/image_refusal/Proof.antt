@@ -13,5 +13,5 @@ image_refusal_spec =
     (tie.spec
     (λ c. image-16 base _ (search rules))
     (λ c κs. search rules)
-    (λ c. image-19 base _ (search rules) (ap not (sym c.before.formed.ensures) ∙ c.if2.true))
-    (λ c. image-0 base _ (search rules) (ap not (sym c.before.formed.ensures) ∙ c.if2.false)))
+    (λ c. image-19 base _ (search rules) (ap not (sym c.before.formed.ensures) ∙ c.if-not-formed.true-raw))
+    (λ c. image-0 base _ (search rules) (ap not (sym c.before.formed.ensures) ∙ c.if-not-formed.false-raw)))

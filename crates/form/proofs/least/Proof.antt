@@ -8,11 +8,11 @@ use borrow.Author.Rules.{rules}
 use Rattle.form.proofs.least.Statement.{statement}
 use Rattle.form.proofs.least.Tie as tie
 
-returns : tie.Need-returns
+returns : tie.Need-returns-then-k-eq0
 unfolding least_at
 returns c = search rules
 
-returns-2 : tie.Need-returns-2
+returns-2 : tie.Need-returns
 returns-2 c = let a = c.before.before.before.args in rw (least-after base _ a.k (a.k - 1) (omega arith), c.load16.ensures)
 
 pub least_spec : {M : Type 1} → statement M

@@ -6,43 +6,43 @@ use borrow.Author.Rules.{rules}
 use Rattle.form.proofs.message_formed.Statement.{statement}
 use Rattle.form.proofs.message_formed.Tie as tie
 
-returns : tie.Need-returns
+returns : tie.Need-returns-then-n-k
 unfolding formed_message_at
-returns c = rw (← c.before.before.before.requires.2, le-leb _ _ c.before.if1.true) c.all-zero.ensures
+returns c = rw (← c.before.before.before.requires.2, le-leb _ _ c.before.if-n-k.true) c.all_zero.ensures
 
-returns-2 : tie.Need-returns-2
+returns-2 : tie.Need-returns-then-head-ne8
 unfolding formed_message_at
-returns-2 c = rw (← c.before.before.before.before.requires.2, lt-leb _ _ c.before.before.if1.false, ne_eqb _ 8 c.if2.true)
+returns-2 c = rw (← c.before.before.before.before.requires.2, lt-leb _ _ c.before.before.if-n-k.false, ne_eqb _ 8 c.if-head-ne8.true)
 
-returns-3 : tie.Need-returns-3
+returns-3 : tie.Need-returns-then-opened-to
 unfolding formed_message_at
 returns-3 c =
     let b = c.before.before.before in
     let a = b.before.before in
-    rw (← a.requires.2, ← a.requires.0.many, lt-leb _ _ b.if1.false, eq-eqb _ 8 c.before.if2.false, le-ltb _ _ c.if3.true)
+    rw (← a.requires.2, ← a.requires.0.many, lt-leb _ _ b.if-n-k.false, eq-eqb _ 8 c.before.if-head-ne8.false, le-ltb _ _ c.if-opened-to.true)
 
-returns-4 : tie.Need-returns-4
+returns-4 : tie.Need-returns-then-next-number
 unfolding formed_message_at
 returns-4 c =
     let b = c.before.before.before.before.before in
     let a = b.before.before in
-    rw (← a.requires.2, ← a.requires.0.many, ← a.requires.3, lt-leb _ _ b.if1.false, eq-eqb _ 8 c.before.before.before.if2.false, lt-ltb _ _ c.before.before.if3.false, ← c.before.load16.ensures, le-ltb _ _ c.if4.true)
+    rw (← a.requires.2, ← a.requires.0.many, ← a.requires.3, lt-leb _ _ b.if-n-k.false, eq-eqb _ 8 c.before.before.before.if-head-ne8.false, lt-ltb _ _ c.before.before.if-opened-to.false, ← c.before.load16-number.ensures, le-ltb _ _ c.if-next-number.true)
 
-returns-5 : tie.Need-returns-5
+returns-5 : tie.Need-returns-then-number-least
 unfolding formed_message_at
 returns-5 c =
     let d = c.before.before.before in
     let b = d.before.before.before.before in
     let a = b.before.before in
-    rw (← a.requires.2, ← a.requires.0.many, ← a.requires.3, lt-leb _ _ b.if1.false, eq-eqb _ 8 d.before.before.if2.false, lt-ltb _ _ d.before.if3.false, ← d.load16.ensures, lt-ltb _ _ c.before.before.if4.false, ← c.before.least.ensures, lt-leb _ _ c.if5.true)
+    rw (← a.requires.2, ← a.requires.0.many, ← a.requires.3, lt-leb _ _ b.if-n-k.false, eq-eqb _ 8 d.before.before.if-head-ne8.false, lt-ltb _ _ d.before.if-opened-to.false, ← d.load16-number.ensures, lt-ltb _ _ c.before.before.if-next-number.false, ← c.before.least.ensures, lt-leb _ _ c.if-number-least.true)
 
-returns-6 : tie.Need-returns-6
+returns-6 : tie.Need-returns
 unfolding formed_message_at map_formed
 returns-6 c =
     let d = c.before.before.before.before in
     let b = d.before.before.before.before in
     let a = b.before.before in
-    rw (← a.requires.2, ← a.requires.0.many, ← a.requires.3, ← a.requires.0.most, lt-leb _ _ b.if1.false, eq-eqb _ 8 d.before.before.if2.false, lt-ltb _ _ d.before.if3.false, ← d.load16.ensures, lt-ltb _ _ c.before.before.before.if4.false, ← c.before.before.least.ensures, le-leb _ _ c.before.if5.false) c.formed.ensures
+    rw (← a.requires.2, ← a.requires.0.many, ← a.requires.3, ← a.requires.0.most, lt-leb _ _ b.if-n-k.false, eq-eqb _ 8 d.before.before.if-head-ne8.false, lt-ltb _ _ d.before.if-opened-to.false, ← d.load16-number.ensures, lt-ltb _ _ c.before.before.before.if-next-number.false, ← c.before.before.least.ensures, le-leb _ _ c.before.if-number-least.false) c.formed.ensures
 
 pub message_formed_spec : {M : Type 1} → statement M
 message_formed_spec =

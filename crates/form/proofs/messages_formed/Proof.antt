@@ -9,10 +9,10 @@ use Rattle.form.specs.Internal.Tests.{formed_message_at}
 use Rattle.form.proofs.messages_formed.Statement.{statement}
 use Rattle.form.proofs.messages_formed.Tie as tie
 
-abbrev invariant-loop : tie.invariant-loop
+abbrev invariant-loop : tie.invariant-loop-k
 invariant-loop s n opened next limit k₀ k = Held (formed_message_at base s) base.messages k
 
-abbrev decreases-loop : tie.decreases-loop
+abbrev decreases-loop : tie.decreases-loop-k
 decreases-loop s n opened next limit k₀ k = base.messages - k
 
 pub messages_formed_spec : {M : Type 1} → statement M
@@ -23,8 +23,8 @@ messages_formed_spec =
     decreases-loop
     (λ c. held_none _ _)
     (λ c κs. search rules)
-    (λ c. held-fails c.before.before.before.loop.invariant (search rules) (ap not (sym c.before.message-formed.ensures) ∙ c.if1.true))
+    (λ c. held-fails c.before.before.before.loop-k.invariant (search rules) (ap not (sym c.before.message_formed.ensures) ∙ c.if-not-message_formed.true-raw))
     (λ c. search rules)
     (λ c. search rules)
-    (λ c. held_more (search rules) (search rules) (ap not (sym c.before.message-formed.ensures) ∙ c.if1.false))
-    (λ c. held_all c.before.loop.invariant (search rules)))
+    (λ c. held_more (search rules) (search rules) (ap not (sym c.before.message_formed.ensures) ∙ c.if-not-message_formed.false-raw))
+    (λ c. held_all c.before.loop-k.invariant (search rules)))

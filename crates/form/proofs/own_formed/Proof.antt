@@ -7,21 +7,21 @@ use borrow.Author.Rules.{rules}
 use Rattle.form.proofs.own_formed.Statement.{statement}
 use Rattle.form.proofs.own_formed.Tie as tie
 
-returns : tie.Need-returns
+returns : tie.Need-returns-then-not-present
 unfolding formed_own_at
-returns c = rw (← c.before.before.own_at.ensures, failed c.before.present.ensures c.if1.true)
+returns c = rw (← c.before.before.own_at-there.ensures, failed c.before.present.ensures c.if-not-present.true-raw)
 
-returns-2 : tie.Need-returns-2
+returns-2 : tie.Need-returns-then-own-ne0
 unfolding formed_own_at
 returns-2 c =
     let b = c.before.before in
-    rw (← b.before.before.before.own_at.ensures, passed b.before.before.present.ensures b.before.if1.false, sym b.load.ensures, ne_eqb _ 0 c.if2.true)
+    rw (← b.before.before.before.own_at-there.ensures, passed b.before.before.present.ensures b.before.if-not-present.false-raw, sym b.load-own.ensures, ne_eqb _ 0 c.if-own-ne0.true)
 
-returns-3 : tie.Need-returns-3
+returns-3 : tie.Need-returns
 unfolding formed_own_at
 returns-3 c =
     let b = c.before.before.before in
-    rw (← b.before.before.before.own_at.ensures, passed b.before.before.present.ensures b.before.if1.false, sym b.load.ensures, eq-eqb _ 0 c.before.if2.false, sym c.load32.ensures)
+    rw (← b.before.before.before.own_at-there.ensures, passed b.before.before.present.ensures b.before.if-not-present.false-raw, sym b.load-own.ensures, eq-eqb _ 0 c.before.if-own-ne0.false, sym c.load32.ensures)
 
 pub own_formed_spec : {M : Type 1} → statement M
 own_formed_spec =

@@ -9,21 +9,21 @@ use Rattle.form.proofs.Unsound.{image-refused, sound-long, sound-not}
 use Rattle.form.proofs.query_refusal.Statement.{statement}
 use Rattle.form.proofs.query_refusal.Tie as tie
 
-returns : tie.Need-returns
+returns : tie.Need-returns-then-r-ne0
 returns c =
     let s = c.before.before.before.args in
-    image-refused base _ _ c.before.image-refusal.ensures (λ (n : ℕ). n ≡ query_refusal base s.image.now s.transactor) (query-16 base _ _) (query-19 base _ _) c.if1.true
+    image-refused base _ _ c.before.image_refusal-r.ensures (λ (n : ℕ). n ≡ query_refusal base s.image.now s.transactor) (query-16 base _ _) (query-19 base _ _) c.if-r-ne0.true
 
 refusal-requires : tie.Need-refusal-requires
 refusal-requires c κs =
-    let e = c.before.image-refusal.ensures in
-    (sound-long base _ _ e c.if1.false, few-opened base _ (sound-not base _ _ e c.if1.false))
+    let e = c.before.image_refusal-r.ensures in
+    (sound-long base _ _ e c.if-r-ne0.false, few-opened base _ (sound-not base _ _ e c.if-r-ne0.false))
 
-returns-2 : tie.Need-returns-2
+returns-2 : tie.Need-returns
 returns-2 c =
     let i = c.before in
-    let e = i.before.image-refusal.ensures in
-    c.refusal.ensures ∙ query-acting base _ _ (sound-long base _ _ e i.if1.false) (sound-not base _ _ e i.if1.false)
+    let e = i.before.image_refusal-r.ensures in
+    c.refusal.ensures ∙ query-acting base _ _ (sound-long base _ _ e i.if-r-ne0.false) (sound-not base _ _ e i.if-r-ne0.false)
 
 pub query_refusal_spec : {M : Type 1} → statement M
 query_refusal_spec =
