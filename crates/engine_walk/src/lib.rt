@@ -1,4 +1,6 @@
 // Document 02, W11: the walk back over the steps, for a receipt and for a signing.
+#![tactic(auto)]
+
 mod events;
 mod kept;
 mod sides;

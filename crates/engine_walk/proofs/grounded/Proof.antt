@@ -17,22 +17,22 @@ second m n b e h = sym (ap (λ (k : ℕ). eqb k 0 and eqb n 0) h) ∙ e
 first : (m n : ℕ) (b : Bool) → eqb m 0 and eqb n 0 ≡ b → (m ≡ 0 → ⊥) → eqb m 0 ≡ b
 first m n b e h = ne_eqb m 0 h ∙ sym (ap (λ (c : Bool). c and eqb n 0) (ne_eqb m 0 h)) ∙ e
 
-walked-requires : tie.Need-walked-requires
+walked-requires : tie.Need-walked-x-requires
 walked-requires c κs = let h = c.before.before.before.before.requires in (h.listed, h.replied)
 
-returns : tie.Need-returns
+returns : tie.Need-returns-then-x-eq0
 returns c =
     let w = c.before.before.before in
     let s = w.before.before in
-    let k = c.struct-known2.given.1.1.1.1.1 in
-    second _ w.walked.result.unallowed _ (sign-answers _ _ _ s.before.before.before.requires _ _ _ s.start.ensures w.walked.ensures k.0.fits k.1.0.fits) c.before.if1.true
+    let k = c.struct_known-then-x-eq0-1.given.1.1.1.1.1 in
+    second _ w.walked-x.result.unallowed _ (sign-answers _ _ _ s.before.before.before.requires _ _ _ s.start.ensures w.walked-x.ensures k.0.fits k.1.0.fits) c.before.if-x-eq0.true
 
-returns-2 : tie.Need-returns-2
+returns-2 : tie.Need-returns-else-x-eq0
 returns-2 c =
     let w = c.before.before in
     let s = w.before.before in
-    let k = c.before.struct_known.given.1.1.1.1.1 in
-    first _ w.walked.result.unallowed _ (sign-answers _ _ _ s.before.before.before.requires _ _ _ s.start.ensures w.walked.ensures k.0.fits k.1.0.fits) c.if1.false
+    let k = c.before.struct_known-1.given.1.1.1.1.1 in
+    first _ w.walked-x.result.unallowed _ (sign-answers _ _ _ s.before.before.before.requires _ _ _ s.start.ensures w.walked-x.ensures k.0.fits k.1.0.fits) c.if-x-eq0.false
 
 pub grounded_spec : {M : Type 1} → statement M
 grounded_spec = tie.close (tie.spec (λ c κs. search rules) walked-requires returns returns-2)

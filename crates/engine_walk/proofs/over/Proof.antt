@@ -7,7 +7,7 @@ use Rattle.engine_walk.proofs.over.Tie as tie
 returns : tie.Need-returns
 unfolding follower_over
 returns c =
-    let b = c.before.before.before.both-over.ensures in
+    let b = c.before.before.before.both_over-q.ensures in
     rw (c.joined.ensures, b.0, b.1)
 
 pub over_spec : {M : Type 1} → statement M

@@ -8,20 +8,20 @@ use Rattle.engine_chains.proofs.Following.{step-unchanged, step-changed}
 use Rattle.engine_walk.proofs.over_step.Statement.{statement}
 use Rattle.engine_walk.proofs.over_step.Tie as tie
 
-returns : tie.Need-returns
+returns : tie.Need-returns-then-unchanged
 unfolding step_at told_in
 returns c =
     let u = c.before in
-    rw (← u.before.before.decode.ensures, ← u.before.told.ensures) (step-unchanged _ _ _ (sym u.unchanged.ensures ∙ c.if1.true))
+    rw (← u.before.before.decode-p.ensures, ← u.before.told-w.ensures) (step-unchanged _ _ _ (sym u.unchanged.ensures ∙ c.if-unchanged.true))
 
-returns-2 : tie.Need-returns-2
+returns-2 : tie.Need-returns
 unfolding step_at told_in follower_step
 returns-2 c =
     let d = c.before.before in
     let e = d.before.before in
     let f = e.before.before.before in
     let u = f.before in
-    rw (← u.before.before.decode.ensures, ← u.before.told.ensures, step-changed _ _ (sym u.unchanged.ensures ∙ f.if1.false), ← e.event.ensures, ← e.before.checkpointed.ensures, ← e.before.before.rolled-back.ensures) d.over.ensures
+    rw (← u.before.before.decode-p.ensures, ← u.before.told-w.ensures, step-changed _ _ (sym u.unchanged.ensures ∙ f.if-unchanged.false), ← e.event-e.ensures, ← e.before.checkpointed-checkpointed.ensures, ← e.before.before.rolled_back-rolled.ensures) d.over.ensures
 
 pub over_step_spec : {M : Type 1} → statement M
 over_step_spec =

@@ -4,7 +4,7 @@ use Rattle.engine_chains.proofs.Following.{receipt-answers}
 use Rattle.engine_walk.proofs.receipt.Statement.{statement}
 use Rattle.engine_walk.proofs.receipt.Tie as tie
 
-walked-requires : tie.Need-walked-requires
+walked-requires : tie.Need-walked-x-requires
 walked-requires c κs = let h = c.before.before.before.before.requires.0 in (h.listed, h.replied)
 
 returns : tie.Need-returns
@@ -12,8 +12,8 @@ returns c =
     let w = c.before.before in
     let s = w.before.before in
     let h = s.before.before.before.requires in
-    let k = c.struct-known2.given.1.1.1.1 in
-    receipt-answers _ _ _ h.0 _ _ _ _ h.1 h.2 s.start.ensures w.walked.ensures k.0.fits k.1.0.fits
+    let k = c.struct_known-2-1.given.1.1.1.1 in
+    receipt-answers _ _ _ h.0 _ _ _ _ h.1 h.2 s.start.ensures w.walked-x.ensures k.0.fits k.1.0.fits
 
 pub receipt_spec : {M : Type 1} → statement M
 receipt_spec =

@@ -6,7 +6,7 @@ use Rattle.engine_walk.proofs.start.Tie as tie
 
 returns : tie.Need-returns
 unfolding walker_from
-returns c = rw (c.trail2.ensures, c.before.trail.ensures)
+returns c = rw (c.trail-right.ensures, c.before.trail-left.ensures)
 
 pub start_spec : {M : Type 1} → statement M
 start_spec = tie.close (tie.spec (λ c κs. search rules) (λ c κs. search rules) returns)

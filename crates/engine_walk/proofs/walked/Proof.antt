@@ -8,7 +8,7 @@ returns : tie.Need-returns
 returns c =
     let d = c.before in
     let e = d.before.before.before.before.before in
-    rw (c.walker.ensures, ← walker-words e.before.before.before.args.x, ← e.words.ensures) d.walk.ensures
+    rw (c.walker.ensures, ← walker-words e.before.before.before.args.x, ← e.words-words.ensures) d.walk.ensures
 
 pub walked_spec : {M : Type 1} → statement M
 walked_spec = tie.close (tie.spec (λ c κs. search rules) (λ c κs. search rules) (λ c κs. search rules) returns)

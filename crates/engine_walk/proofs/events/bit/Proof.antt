@@ -6,13 +6,13 @@ use Rattle.engine_chains.specs.Internal.Words.{bit_of}
 use Rattle.engine_walk.proofs.events.bit.Statement.{statement}
 use Rattle.engine_walk.proofs.events.bit.Tie as tie
 
-returns : tie.Need-returns
+returns : tie.Need-returns-then-t-ge16
 unfolding bit_of
-returns c = rw (le-leb 16 c.before.args.t c.if1.true)
+returns c = rw (le-leb 16 c.before.args.t c.if-t-ge16.true)
 
-returns-2 : tie.Need-returns-2
+returns-2 : tie.Need-returns
 unfolding bit_of
-returns-2 c = rw (lt-leb 16 c.before.args.t c.if1.false) (shifted c.before.args.t 16 c.if1.false)
+returns-2 c = rw (lt-leb 16 c.before.args.t c.if-t-ge16.false) (shifted c.before.args.t 16 c.if-t-ge16.false)
 
 pub bit_spec : {M : Type 1} → statement M
 bit_spec = tie.close (tie.spec returns (λ c. search rules) returns-2)

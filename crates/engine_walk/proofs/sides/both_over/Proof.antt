@@ -26,52 +26,52 @@ by-sent {t = t} a b l q d p m = by a b l q (p ∙ ap (λ v. passed (side_carries
 each : {r : Passed} {x y u v : Side} → r ≡ passed x y 0 0 → x ≡ u → y ≡ v → r ≡ passed u v 0 0
 each e p q = e ∙ (λ i. passed (p i) (q i) 0 0)
 
-returns : tie.Need-returns
+returns : tie.Need-returns-in-Nothing
 unfolding passed_over side_over met_over messages_over
-returns c = let a = c.before.before.before.before.args in by a.a a.b a.l.now c.before.enum_told.given.1 c.unmet.ensures refl
+returns c = let a = c.args in by a.a a.b a.l.now c.in-Nothing.is c.unmet.ensures refl
 
-returns-2 : tie.Need-returns-2
+returns-2 : tie.Need-returns-in-Cleared
 unfolding passed_over side_over met_over messages_over
-returns-2 c = let a = c.before.before.before.before.before.before.before.before.before.args in by a.a a.b a.l.now c.before.before.before.before.before.before.e.given.1 c.unmet2.ensures c.before.before.before.follow.ensures
+returns-2 c = let a = c.args in by a.a a.b a.l.now c.in-Cleared.is c.unmet-in-Cleared.ensures c.follow.ensures
 
-returns-3 : tie.Need-returns-3
-returns-3 c = let a = c.before.before.before.before.before.before.before.before.before.before.before.args in by-sent a.a a.b a.l.now c.before.before.before.before.before.before.before.before.e2.given.1 c.before.before.before.before.before.followed.ensures c.sent.ensures c.before.before.before.follow2.ensures
+returns-3 : tie.Need-returns-in-Sent
+returns-3 c = let a = c.args in by-sent a.a a.b a.l.now c.in-Sent.is c.followed-v.ensures c.sent.ensures c.follow-in-Sent.ensures
 
-returns-4 : tie.Need-returns-4
+returns-4 : tie.Need-returns-in-Taken
 unfolding passed_over side_over met_over messages_over
-returns-4 c = let a = c.before.before.before.before.before.before.before.before.before.before.args in by a.a a.b a.l.now c.before.before.before.before.before.before.before.e3.given.1 c.finished.ensures (c.before.before.before.follow3.ensures ∙ ap (set a.l.now _) c.before.before.before.before.sides-of.ensures)
+returns-4 c = let a = c.args in by a.a a.b a.l.now c.in-Taken.is c.finished.ensures (c.follow-in-Taken.ensures ∙ ap (set a.l.now _) c.sides_of.ensures)
 
-returns-5 : tie.Need-returns-5
+returns-5 : tie.Need-returns-in-Opens
 unfolding passed_over side_over met_over messages_over
-returns-5 c = let a = c.before.before.before.before.before.args in by a.a a.b a.l.now c.before.before.e4.given.1 c.opened.ensures refl
+returns-5 c = let a = c.args in by a.a a.b a.l.now c.in-Opens.is c.opened.ensures refl
 
-returns-6 : tie.Need-returns-6
+returns-6 : tie.Need-returns-in-Reads
 unfolding passed_over side_over met_over messages_over
-returns-6 c = let a = c.before.before.before.before.before.before.before.args in by a.a a.b a.l.now c.before.before.before.before.e5.given.1 (each c.unmet3.ensures c.before.before.read.ensures c.before.read2.ensures) refl
+returns-6 c = let a = c.args in by a.a a.b a.l.now c.in-Reads.is (each c.unmet-in-Reads.ensures c.read.ensures c.read-in-Reads.ensures) refl
 
-returns-7 : tie.Need-returns-7
+returns-7 : tie.Need-returns-in-Writes
 unfolding passed_over side_over met_over messages_over
-returns-7 c = let a = c.before.before.before.before.before.before.before.args in by a.a a.b a.l.now c.before.before.before.before.e6.given.1 (each c.unmet4.ensures c.before.before.write.ensures c.before.write2.ensures) refl
+returns-7 c = let a = c.args in by a.a a.b a.l.now c.in-Writes.is (each c.unmet-in-Writes.ensures c.write.ensures c.write-in-Writes.ensures) refl
 
-returns-8 : tie.Need-returns-8
+returns-8 : tie.Need-returns-in-Finishes
 unfolding passed_over side_over met_over messages_over
-returns-8 c = let a = c.before.before.before.before.before.args in by a.a a.b a.l.now c.before.before.e7.given.1 c.finished2.ensures refl
+returns-8 c = let a = c.args in by a.a a.b a.l.now c.in-Finishes.is c.finished-in-Finishes.ensures refl
 
-returns-9 : tie.Need-returns-9
+returns-9 : tie.Need-returns-in-Renewed
 unfolding passed_over side_over met_over messages_over
-returns-9 c = let a = c.before.before.before.before.before.args in by a.a a.b a.l.now c.before.before.e8.given.1 c.renewed.ensures refl
+returns-9 c = let a = c.args in by a.a a.b a.l.now c.in-Renewed.is c.renewed.ensures refl
 
-returns-10 : tie.Need-returns-10
+returns-10 : tie.Need-returns-in-Annihilated
 unfolding passed_over side_over met_over messages_over
-returns-10 c = let a = c.before.before.before.before.before.args in by a.a a.b a.l.now c.before.before.e9.given.1 c.annihilated.ensures refl
+returns-10 c = let a = c.args in by a.a a.b a.l.now c.in-Annihilated.is c.annihilated.ensures refl
 
-returns-11 : tie.Need-returns-11
+returns-11 : tie.Need-returns-in-ClearedRenewed
 unfolding passed_over side_over met_over messages_over
-returns-11 c = let a = c.before.before.before.before.before.before.before.before.before.args in by a.a a.b a.l.now c.before.before.before.before.before.before.e10.given.1 c.renewed2.ensures c.before.before.before.follow4.ensures
+returns-11 c = let a = c.args in by a.a a.b a.l.now c.in-ClearedRenewed.is c.renewed-in-ClearedRenewed.ensures c.follow-in-ClearedRenewed.ensures
 
-returns-12 : tie.Need-returns-12
+returns-12 : tie.Need-returns-in-ClearedAnnihilated
 unfolding passed_over side_over met_over messages_over
-returns-12 c = let a = c.before.before.before.before.before.before.before.before.before.args in by a.a a.b a.l.now c.before.before.before.before.before.before.e11.given.1 c.annihilated2.ensures c.before.before.before.follow5.ensures
+returns-12 c = let a = c.args in by a.a a.b a.l.now c.in-ClearedAnnihilated.is c.annihilated-in-ClearedAnnihilated.ensures c.follow-in-ClearedAnnihilated.ensures
 
 pub both_over_spec : {M : Type 1} → statement M
 both_over_spec =

@@ -14,8 +14,8 @@ past [] (suc n) h = refl
 past (x ∷ l) zero h = absurd (omega arith)
 past (x ∷ l) (suc n) h = past l n (omega arith)
 
-returns-2 : tie.Need-returns-2
-returns-2 c = past c.before.args.l.now c.before.args.n c.if1.false
+returns-2 : tie.Need-returns
+returns-2 c = past c.before.args.l.now c.before.args.n c.if-at-l.false
 
 pub followed_spec : {M : Type 1} → statement M
 followed_spec = tie.close (tie.spec (λ c. search rules) (λ c. search rules) (λ c. search rules) returns-2)

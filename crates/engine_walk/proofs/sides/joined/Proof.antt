@@ -6,7 +6,7 @@ use Rattle.engine_walk.proofs.sides.joined.Tie as tie
 
 returns : tie.Need-returns
 unfolding walker_with
-returns c = rw (c.trail-over2.ensures, c.before.trail-over.ensures)
+returns c = rw (c.trail_over-2.ensures, c.before.trail_over.ensures)
 
 pub joined_spec : {M : Type 1} → statement M
 joined_spec = tie.close (tie.spec (λ c κs. search rules) (λ c κs. search rules) returns)

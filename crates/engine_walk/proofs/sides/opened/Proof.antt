@@ -6,7 +6,7 @@ use Rattle.engine_walk.proofs.sides.opened.Tie as tie
 returns : tie.Need-returns
 returns c =
     let d = c.before.before in
-    rw (c.opening-meets2.ensures, c.before.opening-meets.ensures, d.opening2.ensures, d.before.opening.ensures)
+    rw (c.opening_meets-2.ensures, c.before.opening_meets.ensures, d.opening-2.ensures, d.before.opening.ensures)
 
 pub opened_spec : {M : Type 1} → statement M
 opened_spec = tie.close (tie.spec (λ c κs. search rules) (λ c κs. search rules) (λ c κs. search rules) (λ c κs. search rules) returns)

@@ -6,7 +6,7 @@ use Rattle.engine_walk.proofs.sides.opening.Tie as tie
 
 returns : tie.Need-returns
 unfolding side_opens
-returns c = rw (c.carry.ensures, c.before.word-if.ensures, c.before.before.before.without.ensures)
+returns c = rw (c.carry.ensures, c.before.word_if.ensures, c.before.before.before.without.ensures)
 
 pub opening_spec : {M : Type 1} → statement M
 opening_spec = tie.close (tie.spec (λ c κs. search rules) (λ c κs. search rules) (λ c κs. search rules) returns)

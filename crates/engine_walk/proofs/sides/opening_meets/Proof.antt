@@ -6,7 +6,7 @@ use Rattle.engine_walk.proofs.sides.opening_meets.Tie as tie
 
 returns : tie.Need-returns
 unfolding opening_meets
-returns c = rw (c.before.word-if2.ensures, c.before.before.word-if.ensures)
+returns c = rw (c.before.word_if-heard.ensures, c.before.before.word_if-carried.ensures)
 
 pub opening_meets_spec : {M : Type 1} → statement M
 opening_meets_spec = tie.close (tie.spec (λ c κs. search rules) (λ c κs. search rules) returns)
