@@ -1,5 +1,7 @@
 // An image in the other form, well-formed or not: each number with its last byte in w bytes where it has v, all other bytes as they stand.
 // One of the two widths is 1, the other 2, so a number's other byte is a zero or is left out.
+#![tactic(auto)]
+
 pub mod old;
 
 ghost use Rattle.std.specs.Prelude.{◌≡◌, ◌+◌, ◌*◌, ◌≤◌, length};

@@ -10,7 +10,7 @@ number_spec =
     tie.close
     (tie.spec
     (λ c. search rules)
-    (λ c. omega (arith, c.shared-slice-known2.given c.before.before.before.args.at))
+    (λ c. omega (arith, c.shared_slice_known-then-v-eq1-1.given c.before.before.before.args.at))
     (λ c. byte-number _ _ _ (search rules))
     (λ c κs. search rules)
     (λ c. pair-number _ _ _ _ (omega arith) c.load16.ensures))

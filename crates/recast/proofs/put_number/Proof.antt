@@ -5,10 +5,10 @@ use borrow.Author.Rules.{rules}
 use Rattle.recast.proofs.put_number.Statement.{statement}
 use Rattle.recast.proofs.put_number.Tie as tie
 
-returns : tie.Need-returns
+returns : tie.Need-returns-then-w-eq1
 returns c = byte_put _ _ _ _ (search rules) (search rules)
 
-returns-2 : tie.Need-returns-2
+returns-2 : tie.Need-returns
 returns-2 c = pair_put _ _ _ _ _ (omega arith) c.before.before.store16.ensures
 
 pub put_number_spec : {M : Type 1} → statement M

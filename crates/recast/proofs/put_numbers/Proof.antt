@@ -14,10 +14,10 @@ use borrow.Author.Rules.{rules}
 use Rattle.recast.proofs.put_numbers.Statement.{statement}
 use Rattle.recast.proofs.put_numbers.Tie as tie
 
-abbrev invariant-loop : tie.invariant-loop
+abbrev invariant-loop : tie.invariant-loop-i
 invariant-loop target₀ at w list i₀ target i = (i ≤ 16) × (target ≡ put at (chunks i (pack_number_at w list)) target₀) × (length target ≡ length target₀)
 
-abbrev decreases-loop : tie.decreases-loop
+abbrev decreases-loop : tie.decreases-loop-i
 decreases-loop target₀ at w list i₀ target i = 16 - i
 
 -- number i of 16 ends before the end
@@ -29,11 +29,11 @@ one_more : (at w i : ℕ) (ns l l' l'' : List ℕ) → l' ≡ put at (chunks i (
 unfolding pack_number_at
 one_more at w i ns l l' l'' e f h = put-more at w (pack_number_at w ns) (length-pack_number_at w ns) i l l' l'' e f h
 
-loop-again : tie.Need-loop-preserved invariant-loop decreases-loop
+loop-again : tie.Need-loop-i-preserved invariant-loop decreases-loop
 loop-again c =
     let b = c.before.before.before.before.before in
     let s = b.before.before in
-    (search rules, one_more s.args.at s.args.w b.loop.i _ s.args.target.now _ _ b.loop.invariant.1 c.before.before.put-number.ensures (omega (arith, turn s b.loop.i (search rules))), search rules)
+    (search rules, one_more s.args.at s.args.w b.loop-i.i _ s.args.target.now _ _ b.loop-i.invariant.1 c.before.before.put_number.ensures (omega (arith, turn s b.loop-i.i (search rules))), search rules)
 
 pub put_numbers_spec : {M : Type 1} → statement M
 put_numbers_spec =
@@ -45,11 +45,11 @@ put_numbers_spec =
     (λ c. search rules)
     (λ c. search rules)
     (λ c. search rules)
-    (λ c. let s = c.before.before.before.before in omega (arith, turn s c.before.before.loop.i (search rules)))
-    (λ c. let s = c.before.before.before.before in omega (arith, turn s c.before.before.loop.i (search rules)))
-    (λ c κs. let s = c.before.before.before.before in (search rules, search rules, omega (arith, turn s c.before.before.loop.i (search rules))))
+    (λ c. let s = c.before.before.before.before in omega (arith, turn s c.before.before.loop-i.i (search rules)))
+    (λ c. let s = c.before.before.before.before in omega (arith, turn s c.before.before.loop-i.i (search rules)))
+    (λ c κs. let s = c.before.before.before.before in (search rules, search rules, omega (arith, turn s c.before.before.loop-i.i (search rules))))
     (λ c. search rules)
     (λ c. search rules)
     loop-again
     (λ c. search rules)
-    (λ c. put-end _ _ _ _ _ _ c.before.loop.invariant.1 (omega arith)))
+    (λ c. put-end _ _ _ _ _ _ c.before.loop-i.invariant.1 (omega arith)))

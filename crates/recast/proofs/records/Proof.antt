@@ -13,10 +13,10 @@ use borrow.Author.Rules.{rules}
 use Rattle.recast.proofs.records.Statement.{statement}
 use Rattle.recast.proofs.records.Tie as tie
 
-abbrev invariant-loop : tie.invariant-loop
+abbrev invariant-loop : tie.invariant-loop-k
 invariant-loop source from v target₀ to w front many n a b k₀ target k = (k ≤ n) × (target ≡ put to (chunks k (record_at v w 15 front many from source)) target₀) × (length target ≡ length target₀)
 
-abbrev decreases-loop : tie.decreases-loop
+abbrev decreases-loop : tie.decreases-loop-k
 decreases-loop source from v target₀ to w front many n a b k₀ target k = n - k
 
 -- the sizes are small, and record k of n ends before the end
@@ -43,16 +43,16 @@ unfolding part
 histories-requires c κs =
     let b = c.before.before.before.before.before.before.before in
     let s = b.before.before.before in
-    let h : b.loop.k < s.args.n = search rules in
-    (s.requires.0, omega (arith, turn s b.loop.k h), omega (arith, turn' s b.loop.k h))
+    let h : b.loop-k.k < s.args.n = search rules in
+    (s.requires.0, omega (arith, turn s b.loop-k.k h), omega (arith, turn' s b.loop-k.k h))
 
-loop-again : tie.Need-loop-preserved invariant-loop decreases-loop
+loop-again : tie.Need-loop-k-preserved invariant-loop decreases-loop
 unfolding part
 loop-again c =
     let w = c.before.before.before.before.before.before in
     let b = w.before.before.before.before in
     let s = b.before.before.before in
-    (search rules, record-more _ _ 15 _ _ _ _ _ s.requires.3 _ _ (search rules) _ _ _ s.requires.4 b.loop.invariant.1 w.write.ensures _ c.before.before.histories.ensures, search rules)
+    (search rules, record-more _ _ 15 _ _ _ _ _ s.requires.3 _ _ (search rules) _ _ _ s.requires.4 b.loop-k.invariant.1 w.write.ensures _ c.before.before.histories.ensures, search rules)
 
 pub records_spec : {M : Type 1} → statement M
 records_spec =
@@ -71,19 +71,19 @@ records_spec =
     (λ c. let s = c.before.before in omega (arith, size' s, few' s))
     (λ c. let s = c.before.before in omega (arith, size' s, few' s))
     (λ c. (search rules, put-none _ _ _, refl))
-    (λ c. let s = c.before.before.before.before in omega (arith, few s, turn s c.before.loop.k (search rules)))
-    (λ c. let s = c.before.before.before.before in omega (arith, few s, turn s c.before.loop.k (search rules)))
-    (λ c. let s = c.before.before.before.before in omega (arith, few s, turn s c.before.loop.k (search rules)))
-    (λ c. let s = c.before.before.before.before in omega (arith, few' s, turn' s c.before.loop.k (search rules)))
-    (λ c. let s = c.before.before.before.before in omega (arith, few' s, turn' s c.before.loop.k (search rules)))
+    (λ c. let s = c.before.before.before.before in omega (arith, few s, turn s c.before.loop-k.k (search rules)))
+    (λ c. let s = c.before.before.before.before in omega (arith, few s, turn s c.before.loop-k.k (search rules)))
+    (λ c. let s = c.before.before.before.before in omega (arith, few s, turn s c.before.loop-k.k (search rules)))
+    (λ c. let s = c.before.before.before.before in omega (arith, few' s, turn' s c.before.loop-k.k (search rules)))
+    (λ c. let s = c.before.before.before.before in omega (arith, few' s, turn' s c.before.loop-k.k (search rules)))
     (λ c. search rules)
     (λ c. search rules)
-    (λ c. let s = c.before.before.before.before.before in omega (arith, few s, turn s c.before.before.loop.k (search rules)))
-    (λ c κs. let s = c.before.before.before.before.before.before in omega (arith, few' s, turn' s c.before.before.before.loop.k (search rules)))
-    (λ c. let s = c.before.before.before.before.before.before.before.before.before.before in omega (arith, few' s, turn' s c.before.before.before.before.before.before.before.loop.k (search rules)))
+    (λ c. let s = c.before.before.before.before.before in omega (arith, few s, turn s c.before.before.loop-k.k (search rules)))
+    (λ c κs. let s = c.before.before.before.before.before.before in omega (arith, few' s, turn' s c.before.before.before.loop-k.k (search rules)))
+    (λ c. let s = c.before.before.before.before.before.before.before.before.before.before in omega (arith, few' s, turn' s c.before.before.before.before.before.before.before.loop-k.k (search rules)))
     histories-requires
     (λ c. search rules)
     (λ c. search rules)
     loop-again
     (λ c. search rules)
-    (λ c. put-end _ _ _ _ _ _ c.before.loop.invariant.1 (omega arith)))
+    (λ c. put-end _ _ _ _ _ _ c.before.loop-k.invariant.1 (omega arith)))

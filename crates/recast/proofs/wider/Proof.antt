@@ -11,22 +11,18 @@ use borrow.Author.Rules.{rules}
 use Rattle.recast.proofs.wider.Statement.{statement}
 use Rattle.recast.proofs.wider.Tie as tie
 
-slice-aggregate-write : tie.Need-slice-aggregate-write
-slice-aggregate-write c = let s = c.before.before.before.before in sym (length-take-le 4 s.args.source.now (omega (arith, s.requires.0)))
+slice-aggregate-write : tie.Need-slice_bounds-write-end
+slice-aggregate-write c = let s = c.before in sym (length-take-le 4 s.args.source.now (omega (arith, s.requires.0)))
 
 write-requires : tie.Need-write-requires
-write-requires c κs = let s = c.before.before.before.before in omega (arith, s.requires.0, s.requires.1, length-take-le 4 s.args.source.now (omega (arith, s.requires.0)))
+write-requires c κs = let s = c.before in omega (arith, s.requires.0, s.requires.1, length-take-le 4 s.args.source.now (omega (arith, s.requires.0)))
 
 returns : tie.Need-returns
 unfolding part widened
 returns c =
-    let t = c.before.before.before.before.before.before in
-    let l = t.before.before.before.before in
-    let w = l.before.before.before.before in
-    let s = w.before.before.before.before.before in
-    let f = front-put narrow 1 2 false true s.args.source.now s.requires.0 _ _ _ s.requires.1 w.write.ensures l.store.ensures in
-    let g = put_as _ _ _ _ _ t.records.ensures (transactor-records narrow 1 2 false true s.args.source.now s.requires.0) in
-    image-done narrow 1 2 false true _ s.requires.0 _ _ s.requires.1 f _ g _ (put_as _ _ _ _ _ c.before.before.records2.ensures (message-records narrow 1 2 false true s.args.source.now s.requires.0))
+    let f = front-put narrow 1 2 false true c.args.source.now c.requires.0 _ _ _ c.requires.1 c.write.ensures c.store.ensures in
+    let g = put_as _ _ _ _ _ c.records.ensures (transactor-records narrow 1 2 false true c.args.source.now c.requires.0) in
+    image-done narrow 1 2 false true _ c.requires.0 _ _ c.requires.1 f _ g _ (put_as _ _ _ _ _ c.records-2.ensures (message-records narrow 1 2 false true c.args.source.now c.requires.0))
 
 pub wider_spec : {M : Type 1} → statement M
 wider_spec =
