@@ -1,4 +1,6 @@
 // Dependence maps (document 01: maps): at most one history for each transactor.
+#![tactic(auto)]
+
 ghost use Rattle.std.specs.Prelude.{◌≡◌, ◌<◌};
 ghost use Rattle.marks.specs.Packed.{places};
 ghost use Rattle.maps.specs.Map.{empty_map, with_entry, singleton, is_empty, chooses_right, join_of};

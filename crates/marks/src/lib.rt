@@ -1,4 +1,6 @@
 // Histories (document 01: marks): what a transactor's past looks like.
+#![tactic(auto)]
+
 ghost use Rattle.std.specs.Prelude.{◌≡◌, ◌≤◌, ◌<◌, take};
 ghost use Rattle.marks.specs.Incarnation.{same_list, checkpointed_in, same_incarnation};
 ghost use Rattle.marks.specs.Relation.{turned, relation_of, relation_number};

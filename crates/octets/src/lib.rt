@@ -1,4 +1,6 @@
 // Bytes in a lent buffer: stores, moves, tests and numbers, each at an offset.
+#![tactic(auto)]
+
 ghost use Rattle.std.specs.Prelude.{◌≡◌, ◌+◌, ◌*◌, ◌<◌, ◌≤◌, ◌++◌, length, get_or};
 ghost use Rattle.octets.specs.Bytes.{put, part, zeros, all_zero, alike};
 ghost use Rattle.octets.specs.Numbers.{be, of_be, turned4};

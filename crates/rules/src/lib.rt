@@ -1,4 +1,6 @@
 // Steps, replies and answers, and document 01's numbers. The rules themselves are definitions: specs/.
+#![tactic(auto)]
+
 pub mod numbers;
 
 // A step of a list, as document 01 packs it.

@@ -8,7 +8,6 @@ use Rattle.marks.specs.History.{newer_of, is_older}
 use Rattle.marks.specs.News.{shows_stable, informed}
 use Rattle.maps.specs.Map.{empty_map, with_entry, singleton, chooses_right, joined_history, joined_held_at, joined_history_at, join_of, superseded_entry, superseded_at, first_from, first_superseded, unrelated_entry, unrelated_at, any_unrelated}
 use Rattle.maps.specs.News.{informed_history, informed_history_at, informed_of}
-use Rattle.rules.specs.declared.Impediment.TheVariants as impediment
 use Rattle.rules.specs.State.{fresh, transactor_at, message_at, with_transactor, with_opened, with_message, without_message, place_from, numbered, place_of}
 use Rattle.rules.specs.Refusals.{named, any_named, malformed, not_waiting, empty_group, unopened, is_gone, wrong_status, unrelated_receipt, all_opened, all_waiting, all_numbered, all_checkpointed, at_last, last_rolls_back, refusal_of}
 use Rattle.rules.specs.Rules.{carried, message_unrelated, receipt_unrelated, rollback, read_by, write_by, freeze_by, finish_by, fall_by, fail_by, local_by, message_superseded, receiver_superseded, receive_by, receipt_rolls_back, entry_ready, map_ready, transactor_ready, group_ready, seen, refusal, opened, apply_root, apply_letter, apply_receive, apply_new, apply_send, apply_local, apply_lose, apply_sign, apply, step_of}

@@ -1,5 +1,5 @@
 -- The steps of a plan, one by one: a letter, its receipt, a freeze, a signing; and lists of steps that are all answered with 0.
-use Prim.Native.Nat.{ℕ, zero, ◌+◌, ◌*◌, ◌-◌, ◌≤◌, ◌<◌}
+use Prim.Native.Nat.{ℕ, ◌+◌, ◌*◌, ◌-◌, ◌≤◌, ◌<◌}
 use mathlib.Core.Bool.{false, not}
 use mathlib.Core.Path.{◌≡◌, refl, sym, ap, ◌∙◌, subst}
 use mathlib.Core.List.{List, [], ◌∷◌, ◌++◌, append-nil}
@@ -24,7 +24,7 @@ use Rattle.marks.specs.History.{stabilized}
 use Rattle.rules.specs.Layout.{Layout, last_number}
 use Rattle.rules.specs.Status.{idle, busy}
 use Rattle.rules.specs.State.{Transactor, Message, State, no_message, transactor_at, message_at, own_history, with_status, with_state, with_transactor, with_opened, with_message, without_message, place_of, numbered}
-use Rattle.rules.specs.Step.{Step, step_bytes, unpack_step, pack_step, step_at, done, root, letter, receive, new, send, freeze, lose, sign}
+use Rattle.rules.specs.Step.{Step, step_bytes, unpack_step, pack_step, step_at, done, root, letter, receive, new, send, lose, sign}
 use Rattle.rules.specs.Refusals.{malformed}
 use Rattle.rules.specs.Rules.{Result, no_dependences, known, taken, message_superseded, receiver_superseded, message_unrelated, receive_by, freeze_by, local_by, receipt_rolls_back, receipt_unrelated, group_ready, checkpoint_group, refusal, answer, opened, apply_root, apply_letter, apply_receive, apply_new, apply_send, apply_local, apply_lose, apply_sign, apply, step_of}
 use Rattle.rules.specs.Calls.{state_after}

@@ -17,7 +17,7 @@ use Rattle.maps.specs.Map.{held_at, history_at}
 use Rattle.rules.specs.Layout.{Layout}
 use Rattle.rules.specs.Status.{idle, annihilated}
 use Rattle.rules.specs.State.{Transactor, Message, State, own_history, transactor_at, message_at, place_of}
-use Rattle.rules.specs.Step.{Step, done, not_ready, root, letter, receive, new, send, lose, sign}
+use Rattle.rules.specs.Step.{Step, done, not_ready, receive, sign}
 use Rattle.rules.specs.Refusals.{group_bits, named, any_named, acts, sends, malformed}
 use Rattle.rules.specs.Rules.{carried, entry_ready, map_ready, transactor_ready, group_ready, checkpoint_by, message_superseded, receiver_superseded, message_unrelated, receipt_rolls_back, receipt_unrelated, refusal, answer}
 use Rattle.rules.specs.Internal.Guards.{first, is_last_incarnation, busy_refusal, room_refusal, named_refusal, group_refusal, group_in}

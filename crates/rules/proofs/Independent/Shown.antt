@@ -1,5 +1,4 @@
 -- Orders that show (specs/OrderShows), by computation; where an order shows, the steps are not independent.
-use Prim.Native.Nat.{ℕ}
 use mathlib.Core.Path.{◌≡◌, refl, sym, ◌∙◌}
 use lib.ListN.{length}
 use Rattle.octets.specs.Bytes.{tabulate, zeros, every, any}
