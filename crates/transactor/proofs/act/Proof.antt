@@ -12,64 +12,64 @@ use Rattle.transactor.proofs.Bytes.{acts-as, acted, act-refused, act-early, act-
 use Rattle.transactor.proofs.act.Statement.{statement}
 use Rattle.transactor.proofs.act.Tie as tie
 
-abbrev start : tie.Else1 → tie.Start
+abbrev start : tie.Else-r-ne0 → tie.Start
 start e = e.before.before.before.before
 
 -- kinds 5 to 8, past the refusals
-early : (e : tie.Else1) {n : ℕ} {f : Effect} → (start e).args.kind ≡ n → n < fall
+early : (e : tie.Else-r-ne0) {n : ℕ} {f : Effect} → (start e).args.kind ≡ n → n < fall
     → local_by base n (start e).args.t (start e).args.value (unpack_transactor base (start e).args.part.now) ≡ f
     → act_by base (start e).args.kind (start e).args.t (start e).args.value (unpack_transactor base (start e).args.part.now) ≡ f
 unfolding unpack_transactor
-early e = act-early base _ _ _ _ _ e.before.local.ensures e.if1.false
+early e = act-early base _ _ _ _ _ e.local-r.ensures e.if-r-ne0.false
 
-returns : tie.Need-returns
+returns : tie.Need-returns-then-r-ne0
 unfolding unpack_transactor
 returns c =
-    let d = c.before in
-    acted (act-refused base _ _ _ _ _ d.before.local.ensures d.if1.true) c.outcome-of.ensures (sym d.before.before.before.before.requires.0.back)
+    let d = c in
+    acted (act-refused base _ _ _ _ _ d.local-r.ensures d.if-r-ne0.true) c.outcome_of.ensures (sym d.requires.0.back)
 
-returns-2 : tie.Need-returns-2
+returns-2 : tie.Need-returns-in-5
 unfolding unpack_transactor local_by
 returns-2 c =
-    let d = c.before.before.before.before in
+    let d = c in
     acts-as
-    (early d.before d.match.keys1 (omega arith) refl)
-    c.before.before.read.ensures
+    (early c.before.before.before.before.before d.in-5.is (omega arith) refl)
+    c.read.ensures
 
-returns-3 : tie.Need-returns-3
+returns-3 : tie.Need-returns-in-6
 unfolding unpack_transactor local_by
 returns-3 c =
-    let d = c.before.before.before.before in
+    let d = c in
     acts-as
-    (early d.before d.match.keys2 (omega arith) refl)
-    c.before.before.write.ensures
+    (early c.before.before.before.before.before d.in-6.is (omega arith) refl)
+    c.write.ensures
 
-returns-4 : tie.Need-returns-4
+returns-4 : tie.Need-returns-in-7
 unfolding unpack_transactor local_by
 returns-4 c =
-    let d = c.before.before.before.before in
+    let d = c in
     acts-as
-    (early d.before d.match.keys3 (omega arith) refl)
-    c.before.before.freeze.ensures
+    (early c.before.before.before.before.before d.in-7.is (omega arith) refl)
+    c.freeze.ensures
 
-returns-5 : tie.Need-returns-5
+returns-5 : tie.Need-returns-in-8
 unfolding unpack_transactor local_by finish_by
 returns-5 c =
-    let d = c.before.before.before.before.before in
+    let d = c in
     acted
-    (early d.before d.match.keys4 (omega arith) refl)
-    c.outcome-of2.ensures c.before.before.before.become-idle.ensures
+    (early c.before.before.before.before.before.before d.in-8.is (omega arith) refl)
+    c.outcome_of-in-8.ensures c.become_idle.ensures
 
-returns-6 : tie.Need-returns-6
+returns-6 : tie.Need-returns-in_default
 unfolding unpack_transactor
 returns-6 c =
-    let d = c.before.before.before.before in
-    let e = d.before in
-    let s = start e in
-    let r = d.match.rest in
+    let d = c in
+    let e = d in
+    let s = start c.before.before.before.before.before in
+    let r = d.in_default.in_default-own.rest in
     acts-as
-    (act-late base _ _ _ _ _ e.before.local.ensures e.if1.false s.pre.2 s.pre.3 r.0.0.0.1 r.0.0.1 r.0.1 r.1)
-    c.before.before.rollback-unless-stable.ensures
+    (act-late base _ _ _ _ _ e.local-r.ensures e.if-r-ne0.false s.pre.2 s.pre.3 r.0.0.0.1 r.0.0.1 r.0.1 r.1)
+    c.rollback_unless_stable.ensures
 
 pub act_spec : {M : Type 1} → statement M
 act_spec =

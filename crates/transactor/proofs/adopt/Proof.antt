@@ -14,18 +14,18 @@ use Rattle.transactor.proofs.adopt.Tie as tie
 
 store-requires : tie.Need-store-requires
 store-requires c κs =
-    let d = c.before in
-    let e = d.before in
-    (search rules, rw (d.join.ensures, e.load.ensures, e.before.before.one.ensures) (bounded-join _ _ _ _ (bounded-singleton _ _ _ _ _ (omega arith)) (bounded-unpack _ _ _ _ (omega arith))))
+    let d = c in
+    let e = d in
+    (search rules, rw (d.join-joined.ensures, e.load-behaviour.ensures, e.one-one.ensures) (bounded-join _ _ _ _ (bounded-singleton _ _ _ _ _ (omega arith)) (bounded-unpack _ _ _ _ (omega arith))))
 
 returns : tie.Need-returns
 unfolding adopts unpack_transactor zeros
 returns c =
-    let d = c.before.before in
-    let e = d.before.before in
-    let f = e.before in
-    let g = f.before.before in
-    stored base _ _ _ _ (put-behaviour base _ _) (sym g.before.before.requires.0.back) (d.store.ensures ∙ rw (e.join.ensures, f.load.ensures, g.one.ensures))
+    let d = c in
+    let e = d in
+    let f = e in
+    let g = f in
+    stored base _ _ _ _ (put-behaviour base _ _) (sym g.requires.0.back) (d.store.ensures ∙ rw (e.join-joined.ensures, f.load-behaviour.ensures, g.one-one.ensures))
 
 pub adopt_spec : {M : Type 1} → statement M
 adopt_spec =

@@ -11,16 +11,16 @@ use Rattle.transactor.proofs.become_idle.Statement.{statement}
 use Rattle.transactor.proofs.become_idle.Tie as tie
 
 clear-requires : tie.Need-clear-requires
-clear-requires c κs = omega (arith, length-set c.before.before.args.part.now 0 64)
+clear-requires c κs = omega (arith, length-set c.args.part.now 0 64)
 
-same_length : tie.Need-same-length
-same_length c = omega (arith, length-set c.before.before.before.before.before.args.part.now 0 64)
+same_length : tie.Need-shape_of-part
+same_length c = omega (arith, length-set c.args.part.now 0 64)
 
 returns : tie.Need-returns
 unfolding finish_by
 returns c =
-    let d = c.before.before in
-    behaviour-cleared base _ (status-stored base _ idle (sym d.before.before.before.requires.back) (omega arith)) d.clear.ensures
+    let d = c in
+    behaviour-cleared base _ (status-stored base _ idle (sym d.requires.back) (omega arith)) d.clear.ensures
 
 pub become_idle_spec : {M : Type 1} → statement M
 become_idle_spec =

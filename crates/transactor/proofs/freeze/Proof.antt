@@ -11,17 +11,17 @@ use Rattle.transactor.proofs.freeze.Statement.{statement}
 use Rattle.transactor.proofs.freeze.Tie as tie
 
 store-requires : tie.Need-store-requires
-store-requires c κs = (search rules, rw c.before.stabilize.ensures (own-bounded _ _ c.before.before.own.ensures))
+store-requires c κs = (search rules, rw c.stabilize-h.ensures (own-bounded _ _ c.own.ensures))
 
 returns : tie.Need-returns
 unfolding freeze_by unpack_transactor
 returns c =
-    let d = c.before.before.before in
-    let e = d.before.before in
-    let f = e.before in
-    let s = f.before.before.before in
-    acted refl c.outcome-of.ensures
-    (history-stored base _ _ (sized-unpack _ _ _ _) s.requires.1 (sym s.requires.0.back) (e.stabilize.ensures ∙ ap stabilized f.own.ensures) d.store.ensures)
+    let d = c in
+    let e = d in
+    let f = e in
+    let s = f in
+    acted refl c.outcome_of.ensures
+    (history-stored base _ _ (sized-unpack _ _ _ _) s.requires.1 (sym s.requires.0.back) (e.stabilize-h.ensures ∙ ap stabilized f.own.ensures) d.store.ensures)
 
 pub freeze_spec : {M : Type 1} → statement M
 freeze_spec =

@@ -10,10 +10,10 @@ use Rattle.transactor.proofs.Bytes.{stored, map-exact, value-behind}
 use Rattle.transactor.proofs.read.Statement.{statement}
 use Rattle.transactor.proofs.read.Tie as tie
 
-join-into-requires : tie.Need-join-into-requires
+join-into-requires : tie.Need-join_into-requires
 unfolding unpack_transactor
 join-into-requires c κs =
-    let p = c.before.before.requires in (
+    let p = c.requires in (
       search rules,
       search rules,
       map-exact base _ (behaviour_at base) _ (omega arith) (put-behaviour base _ _) (sym p.back) refl,
@@ -22,11 +22,11 @@ join-into-requires c κs =
 returns : tie.Need-returns
 unfolding read_by unpack_transactor
 returns c =
-    let d = c.before.before.before.before in
+    let d = c in
     record {
       outcome = refl;
-      value = value-behind base _ _ (search rules) d.join-into.ensures c.load32.ensures;
-      bytes = stored base _ _ _ _ (put-behaviour base _ _) (sym d.before.before.before.requires.back) d.join-into.ensures;
+      value = value-behind base _ _ (search rules) d.join_into.ensures c.load32-value.ensures;
+      bytes = stored base _ _ _ _ (put-behaviour base _ _) (sym d.requires.back) d.join_into.ensures;
     }
 
 pub read_spec : {M : Type 1} → statement M

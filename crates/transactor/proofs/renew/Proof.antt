@@ -17,34 +17,34 @@ store32-requires c κs = simp length-set (omega arith)
 
 store32-requires-2 : tie.Need-store32-requires-2
 store32-requires-2 c κs =
-    let g = c.before.before.before.before.before.before.before in
-    let n = cleared-long base 64 _ g.before.before.before.requires.0 g.clear.ensures in
+    let g = c in
+    let n = cleared-long base 64 _ g.requires.0 g.clear.ensures in
     omega (arith, n)
 
 store-requires : tie.Need-store-requires
 store-requires c κs =
-    let g = c.before.before.before.before.before.before.before.before.before.before.before in
-    let n = cleared-long base 64 _ g.before.before.before.requires.0 g.clear.ensures in
+    let g = c in
+    let n = cleared-long base 64 _ g.requires.0 g.clear.ensures in
     (omega (arith, n), search rules)
 
-same_length : tie.Need-same-length
+same_length : tie.Need-shape_of-part
 same_length c =
-    let g = c.before.before.before.before.before.before.before.before.before.before.before.before.before.before in
-    let n = cleared-long base 64 _ g.before.before.before.requires.0 g.clear.ensures in
+    let g = c in
+    let n = cleared-long base 64 _ g.requires.0 g.clear.ensures in
     omega (arith, n)
 
 returns : tie.Need-returns
 unfolding singleton
 returns c =
-    let d = c.before.before in
-    let e = d.before.before.before.before in
-    let f = e.before.before.before.before in
-    let g = f.before.before.before.before in
-    let s = g.before.before.before in
+    let d = c in
+    let e = d in
+    let f = e in
+    let g = f in
+    let s = g in
     history-stored base _ _ (sized-empty _ _) s.requires.1
     (stored base _ _ _ _ (put-saved base _ _)
     (stored base _ _ _ _ (put-value base _ _) (status-stored base _ idle (cleared base _ s.requires.0 g.clear.ensures) (omega arith)) f.store32.ensures)
-    e.store322.ensures)
+    e.store32-2.ensures)
     refl d.store.ensures
 
 pub renew_spec : {M : Type 1} → statement M

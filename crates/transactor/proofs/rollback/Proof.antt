@@ -9,33 +9,33 @@ use Rattle.transactor.proofs.Bytes.{own-bounded, acted, rollback-uncheckpointed,
 use Rattle.transactor.proofs.rollback.Statement.{statement}
 use Rattle.transactor.proofs.rollback.Tie as tie
 
-returns : tie.Need-returns
+returns : tie.Need-returns-then-h-eq0
 returns c =
-    let d = c.before.before.before in
-    let e = d.before.before in
-    acted (rollback-uncheckpointed base _ _ e.before.before.own.ensures e.if1.true) c.outcome-of.ensures d.strip.ensures
+    let d = c in
+    let e = d in
+    acted (rollback-uncheckpointed base _ _ e.own-h.ensures e.if-h-eq0.true) c.outcome_of.ensures d.strip.ensures
 
-returns-2 : tie.Need-returns-2
+returns-2 : tie.Need-returns-then-h
 returns-2 c =
-    let d = c.before in
-    let e = d.before.before in
-    let f = e.before.before in
+    let d = c in
+    let e = d in
+    let f = e in
     acted
-    (rollback-last base _ _ f.own.ensures e.if1.false (d.if2.true ∙ sym largest-base)) c.outcome-of2.ensures
-    (sym f.before.before.before.requires.0.back)
+    (rollback-last base _ _ f.own-h.ensures e.if-h-eq0.false (d.if-h.true ∙ sym largest-base)) c.outcome_of-then-h.ensures
+    (sym f.requires.0.back)
 
 renew-requires : tie.Need-renew-requires
-renew-requires c κs = (search rules, search rules, rw c.rollback.ensures (own-bounded _ _ c.before.before.before.before.before.before.before.before.own.ensures))
+renew-requires c κs = (search rules, search rules, rw c.rollback.ensures (own-bounded _ _ c.own-h.ensures))
 
-returns-3 : tie.Need-returns-3
+returns-3 : tie.Need-returns
 unfolding unpack_transactor
 returns-3 c =
-    let d = c.before.before.before in
-    let e = d.before in
-    let f = e.before.before.before.before.before.before in
+    let d = c in
+    let e = d in
+    let f = e in
     acted
-    (rollback-next base _ _ f.before.before.own.ensures f.if1.false (omega (arith, largest-base)) e.rollback.ensures e.before.before.load32.ensures)
-    c.outcome-of3.ensures d.renew.ensures
+    (rollback-next base _ _ f.own-h.ensures f.if-h-eq0.false (omega (arith, largest-base)) e.rollback.ensures e.load32-saved.ensures)
+    c.outcome_of-2.ensures d.renew.ensures
 
 pub rollback_spec : {M : Type 1} → statement M
 rollback_spec =

@@ -10,23 +10,23 @@ use Rattle.transactor.proofs.Bytes.{acted, unstable-rolls, unstable-fall, unstab
 use Rattle.transactor.proofs.rollback_unless_stable.Statement.{statement}
 use Rattle.transactor.proofs.rollback_unless_stable.Tie as tie
 
-returns : tie.Need-returns
+returns : tie.Need-returns-then-not-h
 returns c =
-    let d = c.before.before in
-    let e = d.before.before in
-    acts-as (unstable-rolls base _ _ e.before.before.own.ensures _ (not-true _ e.if1.true)) d.rollback.ensures
+    let d = c in
+    let e = d in
+    acts-as (unstable-rolls base _ _ e.own-h.ensures _ (not-true _ e.if-not-h.true)) d.rollback.ensures
 
-same-length-2 : tie.Need-same-length-2
-same-length-2 c = ⊎_elim (λ w. omega (arith, ap length w.5)) (λ w. omega (arith, ap length w.1)) c.before.if2.branch
+same-length-2 : tie.Need-shape_of-part
+same-length-2 c = ⊎_elim (λ w. omega (arith, ap length w.5)) (λ w. omega (arith, ap length w.1)) c.if-kind-eq-FALL.branch-raw
 
-returns-2 : tie.Need-returns-2
+returns-2 : tie.Need-returns
 returns-2 c =
-    let d = c.before.before in
-    let e = d.before.before in
+    let d = c in
+    let e = d in
     ⊎_elim
-    (λ w. acted (unstable-fall base _ _ e.own.ensures _ (not-false _ d.if1.false) w.0.taken) c.outcome-of.ensures (w.5 ∙ w.2.ensures))
-    (λ w. acted (unstable-fail base _ _ e.own.ensures _ (not-false _ d.if1.false) w.0.left) c.outcome-of.ensures (w.1 ∙ sym e.before.before.before.requires.0.back))
-    c.before.if2.branch
+    (λ w. acted (unstable-fall base _ _ e.own-h.ensures _ (not-false _ d.if-not-h.false) w.0.taken) c.outcome_of.ensures (w.5 ∙ w.2.ensures))
+    (λ w. acted (unstable-fail base _ _ e.own-h.ensures _ (not-false _ d.if-not-h.false) w.0.left) c.outcome_of.ensures (w.1 ∙ sym e.requires.0.back))
+    c.if-kind-eq-FALL.branch-raw
 
 pub rollback_unless_stable_spec : {M : Type 1} → statement M
 rollback_unless_stable_spec =

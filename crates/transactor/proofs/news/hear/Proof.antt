@@ -8,17 +8,17 @@ use Rattle.transactor.proofs.Hearing.{unheard}
 use Rattle.transactor.proofs.news.hear.Statement.{statement}
 use Rattle.transactor.proofs.news.hear.Tie as tie
 
-map-at-requires : tie.Need-map-at-requires
-map-at-requires c κs = omega (arith, waiting_few base c.before.args.image.now)
+map-at-requires : tie.Need-map_at-from-requires
+map-at-requires c κs = omega (arith, waiting_few base c.args.image.now)
 
-all-zero-requires : tie.Need-all-zero-requires
-all-zero-requires c κs = omega (arith, waiting_few base c.before.before.before.args.image.now)
+all-zero-requires : tie.Need-all_zero-requires
+all-zero-requires c κs = omega (arith, waiting_few base c.args.image.now)
 
-returns : tie.Need-returns
+returns : tie.Need-returns-then-all_zero
 returns c =
-    let m = c.before.before.before in
-    let s = m.before.before in
-    unheard base _ _ s.requires.1 _ s.requires.2 s.requires.0.back (rw m.map_at.ensures at (sym c.before.all-zero.ensures ∙ c.if1.true))
+    let m = c in
+    let s = m in
+    unheard base _ _ s.requires.1 _ s.requires.2 s.requires.0.back (rw m.map_at-from.ensures at (sym c.all_zero.ensures ∙ c.if-all_zero.true))
 
 pub hear_spec : {M : Type 1} → statement M
 hear_spec =

@@ -7,25 +7,25 @@ use Rattle.transactor.proofs.Hearing.{state-asked, creation-asked, heard}
 use Rattle.transactor.proofs.news.inform.Statement.{statement}
 use Rattle.transactor.proofs.news.inform.Tie as tie
 
-map-at-requires : tie.Need-map-at-requires
-map-at-requires c κs = omega (arith, waiting_few base c.before.args.image.now)
+map-at-requires : tie.Need-map_at-from-requires
+map-at-requires c κs = omega (arith, waiting_few base c.args.image.now)
 
 inform-requires : tie.Need-inform-requires
-inform-requires c κs = let s = c.before.before.before in rw c.before.map_at.ensures (state-asked base _ _ s.requires.1 _ s.requires.2 s.requires.0.back)
+inform-requires c κs = let s = c in rw c.map_at-from.ensures (state-asked base _ _ s.requires.1 _ s.requires.2 s.requires.0.back)
 
 inform-requires-2 : tie.Need-inform-requires-2
 inform-requires-2 c κs =
-    let i = c.before.before.before in
-    let m = i.before.before in
-    let s = m.before.before in
-    rw m.map_at.ensures (creation-asked base _ _ s.requires.1 _ s.requires.2 s.requires.0.back _ (rw m.map_at.ensures at i.inform.ensures))
+    let i = c in
+    let m = i in
+    let s = m in
+    rw m.map_at-from.ensures (creation-asked base _ _ s.requires.1 _ s.requires.2 s.requires.0.back _ (rw m.map_at-from.ensures at i.inform.ensures))
 
 returns : tie.Need-returns
 returns c =
-    let i = c.before.before.before.before.before.before in
-    let m = i.before.before in
-    let s = m.before.before in
-    heard base _ _ s.requires.1 _ s.requires.2 s.requires.0.back _ (rw m.map_at.ensures at i.inform.ensures) _ (rw m.map_at.ensures at c.before.before.inform2.ensures)
+    let i = c in
+    let m = i in
+    let s = m in
+    heard base _ _ s.requires.1 _ s.requires.2 s.requires.0.back _ (rw m.map_at-from.ensures at i.inform.ensures) _ (rw m.map_at-from.ensures at c.inform-2.ensures)
 
 pub inform_spec : {M : Type 1} → statement M
 inform_spec =

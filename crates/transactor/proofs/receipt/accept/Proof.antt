@@ -7,46 +7,46 @@ use Rattle.transactor.proofs.Accepting.{accepts-unrelated, accepts-dropped, acce
 use Rattle.transactor.proofs.receipt.accept.Statement.{statement}
 use Rattle.transactor.proofs.receipt.accept.Tie as tie
 
-map-at-requires : tie.Need-map-at-requires
-map-at-requires c κs = omega (arith, waiting_few base c.before.before.args.image.now)
+map-at-requires : tie.Need-map_at-requires
+map-at-requires c κs = omega (arith, waiting_few base c.args.image.now)
 
-compared-requires : tie.Need-compared-requires
-compared-requires c κs = (search rules, search rules, omega (arith, waiting_few base c.before.before.before.args.image.now))
+compared-requires : tie.Need-compared-answers-requires
+compared-requires c κs = (search rules, search rules, omega (arith, waiting_few base c.args.image.now))
 
-returns : tie.Need-returns
+returns : tie.Need-returns-then-answers
 returns c =
-    let asked = c.before.before in
-    let said = rw asked.before.map_at.ensures at asked.compared.ensures in
-    let s = asked.before.before.before.before in
+    let asked = c in
+    let said = rw asked.map_at.ensures at asked.compared-answers.ensures in
+    let s = asked in
     acted-at _ _
-    (accepts-unrelated base _ _ s.requires.1 _ s.requires.2 _ said.0 c.before.if1.true)
-    c.outcome-of.ensures (kept_at _ s.requires.0 _)
+    (accepts-unrelated base _ _ s.requires.1 _ s.requires.2 _ said.0 c.if-answers.true)
+    c.outcome_of.ensures (kept_at _ s.requires.0 _)
 
 settle-requires : tie.Need-settle-requires
-settle-requires c κs = c.before.before.before.before.before.before.before.before.requires
+settle-requires c κs = c.requires
 
-returns-2 : tie.Need-returns-2
+returns-2 : tie.Need-returns-in_default
 returns-2 c =
-    let settled = c.before.before in
-    let told = settled.before.before in
-    let branch = told.before.before in
-    let asked = branch.before in
-    let said = rw asked.before.map_at.ensures at asked.compared.ensures in
-    let s = asked.before.before.before.before in
+    let settled = c in
+    let told = settled in
+    let branch = told in
+    let asked = branch in
+    let said = rw asked.map_at.ensures at asked.compared-answers.ensures in
+    let s = asked in
     acts-as _ _
-    (accepts-settled base _ _ s.requires.1 _ s.requires.2 _ said.0 branch.if1.false _ said.1 told.enum_told.given.1 asked.compared.result.own said.2)
+    (accepts-settled base _ _ s.requires.1 _ s.requires.2 _ said.0 branch.if-answers.false _ said.1 told.enum_told-1.given.1 asked.compared-answers.result.own said.2)
     settled.settle.ensures
 
-returns-3 : tie.Need-returns-3
+returns-3 : tie.Need-returns
 returns-3 c =
-    let told = c.before.before in
-    let branch = told.before.before in
-    let asked = branch.before in
-    let said = rw asked.before.map_at.ensures at asked.compared.ensures in
-    let s = asked.before.before.before.before in
+    let told = c in
+    let branch = told in
+    let asked = branch in
+    let said = rw asked.map_at.ensures at asked.compared-answers.ensures in
+    let s = asked in
     acted-at _ _
-    (accepts-dropped base _ _ s.requires.1 _ s.requires.2 _ said.0 branch.if1.false _ said.1 told.message.given.1)
-    c.outcome-of2.ensures (kept_at _ s.requires.0 _)
+    (accepts-dropped base _ _ s.requires.1 _ s.requires.2 _ said.0 branch.if-answers.false _ said.1 told.message-1.given.1)
+    c.outcome_of-2.ensures (kept_at _ s.requires.0 _)
 
 pub accept_spec : {M : Type 1} → statement M
 accept_spec =

@@ -9,10 +9,10 @@ use Rattle.transactor.proofs.Comparing.{letter-related, letter-current, known-cu
 use Rattle.transactor.proofs.receipt.compared.Statement.{statement}
 use Rattle.transactor.proofs.receipt.compared.Tie as tie
 
-returns : tie.Need-returns
+returns : tie.Need-returns-then-all_zero
 returns c =
-    let fits = c.before.before.before.requires.2 in
-    let none = sym c.before.all-zero.ensures ∙ c.if1.true in (
+    let fits = c.requires.2 in
+    let none = sym c.all_zero.ensures ∙ c.if-all_zero.true in (
       letter-related width places entries _ _ fits none _,
       letter-current width places entries _ _ fits none _,
       known-current width places entries _ _ fits none _,
@@ -20,12 +20,12 @@ returns c =
 
 compare-requires : tie.Need-compare-requires
 compare-requires c κs =
-    (search rules, rw c.joined.ensures (bounded-join _ _ _ _ (bounded-unpack _ _ _ _ (omega arith)) (bounded-unpack _ _ _ _ (omega arith))))
+    (search rules, rw c.joined-known.ensures (bounded-join _ _ _ _ (bounded-unpack _ _ _ _ (omega arith)) (bounded-unpack _ _ _ _ (omega arith))))
 
-returns-2 : tie.Need-returns-2
+returns-2 : tie.Need-returns
 returns-2 c =
-    let j = c.before in
-    (c.compare.ensures.0 ∙ rw j.joined.ensures, c.compare.ensures.1 ∙ rw j.joined.ensures, c.compare.ensures.2 ∙ rw j.joined.ensures)
+    let j = c in
+    (c.compare.ensures.0 ∙ rw j.joined-known.ensures, c.compare.ensures.1 ∙ rw j.joined-known.ensures, c.compare.ensures.2 ∙ rw j.joined-known.ensures)
 
 pub compared_spec : {M : Type 1} → statement M
 compared_spec = tie.close (tie.spec (λ c κs. search rules) returns (λ c κs. search rules) compare-requires returns-2)

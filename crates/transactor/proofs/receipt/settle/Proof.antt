@@ -8,32 +8,32 @@ use Rattle.transactor.proofs.Accepting.{settles-rollback, settles-done, acted-at
 use Rattle.transactor.proofs.receipt.settle.Statement.{statement}
 use Rattle.transactor.proofs.receipt.settle.Tie as tie
 
-take-in-requires : tie.Need-take-in-requires
+take-in-requires : tie.Need-take_in-requires
 take-in-requires c κs =
-    let h = c.before.before.before in
-    let s = h.before.before.before.before.before in
+    let h = c in
+    let s = h in
     (heard-good _ s.requires.0 _ s.requires.1 _ s.requires.2 _ h.hear.ensures, s.requires.1, heard-waits _ s.requires.0 _ s.requires.1 _ s.requires.2 _ h.hear.ensures)
 
-returns : tie.Need-returns
+returns : tie.Need-returns-in_default
 returns c =
-    let taken = c.before.before.before in
-    let h = taken.before.before.before.before in
-    let told = h.before.before in
-    let s = told.before.before.before in
-    acted-at _ _ (settles-done base _ _ _ _ told.enum_told.given.1) c.outcome-of.ensures
+    let taken = c in
+    let h = taken in
+    let told = h in
+    let s = told in
+    acted-at _ _ (settles-done base _ _ _ _ told.enum_told-1.given.1) c.outcome_of.ensures
     (heard-taken _ s.requires.0 _ s.requires.1 _ s.requires.2 _ h.hear.ensures _ taken.take_in.ensures)
 
 rollback-requires : tie.Need-rollback-requires
 rollback-requires c κs =
-    let s = c.before.before.before.before.before in
+    let s = c in
     (good-lent _ s.requires.0 _ s.requires.1, s.requires.1)
 
-returns-2 : tie.Need-returns-2
+returns-2 : tie.Need-returns
 returns-2 c =
-    let rolled = c.before.before in
-    let told = rolled.before.before.before in
-    let s = told.before.before.before in
-    lent_at _ s.requires.0 _ s.requires.1 (rollback_or28 base _) (settles-rollback base _ _ _ _ told.receiver.given.1) rolled.rollback.ensures
+    let rolled = c in
+    let told = rolled in
+    let s = told in
+    lent_at _ s.requires.0 _ s.requires.1 (rollback_or28 base _) (settles-rollback base _ _ _ _ told.receiver-1.given.1) rolled.rollback.ensures
 
 pub settle_spec : {M : Type 1} → statement M
 settle_spec =

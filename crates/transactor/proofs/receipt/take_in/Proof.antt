@@ -8,20 +8,20 @@ use Rattle.transactor.proofs.Accepting.{taken-in}
 use Rattle.transactor.proofs.receipt.take_in.Statement.{statement}
 use Rattle.transactor.proofs.receipt.take_in.Tie as tie
 
-map-at-requires : tie.Need-map-at-requires
-map-at-requires c κs = omega (arith, waiting_few base c.before.args.image.now)
+map-at-requires : tie.Need-map_at-from-requires
+map-at-requires c κs = omega (arith, waiting_few base c.args.image.now)
 
 lower-requires : tie.Need-lower-requires
-lower-requires c κs = simp length-set (omega (arith, waiting_few base c.before.before.before.args.image.now))
+lower-requires c κs = simp length-set (omega (arith, waiting_few base c.args.image.now))
 
-same_length : tie.Need-same-length
-same_length c = simp length-set at c.before.before.lower.auto.0
+same_length : tie.Need-shape_of-image
+same_length c = simp length-set at c.lower.auto.0
 
 returns : tie.Need-returns
 returns c =
-    let m = c.before.before.before.before in
-    let s = m.before.before in
-    taken-in base _ _ s.requires.1 _ s.requires.2 s.requires.0.back _ _ (rw m.map_at.ensures) c.before.before.lower.ensures
+    let m = c in
+    let s = m in
+    taken-in base _ _ s.requires.1 _ s.requires.2 s.requires.0.back _ _ (rw m.map_at-from.ensures) c.lower.ensures
 
 pub take_in_spec : {M : Type 1} → statement M
 take_in_spec =
