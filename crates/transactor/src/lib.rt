@@ -1,4 +1,6 @@
 // One transactor's part of an image: kinds 5 to 10, falls and checkpoint, with the refusals that its bytes decide.
+#![tactic(auto)]
+
 mod news;
 pub mod receipt;
 

@@ -68,7 +68,7 @@ returns-6 c =
     let s = start c.before.before.before.before.before in
     let r = d.in_default.in_default-own.rest in
     acts-as
-    (act-late base _ _ _ _ _ e.local-r.ensures e.if-r-ne0.false s.pre.2 s.pre.3 r.0.0.0.1 r.0.0.1 r.0.1 r.1)
+    (act-late base _ _ _ _ _ e.local-r.ensures e.if-r-ne0.false s.requires.2 s.requires.3 r.0.0.0.1 r.0.0.1 r.0.1 r.1)
     c.rollback_unless_stable.ensures
 
 pub act_spec : {M : Type 1} → statement M

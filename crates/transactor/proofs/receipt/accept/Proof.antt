@@ -34,7 +34,7 @@ returns-2 c =
     let said = rw asked.map_at.ensures at asked.compared-answers.ensures in
     let s = asked in
     acts-as _ _
-    (accepts-settled base _ _ s.requires.1 _ s.requires.2 _ said.0 branch.if-answers.false _ said.1 told.enum_told-1.given.1 asked.compared-answers.result.own said.2)
+    (accepts-settled base _ _ s.requires.1 _ s.requires.2 _ said.0 branch.if-answers.false _ said.1 told.in_default.is asked.compared-answers.result.own said.2)
     settled.settle.ensures
 
 returns-3 : tie.Need-returns
@@ -45,7 +45,7 @@ returns-3 c =
     let said = rw asked.map_at.ensures at asked.compared-answers.ensures in
     let s = asked in
     acted-at _ _
-    (accepts-dropped base _ _ s.requires.1 _ s.requires.2 _ said.0 branch.if-answers.false _ said.1 told.message-1.given.1)
+    (accepts-dropped base _ _ s.requires.1 _ s.requires.2 _ said.0 branch.if-answers.false _ said.1 told.in-Superseded.is)
     c.outcome_of-2.ensures (kept_at _ s.requires.0 _)
 
 pub accept_spec : {M : Type 1} → statement M

@@ -20,7 +20,7 @@ returns c =
     let h = taken in
     let told = h in
     let s = told in
-    acted-at _ _ (settles-done base _ _ _ _ told.enum_told-1.given.1) c.outcome_of.ensures
+    acted-at _ _ (settles-done base _ _ _ _ told.in_default.is) c.outcome_of.ensures
     (heard-taken _ s.requires.0 _ s.requires.1 _ s.requires.2 _ h.hear.ensures _ taken.take_in.ensures)
 
 rollback-requires : tie.Need-rollback-requires
@@ -33,7 +33,7 @@ returns-2 c =
     let rolled = c in
     let told = rolled in
     let s = told in
-    lent_at _ s.requires.0 _ s.requires.1 (rollback_or28 base _) (settles-rollback base _ _ _ _ told.receiver-1.given.1) rolled.rollback.ensures
+    lent_at _ s.requires.0 _ s.requires.1 (rollback_or28 base _) (settles-rollback base _ _ _ _ told.in-Superseded.is) rolled.rollback.ensures
 
 pub settle_spec : {M : Type 1} → statement M
 settle_spec =

@@ -15,7 +15,7 @@ lower-requires : tie.Need-lower-requires
 lower-requires c κs = simp length-set (omega (arith, waiting_few base c.args.image.now))
 
 same_length : tie.Need-shape_of-image
-same_length c = simp length-set at c.lower.auto.0
+same_length c = simp length-set at c.lower.auto.image
 
 returns : tie.Need-returns
 returns c =
