@@ -1,4 +1,6 @@
 // Images of the old form, 22,132 bytes, to the new one and back (document 02, W6).
+#![tactic(auto)]
+
 mod low;
 
 ghost use Rattle.std.specs.Prelude.{◌≡◌};

@@ -7,17 +7,17 @@ use borrow.Author.Rules.{rules}
 use Rattle.convert.proofs.back.Statement.{statement}
 use Rattle.convert.proofs.back.Tie as tie
 
-returns-3 : tie.Need-returns-3
-returns-3 c = back-ill-formed _ _ (search rules) (search rules) (failed c.before.formed.ensures c.if3.true)
+returns-3 : tie.Need-returns-then-not-formed
+returns-3 c = back-ill-formed _ _ (search rules) (search rules) (failed c.before.formed.ensures c.if-not-formed.true-raw)
 
-returns-4 : tie.Need-returns-4
-returns-4 c = back-too-wide _ _ (search rules) (search rules) (passed c.before.before.before.formed.ensures c.before.before.if3.false) (not-false _ (failed c.before.image.ensures c.if4.true))
+returns-4 : tie.Need-returns-then-not-image
+returns-4 c = back-too-wide _ _ (search rules) (search rules) (passed c.before.before.before.formed.ensures c.before.before.if-not-formed.false-raw) (not-false _ (failed c.before.image.ensures c.if-not-image.true-raw))
 
-returns-5 : tie.Need-returns-5
+returns-5 : tie.Need-returns
 returns-5 c =
     let l = c.before.before.before.before in
     let f = l.before.before in
-    back_done _ _ (search rules) (search rules) (passed f.before.formed.ensures f.if3.false) (octets-of _ f.before.before.before.before.before.shared-slice-known.given) (not-true _ (passed l.before.image.ensures l.if4.false)) _ c.before.before.narrower.ensures
+    back_done _ _ (search rules) (search rules) (passed f.before.formed.ensures f.if-not-formed.false-raw) (octets-of _ f.before.before.before.before.before.shared_slice_known-1.given) (not-true _ (passed l.before.image.ensures l.if-not-image.false-raw)) _ c.before.before.narrower.ensures
 
 pub back_spec : {M : Type 1} → statement M
 back_spec =

@@ -12,18 +12,18 @@ use borrow.Author.Rules.{rules}
 use Rattle.convert.proofs.forward.Statement.{statement}
 use Rattle.convert.proofs.forward.Tie as tie
 
-returns-3 : tie.Need-returns-3
+returns-3 : tie.Need-returns-then-not-formed
 returns-3 c =
     let i = c.before.before.before.before in
     let b = i.before.before.before.before.before in
-    forward-ill-formed _ _ (search rules) (search rules) (octets-of _ b.shared-slice-known.given) (ap (well_formed base) (sym i.wider.ensures) ∙ failed c.before.formed.ensures c.if3.true)
+    forward-ill-formed _ _ (search rules) (search rules) (octets-of _ b.shared_slice_known-1.given) (ap (well_formed base) (sym i.wider.ensures) ∙ failed c.before.formed.ensures c.if-not-formed.true-raw)
 
-returns-4 : tie.Need-returns-4
+returns-4 : tie.Need-returns
 returns-4 c =
     let f = c.before.before.before.before.before in
     let i = f.before.before.before.before in
     let b = i.before.before.before.before.before in
-    forward-done _ _ (search rules) (search rules) (octets-of _ b.shared-slice-known.given) (ap (well_formed base) (sym i.wider.ensures) ∙ passed f.before.formed.ensures f.if3.false)
+    forward-done _ _ (search rules) (search rules) (octets-of _ b.shared_slice_known-1.given) (ap (well_formed base) (sym i.wider.ensures) ∙ passed f.before.formed.ensures f.if-not-formed.false-raw)
     _ (c.before.before.write.ensures ∙ ap (λ (x : List ℕ). put 0 x b.before.args.target.now) i.wider.ensures)
 
 pub forward_spec : {M : Type 1} → statement M

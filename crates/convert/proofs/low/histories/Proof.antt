@@ -11,19 +11,19 @@ use borrow.Author.Rules.{rules}
 use Rattle.convert.proofs.low.histories.Statement.{statement}
 use Rattle.convert.proofs.low.histories.Tie as tie
 
-abbrev invariant-loop : tie.invariant-loop
+abbrev invariant-loop : tie.invariant-loop-i
 invariant-loop s at n i₀ i = Held (λ k. entry_within largest_narrow base (part (at + 33 * k) 33 s)) n i
 
-abbrev decreases-loop : tie.decreases-loop
+abbrev decreases-loop : tie.decreases-loop-i
 decreases-loop s at n i₀ i = n - i
 
-returns : tie.Need-returns invariant-loop decreases-loop
+returns : tie.Need-returns-then-not-history invariant-loop decreases-loop
 unfolding entries_within
-returns c = held-fails c.before.before.before.loop.invariant (search rules) (ap not (sym c.before.history.ensures) ∙ c.if1.true)
+returns c = held-fails c.before.before.before.loop-i.invariant (search rules) (ap not (sym c.before.history.ensures) ∙ c.if-not-history.true-raw)
 
-returns-2 : tie.Need-returns-2 invariant-loop decreases-loop
+returns-2 : tie.Need-returns invariant-loop decreases-loop
 unfolding entries_within
-returns-2 c = held_all c.before.loop.invariant (search rules)
+returns-2 c = held_all c.before.loop-i.invariant (search rules)
 
 pub histories_spec : {M : Type 1} → statement M
 histories_spec =
@@ -38,5 +38,5 @@ histories_spec =
     returns
     (λ c. search rules)
     (λ c. search rules)
-    (λ c. held_more (search rules) (search rules) (ap not (sym c.before.history.ensures) ∙ c.if1.false))
+    (λ c. held_more (search rules) (search rules) (ap not (sym c.before.history.ensures) ∙ c.if-not-history.false-raw))
     returns-2)

@@ -10,21 +10,21 @@ use borrow.Author.Rules.{rules}
 use Rattle.convert.proofs.low.history.Statement.{statement}
 use Rattle.convert.proofs.low.history.Tie as tie
 
-abbrev invariant-loop : tie.invariant-loop
+abbrev invariant-loop : tie.invariant-loop-i
 invariant-loop s at any₀ i₀ any i = (i ≤ 16) × (eqb any 0 ≡ every i (first_zero (part at 33 s)))
 
-abbrev decreases-loop : tie.decreases-loop
+abbrev decreases-loop : tie.decreases-loop-i
 decreases-loop s at any₀ i₀ any i = 16 - i
 
-loop-holds : tie.Need-loop-init invariant-loop decreases-loop
+loop-holds : tie.Need-loop-i-init invariant-loop decreases-loop
 unfolding every
 loop-holds c = (search rules, refl)
 
-loop-again : tie.Need-loop-preserved invariant-loop decreases-loop
-loop-again c = (search rules, first_more _ _ _ c.before.before.loop.any (search rules) c.before.before.loop.invariant.1)
+loop-again : tie.Need-loop-i-preserved invariant-loop decreases-loop
+loop-again c = (search rules, first_more _ _ _ c.before.before.loop-i.any (search rules) c.before.before.loop-i.invariant.1)
 
-returns-2 : tie.Need-returns-2 invariant-loop decreases-loop
-returns-2 c = present-within _ _ (octets-of _ c.before.before.before.shared-slice-known.given) (search rules) _ c.before.loop.any c.before.loop.invariant.1 (omega arith)
+returns-2 : tie.Need-returns invariant-loop decreases-loop
+returns-2 c = present-within _ _ (octets-of _ c.before.before.before.shared_slice_known-1.given) (search rules) _ c.before.loop-i.any c.before.loop-i.invariant.1 (omega arith)
 
 pub history_spec : {M : Type 1} → statement M
 history_spec =

@@ -10,10 +10,10 @@ use borrow.Author.Rules.{rules}
 use Rattle.convert.proofs.low.transactors.Statement.{statement}
 use Rattle.convert.proofs.low.transactors.Tie as tie
 
-abbrev invariant-loop : tie.invariant-loop
+abbrev invariant-loop : tie.invariant-loop-t
 invariant-loop s t₀ t = Held (λ i. entries_within largest_narrow base s (transactor_address base i + state_at) 48) 16 t
 
-abbrev decreases-loop : tie.decreases-loop
+abbrev decreases-loop : tie.decreases-loop-t
 decreases-loop s t₀ t = 16 - t
 
 pub transactors_spec : {M : Type 1} → statement M
@@ -28,8 +28,8 @@ transactors_spec =
     (λ c. search rules)
     (λ c. search rules)
     (λ c κs. search rules)
-    (λ c. held-fails c.before.before.before.loop.invariant (search rules) (ap not (sym c.before.histories.ensures) ∙ c.if1.true))
+    (λ c. held-fails c.before.before.before.loop-t.invariant (search rules) (ap not (sym c.before.histories.ensures) ∙ c.if-not-histories.true-raw))
     (λ c. search rules)
     (λ c. search rules)
-    (λ c. held_more (search rules) (search rules) (ap not (sym c.before.histories.ensures) ∙ c.if1.false))
-    (λ c. held_all c.before.loop.invariant (search rules)))
+    (λ c. held_more (search rules) (search rules) (ap not (sym c.before.histories.ensures) ∙ c.if-not-histories.false-raw))
+    (λ c. held_all c.before.loop-t.invariant (search rules)))
