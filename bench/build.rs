@@ -1,5 +1,5 @@
-//! Links the static library of crate c_ledger, and with the features `engine`, `text` and `looking` those of c_engine, c_notation
-//! and c_looking, from target/staticlib or from the folder that LEDGER_LIBRARY names.
+//! Links the static library of crate ledger_c, and with the features `engine`, `text` and `looking` those of engine_c, notation_c
+//! and looking_c, from target/staticlib or from the folder that LEDGER_LIBRARY names.
 
 use std::env;
 
@@ -10,10 +10,10 @@ fn main() {
     println!("cargo:rerun-if-env-changed=LEDGER_LIBRARY");
     let with = |feature: &str| env::var(feature).is_ok();
     let libraries = [
-        ("c_ledger", true),
-        ("c_engine", with("CARGO_FEATURE_ENGINE")),
-        ("c_notation", with("CARGO_FEATURE_TEXT")),
-        ("c_looking", with("CARGO_FEATURE_LOOKING")),
+        ("ledger_c", true),
+        ("engine_c", with("CARGO_FEATURE_ENGINE")),
+        ("notation_c", with("CARGO_FEATURE_TEXT")),
+        ("looking_c", with("CARGO_FEATURE_LOOKING")),
     ];
     for (name, _) in libraries.iter().filter(|l| l.1) {
         println!("cargo:rustc-link-lib=static={name}");

@@ -2,7 +2,7 @@
  * one with that of include/engine.h: an engine has no images, so it is asked for the replies to whole lists from a fresh session alone, and
  * the other tests are skipped.
  *
- *     cc -I include -o runner conformance/runner.c target/staticlib/libc_ledger.a target/staticlib/libc_looking.a && ./runner FILE ..
+ *     cc -I include -o runner conformance/runner.c target/staticlib/libledger_c.a target/staticlib/liblooking_c.a && ./runner FILE ..
  */
 #include <stdio.h>
 #include <stdlib.h>
@@ -309,7 +309,7 @@ static int numbers_differ(const struct node *list, const uint64_t *got) {
 static int actor(const struct node *file, const struct node *test) {
     struct bytes image = image_of(file, test, IMAGE), before = copy(image), step = words(get(test, "list"), number(test, "list_length", -1));
     uint8_t refusal = BLANK;
-    struct ledger_actor_answer a = ledger_actor(image.at, image.length, step.at, step.length, &refusal);
+    struct ledger_acting a = ledger_actor(image.at, image.length, step.at, step.length, &refusal);
     uint64_t got[2] = {a.kind, a.takes};
     if (differs("refusal", refusal, number(test, "refusal", 0)) || numbers_differ(get(test, "answer"), got)) return 1;
     return same(image, before) ? 0 : changed("image");
@@ -335,20 +335,20 @@ static int query(const struct node *file, const struct node *test) {
     else if (!strcmp(call, "ready_count")) got[0] = ledger_ready_count(i.at, i.length, number(test, "size", 0), &refusal);
     else if (!strcmp(call, "all_heard_frozen")) got[0] = ledger_all_heard_stable(i.at, i.length, take, &refusal);
     else if (!strcmp(call, "show")) {
-        struct ledger_show_answer p = ledger_show(i.at, i.length, number(test, "parcel", 0), &refusal);
+        struct ledger_part p = ledger_show(i.at, i.length, number(test, "parcel", 0), &refusal);
         got[0] = p.offset, got[1] = p.length;
     } else if (!strcmp(call, "dependents")) {
-        struct ledger_dependents_answer d = ledger_dependents(i.at, i.length, take, &refusal);
+        struct ledger_resting d = ledger_dependents(i.at, i.length, take, &refusal);
         got[0] = d.resting, got[1] = d.through, got[2] = d.unfinished, got[3] = d.carried;
     } else if (!strcmp(call, "obstacle")) {
-        struct ledger_obstacle_answer o = ledger_obstacle(i.at, i.length, number(test, "volume", 0), &refusal);
+        struct ledger_reason o = ledger_obstacle(i.at, i.length, number(test, "volume", 0), &refusal);
         got[0] = o.kind, got[1] = o.transactor, got[2] = o.ground;
     } else if (!strcmp(call, "impediment")) {
-        struct ledger_impediment_answer m = ledger_impediment(i.at, i.length, take, &refusal);
+        struct ledger_cause m = ledger_impediment(i.at, i.length, take, &refusal);
         got[0] = m.kind, got[1] = m.transactor, got[2] = m.ground, got[3] = m.next;
     } else if (!strcmp(call, "worst_window")) {
         list = words(get(test, "list"), number(test, "list_length", -1));
-        struct ledger_worst_window_answer w = ledger_worst_window(list.at, list.length, number(test, "width", 0), &refusal);
+        struct ledger_window w = ledger_worst_window(list.at, list.length, number(test, "width", 0), &refusal);
         got[0] = w.count, got[1] = w.place;
     } else fail("a call that this runner does not know");
     if (differs("refusal", refusal, number(test, "refusal", 0))) return 1;

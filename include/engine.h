@@ -1,7 +1,7 @@
 /* The engine without maps: it plays a whole step list from a fresh session and gives the replies that the ledger (ledger.h) gives. The
  * numbers, and how steps and replies are packed, are in ledger_steps.h; the rules are docs/RULES.md.
  *
- * The library is built by `rt staticlib engine_c` as target/staticlib/libengine_c.a, for x86-64 Linux, and can be linked alone or beside
+ * The library is built by `tools/library engine_c` as target/staticlib/libengine_c.a, for x86-64 Linux, and can be linked alone or beside
  * the ledger's.
  * It has no maps and no image: where a receipt or a signing depends on chains, it traces them back through the list and the replies given
  * so far. Of the refusals of steps 27, 28 and 31 cannot arise: a list is too short for the first two, and no session from a fresh one meets

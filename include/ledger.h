@@ -1,7 +1,8 @@
 /* The take ledger: a session is an image of LEDGER_IMAGE bytes and nothing else. The numbers, and how steps and replies are packed, are in
  * ledger_steps.h; the rules are docs/RULES.md.
  *
- * The library is built by `rt staticlib ledger_c` as target/staticlib/libledger_c.a, for x86-64 Linux.
+ * The library is built by `tools/library ledger_c` as target/staticlib/libledger_c.a, for x86-64 Linux. Installed, all headers are in
+ * take-ledger/ and all libraries are one, which `pkg-config --cflags --libs take-ledger` names.
  *
  * What a caller owes (buffers, threads, stack) is said once, in ledger_steps.h.
  * Numbers are as wide as a caller may have them, and none is cut off.
@@ -153,6 +154,7 @@ uint8_t ledger_all_heard_stable(const uint8_t *image, size_t image_length, size_
 /* What rests on the present incarnation of the transactor. In a session grown from a fresh one: if it rolls back now, those of resting and through can't be checkpointed any more, but
  * for itself, as long as they keep their own; *refusal is 0. Refused: *refusal is 16, 19, 21 or 22, and all four numbers are 0. */
 struct ledger_resting ledger_dependents(const uint8_t *image, size_t image_length, size_t transactor, uint8_t *refusal);
+void ledger_dependents_into(const uint8_t *image, size_t image_length, size_t transactor, uint8_t *refusal, struct ledger_resting *answer);
 
 /* Why the group (its bits, transactor t counting 2^t) can't be checkpointed now: the first reason, LEDGER_NOTHING exactly if it can; *refusal
  * is 0. An unstable transactor comes first; then the maps are looked at, transactor by transactor and entry by entry. With
@@ -161,6 +163,7 @@ struct ledger_resting ledger_dependents(const uint8_t *image, size_t image_lengt
  * *refusal is 16, 19, or what the signing would get, 29, 21, 22 or 30, and all three numbers are 0. A number past 16 bits names a transactor that
  * no session opens: 21. */
 struct ledger_reason ledger_obstacle(const uint8_t *image, size_t image_length, size_t members, uint8_t *refusal);
+void ledger_obstacle_into(const uint8_t *image, size_t image_length, size_t members, uint8_t *refusal, struct ledger_reason *answer);
 
 /* Why no group with the transactor could be checkpointed now: LEDGER_NO_IMPEDIMENT exactly if one could, that is, if ledger_smallest_group
  * gives one; *refusal is 0. The hopeless come first, then the exhausted, then the unstable; of each the lowest. Asked about next, the answer is
@@ -168,6 +171,7 @@ struct ledger_reason ledger_obstacle(const uint8_t *image, size_t image_length, 
  * session grown from a fresh one, no group with the asked transactor can be checkpointed as long as it keeps its present incarnation. Refused: *refusal is 16, 19, 21 or 22, and all
  * four numbers are 0. */
 struct ledger_cause ledger_impediment(const uint8_t *image, size_t image_length, size_t transactor, uint8_t *refusal);
+void ledger_impediment_into(const uint8_t *image, size_t image_length, size_t transactor, uint8_t *refusal, struct ledger_cause *answer);
 
 /* For whom the step, LEDGER_STEP bytes, acts on this image: whoever gives people rights asks it
  * before the step is run. Refusals other than those of LEDGER_NOBODY are not asked about. A step
@@ -175,6 +179,8 @@ struct ledger_cause ledger_impediment(const uint8_t *image, size_t image_length,
  * *refusal is 0. Refused: *refusal is 16, 17 (step not LEDGER_STEP bytes) or 19, and both numbers
  * are 0. */
 struct ledger_acting ledger_actor(const uint8_t *image, size_t image_length, const uint8_t *step, size_t step_length, uint8_t *refusal);
+void ledger_actor_into(const uint8_t *image, size_t image_length, const uint8_t *step, size_t step_length, uint8_t *refusal,
+    struct ledger_acting *answer);
 
 /* Where an image fails the form first: answers 0 if it is well-formed, with *at and *clause 0; 19
  * if it is not, with the byte in *at (where the field, map or place begins) and the clause in
@@ -205,6 +211,7 @@ size_t ledger_thin(const uint8_t *image, size_t image_length,
 /* Where the LEDGER_MAP bytes of the image are that hold the map of the waiting message with this number; *refusal is 0.
  * Refused: *refusal is 16, 19 or 24, and offset and length are 0. */
 struct ledger_part ledger_show(const uint8_t *image, size_t image_length, size_t number, uint8_t *refusal);
+void ledger_show_into(const uint8_t *image, size_t image_length, size_t number, uint8_t *refusal, struct ledger_part *answer);
 
 /* Writes source, an image of the old form, in target as one that the other calls take, with the limits 16, 32 and 15, and answers 0.
  * Refused with 16 (source not LEDGER_OLD_IMAGE bytes, or target not LEDGER_IMAGE) or 19 (source ill-formed): no byte is changed. */
@@ -218,6 +225,7 @@ uint8_t ledger_back(const uint8_t *source, size_t source_length, uint8_t *target
  * is one window, and an empty list gives 0 at 0; *refusal is 0. Refused: *refusal is 17 or 35, and both numbers are 0.
  * It reads a list of replies alone, wherever they come from, and no image. */
 struct ledger_window ledger_worst_window(const uint8_t *replies, size_t replies_length, size_t width, uint8_t *refusal);
+void ledger_worst_window_into(const uint8_t *replies, size_t replies_length, size_t width, uint8_t *refusal, struct ledger_window *answer);
 
 #ifdef __cplusplus
 }

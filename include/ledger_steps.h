@@ -1,7 +1,7 @@
 /* What the ledger (ledger.h) and the engine without maps (engine.h) have in common: packed steps and replies, limits, and the numbers of
  * kinds, outcomes and refusals. The rules are docs/RULES.md; the words are the field's: a transactor is the documents' take, a message a
  * parcel, a value a text, a history a mark, an incarnation a life, a group a volume, stable is frozen, checkpointed is signed
- * (docs/GLOSSARY.md). Kinds of step and outcomes have the documents' names.
+ * (docs/RULES.md, section 1). Kinds of step and outcomes have the documents' names.
  *
  * A step is 8 bytes, most significant bit first:
  *
@@ -27,11 +27,15 @@
  *
  * Refused calls change no byte but the lent number for the refusal.
  *
+ * Answers. A call that answers with a struct has a sibling whose name ends in _into: it writes the
+ * same answer into the struct that its last argument lends; where that is null, it does nothing.
+ *
  * Threads. The libraries keep nothing between calls, have no variable of their own and allocate
  * nothing. Any number of threads may call at the same time; two calls of which one writes to a
  * buffer must not have that buffer in common at the same time, as for any memory.
  *
- * Stack. Each header says how much stack each of its calls takes at most. No call calls back,
+ * Stack. Each header says how much stack each of its calls takes at most, and a sibling takes at
+ * most 64 bytes more. No call calls back,
  * waits, or asks the operating system for anything; each ends. They need memcpy, memmove and memset
  * and nothing else.
  *

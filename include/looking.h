@@ -1,7 +1,7 @@
 /* For a program that looks on and must not know a rule: what a receipt would do, two histories compared, whether
  * two steps may come in either order, what a byte of an image belongs to.
  *
- * The library is built by `rt staticlib looking_c` as target/staticlib/liblooking_c.a, for x86-64 Linux, and can be linked alone or beside
+ * The library is built by `tools/library looking_c` as target/staticlib/liblooking_c.a, for x86-64 Linux, and can be linked alone or beside
  * the ledger's.
  *
  * What a caller owes (buffers, threads, stack) is said once, in ledger_steps.h.
@@ -74,10 +74,13 @@ struct looking_place {
 /* What the receipt of the waiting message with this number would reply now, and whose histories decide it; *refusal is 0. The image is only read.
  * Refused: *refusal is 16, 19, or what the receipt would get, 24, 22, 23, 31 or 28, and both numbers are 0. */
 struct looking_verdict looking_decision(const uint8_t *image, size_t image_length, size_t number, uint8_t *refusal);
+void looking_decision_into(const uint8_t *image, size_t image_length, size_t number, uint8_t *refusal, struct looking_verdict *answer);
 
 /* Two packed histories of one transactor, 33 bytes each, compared; *refusal is 0. Refused: *refusal is 16 where one has another
  * length, 19 where one is absent or ill-formed, and both numbers are 0. */
 struct looking_comparison looking_compare(const uint8_t *left, size_t left_length, const uint8_t *right, size_t right_length, uint8_t *refusal);
+void looking_compare_into(const uint8_t *left, size_t left_length, const uint8_t *right, size_t right_length, uint8_t *refusal,
+    struct looking_comparison *answer);
 
 /* Whether two packed steps, 8 bytes each, may come in either order on this image. The answer is 1 exactly if they are
  * independent: neither of them sees what the other changes. Then both orders leave the same image and give each step the
@@ -88,6 +91,7 @@ uint8_t looking_independent(const uint8_t *image, size_t image_length, const uin
 
 /* What byte at of an image belongs to; past the image all numbers are 0. Each byte of an image has an answer of its own. */
 struct looking_place looking_field(size_t at);
+void looking_field_into(size_t at, struct looking_place *answer);
 
 #ifdef __cplusplus
 }

@@ -1,7 +1,7 @@
 /* Step lists, replies and images as text (docs/NOTATION.md). Numbers and packed forms are those of documents 01 and 02, and the text speaks
  * the documents' words.
  *
- * The library is built by `rt staticlib notation_c` as target/staticlib/libnotation_c.a, for x86-64 Linux, and can be linked alone or beside
+ * The library is built by `tools/library notation_c` as target/staticlib/libnotation_c.a, for x86-64 Linux, and can be linked alone or beside
  * the ledger's.
  *
  * What a caller owes (buffers, threads, stack) is said once, in ledger_steps.h.
@@ -65,27 +65,35 @@ size_t notation_parse(const uint8_t *text, size_t text_length, uint8_t *out, siz
 
 /* Writes the words of what was expected, as `a take, 0 to 15`, without LF; nothing for a number that is not 1 to 12. 18. */
 struct notation_given notation_expected_text(uint8_t expected, uint8_t *out, size_t out_length);
+void notation_expected_text_into(uint8_t expected, uint8_t *out, size_t out_length, struct notation_given *answer);
 
 /* Writes the words of a refusal, as `image ill-formed`, without LF; nothing for a number that is
  * not 16 to 35. 18. */
 struct notation_given notation_refusal_text(uint8_t number, uint8_t *out, size_t out_length);
+void notation_refusal_text_into(uint8_t number, uint8_t *out, size_t out_length, struct notation_given *answer);
 
 /* How long the text of a list is. 17. */
 struct notation_given notation_length(const uint8_t *list, size_t list_length);
+void notation_length_into(const uint8_t *list, size_t list_length, struct notation_given *answer);
 
 /* Writes the canonical text of a list to the front of out: one step a line, each ended by LF. 17, 18. */
 struct notation_given notation_print(const uint8_t *list, size_t list_length, uint8_t *out, size_t out_length);
+void notation_print_into(const uint8_t *list, size_t list_length, uint8_t *out, size_t out_length, struct notation_given *answer);
 
 /* Writes the line of step i, from 0 on, of a list of any length, with its LF; nothing past the last whole step. 18. */
 struct notation_given notation_step(const uint8_t *list, size_t list_length, size_t i, uint8_t *out, size_t out_length);
+void notation_step_into(const uint8_t *list, size_t list_length, size_t i, uint8_t *out, size_t out_length, struct notation_given *answer);
 
 /* Writes the reply to step i in words, without LF; nothing past the last step or reply. 18. */
 struct notation_given notation_reply(const uint8_t *list, size_t list_length, const uint8_t *replies, size_t replies_length, size_t i,
                                      uint8_t *out, size_t out_length);
+void notation_reply_into(const uint8_t *list, size_t list_length, const uint8_t *replies, size_t replies_length, size_t i, uint8_t *out,
+    size_t out_length, struct notation_given *answer);
 
 /* Writes line n, from 0 on, of an image's text, with its LF. Every take and parcel has its lines at fixed numbers, so many are empty; past the
  * last all are. 16, 19, 18. */
 struct notation_given notation_image(const uint8_t *image, size_t image_length, size_t n, uint8_t *out, size_t out_length);
+void notation_image_into(const uint8_t *image, size_t image_length, size_t n, uint8_t *out, size_t out_length, struct notation_given *answer);
 
 #ifdef __cplusplus
 }

@@ -73,17 +73,17 @@ static void hearing(void) {
 
 static void of_images(const uint8_t *of, size_t length) {
     for (size_t n = 0; n < 40; n++) {
-        SAME(ledger_dependents_answer, ledger_dependents, of, length, n);
-        SAME(ledger_obstacle_answer, ledger_obstacle, of, length, n);
-        SAME(ledger_impediment_answer, ledger_impediment, of, length, n);
-        SAME(ledger_show_answer, ledger_show, of, length, n);
-        SAME(looking_decision_answer, looking_decision, of, length, n);
+        SAME(ledger_resting, ledger_dependents, of, length, n);
+        SAME(ledger_reason, ledger_obstacle, of, length, n);
+        SAME(ledger_cause, ledger_impediment, of, length, n);
+        SAME(ledger_part, ledger_show, of, length, n);
+        SAME(looking_verdict, looking_decision, of, length, n);
         SAME_TEXT(notation_image, n, of, length, n);
         SAME_TEXT(notation_image, NOTATION_LINE, of, length, 30 * n);
     }
     for (size_t i = 0; i < sizeof list; i += LEDGER_STEP) {
-        SAME(ledger_actor_answer, ledger_actor, of, length, list + i, LEDGER_STEP);
-        SAME(ledger_actor_answer, ledger_actor, of, length, list + i, (size_t)7);
+        SAME(ledger_acting, ledger_actor, of, length, list + i, LEDGER_STEP);
+        SAME(ledger_acting, ledger_actor, of, length, list + i, (size_t)7);
     }
 }
 
@@ -93,8 +93,8 @@ static void of_lists(void) {
         notation_length_into(list, n, &into);
         holds(by_value.length == into.length && by_value.refusal == into.refusal, "notation_length");
         notation_length_into(list, n, NULL);
-        SAME(ledger_worst_window_answer, ledger_worst_window, replies, n, (size_t)3);
-        SAME(ledger_worst_window_answer, ledger_worst_window, replies, sizeof replies, 5 * n);
+        SAME(ledger_window, ledger_worst_window, replies, n, (size_t)3);
+        SAME(ledger_window, ledger_worst_window, replies, sizeof replies, 5 * n);
         SAME_TEXT(notation_print, (size_t)512, list, n);
         SAME_TEXT(notation_print, n, list, sizeof list);
         SAME_TEXT(notation_step, NOTATION_LINE, list, sizeof list, n);
@@ -114,11 +114,11 @@ int main(void) {
     of_images(image, sizeof image - 1);
     for (size_t at = 0; at < 3; at++) {
         const uint8_t *left = image + 8 + 9 + 33 * at, *right = image + 8 + 1593 + 9;
-        SAME(looking_compare_answer, looking_compare, left, (size_t)LEDGER_HISTORY, right, (size_t)LEDGER_HISTORY);
-        SAME(looking_compare_answer, looking_compare, left, (size_t)LEDGER_HISTORY, right, (size_t)LEDGER_HISTORY - 1);
+        SAME(looking_comparison, looking_compare, left, (size_t)LEDGER_HISTORY, right, (size_t)LEDGER_HISTORY);
+        SAME(looking_comparison, looking_compare, left, (size_t)LEDGER_HISTORY, right, (size_t)LEDGER_HISTORY - 1);
     }
     for (size_t at = 0; at < LEDGER_IMAGE + 2; at++) {
-        struct looking_field_answer by_value = looking_field(at), into;
+        struct looking_place by_value = looking_field(at), into;
         memset(&into, BLANK, sizeof into);
         looking_field_into(at, &into);
         looking_field_into(at, NULL);

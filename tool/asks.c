@@ -128,7 +128,7 @@ int verb_who(int count, char **words) {
     (void)count;
     struct bytes image = image_in(words[0]);
     uint8_t refusal;
-    struct ledger_dependents_answer d = ledger_dependents(image.at, image.length, take_in(words[1]), &refusal);
+    struct ledger_resting d = ledger_dependents(image.at, image.length, take_in(words[1]), &refusal);
     if (refusal) return refused(words[0], refusal);
     if (options.json) {
         fputs("{\"resting\": ", stdout), json_volume(d.resting);
@@ -166,21 +166,21 @@ static int json_reason(const char *kind, unsigned take, unsigned ground) {
 static int why_none(const char *name, struct bytes image, unsigned take) {
     static const char *const KINDS[] = {"nothing", "hopeless", "exhausted", "not frozen"};
     uint8_t refusal;
-    struct ledger_impediment_answer o = ledger_impediment(image.at, image.length, take, &refusal);
+    struct ledger_cause o = ledger_impediment(image.at, image.length, take, &refusal);
     if (refusal) return refused(name, refusal);
     if (options.json) return json_reason(KINDS[o.kind], o.transactor, o.ground);
-    if (o.kind == LEDGER_IMPEDIMENT_NOTHING) {
+    if (o.kind == LEDGER_NO_IMPEDIMENT) {
         volume_line("can be signed", ledger_smallest_group(image.at, image.length, take, &refusal));
         return DONE;
     }
     for (unsigned at = take; at != o.transactor;) {
-        struct ledger_impediment_answer on = ledger_impediment(image.at, image.length, at, &refusal);
+        struct ledger_cause on = ledger_impediment(image.at, image.length, at, &refusal);
         two_line(at, " rests on ", on.next, "");
         at = on.next;
     }
-    if (o.kind == LEDGER_IMPEDIMENT_HOPELESS) two_line(o.transactor, " rests on a withdrawn life of ", o.ground, "");
-    if (o.kind == LEDGER_IMPEDIMENT_EXHAUSTED) one_line(o.transactor, " has all its signings");
-    if (o.kind == LEDGER_IMPEDIMENT_UNSTABLE) one_line(o.transactor, " is not frozen");
+    if (o.kind == LEDGER_HOPELESS) two_line(o.transactor, " rests on a withdrawn life of ", o.ground, "");
+    if (o.kind == LEDGER_EXHAUSTED) one_line(o.transactor, " has all its signings");
+    if (o.kind == LEDGER_NOT_STABLE) one_line(o.transactor, " is not frozen");
     return NO;
 }
 
@@ -191,13 +191,13 @@ int verb_why(int count, char **words) {
     size_t group = 0;
     for (int i = 1; i < count; i++) group |= ledger_member(take_in(words[i]));
     uint8_t refusal;
-    struct ledger_obstacle_answer o = ledger_obstacle(image.at, image.length, group, &refusal);
+    struct ledger_reason o = ledger_obstacle(image.at, image.length, group, &refusal);
     if (refusal) return refused(words[0], refusal);
     if (options.json) return json_reason(KINDS[o.kind], o.transactor, o.ground);
-    if (o.kind == LEDGER_OBSTACLE_NOTHING) return volume_line("can be signed", (unsigned)group), DONE;
-    if (o.kind == LEDGER_OBSTACLE_UNSTABLE) one_line(o.transactor, " is not frozen");
-    if (o.kind == LEDGER_OBSTACLE_OUTSIDE) two_line(o.transactor, " rests on ", o.ground, ", which is not in the volume");
-    if (o.kind == LEDGER_OBSTACLE_SUPERSEDED_OR_ANNIHILATED) two_line(o.transactor, " rests on a withdrawn life of ", o.ground, "");
+    if (o.kind == LEDGER_NOTHING) return volume_line("can be signed", (unsigned)group), DONE;
+    if (o.kind == LEDGER_UNSTABLE) one_line(o.transactor, " is not frozen");
+    if (o.kind == LEDGER_OUTSIDE) two_line(o.transactor, " rests on ", o.ground, ", which is not in the volume");
+    if (o.kind == LEDGER_SUPERSEDED_OR_ANNIHILATED) two_line(o.transactor, " rests on a withdrawn life of ", o.ground, "");
     return NO;
 }
 
@@ -224,8 +224,8 @@ int verb_plan(int count, char **words) {
     if (options.json) return json_steps(out, steps), steps ? DONE : NO;
     for (size_t i = 0; i < steps; i++) tell_step(out + LEDGER_STEP * i), putchar('\n');
     if (steps > 0) return DONE;
-    struct ledger_impediment_answer o = ledger_impediment(image.at, image.length, take, &refusal);
-    if (o.kind == LEDGER_IMPEDIMENT_HOPELESS || o.kind == LEDGER_IMPEDIMENT_EXHAUSTED) return why_none(words[0], image, take);
+    struct ledger_cause o = ledger_impediment(image.at, image.length, take, &refusal);
+    if (o.kind == LEDGER_HOPELESS || o.kind == LEDGER_EXHAUSTED) return why_none(words[0], image, take);
     puts("no room for the letters that wake idle takes: receive or lose a parcel first");
     return NO;
 }
@@ -264,7 +264,7 @@ int verb_decide(int count, char **words) {
     static const char *const SAYS[] = {"would be taken in", "", "would be dropped", "makes its receiver fall back", "makes its receiver vanish"};
     struct bytes image = image_in(words[0]);
     uint8_t refusal;
-    struct looking_decision_answer d = looking_decision(image.at, image.length, number_in(words[1], SIZE_MAX, "a parcel"), &refusal);
+    struct looking_verdict d = looking_decision(image.at, image.length, number_in(words[1], SIZE_MAX, "a parcel"), &refusal);
     if (refusal) return refused(words[0], refusal);
     if (options.json) return printf("{\"outcome\": %zu, \"take\": %zu}\n", d.outcome, d.transactor), DONE;
     printf("parcel %s %s", words[1], SAYS[d.outcome]);

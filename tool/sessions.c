@@ -142,7 +142,7 @@ int verb_window(int count, char **words) {
     uint8_t refusal;
     start(image);
     struct bytes replies = replies_to(image, list);
-    struct ledger_worst_window_answer w = ledger_worst_window(replies.at, replies.length, width, &refusal);
+    struct ledger_window w = ledger_worst_window(replies.at, replies.length, width, &refusal);
     if (refusal) return refused(words[0], refusal);
     if (options.json) printf("{\"count\": %zu, \"place\": %zu}\n", w.count, w.place);
     else printf("most falls in a window of %zu replies: %zu, from step %zu on\n", width, w.count, w.place + 1);

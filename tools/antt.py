@@ -15,8 +15,8 @@ def words(text):
     for word in re.split(r"[\s(){}\[\];,λ]+", text):
         found.add(word)
         found.update(word.split("."))
-        if "·" in word or "_" in word:
-            found.update(word.split("·"))
+        if "◌" in word:
+            found.update(word.split("◌"))
     return found
 
 
@@ -56,7 +56,7 @@ def declarations(path):
         used = re.match(r"^(?:pub |unfoldable )*use ([^\s{]+)\.\{([^}]*)\}$", line)
         if used:
             for name in used[2].split(","):
-                imports[name.strip()] = used[1]
+                imports[name.split(" as ")[-1].strip()] = used[1]
             continue
         short = re.match(r"^use ([^\s{]+) as (\w+)$", line)
         if short:
@@ -82,13 +82,23 @@ def declarations(path):
 
 
 def law_files():
-    """Files of laws: those under proofs/ that are not the proof of a function."""
-    return [p for p in sorted(TOP.glob("crates/*/proofs/**/*.antt")) if p.name != "Proof.antt"]
+    """Files of laws: those under proofs/ that are not part of the proof of a function."""
+    return [p for p in sorted(TOP.glob("crates/*/proofs/**/*.antt")) if not of_function(p)]
+
+
+def of_function(path):
+    """Whether it is part of the proof of a function: in the folder of one, whose name has no capital at its front."""
+    return path.stem in ("Proof", "Invariants", "Answers") and path.parent.name != "proofs" and not path.parent.name[0].isupper()
+
+
+def function_files():
+    """The proofs of functions."""
+    return [p for p in sorted(TOP.glob("crates/*/proofs/**/*.antt")) if of_function(p)]
 
 
 def file_of(module):
     """The file of a module path as written in a `use` line, or None."""
-    found = re.match(r"^Rattle·(\w+)(?:·\w+)?\.(specs|proofs)\.(.+)$", module)
+    found = re.match(r"^Rattle\.(\w+)\.(specs|proofs)\.(.+)$", module)
     if not found:
         return None
     crate, kind, rest = found.groups()
@@ -164,11 +174,11 @@ class File:
     def use(self, line):
         m = USE.match(line)
         if m is None:
-            return line.startswith(("mod ", "pub mod ", "infix"))
+            return line.startswith(("mod ", "pub mod ", "infix", "open "))
         if m["alias"]:
             self.aliases[m["alias"]] = m["path"]
         for name in (m["names"] or "").split(","):
-            self.uses[name.strip()] = m["path"]
+            self.uses[name.split(" as ")[-1].strip()] = m["path"]
         return True
 
     def declare(self, line, current, modules, number, comment):

@@ -16,12 +16,12 @@ const ILL_FORMED = 19;
 const OBSTACLES = ["nothing", "not frozen", "outside", "withdrawn"];
 const RELATIONS = ["same life", "left signed", "right signed", "left withdrawn", "right withdrawn", "unrelated"];
 const ACTORS = ["nobody", "the house", "a take", "a volume"];
-const IMPEDIMENTS = ["nothing", "hopeless", "exhausted", "not frozen"];
+const IMPEDIMENTS = ["nothing", "withdrawn", "all signed", "not frozen"];
 
 /** @typedef {import("./memory.mjs").Memory} Memory */
 /** @typedef {{takes: number, parcels: number, signings: number}} Limits */
 /** @typedef {{kind: "nothing" | "not frozen" | "outside" | "withdrawn", take: number, ground: number}} Obstacle */
-/** @typedef {{kind: "nothing" | "hopeless" | "exhausted" | "not frozen", take: number, ground: number, next: number}} Impediment */
+/** @typedef {{kind: "nothing" | "withdrawn" | "all signed" | "not frozen", take: number, ground: number, next: number}} Impediment */
 /** @typedef {{outcome: number, take: number}} Decision */
 /** @typedef {{kind: "nobody" | "the house" | "a take" | "a volume", takes: number}} Actor */
 /** @typedef {{at: number, clause: number}} Fault */
@@ -222,7 +222,7 @@ export class Session {
 
   /**
    * What is left to do so that the take is signed: the steps, packed. Run on this session each is answered with outcome 0, and the last
-   * signs the take with all that it rests on. No steps: impediment says "hopeless" or "exhausted", and then it can't be signed any more in
+   * signs the take with all that it rests on. No steps: impediment says "withdrawn" or "all signed", and then it can't be signed any more in
    * the life that it has; where it says anything else, there is no place or no number for a letter that is needed.
    * @param {number} take
    * @param {number} [room] for the steps, in bytes

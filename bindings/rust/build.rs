@@ -51,7 +51,7 @@ fn asked(arguments: &[&str]) -> String {
 fn missing(reason: &str) -> ! {
     eprintln!(
         "\nThe take ledger's library was not found by pkg-config. Install the packages\n\
-         libtake-ledger5 and libtake-ledger-dev, or let PKG_CONFIG_PATH name the folder that has\n\
+         libtake-ledger4 and libtake-ledger-dev, or let PKG_CONFIG_PATH name the folder that has\n\
          take-ledger.pc: of a copy that was installed under PREFIX it is PREFIX/lib/pkgconfig.\n\
          {}\n",
         reason.trim()

@@ -32,7 +32,7 @@ static void print_volume(unsigned volume) {
 
 static void who_rests_on(unsigned take) {
     uint8_t refusal;
-    struct ledger_dependents_answer d = ledger_dependents(image, sizeof image, take, &refusal);
+    struct ledger_resting d = ledger_dependents(image, sizeof image, take, &refusal);
     if (refusal != 0) {
         printf("who rests on %s? refused with %d\n", word[take], refusal);
         return;
@@ -48,33 +48,33 @@ static void who_rests_on(unsigned take) {
 
 static void why_not(unsigned volume) {
     uint8_t refusal;
-    struct ledger_obstacle_answer o = ledger_obstacle(image, sizeof image, volume, &refusal);
+    struct ledger_reason o = ledger_obstacle(image, sizeof image, volume, &refusal);
     printf("why not sign ");
     print_volume(volume);
     if (refusal != 0) printf("  refused with %d\n", refusal);
-    else if (o.kind == LEDGER_OBSTACLE_NOTHING) printf("  nothing stands against it\n");
-    else if (o.kind == LEDGER_OBSTACLE_UNSTABLE) printf("  %s: not frozen\n", word[o.transactor]);
-    else if (o.kind == LEDGER_OBSTACLE_OUTSIDE) printf("  %s rests on %s, outside the volume\n", word[o.transactor], word[o.ground]);
+    else if (o.kind == LEDGER_NOTHING) printf("  nothing stands against it\n");
+    else if (o.kind == LEDGER_UNSTABLE) printf("  %s: not frozen\n", word[o.transactor]);
+    else if (o.kind == LEDGER_OUTSIDE) printf("  %s rests on %s, outside the volume\n", word[o.transactor], word[o.ground]);
     else printf("  %s rests on a withdrawn life of %s\n", word[o.transactor], word[o.ground]);
 }
 
 /* The chain from the take to what is in the way, one call a link. */
 static void why_none_with(unsigned take) {
     uint8_t refusal;
-    struct ledger_impediment_answer i = ledger_impediment(image, sizeof image, take, &refusal);
+    struct ledger_cause i = ledger_impediment(image, sizeof image, take, &refusal);
     printf("why is no volume with %s ready?\n", word[take]);
     if (refusal != 0) {
         printf("  refused with %d\n", refusal);
         return;
     }
-    while (i.kind != LEDGER_IMPEDIMENT_NOTHING && i.next != take) {
+    while (i.kind != LEDGER_NO_IMPEDIMENT && i.next != take) {
         printf("  %s rests on %s\n", word[take], word[i.next]);
         take = i.next;
         i = ledger_impediment(image, sizeof image, take, &refusal);
     }
-    if (i.kind == LEDGER_IMPEDIMENT_NOTHING) printf("  nothing is in the way\n");
-    else if (i.kind == LEDGER_IMPEDIMENT_HOPELESS) printf("  %s rests on a withdrawn life of %s: no volume ever, in this life\n", word[take], word[i.ground]);
-    else if (i.kind == LEDGER_IMPEDIMENT_EXHAUSTED) printf("  %s has all its signings\n", word[take]);
+    if (i.kind == LEDGER_NO_IMPEDIMENT) printf("  nothing is in the way\n");
+    else if (i.kind == LEDGER_HOPELESS) printf("  %s rests on a withdrawn life of %s: no volume ever, in this life\n", word[take], word[i.ground]);
+    else if (i.kind == LEDGER_EXHAUSTED) printf("  %s has all its signings\n", word[take]);
     else printf("  %s: not frozen\n", word[take]);
 }
 

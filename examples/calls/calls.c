@@ -51,7 +51,7 @@ static void ledger_offer_example(void) {
 
 static void ledger_show_example(void) {
     hearing();
-    struct ledger_show_answer part = ledger_show(image, sizeof image, 2, &refusal);
+    struct ledger_part part = ledger_show(image, sizeof image, 2, &refusal);
     const uint8_t *map = image + part.offset;
     assert(part.length == LEDGER_MAP && map[0] >> 7 == 1); /* it has a mark of take 0 */
 }
@@ -77,27 +77,27 @@ static void ledger_all_heard_stable_example(void) {
 
 static void ledger_dependents_example(void) {
     hearing();
-    struct ledger_dependents_answer reached = ledger_dependents(image, sizeof image, 0, &refusal);
+    struct ledger_resting reached = ledger_dependents(image, sizeof image, 0, &refusal);
     assert(reached.through == (ledger_member(0) | ledger_member(1)) && reached.carried == 1);
 }
 
 static void ledger_obstacle_example(void) {
     hearing();
-    struct ledger_obstacle_answer why = ledger_obstacle(image, sizeof image, ledger_member(1), &refusal);
-    assert(why.kind == LEDGER_OBSTACLE_OUTSIDE && why.transactor == 1 && why.ground == 0);
+    struct ledger_reason why = ledger_obstacle(image, sizeof image, ledger_member(1), &refusal);
+    assert(why.kind == LEDGER_OUTSIDE && why.transactor == 1 && why.ground == 0);
 }
 
 static void ledger_impediment_example(void) {
     hearing();
-    struct ledger_impediment_answer why = ledger_impediment(image, sizeof image, 1, &refusal);
-    assert(why.kind == LEDGER_IMPEDIMENT_UNSTABLE && why.transactor == 0);
+    struct ledger_cause why = ledger_impediment(image, sizeof image, 1, &refusal);
+    assert(why.kind == LEDGER_NOT_STABLE && why.transactor == 0);
 }
 
 static void ledger_actor_example(void) {
     uint8_t step[LEDGER_STEP];
     hearing();
     ledger_step(step, LEDGER_RECEIVE, 0, 0, 2, 0);
-    struct ledger_actor_answer who = ledger_actor(image, sizeof image, step, sizeof step, &refusal);
+    struct ledger_acting who = ledger_actor(image, sizeof image, step, sizeof step, &refusal);
     assert(who.takes == ledger_member(1)); /* parcel 2 is addressed to take 1 */
 }
 
@@ -115,7 +115,7 @@ static void ledger_fault_example(void) {
     uint8_t clause;
     hearing();
     image[7] = 1;
-    assert(ledger_fault(image, sizeof image, &at, &clause) == 19 && at == 7 && clause == LEDGER_FAULT_FRONT_ZEROS);
+    assert(ledger_fault(image, sizeof image, &at, &clause) == 19 && at == 7 && clause == LEDGER_FRONT_ZEROS);
 }
 
 static void ledger_thin_example(void) {
@@ -143,7 +143,7 @@ static void ledger_back_example(void) {
 static void ledger_worst_window_example(void) {
     uint8_t replies[4 * LEDGER_STEP] = {0};
     replies[1 * LEDGER_STEP] = 4, replies[3 * LEDGER_STEP] = 4;
-    struct ledger_worst_window_answer worst = ledger_worst_window(replies, sizeof replies, 3, &refusal);
+    struct ledger_window worst = ledger_worst_window(replies, sizeof replies, 3, &refusal);
     assert(worst.count == 2 && worst.place == 1);
 }
 
@@ -156,19 +156,19 @@ static void engine_play_example(void) {
 static void looking_decision_example(void) {
     hearing();
     run("done 1\n"); /* only an idle take receives */
-    struct looking_decision_answer would = looking_decision(image, sizeof image, 2, &refusal);
+    struct looking_verdict would = looking_decision(image, sizeof image, 2, &refusal);
     assert(refusal == 0 && would.outcome == 0); /* it would be taken in */
 }
 
 static void looking_compare_example(void) {
     hearing();
     const uint8_t *own = image + 8 + 9; /* the own mark of take 0 */
-    struct looking_compare_answer c = looking_compare(own, LEDGER_HISTORY, own, LEDGER_HISTORY, &refusal);
+    struct looking_comparison c = looking_compare(own, LEDGER_HISTORY, own, LEDGER_HISTORY, &refusal);
     assert(c.relation == LOOKING_SAME_INCARNATION);
 }
 
 static void looking_field_example(void) {
-    struct looking_field_answer f = looking_field(9); /* in the text of take 0 */
+    struct looking_place f = looking_field(9); /* in the text of take 0 */
     assert(f.kind == LOOKING_FIELD_VALUE && f.holder == 0 && f.byte == 0);
 }
 

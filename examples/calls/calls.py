@@ -16,7 +16,7 @@ def hearing():
 
 
 def ledger_version():
-    assert version().split(".")[0] == "5"
+    assert version().split(".")[0] == "4"
 
 
 def ledger_begin():

@@ -31,7 +31,7 @@ void refuse_image(unsigned refusal, struct store_bytes image) {
 }
 
 bool not_live(unsigned refusal, struct store_bytes image) {
-    if (refusal == LEDGER_UNOPENED || refusal == LEDGER_ALREADY_ANNIHILATED) return true;
+    if (refusal == LEDGER_UNOPENED || refusal == LEDGER_GONE) return true;
     refuse_image(refusal, image);
     return false;
 }

@@ -35,7 +35,7 @@ FUNCTION(tl_ready_count) {
 FUNCTION(tl_show) {
     struct store_bytes image = BYTES(0);
     uint8_t refusal;
-    struct ledger_show_answer part = ledger_show(image.at, image.length, NUMBER(1), &refusal);
+    struct ledger_part part = ledger_show(image.at, image.length, NUMBER(1), &refusal);
     if (refusal == LEDGER_NOT_WAITING) PG_RETURN_NULL();
     refuse_image(refusal, image);
     PG_RETURN_BYTEA_P(piece(image.at + part.offset, part.length));
@@ -52,10 +52,10 @@ FUNCTION(tl_independent) {
 FUNCTION(tl_actor) {
     struct store_bytes image = BYTES(0), step = BYTES(1);
     uint8_t refusal;
-    struct ledger_actor_answer acting = ledger_actor(image.at, image.length, step.at, step.length, &refusal);
+    struct ledger_acting acting = ledger_actor(image.at, image.length, step.at, step.length, &refusal);
     int take = 0;
     refuse_image(refusal, image);
-    if (acting.kind != LEDGER_ACTOR_TRANSACTOR) PG_RETURN_NULL();
+    if (acting.kind != LEDGER_ONE_TRANSACTOR) PG_RETURN_NULL();
     while (acting.takes >> take > 1) take++;
     PG_RETURN_INT32(take);
 }
@@ -74,7 +74,7 @@ FUNCTION(tl_fault) {
 FUNCTION(tl_acting) {
     struct store_bytes image = BYTES(0), step = BYTES(1);
     uint8_t refusal;
-    struct ledger_actor_answer acting = ledger_actor(image.at, image.length, step.at, step.length, &refusal);
+    struct ledger_acting acting = ledger_actor(image.at, image.length, step.at, step.length, &refusal);
     bool nulls[2] = {false};
     refuse_image(refusal, image);
     Datum values[] = {CStringGetTextDatum(store_actor_word((unsigned)acting.kind)), Int32GetDatum((int32)acting.takes)};
@@ -84,7 +84,7 @@ FUNCTION(tl_acting) {
 FUNCTION(tl_dependents) {
     struct store_bytes image = BYTES(0);
     uint8_t refusal;
-    struct ledger_dependents_answer d = ledger_dependents(image.at, image.length, NUMBER(1), &refusal);
+    struct ledger_resting d = ledger_dependents(image.at, image.length, NUMBER(1), &refusal);
     bool nulls[4] = {false};
     if (not_live(refusal, image)) PG_RETURN_NULL();
     Datum values[] = {Int32GetDatum(d.resting), Int32GetDatum(d.through), Int32GetDatum(d.unfinished),
@@ -95,7 +95,7 @@ FUNCTION(tl_dependents) {
 FUNCTION(tl_obstacle) {
     struct store_bytes image = BYTES(0);
     uint8_t refusal;
-    struct ledger_obstacle_answer o = ledger_obstacle(image.at, image.length, NUMBER(1), &refusal);
+    struct ledger_reason o = ledger_obstacle(image.at, image.length, NUMBER(1), &refusal);
     bool nulls[4] = {false};
     refuse_image(refusal, image);
     Datum values[] = {Int32GetDatum(o.kind), Int32GetDatum(o.transactor), Int32GetDatum(o.ground),
@@ -106,7 +106,7 @@ FUNCTION(tl_obstacle) {
 FUNCTION(tl_impediment) {
     struct store_bytes image = BYTES(0);
     uint8_t refusal;
-    struct ledger_impediment_answer m = ledger_impediment(image.at, image.length, NUMBER(1), &refusal);
+    struct ledger_cause m = ledger_impediment(image.at, image.length, NUMBER(1), &refusal);
     bool nulls[5] = {false};
     if (not_live(refusal, image)) PG_RETURN_NULL();
     Datum values[] = {Int32GetDatum(m.kind), Int32GetDatum(m.transactor), Int32GetDatum(m.ground), Int32GetDatum(m.next),
@@ -117,7 +117,7 @@ FUNCTION(tl_impediment) {
 FUNCTION(tl_worst_window) {
     struct store_bytes replies = BYTES(0);
     uint8_t refusal;
-    struct ledger_worst_window_answer w = ledger_worst_window(replies.at, replies.length, NUMBER(1), &refusal);
+    struct ledger_window w = ledger_worst_window(replies.at, replies.length, NUMBER(1), &refusal);
     bool nulls[2] = {false};
     refuse(refusal);
     Datum values[] = {Int32GetDatum((int32)w.count), Int32GetDatum((int32)w.place)};

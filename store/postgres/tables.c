@@ -127,7 +127,7 @@ FUNCTION(tl_plan) {
 }
 
 static void diff_row(FunctionCallInfo info, const uint8_t *first, const uint8_t *second, size_t at) {
-    struct looking_field_answer field = looking_field(at);
+    struct looking_place field = looking_field(at);
     size_t width = store_width(at);
     bool of_mark = field.kind >= LOOKING_FIELD_FLAGS, of_any = field.kind >= LOOKING_FIELD_STATUS;
     bool of_take = of_any && (of_mark ? field.map < 3 : field.kind <= LOOKING_FIELD_SAVED);

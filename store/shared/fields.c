@@ -13,11 +13,11 @@ static struct {
     uint8_t width[LEDGER_IMAGE];
 } learnt;
 
-static size_t map_of(struct looking_field_answer f) {
+static size_t map_of(struct looking_place f) {
     return f.map == 3 ? 3 * (size_t)LEDGER_TRANSACTORS + f.holder : 3 * (size_t)f.holder + f.map;
 }
 
-static void note(struct looking_field_answer f, uint16_t at) {
+static void note(struct looking_place f, uint16_t at) {
     switch (f.kind) {
     case LOOKING_FIELD_OPENED: learnt.opened = at; break;
     case LOOKING_FIELD_STATUS: learnt.status[f.holder] = at; break;
@@ -36,7 +36,7 @@ static void note(struct looking_field_answer f, uint16_t at) {
 void store_learn(void) {
     size_t first = 0;
     for (size_t at = 0; at < LEDGER_IMAGE; at++) {
-        struct looking_field_answer f = looking_field(at);
+        struct looking_place f = looking_field(at);
         if (f.byte == 0) {
             first = at;
             note(f, (uint16_t)at);

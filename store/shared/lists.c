@@ -28,7 +28,7 @@ unsigned store_play(uint8_t *image, size_t image_length, struct store_bytes list
     unsigned refusal = store_run(image, image_length, list.length % LEDGER_STEP ? list : none, NULL);
     for (size_t at = 0; refusal == 0 && at < list.length; at += LEDGER_STEP) {
         uint8_t wrong;
-        struct ledger_actor_answer acting = ledger_actor(image, image_length, list.at + at, LEDGER_STEP, &wrong);
+        struct ledger_acting acting = ledger_actor(image, image_length, list.at + at, LEDGER_STEP, &wrong);
         unsigned before = store_opened(image);
         refusal = wrong ? wrong : ledger_run(image, image_length, list.at, list.length, at, at + LEDGER_STEP,
                                              replies + at, LEDGER_STEP);

@@ -46,7 +46,7 @@ static int acting_fill(struct rows *rows, sqlite3_value **values, char **wrong) 
     int status = value_blob(values[0], "image", &image, wrong);
     if (status == SQLITE_OK) status = value_blob(values[1], "step", &step, wrong);
     if (status != SQLITE_OK) return status;
-    struct ledger_actor_answer acting = ledger_actor(image.at, image.length, step.at, step.length, &refusal);
+    struct ledger_acting acting = ledger_actor(image.at, image.length, step.at, step.length, &refusal);
     rows->number[0] = (sqlite3_int64)acting.kind;
     rows->number[1] = (sqlite3_int64)acting.takes;
     rows->count = 1;
@@ -64,7 +64,7 @@ static int dependents_fill(struct rows *rows, sqlite3_value **values, char **wro
     uint8_t refusal;
     int status = asked(values, "take", &image, &take, wrong);
     if (status != SQLITE_OK) return status;
-    struct ledger_dependents_answer d = ledger_dependents(image.at, image.length, take, &refusal);
+    struct ledger_resting d = ledger_dependents(image.at, image.length, take, &refusal);
     rows->number[0] = d.resting;
     rows->number[1] = d.through;
     rows->number[2] = d.unfinished;
@@ -78,7 +78,7 @@ static int obstacle_fill(struct rows *rows, sqlite3_value **values, char **wrong
     uint8_t refusal;
     int status = asked(values, "volume", &image, &volume, wrong);
     if (status != SQLITE_OK) return status;
-    struct ledger_obstacle_answer o = ledger_obstacle(image.at, image.length, volume, &refusal);
+    struct ledger_reason o = ledger_obstacle(image.at, image.length, volume, &refusal);
     rows->number[0] = o.kind;
     rows->number[1] = o.transactor;
     rows->number[2] = o.ground;
@@ -97,7 +97,7 @@ static int impediment_fill(struct rows *rows, sqlite3_value **values, char **wro
     uint8_t refusal;
     int status = asked(values, "take", &image, &take, wrong);
     if (status != SQLITE_OK) return status;
-    struct ledger_impediment_answer i = ledger_impediment(image.at, image.length, take, &refusal);
+    struct ledger_cause i = ledger_impediment(image.at, image.length, take, &refusal);
     rows->number[0] = i.kind;
     rows->number[1] = i.transactor;
     rows->number[2] = i.ground;
@@ -117,7 +117,7 @@ static int window_fill(struct rows *rows, sqlite3_value **values, char **wrong) 
     int status = value_blob(values[0], "replies", &replies, wrong);
     if (status == SQLITE_OK) status = value_number(values[1], "width", &width, wrong);
     if (status != SQLITE_OK) return status;
-    struct ledger_worst_window_answer w = ledger_worst_window(replies.at, replies.length, width, &refusal);
+    struct ledger_window w = ledger_worst_window(replies.at, replies.length, width, &refusal);
     rows->number[0] = (sqlite3_int64)w.count;
     rows->number[1] = (sqlite3_int64)w.place;
     rows->count = 1;

@@ -169,7 +169,7 @@ static int diff_fill(struct rows *rows, sqlite3_value **values, char **wrong) {
 
 static void diff_column(const struct rows *rows, size_t row, int column, sqlite3_context *context) {
     size_t at = rows->index[row], width = store_width(at);
-    struct looking_field_answer field = looking_field(at);
+    struct looking_place field = looking_field(at);
     int of_mark = field.kind >= LOOKING_FIELD_FLAGS, of_take = field.kind >= LOOKING_FIELD_STATUS &&
         (of_mark ? field.map < 3 : field.kind <= LOOKING_FIELD_SAVED);
     switch (column) {

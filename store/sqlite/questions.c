@@ -67,7 +67,7 @@ static void ready_count(sqlite3_context *context, int count, sqlite3_value **val
 /* The take that a step acts for; NULL where it is not one take's (ledger_acting says whose). */
 static void actor(sqlite3_context *context, int count, sqlite3_value **values) {
     struct store_bytes image, step;
-    struct ledger_actor_answer acting = {0, 0};
+    struct ledger_acting acting = {0, 0};
     uint8_t refusal = 0;
     char *wrong = NULL;
     sqlite3_int64 take = 0;
@@ -75,8 +75,8 @@ static void actor(sqlite3_context *context, int count, sqlite3_value **values) {
     int status = value_blob(values[0], "image", &image, &wrong);
     if (status == SQLITE_OK) status = value_blob(values[1], "step", &step, &wrong);
     if (status == SQLITE_OK) acting = ledger_actor(image.at, image.length, step.at, step.length, &refusal);
-    while (acting.kind == LEDGER_ACTOR_TRANSACTOR && acting.takes >> take > 1) take++;
-    answer(context, status, refusal, values[0], wrong, acting.kind == LEDGER_ACTOR_TRANSACTOR, take);
+    while (acting.kind == LEDGER_ONE_TRANSACTOR && acting.takes >> take > 1) take++;
+    answer(context, status, refusal, values[0], wrong, acting.kind == LEDGER_ONE_TRANSACTOR, take);
 }
 
 static void independent(sqlite3_context *context, int count, sqlite3_value **values) {
@@ -95,7 +95,7 @@ static void independent(sqlite3_context *context, int count, sqlite3_value **val
 /* The map of a waiting parcel, as its bytes; NULL where no such parcel waits. */
 static void show(sqlite3_context *context, int count, sqlite3_value **values) {
     struct store_bytes image;
-    struct ledger_show_answer part = {0, 0};
+    struct ledger_part part = {0, 0};
     size_t parcel;
     uint8_t refusal = 0;
     char *wrong = NULL;

@@ -45,7 +45,7 @@ int any_null(int count, sqlite3_value **values) {
     return 0;
 }
 
-int not_live(unsigned refusal) { return refusal == LEDGER_UNOPENED || refusal == LEDGER_ALREADY_ANNIHILATED; }
+int not_live(unsigned refusal) { return refusal == LEDGER_UNOPENED || refusal == LEDGER_GONE; }
 
 void fail_with(sqlite3_context *context, int status, char *wrong) {
     if (status == SQLITE_NOMEM || !wrong) sqlite3_result_error_nomem(context);

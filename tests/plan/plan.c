@@ -104,7 +104,7 @@ static void by_hand(void) {
     const unsigned next[5][3] = {{LEDGER_LETTER, 0, 0}, {LEDGER_RECEIVE, 0, 3}, {LEDGER_FREEZE, 0, 0}, {LEDGER_FREEZE, 1, 0}, {LEDGER_SIGN, 0, 3}};
     expect(1, 5, next, "one free place is enough");
     play(LEDGER_LETTER, 2, 0, 0);
-    expect_none(1, LEDGER_IMPEDIMENT_UNSTABLE, "no place for a letter: 0 steps, and not hopeless");
+    expect_none(1, LEDGER_NOT_STABLE, "no place for a letter: 0 steps, and not hopeless");
     play(LEDGER_LOSE, 0, 0, 3);
     sent = 4;
     wake(0);
@@ -113,7 +113,7 @@ static void by_hand(void) {
     const unsigned ready[1][3] = {{LEDGER_SIGN, 0, 3}};
     expect(1, 1, ready, "a take that is ready: the signing alone");
     play(LEDGER_SIGN, 0, 0, 3);
-    expect_none(1, LEDGER_IMPEDIMENT_EXHAUSTED, "all its signings are used: 0 steps, and exhausted");
+    expect_none(1, LEDGER_EXHAUSTED, "all its signings are used: 0 steps, and exhausted");
 }
 
 /* take 1 rests on take 0, which vanishes */
@@ -125,8 +125,8 @@ static void in_the_way(void) {
     uint8_t step[LEDGER_STEP], reply[LEDGER_STEP], refusal;
     ledger_step(step, LEDGER_FAIL, 0, 0, 0, 0);
     ledger_run(image, LEDGER_IMAGE, step, 8, 0, 8, reply, 8);
-    expect_none(1, LEDGER_IMPEDIMENT_HOPELESS, "it rests on a withdrawn life: 0 steps, and hopeless");
-    test(plan(0, &refusal) == 0 && refusal == LEDGER_ALREADY_ANNIHILATED && out[0] == 0xAA && out[LEDGER_PLAN - 1] == 0xAA, "22, and nothing written");
+    expect_none(1, LEDGER_HOPELESS, "it rests on a withdrawn life: 0 steps, and hopeless");
+    test(plan(0, &refusal) == 0 && refusal == LEDGER_GONE && out[0] == 0xAA && out[LEDGER_PLAN - 1] == 0xAA, "22, and nothing written");
     /* the numbers end: two idle takes, one number left */
     begin(2, 2, 1, 2);
     image[1] = 255;
@@ -134,7 +134,7 @@ static void in_the_way(void) {
     const unsigned last[4][3] = {{LEDGER_LETTER, 0, 0}, {LEDGER_RECEIVE, 0, 65534}, {LEDGER_FREEZE, 0, 0}, {LEDGER_SIGN, 0, 1}};
     expect(0, 4, last, "the last number is used");
     image[2] = 255;
-    expect_none(0, LEDGER_IMPEDIMENT_UNSTABLE, "no number for a letter: 0 steps, and not hopeless");
+    expect_none(0, LEDGER_NOT_STABLE, "no number for a letter: 0 steps, and not hopeless");
 }
 
 static void refusals(void) {
@@ -166,7 +166,7 @@ static void longest_plan(void) {
     if (check(ledger_run(image, LEDGER_IMAGE, out, sizeof out, 0, sizeof out, replies, sizeof replies) == 0, "the longest plan is run"))
         for (size_t j = 0; j < 49; j++) zeros += replies[LEDGER_STEP * j] == 0;
     test(zeros == 49, "each of its steps is answered with 0");
-    expect_none(15, LEDGER_IMPEDIMENT_EXHAUSTED, "signed once, and no more");
+    expect_none(15, LEDGER_EXHAUSTED, "signed once, and no more");
 }
 
 /* ---- random sessions */
@@ -260,7 +260,7 @@ static int judged(size_t take) {
     for (size_t j = 8 * n; j < sizeof out; j++)
         if (out[j]) return check(0, "zeros past the steps");
     size_t kind = ledger_impediment(image, LEDGER_IMAGE, take, &other).kind;
-    int lasts = kind == LEDGER_IMPEDIMENT_HOPELESS || kind == LEDGER_IMPEDIMENT_EXHAUSTED;
+    int lasts = kind == LEDGER_HOPELESS || kind == LEDGER_EXHAUSTED;
     if (lasts) note_doomed(take);
     lasting += lasts;
     without_room += n == 0 && !lasts;

@@ -69,8 +69,8 @@ test("why no volume exists: what is in the way, and the chain to it", () => {
   assert.deepEqual(session.impediment(2), { kind: "nothing", take: 0, ground: 0, next: 0 });
   const fallen = grounds();
   fallen.run(steps("fail 0\n"));
-  assert.deepEqual(fallen.impediment(2), { kind: "hopeless", take: 1, ground: 0, next: 1 });
-  assert.deepEqual(fallen.impediment(1), { kind: "hopeless", take: 1, ground: 0, next: 1 });
+  assert.deepEqual(fallen.impediment(2), { kind: "withdrawn", take: 1, ground: 0, next: 1 });
+  assert.deepEqual(fallen.impediment(1), { kind: "withdrawn", take: 1, ground: 0, next: 1 });
 });
 
 test("what is left to do: the steps, run on a copy, sign the take", () => {
@@ -82,7 +82,7 @@ test("what is left to do: the steps, run on a copy, sign the take", () => {
   assert.equal(toText(session.plan(1)), "letter to 0 text 0\nreceive 4\nfreeze 0\nsign {0,1}\n");
   session.run(steps("fail 0\n"));
   assert.equal(session.plan(1).length, 0);
-  assert.equal(session.impediment(1).kind, "hopeless");
+  assert.equal(session.impediment(1).kind, "withdrawn");
 });
 
 test("a plan without steps for lack of room: impediment tells it apart", () => {
@@ -109,7 +109,7 @@ test("independent steps leave the same image in either order", () => {
 test("all signings used up", () => {
   const session = Session.begin({ signings: 1 });
   session.run(steps("root text 1\nletter to 0 text 1\nreceive 0\nfreeze 0\nsign {0}\n"));
-  assert.deepEqual(session.impediment(0), { kind: "exhausted", take: 0, ground: 0, next: 0 });
+  assert.deepEqual(session.impediment(0), { kind: "all signed", take: 0, ground: 0, next: 0 });
 });
 
 test("withdrawn ground; all heard frozen", () => {

@@ -12,7 +12,7 @@ await loadFrom();
 const FOLDER = process.env.CONFORMANCE ?? fileURLToPath(new URL("../../../conformance/vectors/", import.meta.url));
 const OBSTACLES = ["nothing", "not frozen", "outside", "withdrawn"];
 const ACTORS = ["nobody", "the house", "a take", "a volume"];
-const IMPEDIMENTS = ["nothing", "hopeless", "exhausted", "not frozen"];
+const IMPEDIMENTS = ["nothing", "withdrawn", "all signed", "not frozen"];
 const numbers = (kinds, { kind, ...rest }) => [kinds.indexOf(kind), ...Object.values(rest)];
 
 /** Words of hexadecimal digits, without the zeros at their end; zeros behind the list up to the length. */

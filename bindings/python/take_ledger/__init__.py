@@ -17,7 +17,7 @@ from .session import (
 )
 from .text import Fault, Refused, image_text, parse, refusal_text, reply_text, text_of
 
-__version__ = "5.0.0"
+__version__ = "4.0.0"
 
 __all__ = [
     "IMAGE", "KINDS", "OLD_IMAGE", "OUTCOMES", "Actor", "Decision", "Dependents", "Fault",

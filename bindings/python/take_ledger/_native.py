@@ -10,7 +10,7 @@ from pathlib import Path
 from typing import Any, Callable, Dict, List, Tuple
 
 NAME = "libtake-ledger.so"
-SYSTEM_NAME = "libtake-ledger.so.5"
+SYSTEM_NAME = "libtake-ledger.so.4"
 
 _size, _byte, _word = ctypes.c_size_t, ctypes.c_uint8, ctypes.c_uint16
 _buffer = ctypes.c_void_p
@@ -87,7 +87,7 @@ def _load() -> ctypes.CDLL:
         except OSError as error:
             reasons.append(f"{path}: {error}")
     raise ImportError(
-        "the take ledger's library was not found. Install the package libtake-ledger5, or let "
+        "the take ledger's library was not found. Install the package libtake-ledger4, or let "
         "TAKE_LEDGER_LIBRARY name the file. Tried: " + "; ".join(reasons)
     )
 

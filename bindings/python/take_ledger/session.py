@@ -301,6 +301,6 @@ def fault(image: bytes) -> Optional[Tuple[int, int]]:
 
 
 def version() -> str:
-    """The version of the library, as 5.0.0."""
+    """The version of the library, as 4.0.0."""
     number = calls["ledger_version"]()
     return f"{number >> 16}.{number >> 8 & 255}.{number & 255}"

@@ -168,8 +168,8 @@ function unsigned(front, card) {
   if (card.state === "vanished") return "It was withdrawn before it was ever signed.";
   if (card.blank) return card.withdrawn ? "It was withdrawn. It can be put back, or written anew." : "It has no words yet.";
   const { kind, take, ground } = front.session.impediment(card.take);
-  if (kind === "hopeless") return `It rests on ${inside(front.cards[ground])} as it was before the withdrawal${take === card.take ? "" : `, through ${inside(front.cards[take])}`}: it can't be signed before it is set again.`;
-  return kind === "exhausted" ? `${front.cards[take].title} has no signing left of ${roomOf(front.session).signings}: continue in a fresh session.` : "It can't be signed now.";
+  if (kind === "withdrawn") return `It rests on ${inside(front.cards[ground])} as it was before the withdrawal${take === card.take ? "" : `, through ${inside(front.cards[take])}`}: it can't be signed before it is set again.`;
+  return kind === "all signed" ? `${front.cards[take].title} has no signing left of ${roomOf(front.session).signings}: continue in a fresh session.` : "It can't be signed now.";
 }
 
 function acts(front, card) {

@@ -64,7 +64,7 @@ export const opening = (session, text, grounds = []) => deed(session, t => {
  */
 export function withdrawingOf(session, take) {
   const itself = deed(session, t => t.step("fail", { take }, FALLS));
-  if (itself || session.impediment(take).kind !== "hopeless") return itself;
+  if (itself || session.impediment(take).kind !== "withdrawn") return itself;
   const heads = readHeads(session.image), others = heads.map((_, u) => u).filter(u => u !== take && heads[u].status !== "vanished");
   for (const ground of others) {
     const shown = deed(session, t => {
@@ -82,7 +82,7 @@ export function withdrawingOf(session, take) {
 function groundless(session, list, take) {
   const copy = session.copy();
   copy.runAll(list);
-  return copy.impediment(take).kind === "hopeless";
+  return copy.impediment(take).kind === "withdrawn";
 }
 
 /**

@@ -21,7 +21,7 @@ function* spans(record, shown) {
     fallen ||= tone(reply) === "fell";
     if (!fallen || reply.outcome >= REFUSED || !CHANGING.has(kindOf(step))) continue;
     record.heads[i].forEach((head, take) => {
-      const gone = head.status !== "vanished" && session.impediment(take).kind === "hopeless";
+      const gone = head.status !== "vanished" && session.impediment(take).kind === "withdrawn";
       if (gone && !open.has(take)) open.set(take, i);
       if (gone || !open.has(take)) return;
       found.push({ take, from: open.get(take), to: i });

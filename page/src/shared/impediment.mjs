@@ -2,12 +2,12 @@
 // next. The answers are the library's.
 import { Refusal } from "../../../bindings/js/ledger.mjs";
 
-/** kind: nothing, hopeless (with the withdrawn ground), exhausted, or not frozen; path: from the take to the one that is in the way. */
+/** kind: nothing, withdrawn (with the ground), all signed, or not frozen; path: from the take to the one that is in the way. */
 export function impediment(session, take) {
   const found = session.impediment(take), path = [take];
   if (found.kind === "nothing") return { kind: "nothing", path: [] };
   while (path.at(-1) !== found.take) {
-    const ground = found.kind === "hopeless" ? namedGround(session, path.at(-1)) : null;
+    const ground = found.kind === "withdrawn" ? namedGround(session, path.at(-1)) : null;
     if (ground !== null) return { kind: found.kind, ground, path };
     path.push(session.impediment(path.at(-1)).next);
   }

@@ -6,15 +6,15 @@ import { fallsOf, lost, outcomeOf, wayOut } from "./ways.mjs";
 import { braces, capital } from "./names.mjs";
 import { DROPPED, FALLEN_BACK, kindOf, tone } from "./words.mjs";
 
-const WORST_FIRST = ["hopeless", "exhausted", "not frozen", "nothing"];
+const WORST_FIRST = ["withdrawn", "all signed", "not frozen", "nothing"];
 
 /** Why the volume is not ready after so many steps, and what would help; alone: the volume is one take that somebody asks about. */
 export function whyNot(record, count, volume, names, alone = false) {
   const session = record.at(count), asked = takesOf(volume).map(take => ({ take, ...impediment(session, take) }));
   const [worst] = asked.sort((a, b) => WORST_FIRST.indexOf(a.kind) - WORST_FIRST.indexOf(b.kind));
   const reasons = {
-    hopeless: () => withdrawn(record, count, worst, names),
-    exhausted: () => ({ why: [`${resting(worst.path, names)}signed as often as this session allows.`], help: ["Nothing helps in this session."] }),
+    withdrawn: () => withdrawn(record, count, worst, names),
+    "all signed": () => ({ why: [`${resting(worst.path, names)}signed as often as this session allows.`], help: ["Nothing helps in this session."] }),
     "not frozen": () => ({ why: [notFrozen(session, worst.path, volume, names, alone)], help: freezing(session, worst.take, names) }),
     nothing: () => outside(session, volume, names),
   };

@@ -33,7 +33,7 @@ export function settled(session, take) {
 export function stateOf(session, take) {
   const { status, mark } = readHead(session.image, take);
   if (status === "vanished") return "vanished";
-  if (session.impediment(take).kind === "hopeless") return "gone";
+  if (session.impediment(take).kind === "withdrawn") return "gone";
   if (mark?.frozen) return "frozen";
   return settled(session, take) ? "signed" : "draft";
 }
