@@ -1,4 +1,6 @@
 // What a text lacks where it has a fault: by its number, and in the documents' words.
+#![tactic(auto)]
+
 ghost use Rattle.std.specs.Prelude.{◌≡◌};
 ghost use Rattle.notation.specs.Parsing.{number_of, expected_of, expected_words};
 ghost use Rattle.lines.specs.Lines.{Says};

@@ -1,4 +1,6 @@
 // Why a call or a step is refused, in words.
+#![tactic(auto)]
+
 ghost use Rattle.std.specs.Prelude.{◌≡◌};
 ghost use Rattle.lines.specs.Lines.{written, plus, Says};
 ghost use Rattle.refusal_words.specs.Words.{refusal_words};
