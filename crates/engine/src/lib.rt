@@ -1,5 +1,7 @@
 // The engine without maps (document 02, W11): the replies to a list of steps from a fresh session, by tables and by walks back over the
 // list.
+#![tactic(auto)]
+
 ghost use Rattle.std.specs.Prelude.{◌≡◌, false};
 ghost use Rattle.rules.specs.Layout.{base, limits_of};
 ghost use Rattle.rules.specs.Step as kinds;

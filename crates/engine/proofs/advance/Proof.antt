@@ -13,24 +13,24 @@ use Rattle.engine.proofs.Advancing.{asked, advance-any}
 use Rattle.engine.proofs.advance.Statement.{statement}
 use Rattle.engine.proofs.advance.Tie as tie
 
-abbrev start : tie.Else1 → tie.Start
+abbrev start : tie.Else-malformed → tie.Start
 start c = c.before.before.before.before
 
 -- past the test for 20
-well : (c : tie.Else1) → refusals.malformed (start c).args.p ≡ false
-well c = sym c.before.malformed.ensures ∙ c.if1.false
+well : (c : tie.Else-malformed) → refusals.malformed (start c).args.p ≡ false
+well c = sym c.before.malformed.ensures ∙ c.if-malformed.false
 
-returns : tie.Need-returns
-returns c = advance-any _ _ _ _ _ _ c.before.before.before.before.before.requires.0.within (malformed-done (sym c.before.before.malformed.ensures ∙ c.before.if1.true) _ c.answered.ensures)
+returns : tie.Need-returns-then-malformed
+returns c = advance-any _ _ _ _ _ _ c.before.before.before.before.before.requires.0.within (malformed-done (sym c.before.before.malformed.ensures ∙ c.before.if-malformed.true) _ c.answered.ensures)
 
 local-requires : tie.Need-local-requires
 local-requires c κs =
     let e = c.before in
-    let n = c.match.rest in
+    let n = c.in_default.in_default-own.rest in
     let low = lowest _ n.0.0.0.0.0.1 n.0.0.0.0.1 n.0.0.0.1 n.0.0.1 n.0.1 in
     (asked (start e).requires.0 (well e) _ refl, low, highest _ (kind-formed _ (well e)) n.1 (start e).requires.1)
 
-within : (c : tie.Else1) → (start c).args.x.at < group_bits
+within : (c : tie.Else-malformed) → (start c).args.x.at < group_bits
 within c = (start c).requires.0.within
 
 pub advance_spec : {M : Type 1} → statement M
@@ -40,12 +40,12 @@ advance_spec =
     (λ c κs. search rules)
     (λ c κs. search rules)
     returns
-    (λ c κs. asked (start c.before).requires.0 (well c.before) root c.match.keys1)
-    (λ c κs. asked (start c.before).requires.0 (well c.before) letter c.match.keys2)
-    (λ c κs. ((start c.before).requires.0, well c.before, c.match.keys3))
-    (λ c κs. asked (start c.before).requires.0 (well c.before) new c.match.keys4)
-    (λ c κs. asked (start c.before).requires.0 (well c.before) send c.match.keys5)
-    (λ c κs. asked (start c.before).requires.0 (well c.before) lose c.match.keys6)
+    (λ c κs. asked (start c.before).requires.0 (well c.before) root c.in-0.is)
+    (λ c κs. asked (start c.before).requires.0 (well c.before) letter c.in-1.is)
+    (λ c κs. ((start c.before).requires.0, well c.before, c.in-2.is))
+    (λ c κs. asked (start c.before).requires.0 (well c.before) new c.in-3.is)
+    (λ c κs. asked (start c.before).requires.0 (well c.before) send c.in-4.is)
+    (λ c κs. asked (start c.before).requires.0 (well c.before) lose c.in-11.is)
     local-requires
     (λ c. advance-any _ _ _ _ _ _ (within c.before.before) c.root.ensures)
     (λ c. advance-any _ _ _ _ _ _ (within c.before.before) c.letter.ensures)
