@@ -1,4 +1,6 @@
 // A checkpoint group (document 01: a volume): what refuses it, whether it can be signed, and its signing.
+#![tactic(auto)]
+
 ghost use Rattle.std.specs.Prelude.{◌≡◌, ◌+◌, ◌≤◌, ◌<◌};
 ghost use Rattle.rules.specs.Layout.{base, history_bytes, image_bytes};
 ghost use Rattle.rules.specs.State.{live, own_history, transactor_at};

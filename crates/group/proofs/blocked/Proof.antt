@@ -10,35 +10,35 @@ use Rattle.group.proofs.Blocking.{Blocking, member-in}
 use Rattle.group.proofs.blocked.Statement.{statement}
 use Rattle.group.proofs.blocked.Tie as tie
 
-abbrev invariant-loop : tie.invariant-loop
+abbrev invariant-loop : tie.invariant-loop-t
 invariant-loop image group most number₀ t₀ number t = Blocking (unpack base image) group t number
 
-abbrev decreases-loop : tie.decreases-loop
+abbrev decreases-loop : tie.decreases-loop-t
 decreases-loop image group most number₀ t₀ number t = base.transactors - t
 
-returns : tie.Need-returns invariant-loop decreases-loop
+returns : tie.Need-returns-then-r-eq-GONE invariant-loop decreases-loop
 returns c =
-    let m = c.before in
-    let n = m.before.before.before in
-    let l = n.before.before.before in
-    roomy-gone _ _ _ _ l.loop.invariant (search rules) (sym n.before.is-named.ensures ∙ n.if1.true) _
-    (member-in _ _ _ _ _ _ m.member.ensures l.before.checkpoints.ensures m.before.before.status.ensures m.before.count.ensures) c.if2.true
+    let m = c in
+    let n = m in
+    let l = n in
+    roomy-gone _ _ _ _ l.loop-t.invariant (search rules) (sym n.is_named.ensures ∙ n.if-is_named.true) _
+    (member-in _ _ _ _ _ _ m.member-r.ensures l.checkpoints-most.ensures m.status.ensures m.count.ensures) c.if-r-eq-GONE.true
 
-loop-again : tie.Need-loop-preserved invariant-loop decreases-loop
+loop-again : tie.Need-loop-t-preserved invariant-loop decreases-loop
 loop-again c =
-    let l = c.before.before.before in
-    let b = l.loop in
-    let n = c.before.is-named.ensures in
-    let most = l.before.checkpoints.ensures in
+    let l = c in
+    let b = l.loop-t in
+    let n = c.is_named.ensures in
+    let most = l.checkpoints-most.ensures in
     ⊎_elim
-    (λ w. roomy-full _ _ _ _ b.invariant (search rules) (sym n ∙ w.0.taken) _ (member-in _ _ _ _ _ _ w.3.ensures most w.1.ensures w.2.ensures) w.4.left _ w.5.taken w.6)
+    (λ w. roomy-full _ _ _ _ b.invariant (search rules) (sym n ∙ w.if-is_named.true) _ (member-in _ _ _ _ _ _ w.member-r.ensures most w.status.ensures w.count.ensures) w.if-r-eq-GONE.false _ w.if-r-ne0.true w.number-is)
     (⊎_elim
-    (λ w. roomy-more _ _ _ _ b.invariant (search rules) (sym n ∙ w.0.taken) _ (member-in _ _ _ _ _ _ w.3.ensures most w.1.ensures w.2.ensures) w.4.left _ w.5.left w.6)
-    (λ w. roomy-unnamed _ _ _ _ b.invariant (search rules) (sym n ∙ w.0.left) _ w.1))
-    c.if1.branch
+    (λ w. roomy-more _ _ _ _ b.invariant (search rules) (sym n ∙ w.if-is_named.true) _ (member-in _ _ _ _ _ _ w.member-r.ensures most w.status.ensures w.count.ensures) w.if-r-eq-GONE.false _ w.if-r-ne0.false w.number-is)
+    (λ w. roomy-unnamed _ _ _ _ b.invariant (search rules) (sym n ∙ w.if-is_named.false) _ w.number-is))
+    c.if-is_named.branch-raw
 
-returns-2 : tie.Need-returns-2 invariant-loop decreases-loop
-returns-2 c = roomy-end _ _ _ _ c.before.loop.invariant (search rules)
+returns-2 : tie.Need-returns invariant-loop decreases-loop
+returns-2 c = roomy-end _ _ _ _ c.loop-t.invariant (search rules)
 
 pub blocked_spec : {M : Type 1} → statement M
 blocked_spec =

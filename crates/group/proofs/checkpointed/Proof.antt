@@ -8,23 +8,23 @@ use Rattle.rules.proofs.Groups.Ready.{own-count, checkpointed-named, checkpointe
 use Rattle.group.proofs.checkpointed.Statement.{statement}
 use Rattle.group.proofs.checkpointed.Tie as tie
 
-checkpointed-by-requires : tie.Need-checkpointed-by-requires
+checkpointed-by-requires : tie.Need-checkpointed_by-requires
 checkpointed-by-requires c κs =
-    let p = c.before.before.before.requires in
-    (search rules, own-count _ (search rules) _ (search rules) _ (p.3.own (sym c.before.is-named.ensures ∙ c.if1.true)))
+    let p = c.requires in
+    (search rules, own-count _ (search rules) _ (search rules) _ (p.3.own (sym c.is_named.ensures ∙ c.if-is_named.true)))
 
-returns : tie.Need-returns
+returns : tie.Need-returns-then-is_named
 returns c =
-    let n = c.before.before in
-    c.checkpointed-by.ensures ∙ checkpointed-named base _ _ _ _ n.before.before.requires.3 (sym n.is-named.ensures ∙ c.before.if1.true)
+    let n = c in
+    c.checkpointed_by.ensures ∙ checkpointed-named base _ _ _ _ n.requires.3 (sym n.is_named.ensures ∙ c.if-is_named.true)
 
-returns-2 : tie.Need-returns-2
-returns-2 c = checkpointed-dead base _ 0 _ _ (failed c.before.is_live.ensures c.if2.true)
+returns-2 : tie.Need-returns-then-not-is_live
+returns-2 c = checkpointed-dead base _ 0 _ _ (failed c.is_live.ensures c.if-not-is_live.true-raw)
 
-returns-3 : tie.Need-returns-3
+returns-3 : tie.Need-returns
 returns-3 c =
-    (rw c.before.own_at.ensures at c.checkpointed-in.ensures)
-    ∙ checkpointed-live base _ 0 _ _ (passed c.before.before.before.is_live.ensures c.before.before.if2.false) _ (sym (read_history base _ _ (search rules) _ (search rules)))
+    (rw c.own_at.ensures at c.checkpointed_in.ensures)
+    ∙ checkpointed-live base _ 0 _ _ (passed c.is_live.ensures c.if-not-is_live.false-raw) _ (sym (read_history base _ _ (search rules) _ (search rules)))
 
 pub checkpointed_spec : {M : Type 1} → statement M
 checkpointed_spec =

@@ -8,7 +8,7 @@ use Rattle.group.proofs.count.Statement.{statement}
 use Rattle.group.proofs.count.Tie as tie
 
 returns : tie.Need-returns
-returns c = (rw c.before.own_at.ensures at c.count.ensures.0) ∙ ap (λ (h : History). h.count) (sym (read_history base _ _ (search rules) _ (search rules)))
+returns c = (rw c.own_at.ensures at c.count-n.ensures.0) ∙ ap (λ (h : History). h.count) (sym (read_history base _ _ (search rules) _ (search rules)))
 
 pub count_spec : {M : Type 1} → statement M
 count_spec =

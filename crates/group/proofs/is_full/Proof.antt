@@ -10,4 +10,4 @@ is_full_spec =
     (tie.spec
     (λ c κs. search rules)
     (λ c κs. search rules)
-    (λ c. rw c.before.checkpoints.ensures (full_is _ _ _ c.count.ensures)))
+    (λ c. rw c.checkpoints.ensures (full_is _ _ _ c.count.ensures)))

@@ -10,5 +10,5 @@ is_live_spec =
     tie.close
     (tie.spec
     (λ c κs. search rules)
-    (λ c. rw (← c.before.status.ensures, c.if1.true))
-    (λ c. rw (← c.before.status.ensures, ne_eqb _ idle c.if1.false)))
+    (λ c. rw (← c.status-status.ensures, c.if-status-eq-IDLE.true))
+    (λ c. rw (← c.status-status.ensures, ne_eqb _ idle c.if-status-eq-IDLE.false)))

@@ -12,33 +12,33 @@ use Rattle.group.proofs.kept_ready.Statement.{statement}
 use Rattle.group.proofs.kept_ready.Tie as tie
 
 -- the entry of the state map is ready, by either test
-state-ready : (c : tie.Joined1)
-    → stored_ready base c.before.before.before.args.image.now c.before.before.before.args.group
-    (transactor_address base c.before.before.before.args.t + state_at + history_bytes base * c.before.before.before.args.u) c.before.before.before.args.u ≡ true
+state-ready : (c : tie.Joined-not-in_group)
+    → stored_ready base c.args.image.now c.args.group
+    (transactor_address base c.args.t + state_at + history_bytes base * c.args.u) c.args.u ≡ true
 state-ready c =
-    let kept = c.before.before.before.requires.3 in
+    let kept = c.requires.3 in
     ⊎_elim
-    (λ w. kept-checkpointed base _ _ _ _ kept (passed w.1.ensures w.2.left))
-    (λ w. kept-in-group base _ _ _ _ kept (passed c.before.in_group.ensures w.left))
-    c.if1.branch
+    (λ w. kept-checkpointed base _ _ _ _ kept (passed w.checkpointed.ensures w.if-not-checkpointed.false-raw))
+    (λ w. kept-in-group base _ _ _ _ kept (passed c.in_group.ensures w.if-not-in_group.false-raw))
+    c.if-not-in_group.branch-raw
 
-returns : tie.Need-returns
+returns : tie.Need-returns-then-not-checkpointed
 returns c =
-    let v = c.before.before.before in
+    let v = c in
     pair-off base _ _ _ _
-    (sym (kept-other base _ _ _ _ v.before.before.requires.3 (failed v.in_group.ensures c.before.before.if1.true)) ∙ failed c.before.checkpointed.ensures c.if2.true)
+    (sym (kept-other base _ _ _ _ v.requires.3 (failed v.in_group.ensures c.if-not-in_group.true-raw)) ∙ failed c.checkpointed.ensures c.if-not-checkpointed.true-raw)
 
-returns-2 : tie.Need-returns-2
+returns-2 : tie.Need-returns-then-not-in_group-2
 returns-2 c =
     let v = c.before.before.before in
-    c.checkpointed2.ensures
-    ∙ kept-other base _ _ _ _ v.before.before.before.requires.3 (failed c.before.before.in-group2.ensures c.before.if3.true)
+    c.checkpointed-then-not-in_group-2.ensures
+    ∙ kept-other base _ _ _ _ v.requires.3 (failed c.in_group-2.ensures c.if-not-in_group-2.true-raw)
     ∙ pair-on base _ _ _ _ (state-ready v)
 
-returns-3 : tie.Need-returns-3
+returns-3 : tie.Need-returns
 returns-3 c =
     let v = c.before.before in
-    sym (kept-in-group base _ _ _ _ v.before.before.before.requires.3 (passed c.before.in-group2.ensures c.if3.false)) ∙ pair-on base _ _ _ _ (state-ready v)
+    sym (kept-in-group base _ _ _ _ v.requires.3 (passed c.in_group-2.ensures c.if-not-in_group-2.false-raw)) ∙ pair-on base _ _ _ _ (state-ready v)
 
 pub kept_ready_spec : {M : Type 1} → statement M
 kept_ready_spec =

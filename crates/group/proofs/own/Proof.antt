@@ -11,7 +11,7 @@ own-requires : tie.Need-own-requires
 own-requires c κs = (search rules, search rules)
 
 returns : tie.Need-returns
-returns c = c.own.ensures ∙ ap (λ (x : Transactor). own_history c.before.before.before.args.t x) (unpack-lent base _ _ (search rules))
+returns c = c.own.ensures ∙ ap (λ (x : Transactor). own_history c.args.t x) (unpack-lent base _ _ (search rules))
 
 pub own_spec : {M : Type 1} → statement M
 own_spec =

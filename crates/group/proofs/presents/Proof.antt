@@ -12,27 +12,27 @@ use Rattle.group.proofs.Presenting.{Presented, presented-none, presented-all, pr
 use Rattle.group.proofs.presents.Statement.{statement}
 use Rattle.group.proofs.presents.Tie as tie
 
-abbrev invariant-loop : tie.invariant-loop
+abbrev invariant-loop : tie.invariant-loop-t
 invariant-loop image group present₀ stable₀ t₀ present stable t = Presented base (unpack base image) group t present stable
 
-abbrev decreases-loop : tie.decreases-loop
+abbrev decreases-loop : tie.decreases-loop-t
 decreases-loop image group present₀ stable₀ t₀ present stable t = base.transactors - t
 
-add-stable : tie.Need-overflow-add-stable invariant-loop decreases-loop
+add-stable : tie.Need-overflow_add-stable invariant-loop decreases-loop
 add-stable c =
-    let b = c.before.before.before.before.before.loop in
+    let b = c.loop-t in
     omega (arith, presented-fits b.invariant (search rules) refl _ (shifted _ group_bits (search rules)))
 
-loop-again : tie.Need-loop-preserved invariant-loop decreases-loop
+loop-again : tie.Need-loop-t-preserved invariant-loop decreases-loop
 loop-again c =
-    let b = c.before.before.before.loop in
-    let n = c.before.is-named.ensures in
+    let b = c.loop-t in
+    let n = c.is_named.ensures in
     ⊎_elim
-    (λ w. subst₂ (Presented base (unpack base _) _ _) (sym w.3) (sym w.4) (presented-stable b.invariant (search rules) (sym n ∙ w.0.taken) _ w.1.ensures _ (shifted _ group_bits (search rules)) w.2.taken))
+    (λ w. subst₂ (Presented base (unpack base _) _ _) (sym w.present-is) (sym w.stable-is) (presented-stable b.invariant (search rules) (sym n ∙ w.if-is_named.true) _ w.own-h.ensures _ (shifted _ group_bits (search rules)) w.if-h.true))
     (⊎_elim
-    (λ w. subst₂ (Presented base (unpack base _) _ _) (sym w.3) (sym w.4) (presented-unstable b.invariant (search rules) (sym n ∙ w.0.taken) _ w.1.ensures w.2.left))
-    (λ w. subst₂ (Presented base (unpack base _) _ _) (sym w.1) (sym w.2) (presented-unnamed b.invariant (search rules) (sym n ∙ w.0.left))))
-    c.if1.branch
+    (λ w. subst₂ (Presented base (unpack base _) _ _) (sym w.present-is) (sym w.stable-is) (presented-unstable b.invariant (search rules) (sym n ∙ w.if-is_named.true) _ w.own-h.ensures w.if-h.false))
+    (λ w. subst₂ (Presented base (unpack base _) _ _) (sym w.present-is) (sym w.stable-is) (presented-unnamed b.invariant (search rules) (sym n ∙ w.if-is_named.false))))
+    c.if-is_named.branch-raw
 
 pub presents_spec : {M : Type 1} → statement M
 presents_spec =
@@ -51,4 +51,4 @@ presents_spec =
     (λ c. search rules)
     (λ c. search rules)
     loop-again
-    (λ c. presented-all c.before.loop.invariant (search rules)))
+    (λ c. presented-all c.loop-t.invariant (search rules)))

@@ -14,10 +14,10 @@ use Rattle.group.proofs.Presenting.{kept-named}
 use Rattle.group.proofs.ready.Statement.{statement}
 use Rattle.group.proofs.ready.Tie as tie
 
-abbrev invariant-loop : tie.invariant-loop
+abbrev invariant-loop : tie.invariant-loop-u
 invariant-loop image group present ok₀ t u₀ ok u = Held (pair_ready base image group t) base.transactors u × (ok ≡ true)
 
-abbrev decreases-loop : tie.decreases-loop
+abbrev decreases-loop : tie.decreases-loop-u
 decreases-loop image group present ok₀ t u₀ ok u = base.transactors - u
 
 abbrev invariant-named : tie.invariant-named
@@ -27,30 +27,30 @@ abbrev decreases-named : tie.decreases-named
 decreases-named image group present ok₀ t₀ ok t = base.transactors - t
 
 -- every named transactor is stable
-all_stable : (c : tie.Else1 invariant-loop decreases-loop invariant-named decreases-named) → every base.transactors (stable_named (unpack base c.before.before.before.args.image.now) c.before.before.before.args.group) ≡ true
-all_stable c = present-stable base _ _ c.before.presents.ensures c.if1.false
+all_stable : (c : tie.Else-kept-group invariant-loop decreases-loop invariant-named decreases-named) → every base.transactors (stable_named (unpack base c.args.image.now) c.args.group) ≡ true
+all_stable c = present-stable base _ _ c.presents-kept.ensures c.if-kept-group.false
 
-kept-ready-requires : tie.Need-kept-ready-requires invariant-loop decreases-loop invariant-named decreases-named
+kept-ready-requires : tie.Need-kept_ready-requires invariant-loop decreases-loop invariant-named decreases-named
 kept-ready-requires c κs =
-    let p = c.before.before.before.before.before.before.before in
-    (search rules, search rules, search rules, kept-named base _ _ p.before.presents.ensures p.if1.false p.before.before.before.requires.well _ (search rules))
+    let p = c in
+    (search rules, search rules, search rules, kept-named base _ _ p.presents-kept.ensures p.if-kept-group.false p.requires.well _ (search rules))
 
-named_again : tie.Need-named-preserved invariant-loop decreases-loop invariant-named decreases-named
-named_again c = (held_more (search rules) (search rules) (ready-unnamed base _ _ _ (failed c.before.is-named.ensures c.if2.true)), search rules)
+named_again : tie.Need-named-preserved-then-not-is_named invariant-loop decreases-loop invariant-named decreases-named
+named_again c = (held_more (search rules) (search rules) (ready-unnamed base _ _ _ (failed c.is_named.ensures c.if-not-is_named.true-raw)), search rules)
 
-named-again-2 : tie.Need-named-preserved-2 invariant-loop decreases-loop invariant-named decreases-named
+named-again-2 : tie.Need-named-preserved invariant-loop decreases-loop invariant-named decreases-named
 named-again-2 c =
-    let l = c.before in
-    let n = l.before.before in
-    (held_more (search rules) (search rules) (ready-named base _ _ _ (search rules) (all_stable n.before.before.before) (passed n.is-named.ensures l.before.if2.false) l.loop.invariant.0 (search rules)), search rules)
+    let l = c in
+    let n = l in
+    (held_more (search rules) (search rules) (ready-named base _ _ _ (search rules) (all_stable c.before.before.before.before.before.before) (passed n.is_named.ensures l.if-not-is_named.false-raw) l.loop-u.invariant.0 (search rules)), search rules)
 
-returns-3 : tie.Need-returns-3 invariant-loop decreases-loop invariant-named decreases-named
+returns-3 : tie.Need-returns-then-not-kept_ready invariant-loop decreases-loop invariant-named decreases-named
 returns-3 c =
-    let l = c.before.before.before.before in
-    let n = l.before.before in
-    let p = n.before.before.before in
-    ready-unmet base _ _ _ (search rules) (all_stable p) (passed n.is-named.ensures l.before.if2.false) l.loop.invariant.0 (search rules)
-    (ap not (sym c.before.kept-ready.ensures) ∙ c.if3.true)
+    let l = c in
+    let n = l in
+    let p = n in
+    ready-unmet base _ _ _ (search rules) (all_stable c.before.before.before.before.before.before.before.before.before) (passed n.is_named.ensures l.if-not-is_named.false-raw) l.loop-u.invariant.0 (search rules)
+    (ap not (sym c.kept_ready.ensures) ∙ c.if-not-kept_ready.true-raw)
 
 pub ready_spec : {M : Type 1} → statement M
 ready_spec =
@@ -61,7 +61,7 @@ ready_spec =
     invariant-named
     decreases-named
     (λ c κs. search rules)
-    (λ c. present-unstable base _ _ c.before.presents.ensures refl (search rules) c.if1.true)
+    (λ c. present-unstable base _ _ c.presents-kept.ensures refl (search rules) c.if-kept-group.true)
     (λ c. (held_none _ _, refl))
     (λ c κs. search rules)
     (λ c. search rules)
@@ -73,9 +73,9 @@ ready_spec =
     kept-ready-requires
     (λ c. search rules)
     (λ c. search rules)
-    (λ c. (held_more (search rules) (search rules) (ap not (sym c.before.kept-ready.ensures) ∙ c.if3.false), search rules))
+    (λ c. (held_more (search rules) (search rules) (ap not (sym c.kept_ready.ensures) ∙ c.if-not-kept_ready.false-raw), search rules))
     (λ c. search rules)
     (λ c. search rules)
     named-again-2
-    (λ c. ready-end base _ _ _ (search rules) c.before.named.invariant.0 (search rules))
+    (λ c. ready-end base _ _ _ (search rules) c.named.invariant.0 (search rules))
     returns-3)

@@ -10,8 +10,8 @@ use Rattle.group.proofs.refusal.Statement.{statement}
 use Rattle.group.proofs.refusal.Tie as tie
 
 -- 29, 21 of what the image says
-names : (c : tie.After-group) → let s = c.before.before.before in c.group.result ≡ names_refusal (unpack base s.args.image.now).opened s.args.group
-names c = c.group.ensures ∙ ap (λ (n : ℕ). names_refusal n c.before.before.before.args.group) c.before.opened.ensures
+names : (c : tie.After-group-r) → let s = c in c.group-r.result ≡ names_refusal (unpack base s.args.image.now).opened s.args.group
+names c = c.group-r.ensures ∙ ap (λ (n : ℕ). names_refusal n c.args.group) c.opened.ensures
 
 pub refusal_spec : {M : Type 1} → statement M
 refusal_spec =
@@ -19,6 +19,6 @@ refusal_spec =
     (tie.spec
     (λ c κs. search rules)
     (λ c κs. search rules)
-    (λ c. group-names _ _ _ _ _ _ (names c.before) c.if1.true)
+    (λ c. group-names _ _ _ _ _ _ (names c.before) c.if-r-ne0.true)
     (λ c κs. search rules)
-    (λ c. c.blocked.ensures ∙ group-named _ _ _ _ _ _ (names c.before.before) c.before.if1.false))
+    (λ c. c.blocked.ensures ∙ group-named _ _ _ _ _ _ (names c.before.before) c.if-r-ne0.false))
