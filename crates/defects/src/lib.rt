@@ -1,4 +1,6 @@
 // Where an image fails the form first, and by which clause: the tests of `form`, which answer with the place of the first that fails.
+#![tactic(auto)]
+
 ghost use Rattle.std.specs.Prelude.{◌≡◌, ◌/◌, ◌<◌, length, get_or};
 ghost use Rattle.rules.specs.Layout.{base, transactor_address, image_bytes};
 ghost use Rattle.rules.specs.Pack.{waiting_in, unpack};

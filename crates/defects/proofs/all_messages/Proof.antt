@@ -7,10 +7,10 @@ use Rattle.defects.proofs.Finding.{Sought, sought-none, sought-found, sought-mor
 use Rattle.defects.proofs.all_messages.Statement.{statement}
 use Rattle.defects.proofs.all_messages.Tie as tie
 
-abbrev invariant-loop : tie.invariant-loop
+abbrev invariant-loop : tie.invariant-loop-k
 invariant-loop s n opened next limit k₀ k = Sought (message_defect base s) base.messages k
 
-abbrev decreases-loop : tie.decreases-loop
+abbrev decreases-loop : tie.decreases-loop-k
 decreases-loop s n opened next limit k₀ k = base.messages - k
 
 pub all_messages_spec : {M : Type 1} → statement M
@@ -21,8 +21,8 @@ all_messages_spec =
     decreases-loop
     (λ c. sought-none _ _)
     (λ c κs. search rules)
-    (λ c. sought-found c.before.before.before.before.loop.invariant (search rules) _ c.before.before.message.ensures c.if1.true)
+    (λ c. sought-found c.loop-k.invariant (search rules) _ c.message-d.ensures c.if-d-ne0.true)
     (λ c. search rules)
     (λ c. search rules)
-    (λ c. sought-more c.before.before.before.before.loop.invariant (search rules) _ c.before.before.message.ensures c.if1.false)
-    (λ c. sought-all c.before.loop.invariant (search rules)))
+    (λ c. sought-more c.loop-k.invariant (search rules) _ c.message-d.ensures c.if-d-ne0.false)
+    (λ c. sought-all c.loop-k.invariant (search rules)))

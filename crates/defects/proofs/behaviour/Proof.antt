@@ -8,21 +8,21 @@ use mathlib.Core.Path.{◌∙◌}
 use Rattle.defects.proofs.behaviour.Statement.{statement}
 use Rattle.defects.proofs.behaviour.Tie as tie
 
-returns : tie.Need-returns
+returns : tie.Need-returns-then-not-all_zero
 unfolding behaviour_defect map_formed
-returns c = c.fails.ensures ∙ rw (← c.before.before.before.before.before.requires.2, eq-eqb _ 1 c.before.before.before.if1.true, failed c.before.before.all-zero.ensures c.before.if2.true)
+returns c = c.fails.ensures ∙ rw (← c.requires.2, eq-eqb _ 1 c.if-status-eq-IDLE.true, failed c.all_zero.ensures c.if-not-all_zero.true-raw)
 
-returns-2 : tie.Need-returns-2
+returns-2 : tie.Need-returns-then-status-eq-IDLE
 unfolding behaviour_defect map_formed
-returns-2 c = rw (← c.before.before.before.before.requires.2, eq-eqb _ 1 c.before.before.if1.true, passed c.before.all-zero.ensures c.if2.false)
+returns-2 c = rw (← c.requires.2, eq-eqb _ 1 c.if-status-eq-IDLE.true, passed c.all_zero.ensures c.if-not-all_zero.false-raw)
 
-returns-3 : tie.Need-returns-3
+returns-3 : tie.Need-returns-then-not-formed
 unfolding behaviour_defect map_formed
-returns-3 c = c.fails2.ensures ∙ rw (← c.before.before.before.before.before.requires.0.many, ← c.before.before.before.before.before.requires.0.most, ← c.before.before.before.before.before.requires.2, ne_eqb _ 1 c.before.before.before.if1.false, failed c.before.before.formed.ensures c.before.if3.true)
+returns-3 c = c.fails-then-not-formed.ensures ∙ rw (← c.requires.0.many, ← c.requires.0.most, ← c.requires.2, ne_eqb _ 1 c.if-status-eq-IDLE.false, failed c.formed.ensures c.if-not-formed.true-raw)
 
-returns-4 : tie.Need-returns-4
+returns-4 : tie.Need-returns
 unfolding behaviour_defect map_formed
-returns-4 c = rw (← c.before.before.before.before.requires.0.many, ← c.before.before.before.before.requires.0.most, ← c.before.before.before.before.requires.2, ne_eqb _ 1 c.before.before.if1.false, passed c.before.formed.ensures c.if3.false)
+returns-4 c = rw (← c.requires.0.many, ← c.requires.0.most, ← c.requires.2, ne_eqb _ 1 c.if-status-eq-IDLE.false, passed c.formed.ensures c.if-not-formed.false-raw)
 
 pub behaviour_spec : {M : Type 1} → statement M
 behaviour_spec =

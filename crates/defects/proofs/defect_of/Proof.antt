@@ -7,27 +7,27 @@ use Rattle.defects.proofs.Sound.{front-room}
 use Rattle.defects.proofs.defect_of.Statement.{statement}
 use Rattle.defects.proofs.defect_of.Tie as tie
 
-transactors-requires : tie.Need-transactors-requires
+transactors-requires : tie.Need-transactors-e-requires
 transactors-requires c κs =
-    let d = c.before.before in
-    record { long = search rules; many = search rules; most = search rules; within = omega (arith, c.checkpoints.ensures, front-room base _ _ d.before.before.front.ensures d.if1.false) }
+    let d = c in
+    record { long = search rules; many = search rules; most = search rules; within = omega (arith, c.checkpoints-limit.ensures, front-room base _ _ d.front-d.ensures d.if-d-ne0.false) }
 
-all-messages-requires : tie.Need-all-messages-requires
+all-messages-requires : tie.Need-all_messages-requires
 all-messages-requires c κs =
-    let b = c.before.before.before.before in
-    let d = b.before.before in
-    (record { long = search rules; many = search rules; most = search rules; within = omega (arith, b.checkpoints.ensures, front-room base _ _ d.before.before.front.ensures d.if1.false) }, search rules, search rules)
+    let b = c in
+    let d = b in
+    (record { long = search rules; many = search rules; most = search rules; within = omega (arith, b.checkpoints-limit.ensures, front-room base _ _ d.front-d.ensures d.if-d-ne0.false) }, search rules, search rules)
 
-returns-2 : tie.Need-returns-2
+returns-2 : tie.Need-returns-then-e-ne0
 returns-2 c =
-    let d = c.before.before.before.before.before in
-    in-transactors _ _ d.before.before.front.ensures d.if1.false _ c.before.before.transactors.ensures c.if2.true
+    let d = c in
+    in-transactors _ _ d.front-d.ensures d.if-d-ne0.false _ c.transactors-e.ensures c.if-e-ne0.true
 
-returns-3 : tie.Need-returns-3
+returns-3 : tie.Need-returns
 returns-3 c =
-    let e = c.before.before in
-    let d = e.before.before.before.before.before in
-    in-messages _ _ d.before.before.front.ensures d.if1.false _ e.before.before.transactors.ensures e.if2.false _ c.all-messages.ensures
+    let e = c in
+    let d = e in
+    in-messages _ _ d.front-d.ensures d.if-d-ne0.false _ e.transactors-e.ensures e.if-e-ne0.false _ c.all_messages.ensures
 
 pub defect_of_spec : {M : Type 1} → statement M
 defect_of_spec =
@@ -35,7 +35,7 @@ defect_of_spec =
     (tie.spec
     (λ c κs. search rules)
     (λ c κs. search rules)
-    (λ c. in-front _ _ c.before.before.front.ensures c.if1.true)
+    (λ c. in-front _ _ c.front-d.ensures c.if-d-ne0.true)
     (λ c κs. search rules)
     (λ c. search rules)
     (λ c κs. search rules)

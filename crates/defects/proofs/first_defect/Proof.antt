@@ -10,5 +10,5 @@ first_defect_spec =
     (tie.spec
     (λ c. defect-16 _ (search rules))
     (λ c κs. search rules)
-    (λ c. defect-0 _ (search rules) _ c.before.before.defect-of.ensures c.if2.true)
-    (λ c. defect-19 _ (search rules) _ c.before.before.defect-of.ensures c.if2.false))
+    (λ c. defect-0 _ (search rules) _ c.defect_of-d.ensures c.if-d-eq0.true)
+    (λ c. defect-19 _ (search rules) _ c.defect_of-d.ensures c.if-d-eq0.false))

@@ -7,23 +7,23 @@ use native.Mathlib.Omega.{arith}
 use Rattle.defects.proofs.front.Statement.{statement}
 use Rattle.defects.proofs.front.Tie as tie
 
-returns : tie.Need-returns
-returns c = c.fails.ensures ∙ front-blank _ c.before.if1.true
+returns : tie.Need-returns-then-s-ne0
+returns c = c.fails.ensures ∙ front-blank _ c.if-s-ne0.true
 
-returns-2 : tie.Need-returns-2
-returns-2 c = c.fails2.ensures ∙ front-fourth _ c.before.before.before.if1.false c.before.if2.true
+returns-2 : tie.Need-returns-then-s-ne0-2
+returns-2 c = c.fails-then-s-ne0-2.ensures ∙ front-fourth _ c.if-s-ne0.false c.if-s-ne0-2.true
 
-returns-3 : tie.Need-returns-3
-returns-3 c = c.fails3.ensures ∙ front-limits _ c.before.before.before.before.before.before.before.before.if1.false c.before.before.before.before.before.before.if2.false _ _ _ c.before.before.before.before.before.transactors.ensures c.before.before.before.before.messages.ensures c.before.before.before.checkpoints.ensures (ap not (sym c.before.before.in-range.ensures) ∙ c.before.if3.true)
+returns-3 : tie.Need-returns-then-not-in_range
+returns-3 c = c.fails-then-not-in_range.ensures ∙ front-limits _ c.if-s-ne0.false c.if-s-ne0-2.false _ _ _ c.transactors-most.ensures c.messages-most_messages.ensures c.checkpoints.ensures (ap not (sym c.in_range.ensures) ∙ c.if-not-in_range.true-raw)
 
-returns-4 : tie.Need-returns-4
-returns-4 c = c.fails4.ensures ∙ front-opened _ c.before.before.before.before.before.before.before.before.before.before.if1.false c.before.before.before.before.before.before.before.before.if2.false _ _ _ c.before.before.before.before.before.before.before.transactors.ensures c.before.before.before.before.before.before.messages.ensures c.before.before.before.before.before.checkpoints.ensures (ap not (sym c.before.before.before.before.in-range.ensures) ∙ c.before.before.before.if3.false) (omega (arith, c.before.before.opened.ensures))
+returns-4 : tie.Need-returns-then-most-opened
+returns-4 c = c.fails-then-most-opened.ensures ∙ front-opened _ c.if-s-ne0.false c.if-s-ne0-2.false _ _ _ c.transactors-most.ensures c.messages-most_messages.ensures c.checkpoints.ensures (ap not (sym c.in_range.ensures) ∙ c.if-not-in_range.false-raw) (omega (arith, c.opened.ensures))
 
-returns-5 : tie.Need-returns-5
-returns-5 c = c.fails5.ensures ∙ front-waiting _ c.before.before.before.before.before.before.before.before.before.before.before.if1.false c.before.before.before.before.before.before.before.before.before.if2.false _ _ _ c.before.before.before.before.before.before.before.before.transactors.ensures c.before.before.before.before.before.before.before.messages.ensures c.before.before.before.before.before.before.checkpoints.ensures (ap not (sym c.before.before.before.before.before.in-range.ensures) ∙ c.before.before.before.before.if3.false) (omega (arith, c.before.before.before.opened.ensures)) (omega (arith, c.before.before.before.before.before.before.before.before.before.before.before.before.before.before.requires.1))
+returns-5 : tie.Need-returns-then-most_messages-n
+returns-5 c = c.fails-then-most_messages-n.ensures ∙ front-waiting _ c.if-s-ne0.false c.if-s-ne0-2.false _ _ _ c.transactors-most.ensures c.messages-most_messages.ensures c.checkpoints.ensures (ap not (sym c.in_range.ensures) ∙ c.if-not-in_range.false-raw) (omega (arith, c.opened.ensures)) (omega (arith, c.requires.1))
 
-returns-6 : tie.Need-returns-6
-returns-6 c = front-sound _ c.before.before.before.before.before.before.before.before.before.before.if1.false c.before.before.before.before.before.before.before.before.if2.false _ _ _ c.before.before.before.before.before.before.before.transactors.ensures c.before.before.before.before.before.before.messages.ensures c.before.before.before.before.before.checkpoints.ensures (ap not (sym c.before.before.before.before.in-range.ensures) ∙ c.before.before.before.if3.false) (omega (arith, c.before.before.opened.ensures)) (omega (arith, c.before.before.before.before.before.before.before.before.before.before.before.before.before.requires.1))
+returns-6 : tie.Need-returns
+returns-6 c = front-sound _ c.if-s-ne0.false c.if-s-ne0-2.false _ _ _ c.transactors-most.ensures c.messages-most_messages.ensures c.checkpoints.ensures (ap not (sym c.in_range.ensures) ∙ c.if-not-in_range.false-raw) (omega (arith, c.opened.ensures)) (omega (arith, c.requires.1))
 
 pub front_spec : {M : Type 1} → statement M
 front_spec =

@@ -7,12 +7,12 @@ use native.Mathlib.Omega.{arith}
 use Rattle.defects.proofs.least.Statement.{statement}
 use Rattle.defects.proofs.least.Tie as tie
 
-returns : tie.Need-returns
+returns : tie.Need-returns-then-k-eq0
 unfolding least_number
 returns c = search rules
 
-returns-2 : tie.Need-returns-2
-returns-2 c = rw (least-after _ c.before.before.before.args.k (c.before.before.before.args.k - 1) (omega arith), c.load16.ensures)
+returns-2 : tie.Need-returns
+returns-2 c = rw (least-after _ c.args.k (c.args.k - 1) (omega arith), c.load16.ensures)
 
 pub least_spec : {M : Type 1} → statement M
 least_spec =

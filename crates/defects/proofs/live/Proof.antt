@@ -7,25 +7,25 @@ use mathlib.Core.Path.{◌∙◌}
 use Rattle.defects.proofs.live.Statement.{statement}
 use Rattle.defects.proofs.live.Tie as tie
 
-returns : tie.Need-returns
+returns : tie.Need-returns-then-not-formed
 unfolding live_defect map_formed
-returns c = c.fails.ensures ∙ rw (← c.before.before.before.before.requires.0.many, ← c.before.before.before.before.requires.0.most, failed c.before.before.formed.ensures c.before.if1.true)
+returns c = c.fails.ensures ∙ rw (← c.requires.0.many, ← c.requires.0.most, failed c.formed.ensures c.if-not-formed.true-raw)
 
-returns-2 : tie.Need-returns-2
+returns-2 : tie.Need-returns-then-not-formed-2
 unfolding live_defect map_formed
-returns-2 c = c.fails2.ensures ∙ rw (← c.before.before.before.before.before.before.requires.0.many, ← c.before.before.before.before.before.before.requires.0.most, passed c.before.before.before.before.formed.ensures c.before.before.before.if1.false, failed c.before.before.formed2.ensures c.before.if2.true)
+returns-2 c = c.fails-then-not-formed-2.ensures ∙ rw (← c.requires.0.many, ← c.requires.0.most, passed c.formed.ensures c.if-not-formed.false-raw, failed c.formed-2.ensures c.if-not-formed-2.true-raw)
 
-returns-3 : tie.Need-returns-3
+returns-3 : tie.Need-returns-then-not-present
 unfolding live_defect map_formed
-returns-3 c = c.fails3.ensures ∙ rw (← c.before.before.before.before.before.before.before.before.before.requires.0.many, ← c.before.before.before.before.before.before.before.before.before.requires.0.most, passed c.before.before.before.before.before.before.before.formed.ensures c.before.before.before.before.before.before.if1.false, passed c.before.before.before.before.before.formed2.ensures c.before.before.before.before.if2.false, ← c.before.before.before.own_at.ensures, failed c.before.before.present.ensures c.before.if3.true)
+returns-3 c = c.fails-then-not-present.ensures ∙ rw (← c.requires.0.many, ← c.requires.0.most, passed c.formed.ensures c.if-not-formed.false-raw, passed c.formed-2.ensures c.if-not-formed-2.false-raw, ← c.own_at-own.ensures, failed c.present.ensures c.if-not-present.true-raw)
 
-returns-4 : tie.Need-returns-4
+returns-4 : tie.Need-returns-then-not-saved_right
 unfolding live_defect map_formed
-returns-4 c = c.fails4.ensures ∙ rw (← c.before.before.before.before.before.before.before.before.before.before.before.requires.0.many, ← c.before.before.before.before.before.before.before.before.before.before.before.requires.0.most, passed c.before.before.before.before.before.before.before.before.before.formed.ensures c.before.before.before.before.before.before.before.before.if1.false, passed c.before.before.before.before.before.before.before.formed2.ensures c.before.before.before.before.before.before.if2.false, ← c.before.before.before.before.before.own_at.ensures, passed c.before.before.before.before.present.ensures c.before.before.before.if3.false, failed c.before.before.saved-right.ensures c.before.if4.true)
+returns-4 c = c.fails-then-not-saved_right.ensures ∙ rw (← c.requires.0.many, ← c.requires.0.most, passed c.formed.ensures c.if-not-formed.false-raw, passed c.formed-2.ensures c.if-not-formed-2.false-raw, ← c.own_at-own.ensures, passed c.present.ensures c.if-not-present.false-raw, failed c.saved_right.ensures c.if-not-saved_right.true-raw)
 
-returns-5 : tie.Need-returns-5
+returns-5 : tie.Need-returns
 unfolding live_defect map_formed
-returns-5 c = rw (← c.before.before.before.before.before.before.before.before.before.before.before.requires.0.many, ← c.before.before.before.before.before.before.before.before.before.before.before.requires.0.most, passed c.before.before.before.before.before.before.before.before.before.formed.ensures c.before.before.before.before.before.before.before.before.if1.false, passed c.before.before.before.before.before.before.before.formed2.ensures c.before.before.before.before.before.before.if2.false, ← c.before.before.before.before.before.own_at.ensures, passed c.before.before.before.before.present.ensures c.before.before.before.if3.false, passed c.before.before.saved-right.ensures c.before.if4.false) c.behaviour.ensures
+returns-5 c = rw (← c.requires.0.many, ← c.requires.0.most, passed c.formed.ensures c.if-not-formed.false-raw, passed c.formed-2.ensures c.if-not-formed-2.false-raw, ← c.own_at-own.ensures, passed c.present.ensures c.if-not-present.false-raw, passed c.saved_right.ensures c.if-not-saved_right.false-raw) c.behaviour.ensures
 
 pub live_spec : {M : Type 1} → statement M
 live_spec =

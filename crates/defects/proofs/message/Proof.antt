@@ -6,21 +6,21 @@ use mathlib.Core.Path.{sym, ◌∙◌}
 use Rattle.defects.proofs.message.Statement.{statement}
 use Rattle.defects.proofs.message.Tie as tie
 
-returns : tie.Need-returns
+returns : tie.Need-returns-then-k-n
 unfolding message_defect
-returns c = rw (← c.before.before.before.requires.2, lt-leb _ _ c.before.if1.true) c.waits.ensures
+returns c = rw (← c.requires.2, lt-leb _ _ c.if-k-n.true) c.waits.ensures
 
-returns-2 : tie.Need-returns-2
+returns-2 : tie.Need-returns-then-all_zero
 unfolding message_defect
-returns-2 c = rw (← c.before.before.before.before.requires.2, le-leb _ _ c.before.before.if1.false, sym c.before.all-zero.ensures ∙ c.if2.true)
+returns-2 c = rw (← c.requires.2, le-leb _ _ c.if-k-n.false, sym c.all_zero.ensures ∙ c.if-all_zero.true)
 
-returns-3 : tie.Need-returns-3
+returns-3 : tie.Need-returns-then-s-at-lt128
 unfolding message_defect
-returns-3 c = c.fails.ensures ∙ rw (← c.before.before.before.before.before.before.before.requires.2, le-leb _ _ c.before.before.before.before.before.if1.false, sym c.before.before.before.before.all-zero.ensures ∙ c.before.before.before.if2.false, lt-ltb _ 128 c.before.if3.true)
+returns-3 c = c.fails.ensures ∙ rw (← c.requires.2, le-leb _ _ c.if-k-n.false, sym c.all_zero.ensures ∙ c.if-all_zero.false, lt-ltb _ 128 c.if-s-at-lt128.true)
 
-returns-4 : tie.Need-returns-4
+returns-4 : tie.Need-returns
 unfolding message_defect
-returns-4 c = c.fails2.ensures ∙ rw (← c.before.before.before.before.before.before.before.requires.2, le-leb _ _ c.before.before.before.before.before.if1.false, sym c.before.before.before.before.all-zero.ensures ∙ c.before.before.before.if2.false, le-ltb _ 128 c.before.if3.false)
+returns-4 c = c.fails-2.ensures ∙ rw (← c.requires.2, le-leb _ _ c.if-k-n.false, sym c.all_zero.ensures ∙ c.if-all_zero.false, le-ltb _ 128 c.if-s-at-lt128.false)
 
 pub message_spec : {M : Type 1} → statement M
 message_spec =

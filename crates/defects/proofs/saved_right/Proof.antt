@@ -6,13 +6,13 @@ use mathlib.Core.Path.{sym}
 use Rattle.defects.proofs.saved_right.Statement.{statement}
 use Rattle.defects.proofs.saved_right.Tie as tie
 
-returns : tie.Need-returns
+returns : tie.Need-returns-then-h-ne0
 unfolding saved_right_at
-returns c = rw (← c.before.before.before.before.requires.2, sym c.before.before.load.ensures, ne_eqb _ 0 c.if1.true)
+returns c = rw (← c.requires.2, sym c.load-h.ensures, ne_eqb _ 0 c.if-h-ne0.true)
 
-returns-2 : tie.Need-returns-2
+returns-2 : tie.Need-returns
 unfolding saved_right_at
-returns-2 c = rw (← c.before.before.before.before.before.requires.2, sym c.before.before.before.load.ensures, eq-eqb _ 0 c.before.if1.false, sym c.load32.ensures)
+returns-2 c = rw (← c.requires.2, sym c.load-h.ensures, eq-eqb _ 0 c.if-h-ne0.false, sym c.load32.ensures)
 
 pub saved_right_spec : {M : Type 1} → statement M
 saved_right_spec =

@@ -7,10 +7,10 @@ use Rattle.defects.proofs.Finding.{Sought, sought-none, sought-found, sought-mor
 use Rattle.defects.proofs.transactors.Statement.{statement}
 use Rattle.defects.proofs.transactors.Tie as tie
 
-abbrev invariant-loop : tie.invariant-loop
+abbrev invariant-loop : tie.invariant-loop-t
 invariant-loop s opened limit t₀ t = Sought (transactor_defect base s) base.transactors t
 
-abbrev decreases-loop : tie.decreases-loop
+abbrev decreases-loop : tie.decreases-loop-t
 decreases-loop s opened limit t₀ t = base.transactors - t
 
 pub transactors_spec : {M : Type 1} → statement M
@@ -21,8 +21,8 @@ transactors_spec =
     decreases-loop
     (λ c. sought-none _ _)
     (λ c κs. search rules)
-    (λ c. sought-found c.before.before.before.before.loop.invariant (search rules) _ c.before.before.transactor.ensures c.if1.true)
+    (λ c. sought-found c.loop-t.invariant (search rules) _ c.transactor-d.ensures c.if-d-ne0.true)
     (λ c. search rules)
     (λ c. search rules)
-    (λ c. sought-more c.before.before.before.before.loop.invariant (search rules) _ c.before.before.transactor.ensures c.if1.false)
-    (λ c. sought-all c.before.loop.invariant (search rules)))
+    (λ c. sought-more c.loop-t.invariant (search rules) _ c.transactor-d.ensures c.if-d-ne0.false)
+    (λ c. sought-all c.loop-t.invariant (search rules)))

@@ -8,29 +8,29 @@ use mathlib.Core.Path.{◌∙◌}
 use Rattle.defects.proofs.waits.Statement.{statement}
 use Rattle.defects.proofs.waits.Tie as tie
 
-returns : tie.Need-returns
+returns : tie.Need-returns-then-first-ne8
 unfolding waiting_defect map_formed
-returns c = c.fails.ensures ∙ rw (ne_eqb _ 8 c.before.if1.true)
+returns c = c.fails.ensures ∙ rw (ne_eqb _ 8 c.if-first-ne8.true)
 
-returns-2 : tie.Need-returns-2
+returns-2 : tie.Need-returns-then-opened-to
 unfolding waiting_defect map_formed
-returns-2 c = c.fails2.ensures ∙ rw (← c.before.before.before.before.before.requires.0.many, eq-eqb _ 8 c.before.before.if1.false, le-ltb _ _ c.before.if2.true)
+returns-2 c = c.fails-then-opened-to.ensures ∙ rw (← c.requires.0.many, eq-eqb _ 8 c.if-first-ne8.false, le-ltb _ _ c.if-opened-to.true)
 
-returns-3 : tie.Need-returns-3
+returns-3 : tie.Need-returns-then-next-number
 unfolding waiting_defect map_formed
-returns-3 c = c.fails3.ensures ∙ rw (← c.before.before.before.before.before.before.before.requires.0.many, ← c.before.before.before.before.before.before.before.requires.2, eq-eqb _ 8 c.before.before.before.before.if1.false, lt-ltb _ _ c.before.before.before.if2.false, ← c.before.before.load16.ensures, le-ltb _ _ c.before.if3.true)
+returns-3 c = c.fails-then-next-number.ensures ∙ rw (← c.requires.0.many, ← c.requires.2, eq-eqb _ 8 c.if-first-ne8.false, lt-ltb _ _ c.if-opened-to.false, ← c.load16-number.ensures, le-ltb _ _ c.if-next-number.true)
 
-returns-4 : tie.Need-returns-4
+returns-4 : tie.Need-returns-then-number-least
 unfolding waiting_defect map_formed
-returns-4 c = c.fails4.ensures ∙ rw (← c.before.before.before.before.before.before.before.before.before.requires.0.many, ← c.before.before.before.before.before.before.before.before.before.requires.2, eq-eqb _ 8 c.before.before.before.before.before.before.if1.false, lt-ltb _ _ c.before.before.before.before.before.if2.false, ← c.before.before.before.before.load16.ensures, lt-ltb _ _ c.before.before.before.if3.false, ← c.before.before.least.ensures, lt-leb _ _ c.before.if4.true)
+returns-4 c = c.fails-then-number-least.ensures ∙ rw (← c.requires.0.many, ← c.requires.2, eq-eqb _ 8 c.if-first-ne8.false, lt-ltb _ _ c.if-opened-to.false, ← c.load16-number.ensures, lt-ltb _ _ c.if-next-number.false, ← c.least.ensures, lt-leb _ _ c.if-number-least.true)
 
-returns-5 : tie.Need-returns-5
+returns-5 : tie.Need-returns-then-not-formed
 unfolding waiting_defect map_formed
-returns-5 c = c.fails5.ensures ∙ rw (← c.before.before.before.before.before.before.before.before.before.before.before.requires.0.many, ← c.before.before.before.before.before.before.before.before.before.before.before.requires.0.most, ← c.before.before.before.before.before.before.before.before.before.before.before.requires.2, eq-eqb _ 8 c.before.before.before.before.before.before.before.before.if1.false, lt-ltb _ _ c.before.before.before.before.before.before.before.if2.false, ← c.before.before.before.before.before.before.load16.ensures, lt-ltb _ _ c.before.before.before.before.before.if3.false, ← c.before.before.before.before.least.ensures, le-leb _ _ c.before.before.before.if4.false, failed c.before.before.formed.ensures c.before.if5.true)
+returns-5 c = c.fails-then-not-formed.ensures ∙ rw (← c.requires.0.many, ← c.requires.0.most, ← c.requires.2, eq-eqb _ 8 c.if-first-ne8.false, lt-ltb _ _ c.if-opened-to.false, ← c.load16-number.ensures, lt-ltb _ _ c.if-next-number.false, ← c.least.ensures, le-leb _ _ c.if-number-least.false, failed c.formed.ensures c.if-not-formed.true-raw)
 
-returns-6 : tie.Need-returns-6
+returns-6 : tie.Need-returns
 unfolding waiting_defect map_formed
-returns-6 c = rw (← c.before.before.before.before.before.before.before.before.before.before.requires.0.many, ← c.before.before.before.before.before.before.before.before.before.before.requires.0.most, ← c.before.before.before.before.before.before.before.before.before.before.requires.2, eq-eqb _ 8 c.before.before.before.before.before.before.before.if1.false, lt-ltb _ _ c.before.before.before.before.before.before.if2.false, ← c.before.before.before.before.before.load16.ensures, lt-ltb _ _ c.before.before.before.before.if3.false, ← c.before.before.before.least.ensures, le-leb _ _ c.before.before.if4.false, passed c.before.formed.ensures c.if5.false)
+returns-6 c = rw (← c.requires.0.many, ← c.requires.0.most, ← c.requires.2, eq-eqb _ 8 c.if-first-ne8.false, lt-ltb _ _ c.if-opened-to.false, ← c.load16-number.ensures, lt-ltb _ _ c.if-next-number.false, ← c.least.ensures, le-leb _ _ c.if-number-least.false, passed c.formed.ensures c.if-not-formed.false-raw)
 
 pub waits_spec : {M : Type 1} → statement M
 waits_spec =
