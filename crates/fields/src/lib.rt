@@ -1,4 +1,6 @@
 // Which field of an image a byte belongs to: for a caller that shows images, or says where two differ.
+#![tactic(auto)]
+
 ghost use Rattle.std.specs.Prelude.{◌≡◌, ◌<◌};
 ghost use Rattle.rules.specs.Layout.{base, map_bytes, transactor_bytes, message_bytes, image_bytes};
 ghost use Rattle.fields.specs.Field.{front_field, history_field, map_field, transactor_field, message_field, field_of};

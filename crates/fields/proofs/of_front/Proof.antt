@@ -11,6 +11,6 @@ of_front_spec =
     (λ c κs. search rules)
     (λ c. front-opened _ (search rules) c.plain.ensures)
     (λ c κs. search rules)
-    (λ c. front-next _ (search rules) (search rules) c.plain2.ensures)
+    (λ c. front-next _ (search rules) (search rules) c.plain-then-at-lt3.ensures)
     (λ c κs. search rules)
-    (λ c. front_rest _ (search rules) c.plain3.ensures))
+    (λ c. front_rest _ (search rules) c.plain-2.ensures))

@@ -11,4 +11,4 @@ of_map_spec =
     (λ c. search rules)
     (λ c. search rules)
     (λ c κs. search rules)
-    (λ c. in_map _ _ _ c.of-history.ensures))
+    (λ c. in_map _ _ _ c.of_history.ensures))
