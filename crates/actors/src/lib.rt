@@ -1,4 +1,6 @@
 // For whom a step acts: whoever gives rights asks this before the step is run. The image is only read.
+#![tactic(auto)]
+
 ghost use Rattle.std.specs.Prelude.{◌≡◌, length};
 ghost use Rattle.rules.specs.Layout.{base, image_bytes};
 ghost use Rattle.rules.specs.Pack.{unpack};

@@ -6,33 +6,33 @@ use Rattle.actors.proofs.Acting.{actor-malformed, actor-receive, actor-sign, act
 use Rattle.actors.proofs.actor_of.Statement.{statement}
 use Rattle.actors.proofs.actor_of.Tie as tie
 
-returns : tie.Need-returns
-returns c = actor-malformed (unpack base c.before.before.before.args.image.now) _ c.before.malformed.ensures c.if1.true
+returns : tie.Need-returns-then-malformed
+returns c = actor-malformed (unpack base c.args.image.now) _ c.malformed.ensures c.if-malformed.true
 
-returns-2 : tie.Need-returns-2
+returns-2 : tie.Need-returns-then-kind-eq-RECEIVE
 returns-2 c =
-    let d = c.before.before in
-    actor-receive _ _ d.before.malformed.ensures d.if1.false c.before.if2.true c.receiver.ensures
+    let d = c in
+    actor-receive _ _ d.malformed.ensures d.if-malformed.false c.if-kind-eq-RECEIVE.true c.receiver.ensures
 
-returns-3 : tie.Need-returns-3
+returns-3 : tie.Need-returns-then-kind-eq-SIGN
 returns-3 c =
-    let d = c.before.before in
-    actor-sign (unpack base d.before.before.before.args.image.now) _ d.before.malformed.ensures d.if1.false c.before.if2.false c.if3.true
+    let d = c in
+    actor-sign (unpack base d.args.image.now) _ d.malformed.ensures d.if-malformed.false c.if-kind-eq-RECEIVE.false c.if-kind-eq-SIGN.true
 
-returns-4 : tie.Need-returns-4
+returns-4 : tie.Need-returns-then-kind-lt-NEW
 returns-4 c =
-    let d = c.before.before.before in
-    actor-low (unpack base d.before.before.before.args.image.now) _ d.before.malformed.ensures d.if1.false c.before.before.if2.false c.before.if3.false c.if4.true
+    let d = c in
+    actor-low (unpack base d.args.image.now) _ d.malformed.ensures d.if-malformed.false c.if-kind-eq-RECEIVE.false c.if-kind-eq-SIGN.false c.if-kind-lt-NEW.true
 
-returns-5 : tie.Need-returns-5
+returns-5 : tie.Need-returns-then-kind-gt-FAIL
 returns-5 c =
-    let d = c.before.before.before.before in
-    actor-high (unpack base d.before.before.before.args.image.now) _ d.before.malformed.ensures d.if1.false c.before.before.before.if2.false c.before.before.if3.false c.before.if4.false c.if5.true
+    let d = c in
+    actor-high (unpack base d.args.image.now) _ d.malformed.ensures d.if-malformed.false c.if-kind-eq-RECEIVE.false c.if-kind-eq-SIGN.false c.if-kind-lt-NEW.false c.if-kind-gt-FAIL.true
 
-returns-6 : tie.Need-returns-6
+returns-6 : tie.Need-returns
 returns-6 c =
-    let d = c.before.before.before.before in
-    actor-acts (unpack base d.before.before.before.args.image.now) _ d.before.malformed.ensures d.if1.false c.before.before.before.if2.false c.before.before.if3.false c.before.if4.false c.if5.false
+    let d = c in
+    actor-acts (unpack base d.args.image.now) _ d.malformed.ensures d.if-malformed.false c.if-kind-eq-RECEIVE.false c.if-kind-eq-SIGN.false c.if-kind-lt-NEW.false c.if-kind-gt-FAIL.false
 
 pub actor_of_spec : {M : Type 1} → statement M
 actor_of_spec =

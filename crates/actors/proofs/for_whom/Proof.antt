@@ -6,13 +6,13 @@ use Rattle.actors.proofs.Acting.{actor-16, actor-17, actor-19, actor-0}
 use Rattle.actors.proofs.for_whom.Statement.{statement}
 use Rattle.actors.proofs.for_whom.Tie as tie
 
-returns-3 : tie.Need-returns-3
-returns-3 c = actor-19 _ _ (search rules) (search rules) (ap not (sym c.before.formed.ensures) ∙ c.if3.true)
+returns-3 : tie.Need-returns-then-not-formed
+returns-3 c = actor-19 _ _ (search rules) (search rules) (ap not (sym c.formed.ensures) ∙ c.if-not-formed.true-raw)
 
-returns-4 : tie.Need-returns-4
+returns-4 : tie.Need-returns
 returns-4 c =
-    let d = c.before.before in
-    actor-0 _ _ (search rules) (search rules) (ap not (sym d.before.formed.ensures) ∙ d.if3.false) _ c.before.decode.ensures _ c.actor-of.ensures
+    let d = c in
+    actor-0 _ _ (search rules) (search rules) (ap not (sym d.formed.ensures) ∙ d.if-not-formed.false-raw) _ c.decode.ensures _ c.actor_of.ensures
 
 pub for_whom_spec : {M : Type 1} → statement M
 for_whom_spec =
