@@ -9,17 +9,16 @@ use Rattle.marks.proofs.History.shown_stable.Tie as tie
 returns : tie.Need-returns-then-checkpointed_in
 returns c = shows-list _ _ (sym c.before.checkpointed_in.ensures ∙ c.if-checkpointed_in.true)
 
-returns-2 : tie.Need-returns-then-not-other
-returns-2 c =
-    let b = c.before.before in
-    shows-unstable _ _ (sym b.before.checkpointed_in.ensures ∙ b.if-checkpointed_in.false) (not-true _ c.if-not-other.true)
-
-returns-3 : tie.Need-returns
-returns-3 c =
-    let b = c.before.before.before in
-    c.same_incarnation.ensures ∙ shows_same _ _ (sym b.before.checkpointed_in.ensures ∙ b.if-checkpointed_in.false) (not-false _ c.before.if-not-other.false)
-
 pub shown_stable_spec : {M : Type 1} → statement M
 shown_stable_spec =
     tie.close
-    (tie.spec (λ c κs. search rules) returns returns-2 (λ c κs. search rules) returns-3)
+    (tie.spec
+    (λ c κs. search rules)
+    returns
+    (λ c.
+    let b = c.before.before in
+    shows-unstable _ _ (sym b.before.checkpointed_in.ensures ∙ b.if-checkpointed_in.false) (search rules))
+    (λ c κs. search rules)
+    (λ c.
+    let b = c.before.before.before in
+    c.same_incarnation.ensures ∙ shows_same _ _ (sym b.before.checkpointed_in.ensures ∙ b.if-checkpointed_in.false) (search rules)))
