@@ -1,4 +1,6 @@
 // Texts to step lists.
+#![tactic(auto)]
+
 ghost use Rattle.std.specs.Prelude.{◌≡◌, ◌+◌, ◌≤◌, length, drop};
 ghost use Rattle.octets.specs.Bytes.{pick, put};
 ghost use Rattle.rules.specs.Step.{pack_step};

@@ -6,33 +6,25 @@ use borrow.Author.Rules.{rules}
 use Rattle.parser.proofs.bare_line.Statement.{statement}
 use Rattle.parser.proofs.bare_line.Tie as tie
 
-add-t9 : tie.Need-overflow-add-t9
-add-t9 c =
-    let b = c.before.before.before.before in
-    let k = b.before.before in
-    omega (arith, bare-inside k.before.before.args.s.now k.before.before.args.free _ k.skip.ensures (omega arith) _ b.line_at_lem.ensures)
+add-t9 : tie.Need-overflow_add-result
+add-t9 c = omega (arith, bare-inside c.args.s.now c.args.free _ c.skip-at.ensures (omega arith) _ c.line_at-r.ensures)
 
-returns-2 : tie.Need-returns-2
-returns-2 c =
-    let b = c.before.before.before.before in
-    bare-fault _ _ _ b.before.before.skip.ensures (omega arith) _ b.line_at_lem.ensures c.before.if2.true
+returns-2 : tie.Need-returns-then-r-ne-NOTHING
+returns-2 c = bare-fault _ _ _ c.skip-at.ensures (omega arith) _ c.line_at-r.ensures c.if-r-ne-NOTHING.true
 
-returns-3 : tie.Need-returns-3
-returns-3 c =
-    let b = c.before.before.before.before in
-    bare-full _ _ _ b.before.before.skip.ensures (omega arith) _ b.line_at_lem.ensures c.before.if2.false (not-true _ c.if3.true)
+returns-3 : tie.Need-returns-then-not-free
+returns-3 c = bare-full _ _ _ c.skip-at.ensures (omega arith) _ c.line_at-r.ensures c.if-r-ne-NOTHING.false (not-true _ c.if-not-free.true-raw)
 
-returns-4 : tie.Need-returns-4
+returns-4 : tie.Need-returns
 returns-4 c =
-    let b = c.before.before.before.before in
-    bare_step _ _ _ b.before.before.skip.ensures (omega arith) _ b.line_at_lem.ensures c.before.if2.false (not-false _ c.if3.false)
+    bare_step _ _ _ c.skip-at.ensures (omega arith) _ c.line_at-r.ensures c.if-r-ne-NOTHING.false (not-false _ c.if-not-free.false-raw)
 
 pub bare_line_spec : {M : Type 1} → statement M
 bare_line_spec =
     tie.close
     (tie.spec
     (λ c κs. search rules)
-    (λ c. bare-none _ _ _ c.before.skip.ensures (search rules))
+    (λ c. bare-none _ _ _ c.skip-at.ensures (search rules))
     (λ c κs. search rules)
     add-t9
     returns-2

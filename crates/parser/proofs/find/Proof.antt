@@ -10,17 +10,17 @@ use borrow.Author.Rules.{rules}
 use Rattle.parser.proofs.find.Statement.{statement}
 use Rattle.parser.proofs.find.Tie as tie
 
-abbrev invariant-loop : tie.invariant-loop
+abbrev invariant-loop : tie.invariant-loop-at
 invariant-loop s from b at₀ at = end_of (other_than b) s from ≡ end_of (other_than b) s at
 
-abbrev decreases-loop : tie.decreases-loop
+abbrev decreases-loop : tie.decreases-loop-at
 decreases-loop s from b at₀ at = length s - at
 
-loop-again : tie.Need-loop-preserved invariant-loop decreases-loop
-loop-again c = c.before.before.before.loop.invariant ∙ run_more (other_than _) _ _ (omega arith) (other-on _ _ c.if1.true)
+loop-again : tie.Need-loop-at-preserved invariant-loop decreases-loop
+loop-again c = c.loop-at.invariant ∙ run_more (other_than _) _ _ (omega arith) (other-on _ _ c.if-s-at.true-raw)
 
-returns : tie.Need-returns invariant-loop decreases-loop
-returns c = sym (run-stop (other_than _) _ _ (omega arith) (other-off _ _ c.if1.false)) ∙ sym c.before.before.before.loop.invariant ∙ end_of-def _ _ _
+returns : tie.Need-returns-else-s-at invariant-loop decreases-loop
+returns c = sym (run-stop (other_than _) _ _ (omega arith) (other-off _ _ c.if-s-at.false-raw)) ∙ sym c.loop-at.invariant ∙ end_of-def _ _ _
 
 pub find_spec : {M : Type 1} → statement M
 find_spec =
@@ -34,4 +34,4 @@ find_spec =
     (λ c. search rules)
     loop-again
     returns
-    (λ c. sym (run_end (other_than _) _ _ (omega arith)) ∙ sym c.before.loop.invariant ∙ end_of-def _ _ _))
+    (λ c. sym (run_end (other_than _) _ _ (omega arith)) ∙ sym c.loop-at.invariant ∙ end_of-def _ _ _))

@@ -4,8 +4,8 @@ use borrow.Author.Rules.{rules}
 use Rattle.parser.proofs.line_of.Statement.{statement}
 use Rattle.parser.proofs.line_of.Tie as tie
 
-part-bare-line-end : tie.Need-slice-bounds-bare-line-end
-part-bare-line-end c = let h = said-inside _ _ c.find.ensures in search rules
+part-bare-line-end : tie.Need-slice_bounds-bare_line-end
+part-bare-line-end c = let h = said-inside _ _ c.find-end.ensures in search rules
 
 pub line_of_spec : {M : Type 1} → statement M
 line_of_spec =
@@ -16,4 +16,4 @@ line_of_spec =
     (λ c. search rules)
     part-bare-line-end
     (λ c κs. search rules)
-    (λ c. line-said _ _ c.before.before.find.ensures _ _ c.bare-line.ensures))
+    (λ c. line-said _ _ c.find-end.ensures _ _ c.bare_line.ensures))

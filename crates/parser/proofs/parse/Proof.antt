@@ -4,16 +4,11 @@ use borrow.Author.Rules.{rules}
 use Rattle.parser.proofs.parse.Statement.{statement}
 use Rattle.parser.proofs.parse.Tie as tie
 
-returns : tie.Need-returns
-returns c =
-    let l = c.before.before.before.before.before in
-    parsed-fault _ _ _ _ l.read-lines.ensures c.before.if1.true _ c.expected-of.ensures
+returns : tie.Need-returns-then-first-ne-NOTHING
+returns c = parsed-fault _ _ _ _ c.read_lines-first.ensures c.if-first-ne-NOTHING.true _ c.expected_of-expected.ensures
 
-returns-2 : tie.Need-returns-2
-returns-2 c =
-    let m = c.before.before.before in
-    let l = m.before.before.before.before.before.before in
-    parsed-steps _ _ _ _ l.read-lines.ensures _ _ m.before.before.if1.false m.read-lines2.ensures
+returns-2 : tie.Need-returns
+returns-2 c = parsed-steps _ _ _ _ c.read_lines-first.ensures _ _ c.if-first-ne-NOTHING.false c.read_lines-second.ensures
 
 pub parse_spec : {M : Type 1} → statement M
 parse_spec =

@@ -27,4 +27,4 @@ store_step_spec =
     (λ c. search rules)
     (λ c κs. search rules)
     (λ c. search rules)
-    (λ c. packed-put _ _ _ _ c.before.before.write.ensures))
+    (λ c. packed-put _ _ _ _ c.write.ensures))
