@@ -1,5 +1,7 @@
 // The engine's call for programs in other languages, as include/engine.h declares it: a slice is a pointer and a length. It has no
 // precondition, and promises what the call of crate engine promises.
+#![tactic(auto)]
+
 ghost use Rattle.std.specs.Prelude.{◌≡◌};
 ghost use Rattle.rules.specs.Layout.{base, limits_of};
 ghost use Rattle.engine.specs.Play.{play_answer, play_replies};
