@@ -1,4 +1,6 @@
 // What each transactor needs of a group: worked out once, so that a group is then tested by a few words; the least group with one, and how many are ready.
+#![tactic(auto)]
+
 pub mod closure;
 
 ghost use Rattle.std.specs.Prelude.{◌≡◌, ◌+◌, ◌≤◌, ◌<◌};

@@ -10,29 +10,29 @@ use Rattle.needs.proofs.Meeting.{served, meets-off, meets-by, served-unnamed, se
 use Rattle.needs.proofs.meets.Statement.{statement}
 use Rattle.needs.proofs.meets.Tie as tie
 
-abbrev invariant-loop : tie.invariant-loop
+abbrev invariant-loop : tie.invariant-loop-t
 invariant-loop group list t₀ t = Held (served list.need group) group_bits t
 
-abbrev decreases-loop : tie.decreases-loop
+abbrev decreases-loop : tie.decreases-loop-t
 decreases-loop group list t₀ t = group_bits - t
 
-returns-2 : tie.Need-returns-2 invariant-loop decreases-loop
+returns-2 : tie.Need-returns-then-not-is_inside-2 invariant-loop decreases-loop
 returns-2 c =
-    let n = c.before.before.before in
-    let p = n.before.before.before in
-    meets-by _ _ _ (passed p.before.before.is-inside.ensures p.before.if1.false)
-    (held-fails p.loop.invariant (search rules) (served-lacks _ _ _ (sym n.before.is-named.ensures ∙ n.if2.true) (failed c.before.is-inside2.ensures c.if3.true)))
+    let n = c in
+    let p = n in
+    meets-by _ _ _ (passed p.is_inside.ensures p.if-not-is_inside.false-raw)
+    (held-fails p.loop-t.invariant (search rules) (served-lacks _ _ _ (sym n.is_named.ensures ∙ n.if-is_named.true) (failed c.is_inside-then-is_named.ensures c.if-not-is_inside-2.true-raw)))
 
-loop-again : tie.Need-loop-preserved invariant-loop decreases-loop
+loop-again : tie.Need-loop-t-preserved invariant-loop decreases-loop
 loop-again c = ⊎_elim
-    (λ w. held_more (search rules) (search rules) (served-met _ _ _ (sym c.before.is-named.ensures ∙ w.0.taken) (passed w.2.ensures w.3.left)))
-    (λ w. held_more (search rules) (search rules) (served-unnamed _ _ _ (sym c.before.is-named.ensures ∙ w.left)))
-    c.if2.branch
+    (λ w. held_more (search rules) (search rules) (served-met _ _ _ (sym c.is_named.ensures ∙ w.if-is_named.true) (passed w.is_inside-then-is_named.ensures w.if-not-is_inside-2.false-raw)))
+    (λ w. held_more (search rules) (search rules) (served-unnamed _ _ _ (sym c.is_named.ensures ∙ w.if-is_named.false)))
+    c.else-is_named.branch-raw
 
-returns-3 : tie.Need-returns-3 invariant-loop decreases-loop
+returns-3 : tie.Need-returns invariant-loop decreases-loop
 returns-3 c =
-    let p = c.before.before in
-    meets-by _ _ _ (passed p.before.is-inside.ensures p.if1.false) (held_all c.before.loop.invariant (search rules))
+    let p = c in
+    meets-by _ _ _ (passed p.is_inside.ensures p.if-not-is_inside.false-raw) (held_all c.loop-t.invariant (search rules))
 
 pub meets_spec : {M : Type 1} → statement M
 meets_spec =
@@ -41,7 +41,7 @@ meets_spec =
     invariant-loop
     decreases-loop
     (λ c κs. search rules)
-    (λ c. meets-off _ _ _ (failed c.before.is-inside.ensures c.if1.true))
+    (λ c. meets-off _ _ _ (failed c.is_inside.ensures c.if-not-is_inside.true-raw))
     (λ c. held_none _ _)
     (λ c κs. search rules)
     (λ c. search rules)

@@ -11,39 +11,39 @@ use Rattle.rules.proofs.Groups.Closure.{Growing, growing-first, growing-unnamed,
 use Rattle.needs.proofs.closure.closure.Statement.{statement}
 use Rattle.needs.proofs.closure.closure.Tie as tie
 
-abbrev invariant-loop : tie.invariant-loop
+abbrev invariant-loop : tie.invariant-loop-u
 invariant-loop t list group₀ u₀ group u = (group < 2 ^ group_bits) × Growing list.need t u group
 
-abbrev decreases-loop : tie.decreases-loop
+abbrev decreases-loop : tie.decreases-loop-u
 decreases-loop t list group₀ u₀ group u = 17 * (2 ^ group_bits - group) + (group_bits - u)
 
-loop-holds : tie.Need-loop-init invariant-loop decreases-loop
+loop-holds : tie.Need-loop-u-init invariant-loop decreases-loop
 loop-holds c =
     let e = shifted c.args.t group_bits (search rules) in
     (omega (arith, e, one-fits c.args.t group_bits (search rules)), growing-first _ _ _ e)
 
-loop-less : tie.Need-loop-smaller invariant-loop decreases-loop
+loop-less : tie.Need-loop-u-smaller-then-not-is_inside invariant-loop decreases-loop
 loop-less c =
-    let n = c.before.before.before.before in
-    let l = n.before.before.before.loop in
-    omega (arith, growing-less l.invariant.1 (search rules) (sym n.before.is-named.ensures ∙ n.if1.true) (failed c.before.before.is-inside.ensures c.before.if2.true) l.invariant.0, c.joined.ensures)
+    let n = c in
+    let l = n.loop-u in
+    omega (arith, growing-less l.invariant.1 (search rules) (sym n.is_named.ensures ∙ n.if-is_named.true) (failed c.is_inside.ensures c.if-not-is_inside.true-raw) l.invariant.0, c.joined-group.ensures)
 
-loop-again : tie.Need-loop-preserved invariant-loop decreases-loop
+loop-again : tie.Need-loop-u-preserved-then-not-is_inside invariant-loop decreases-loop
 loop-again c =
-    let n = c.before.before.before.before in
-    let l = n.before.before.before.loop in
-    (search rules, subst (Growing _ _ 0) (sym c.joined.ensures) (growing-more l.invariant.1 (search rules) (sym n.before.is-named.ensures ∙ n.if1.true)))
+    let n = c in
+    let l = n.loop-u in
+    (search rules, subst (Growing _ _ 0) (sym c.joined-group.ensures) (growing-more l.invariant.1 (search rules) (sym n.is_named.ensures ∙ n.if-is_named.true)))
 
-loop-less-2 : tie.Need-loop-smaller-2 invariant-loop decreases-loop
+loop-less-2 : tie.Need-loop-u-smaller invariant-loop decreases-loop
 loop-less-2 c = omega arith
 
-loop-again-2 : tie.Need-loop-preserved-2 invariant-loop decreases-loop
+loop-again-2 : tie.Need-loop-u-preserved invariant-loop decreases-loop
 loop-again-2 c =
-    let l = c.before.before.before.loop in
+    let l = c.loop-u in
     ⊎_elim
-    (λ w. (l.invariant.0, growing-met l.invariant.1 (search rules) (passed w.2.ensures w.3.left)))
-    (λ w. (l.invariant.0, growing-unnamed l.invariant.1 (search rules) (sym c.before.is-named.ensures ∙ w.left)))
-    c.if1.branch
+    (λ w. (l.invariant.0, growing-met l.invariant.1 (search rules) (passed w.is_inside.ensures w.if-not-is_inside.false-raw)))
+    (λ w. (l.invariant.0, growing-unnamed l.invariant.1 (search rules) (sym c.is_named.ensures ∙ w.if-is_named.false)))
+    c.else-is_named.branch-raw
 
 pub closure_spec : {M : Type 1} → statement M
 closure_spec =
@@ -64,4 +64,4 @@ closure_spec =
     (λ c. search rules)
     loop-less-2
     loop-again-2
-    (λ c. growing-end c.before.loop.invariant.1 (search rules)))
+    (λ c. growing-end c.loop-u.invariant.1 (search rules)))

@@ -11,39 +11,39 @@ use Rattle.needs.proofs.Counting.{Counted, counted_none, counted-few, counted-en
 use Rattle.needs.proofs.closure.count.Statement.{statement}
 use Rattle.needs.proofs.closure.count.Tie as tie
 
-abbrev invariant-loop : tie.invariant-loop
+abbrev invariant-loop : tie.invariant-loop-group
 invariant-loop list size able n₀ group₀ n group = (group ≤ able) × Counted list.need able size group n
 
-abbrev decreases-loop : tie.decreases-loop
+abbrev decreases-loop : tie.decreases-loop-group
 decreases-loop list size able n₀ group₀ n group = group
 
-loop-holds : tie.Need-loop-init invariant-loop decreases-loop
+loop-holds : tie.Need-loop-group-init invariant-loop decreases-loop
 loop-holds c = (search rules, counted_none _ _ _ (search rules))
 
-cast-if1-2 : tie.Need-overflow-cast-if1-2 invariant-loop decreases-loop
-cast-if1-2 c = let e = ones-le group_bits c.before.loop.group (search rules) in omega arith
+cast-if1-2 : tie.Need-overflow_cast-group-in-loop-group invariant-loop decreases-loop
+cast-if1-2 c = let e = ones-le group_bits c.loop-group.group (search rules) in omega arith
 
-add-n : tie.Need-overflow-add-n invariant-loop decreases-loop
-add-n c = omega (arith, counted-few c.before.before.before.before.loop.invariant.1)
+add-n : tie.Need-overflow_add-n invariant-loop decreases-loop
+add-n c = omega (arith, counted-few c.loop-group.invariant.1)
 
-loop-less : tie.Need-loop-smaller invariant-loop decreases-loop
-loop-less c = let l = c.before.before.loop in omega (arith, and_le_l (l.group - 1) c.before.before.before.args.needs.able)
+loop-less : tie.Need-loop-group-smaller invariant-loop decreases-loop
+loop-less c = let l = c.loop-group in omega (arith, and_le_l (l.group - 1) c.args.needs.able)
 
-loop-again : tie.Need-loop-preserved invariant-loop decreases-loop
+loop-again : tie.Need-loop-group-preserved invariant-loop decreases-loop
 loop-again c =
-    let l = c.before.before.loop in (
-      and_le_r (l.group - 1) c.before.before.before.args.needs.able,
+    let l = c.loop-group in (
+      and_le_r (l.group - 1) c.args.needs.able,
       ⊎_elim
-          (λ w. subst (Counted _ _ _ _) (sym w.3) (counted-on l.invariant.1 (search rules) (search rules) w.0.taken (sym w.1.ensures ∙ w.2.taken)))
-          (λ w. subst (Counted _ _ _ _) (sym w.1) (⊎_elim
-          (λ x. counted-off l.invariant.1 (search rules) (search rules) x.0.taken (sym x.1.ensures ∙ x.2.left))
-          (λ x. counted-other l.invariant.1 (search rules) (search rules) x.left)
-          w.0.came))
-          c.if1.branch,
+          (λ w. subst (Counted _ _ _ _) (sym w.n-is) (counted-on l.invariant.1 (search rules) (search rules) w.if-group-size.true (sym w.meets.ensures ∙ w.if-meets.true)))
+          (λ w. subst (Counted _ _ _ _) (sym w.n-is) (⊎_elim
+          (λ x. counted-off l.invariant.1 (search rules) (search rules) x.if-group-size.true (sym x.meets.ensures ∙ x.if-meets.false))
+          (λ x. counted-other l.invariant.1 (search rules) (search rules) x.if-group-size.false)
+          w.else-group-size.branch-raw))
+          c.if-group-size.branch-raw,
     )
 
 returns : tie.Need-returns invariant-loop decreases-loop
-returns c = counted-end c.before.loop.invariant.1 (omega arith) (search rules)
+returns c = counted-end c.loop-group.invariant.1 (omega arith) (search rules)
 
 pub count_spec : {M : Type 1} → statement M
 count_spec =
