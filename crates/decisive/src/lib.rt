@@ -1,4 +1,6 @@
 // Which history decides: two packed histories compared; what the receipt of a waiting message would do, and whose histories decide it.
+#![tactic(auto)]
+
 pub mod receipt;
 
 ghost use Rattle.std.specs.Prelude.{◌≡◌, length};

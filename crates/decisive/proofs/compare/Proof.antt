@@ -13,10 +13,10 @@ compare_spec =
     tie.close
     (tie.spec
     (λ c κs. search rules)
-    (λ c. compare-refused _ _ c.before.refused.ensures (search rules))
-    (λ c κs. omega (arith, left-length _ _ c.before.refused.ensures c.if1.false))
-    (λ c κs. omega (arith, right-length _ _ c.before.before.refused.ensures c.before.if1.false))
-    (λ c κs. (loaded-count width places _ _ (omega arith) c.before.load.ensures, loaded-count width places _ _ (omega arith) c.load2.ensures))
+    (λ c. compare-refused _ _ c.refused-number.ensures (search rules))
+    (λ c κs. omega (arith, left-length _ _ c.refused-number.ensures c.if-number-ne0.false))
+    (λ c κs. omega (arith, right-length _ _ c.refused-number.ensures c.if-number-ne0.false))
+    (λ c κs. (loaded-count width places _ _ (omega arith) c.load-a.ensures, loaded-count width places _ _ (omega arith) c.load-b.ensures))
     (λ c κs. search rules)
     (λ c κs. search rules)
-    (λ c. let d = c.before.before.before.before.before in compare-answered _ _ d.before.refused.ensures d.if1.false c.before.before.before.before.load.ensures c.before.before.before.load2.ensures (c.before.number.ensures ∙ c.before.before.compare.ensures) c.newer.ensures))
+    (λ c. let d = c in compare-answered _ _ d.refused-number.ensures d.if-number-ne0.false c.load-a.ensures c.load-b.ensures (c.number.ensures ∙ c.compare.ensures) c.newer.ensures))

@@ -10,9 +10,9 @@ is_history_spec =
     tie.close
     (tie.spec
     (λ c κs. search rules)
-    (λ c. mark-absent _ (search rules) c.before.present.ensures c.if1.true)
+    (λ c. mark-absent _ (search rules) c.present.ensures c.if-not-present.true-raw)
     (λ c κs. search rules)
     (λ c. search rules)
     (λ c. search rules)
     (λ c κs. search rules)
-    (λ c. mark-formed _ (search rules) c.before.before.before.before.present.ensures (search rules) c.formed.ensures))
+    (λ c. mark-formed _ (search rules) c.present.ensures (search rules) c.formed.ensures))

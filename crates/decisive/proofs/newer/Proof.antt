@@ -11,5 +11,5 @@ newer_spec =
     tie.close
     (tie.spec
     (λ c κs. search rules)
-    (λ c. sym (ap bit (sym c.before.older.ensures ∙ c.if1.true)))
-    (λ c. sym (ap bit (sym c.before.older.ensures ∙ c.if1.false))))
+    (λ c. sym (ap bit (sym c.older.ensures ∙ c.if-older.true)))
+    (λ c. sym (ap bit (sym c.older.ensures ∙ c.if-older.false))))

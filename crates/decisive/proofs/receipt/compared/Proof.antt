@@ -9,16 +9,16 @@ use Rattle.decisive.proofs.receipt.compared.Tie as tie
 
 compare-requires : tie.Need-compare-requires
 compare-requires c κs =
-    (search rules, rw c.joined.ensures (bounded-join _ _ _ _ (bounded-unpack _ _ _ _ (omega arith)) (bounded-unpack _ _ _ _ (omega arith))))
+    (search rules, rw c.joined-known.ensures (bounded-join _ _ _ _ (bounded-unpack _ _ _ _ (omega arith)) (bounded-unpack _ _ _ _ (omega arith))))
 
 returns : tie.Need-returns
 returns c =
-    let j = c.before in
-    let m = j.before in
-    let s = m.before.before in (
-      read-unrelated _ _ s.requires.1 _ s.requires.2 (c.compare.ensures.0 ∙ rw (j.joined.ensures, m.map_at.ensures)),
-      read-message _ _ s.requires.1 _ s.requires.2 (c.compare.ensures.1 ∙ rw (j.joined.ensures, m.map_at.ensures)),
-      read-receiver _ _ s.requires.1 _ s.requires.2 (c.compare.ensures.2 ∙ rw (j.joined.ensures, m.map_at.ensures)),
+    let j = c in
+    let m = j in
+    let s = m in (
+      read-unrelated _ _ s.requires.1 _ s.requires.2 (c.compare.ensures.0 ∙ rw (j.joined-known.ensures, m.map_at-m.ensures)),
+      read-message _ _ s.requires.1 _ s.requires.2 (c.compare.ensures.1 ∙ rw (j.joined-known.ensures, m.map_at-m.ensures)),
+      read-receiver _ _ s.requires.1 _ s.requires.2 (c.compare.ensures.2 ∙ rw (j.joined-known.ensures, m.map_at-m.ensures)),
     )
 
 pub compared_spec : {M : Type 1} → statement M

@@ -13,8 +13,8 @@ decide_spec =
     tie.close
     (tie.spec
     (λ c κs. search rules)
-    (λ c. decide-refused _ _ _ c.before.image-refusal.ensures c.if1.true)
+    (λ c. decide-refused _ _ _ c.image_refusal-r.ensures c.if-r-ne0.true)
     (λ c κs.
-    let r = c.before in
-    good-formed _ (sound-long base _ _ r.image-refusal.ensures c.if1.false) (octets-of _ r.before.shared-slice-known.given) (sound-formed base _ _ r.image-refusal.ensures c.if1.false))
-    (λ c. decide-judged _ _ _ c.before.before.before.image-refusal.ensures c.before.before.if1.false c.before.judge-numbered.ensures))
+    let r = c in
+    good-formed _ (sound-long base _ _ r.image_refusal-r.ensures c.if-r-ne0.false) (octets-of _ r.shared_slice_known-1.given) (sound-formed base _ _ r.image_refusal-r.ensures c.if-r-ne0.false))
+    (λ c. decide-judged _ _ _ c.image_refusal-r.ensures c.if-r-ne0.false c.judge_numbered-judged.ensures))

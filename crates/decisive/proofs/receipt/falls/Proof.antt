@@ -11,8 +11,8 @@ falls_spec =
     (tie.spec
     (λ c κs. search rules)
     (λ c κs. search rules)
-    (λ c. falls-vanished _ _ _ c.before.before.before.own.ensures c.before.if1.true c.told.ensures)
+    (λ c. falls-vanished _ _ _ c.own-h.ensures c.if-h-eq0.true c.told.ensures)
     (λ c κs. search rules)
-    (λ c. falls-last _ _ _ c.before.before.before.before.before.own.ensures c.before.before.before.if1.false c.before.if2.true c.refused.ensures)
+    (λ c. falls-last _ _ _ c.own-h.ensures c.if-h-eq0.false c.if-h.true c.refused.ensures)
     (λ c κs. search rules)
-    (λ c. falls-back _ _ _ c.before.before.before.before.before.own.ensures c.before.before.before.if1.false c.before.if2.false (search rules) c.told2.ensures))
+    (λ c. falls-back _ _ _ c.own-h.ensures c.if-h-eq0.false c.if-h.false (search rules) c.told-2.ensures))

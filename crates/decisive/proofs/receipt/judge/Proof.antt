@@ -11,10 +11,10 @@ judge_spec =
     (tie.spec
     (λ c κs. search rules)
     (λ c κs. search rules)
-    (λ c. judged-unrelated base _ _ _ c.before.before.compared.ensures.0 c.before.if1.true c.refused.ensures)
+    (λ c. judged-unrelated base _ _ _ c.compared-answers.ensures.0 c.if-answers.true c.refused.ensures)
     (λ c. search rules)
     (λ c. search rules)
     (λ c κs. search rules)
-    (λ c. let d = c.before.before.before in let a = d.before in judged-settled base _ _ _ a.compared.ensures.0 d.if1.false a.compared.result.packed a.compared.result.own a.compared.ensures.1 a.compared.ensures.2 c.before.enum_told.given.1 c.settled.ensures)
+    (λ c. let d = c in let a = d in judged-settled base _ _ _ a.compared-answers.ensures.0 d.if-answers.false a.compared-answers.result.packed a.compared-answers.result.own a.compared-answers.ensures.1 a.compared-answers.ensures.2 c.in_default.is c.settled.ensures)
     (λ c κs. search rules)
-    (λ c. let d = c.before.before.before.before in let a = d.before in judged-dropped base _ _ _ a.compared.ensures.0 d.if1.false a.compared.result.packed a.compared.result.own a.compared.ensures.1 a.compared.ensures.2 c.before.before.message.given.1 c.told.ensures))
+    (λ c. let d = c in let a = d in judged-dropped base _ _ _ a.compared-answers.ensures.0 d.if-answers.false a.compared-answers.result.packed a.compared-answers.result.own a.compared-answers.ensures.1 a.compared-answers.ensures.2 c.in-Superseded.is c.told.ensures))

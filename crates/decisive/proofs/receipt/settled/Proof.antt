@@ -12,6 +12,6 @@ settled_spec =
     (λ c. search rules)
     (λ c. search rules)
     (λ c κs. search rules)
-    (λ c. by-none base _ _ _ c.before.enum_told.given.1 c.told.ensures)
+    (λ c. by-none base _ _ _ c.in_default.is c.told.ensures)
     (λ c κs. search rules)
-    (λ c. by-receiver base _ _ _ c.before.before.receiver.given.1 c.falls.ensures))
+    (λ c. by-receiver base _ _ _ c.in-Superseded.is c.falls.ensures))
