@@ -1,4 +1,6 @@
 // What rests on what, for a caller that asks: who rests on a transactor's present incarnation (document 01: a take's present life).
+#![tactic(auto)]
+
 ghost use Rattle.std.specs.Prelude.{◌≡◌, ◌+◌, ◌≤◌, ◌<◌};
 ghost use Rattle.marks.specs.History.{Roomy};
 ghost use Rattle.marks.specs.Packed.{history_in};

@@ -8,16 +8,16 @@ use Rattle.grounds.proofs.Words.{Listing, listing_none, listing-more, listing-en
 use Rattle.grounds.proofs.all_resting.Statement.{statement}
 use Rattle.grounds.proofs.all_resting.Tie as tie
 
-abbrev invariant-loop : tie.invariant-loop
+abbrev invariant-loop : tie.invariant-loop-u
 invariant-loop image list₀ u₀ list u = Listing base (unpack base image) u list
 
-abbrev decreases-loop : tie.decreases-loop
+abbrev decreases-loop : tie.decreases-loop-u
 decreases-loop image list₀ u₀ list u = base.transactors - u
 
-loop-again : tie.Need-loop-preserved invariant-loop decreases-loop
+loop-again : tie.Need-loop-u-preserved invariant-loop decreases-loop
 loop-again c =
-    let l = c.before.before.loop in
-    listing-more l.invariant (search rules) _ c.resting.ensures
+    let l = c.loop-u in
+    listing-more l.invariant (search rules) _ c.resting-group.ensures
 
 pub all_resting_spec : {M : Type 1} → statement M
 all_resting_spec =
@@ -32,4 +32,4 @@ all_resting_spec =
     (λ c. search rules)
     (λ c. search rules)
     loop-again
-    (λ c. listing-end c.before.loop.invariant (search rules)))
+    (λ c. listing-end c.loop-u.invariant (search rules)))

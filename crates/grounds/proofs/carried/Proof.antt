@@ -13,20 +13,20 @@ use Rattle.grounds.proofs.Words.{many-end}
 use Rattle.grounds.proofs.carried.Statement.{statement}
 use Rattle.grounds.proofs.carried.Tie as tie
 
-abbrev invariant-loop : tie.invariant-loop
+abbrev invariant-loop : tie.invariant-loop-k
 invariant-loop image t n count₀ k₀ count k = (count ≡ how_many k (carries_at (unpack base image) t)) × (count ≤ k) × (k ≤ n)
 
-abbrev decreases-loop : tie.decreases-loop
+abbrev decreases-loop : tie.decreases-loop-k
 decreases-loop image t n count₀ k₀ count k = n - k
 
-loop-again : tie.Need-loop-preserved invariant-loop decreases-loop
+loop-again : tie.Need-loop-k-preserved invariant-loop decreases-loop
 loop-again c =
-    let b = c.before.before.before.loop in
-    let e = c.before.carries.ensures in
+    let b = c.loop-k in
+    let e = c.carries.ensures in
     ⊎_elim
-    (λ w. (w.1 ∙ many-on _ _ _ b.invariant.0 (sym e ∙ w.0.taken), omega (arith, w.1, b.invariant.1), search rules))
-    (λ w. (w.1 ∙ many-off _ _ _ b.invariant.0 (sym e ∙ w.0.left), omega (arith, w.1, b.invariant.1), search rules))
-    c.if1.branch
+    (λ w. (w.count-is ∙ many-on _ _ _ b.invariant.0 (sym e ∙ w.if-carries.true), omega (arith, w.count-is, b.invariant.1), search rules))
+    (λ w. (w.count-is ∙ many-off _ _ _ b.invariant.0 (sym e ∙ w.if-carries.false), omega (arith, w.count-is, b.invariant.1), search rules))
+    c.if-carries.branch-raw
 
 pub carried_spec : {M : Type 1} → statement M
 carried_spec =
@@ -40,4 +40,4 @@ carried_spec =
     (λ c. search rules)
     (λ c. search rules)
     loop-again
-    (λ c. let l = c.before.loop.invariant in many-end _ _ _ _ l.0 l.2 (search rules)))
+    (λ c. let l = c.loop-k.invariant in many-end _ _ _ _ l.0 l.2 (search rules)))

@@ -9,7 +9,7 @@ use Rattle.grounds.proofs.carries.Tie as tie
 
 holds-requires : tie.Need-holds-requires
 holds-requires c κs =
-    let n = c.before in
+    let n = c in
     (search rules, search rules, search rules, room-message _ n.requires.0 n.args.t n.requires.1 n.args.k n.requires.2)
 
 pub carries_spec : {M : Type 1} → statement M

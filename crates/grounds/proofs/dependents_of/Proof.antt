@@ -13,4 +13,4 @@ dependents_of_spec =
     (λ c κs. search rules)
     (λ c κs. search rules)
     (λ c κs. search rules)
-    (λ c. dependents-is base _ _ c.before.before.before.waiting.ensures.0 c.before.before.resting.ensures (search rules) c.before.unfinished.ensures c.carried.ensures))
+    (λ c. dependents-is base _ _ c.waiting-n.ensures.0 c.resting.ensures (search rules) c.unfinished.ensures c.carried.ensures))

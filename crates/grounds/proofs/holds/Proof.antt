@@ -9,23 +9,23 @@ use Rattle.rules.proofs.Pack.Rooms.{room-state}
 use Rattle.grounds.proofs.holds.Statement.{statement}
 use Rattle.grounds.proofs.holds.Tie as tie
 
-same-in-requires : tie.Need-same-in-requires
+same-in-requires : tie.Need-same_in-requires
 same-in-requires c κs =
-    let p = c.before.before.before.before.requires in
+    let p = c.requires in
     (search rules, search rules, p.3, rw c.own_at.ensures (room-state _ p.0 _ p.2 _ p.2))
 
-returns-2 : tie.Need-returns-2
+returns-2 : tie.Need-returns
 returns-2 c =
-    let n = c.before.before.before in
-    (rw c.before.own_at.ensures at c.same_in.ensures)
-    ∙ present-same base _ _ (search rules) _ (ap not (sym n.present.ensures) ∙ c.before.before.if1.false) _ (sym (read_history base _ _ (search rules) _ (search rules)))
+    let n = c in
+    (rw c.own_at.ensures at c.same_in.ensures)
+    ∙ present-same base _ _ (search rules) _ (ap not (sym n.present.ensures) ∙ c.if-not-present.false-raw) _ (sym (read_history base _ _ (search rules) _ (search rules)))
 
 pub holds_spec : {M : Type 1} → statement M
 holds_spec =
     tie.close
     (tie.spec
     (λ c κs. search rules)
-    (λ c. present-absent base _ _ (search rules) _ (ap not (sym c.before.present.ensures) ∙ c.if1.true))
+    (λ c. present-absent base _ _ (search rules) _ (ap not (sym c.present.ensures) ∙ c.if-not-present.true-raw))
     (λ c κs. search rules)
     same-in-requires
     returns-2)

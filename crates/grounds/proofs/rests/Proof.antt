@@ -10,27 +10,27 @@ use Rattle.grounds.proofs.rests.Tie as tie
 
 holds-requires : tie.Need-holds-requires
 holds-requires c κs =
-    let n = c.before.before.before in
+    let n = c in
     (search rules, search rules, search rules, room-state _ n.requires.0 n.args.t n.requires.1 n.args.u n.requires.2)
 
 holds-requires-2 : tie.Need-holds-requires-2
 holds-requires-2 c κs =
-    let n = c.before.before.before.before.before in
+    let n = c in
     (search rules, search rules, search rules, room-creation _ n.requires.0 n.args.t n.requires.1 n.args.u n.requires.2)
 
-returns : tie.Need-returns
-returns c = rests-dead base _ _ (search rules) _ (search rules) (failed c.before.is_live.ensures c.if1.true)
+returns : tie.Need-returns-then-not-is_live
+returns c = rests-dead base _ _ (search rules) _ (search rules) (failed c.is_live.ensures c.if-not-is_live.true-raw)
 
-returns-2 : tie.Need-returns-2
+returns-2 : tie.Need-returns-then-holds
 returns-2 c =
-    let l = c.before.before in
-    rests-state base _ _ (search rules) _ (search rules) (passed l.before.is_live.ensures l.if1.false) _ c.before.holds.ensures c.if2.true
+    let l = c in
+    rests-state base _ _ (search rules) _ (search rules) (passed l.is_live.ensures l.if-not-is_live.false-raw) _ c.holds.ensures c.if-holds.true
 
-returns-3 : tie.Need-returns-3
+returns-3 : tie.Need-returns
 returns-3 c =
-    let h = c.before.before in
-    let l = h.before in
-    c.holds2.ensures ∙ rests-creation base _ _ (search rules) _ (search rules) (passed l.before.is_live.ensures l.if1.false) _ h.holds.ensures c.before.if2.false
+    let h = c in
+    let l = h in
+    c.holds-2.ensures ∙ rests-creation base _ _ (search rules) _ (search rules) (passed l.is_live.ensures l.if-not-is_live.false-raw) _ h.holds.ensures c.if-holds.false
 
 pub rests_spec : {M : Type 1} → statement M
 rests_spec =

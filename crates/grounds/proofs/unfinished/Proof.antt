@@ -14,25 +14,25 @@ use Rattle.rules.proofs.Groups.Dependents.{names-end}
 use Rattle.grounds.proofs.unfinished.Statement.{statement}
 use Rattle.grounds.proofs.unfinished.Tie as tie
 
-abbrev invariant-loop : tie.invariant-loop
+abbrev invariant-loop : tie.invariant-loop-u
 invariant-loop image t group₀ u₀ group u = Names (works_at (unpack base image) t) u group × (u ≤ base.transactors)
 
-abbrev decreases-loop : tie.decreases-loop
+abbrev decreases-loop : tie.decreases-loop-u
 decreases-loop image t group₀ u₀ group u = base.transactors - u
 
-add-group : tie.Need-overflow-add-group invariant-loop decreases-loop
+add-group : tie.Need-overflow_add-group invariant-loop decreases-loop
 add-group c =
-    let b = c.before.before.before.loop in
+    let b = c.loop-u in
     omega (arith, word_fits b.invariant.0 (search rules) _ (shifted _ group_bits (search rules)))
 
-loop-again : tie.Need-loop-preserved invariant-loop decreases-loop
+loop-again : tie.Need-loop-u-preserved invariant-loop decreases-loop
 loop-again c =
-    let b = c.before.before.before.loop in
-    let n = c.before.works.ensures in
+    let b = c.loop-u in
+    let n = c.works.ensures in
     ⊎_elim
-    (λ w. (subst (Names (works_at (unpack base _) _) _) (sym w.1) (names-on b.invariant.0 _ (shifted _ group_bits (search rules)) (sym n ∙ w.0.taken)), search rules))
-    (λ w. (subst (Names (works_at (unpack base _) _) _) (sym w.1) (names-off b.invariant.0 (sym n ∙ w.0.left)), search rules))
-    c.if1.branch
+    (λ w. (subst (Names (works_at (unpack base _) _) _) (sym w.group-is) (names-on b.invariant.0 _ (shifted _ group_bits (search rules)) (sym n ∙ w.if-works.true)), search rules))
+    (λ w. (subst (Names (works_at (unpack base _) _) _) (sym w.group-is) (names-off b.invariant.0 (sym n ∙ w.if-works.false)), search rules))
+    c.if-works.branch-raw
 
 pub unfinished_spec : {M : Type 1} → statement M
 unfinished_spec =
@@ -48,4 +48,4 @@ unfinished_spec =
     (λ c. search rules)
     (λ c. search rules)
     loop-again
-    (λ c. names-end c.before.loop.invariant.0 c.before.loop.invariant.1 (search rules)))
+    (λ c. names-end c.loop-u.invariant.0 c.loop-u.invariant.1 (search rules)))

@@ -12,16 +12,16 @@ use Rattle.grounds.proofs.works.Tie as tie
 
 holds-requires : tie.Need-holds-requires
 holds-requires c κs =
-    let n = c.before.before.before in
+    let n = c in
     (search rules, search rules, search rules, room-behaviour _ n.requires.0 n.args.t n.requires.1 n.args.u n.requires.2)
 
-returns : tie.Need-returns
-returns c = works-idle base _ _ (search rules) _ (search rules) (ap (λ n. eqb n busy) (sym c.before.status.ensures) ∙ ne_eqb _ busy c.if1.true)
+returns : tie.Need-returns-then-status-ne-BUSY
+returns c = works-idle base _ _ (search rules) _ (search rules) (ap (λ n. eqb n busy) (sym c.status-status.ensures) ∙ ne_eqb _ busy c.if-status-ne-BUSY.true)
 
-returns-2 : tie.Need-returns-2
+returns-2 : tie.Need-returns
 returns-2 c =
-    let l = c.before in
-    c.holds.ensures ∙ works-busy base _ _ (search rules) _ (search rules) (ap (λ n. eqb n busy) (sym l.before.status.ensures) ∙ eq-eqb _ busy l.if1.false)
+    let l = c in
+    c.holds.ensures ∙ works-busy base _ _ (search rules) _ (search rules) (ap (λ n. eqb n busy) (sym l.status-status.ensures) ∙ eq-eqb _ busy l.if-status-ne-BUSY.false)
 
 pub works_spec : {M : Type 1} → statement M
 works_spec =
