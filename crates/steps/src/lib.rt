@@ -1,4 +1,6 @@
 // The steps on an image, kind by kind: each refuses in the table's order, or replies and changes the image.
+#![tactic(auto)]
+
 ghost use Rattle.std.specs.Prelude.{◌≡◌, false, ◌≤◌, ◌<◌, length};
 ghost use Rattle.maps.specs.Internal.Fitting.{Bounded};
 ghost use Rattle.rules.specs.Layout.{base, image_bytes};

@@ -7,21 +7,21 @@ use Rattle.steps.proofs.Locals.{local-unopened, local-refused, local-done}
 use Rattle.steps.proofs.local.Statement.{statement}
 use Rattle.steps.proofs.local.Tie as tie
 
-act-requires : tie.Need-act-requires
+act-requires : tie.Need-act-a-requires
 act-requires c κs =
-    let start = c.before.before.before.before.before.before in
+    let start = c in
     (good-lent _ start.requires.0 _ start.requires.1.transactor, search rules, search rules, search rules)
 
-returns-2 : tie.Need-returns-2
+returns-2 : tie.Need-returns-then-is_refusal
 returns-2 c =
-    let r = c.before.before in
-    let act = r.before.before.before in
-    local-refused _ _ (search rules) (search rules) (search rules) (search rules) (search rules) _ _ _ act.act.ensures _ (leb-true 20 _ (sym r.is-refusal.ensures ∙ c.before.if2.true)) c.answered2.ensures
+    let r = c in
+    let act = r in
+    local-refused _ _ (search rules) (search rules) (search rules) (search rules) (search rules) _ _ _ act.act-a.ensures _ (leb-true 20 _ (sym r.is_refusal.ensures ∙ c.if-is_refusal.true)) c.answered-then-is_refusal.ensures
 
-returns-3 : tie.Need-returns-3
+returns-3 : tie.Need-returns
 returns-3 c =
-    let act = c.before.before.before.before in
-    local-done _ _ (search rules) (search rules) (search rules) (search rules) (search rules) _ _ _ act.act.ensures (leb-false 20 _ (sym c.before.is-refusal.ensures ∙ c.if2.false))
+    let act = c in
+    local-done _ _ (search rules) (search rules) (search rules) (search rules) (search rules) _ _ _ act.act-a.ensures (leb-false 20 _ (sym c.is_refusal.ensures ∙ c.if-is_refusal.false))
 
 pub local_spec : {M : Type 1} → statement M
 local_spec =

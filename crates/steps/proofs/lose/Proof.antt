@@ -4,10 +4,10 @@ use Rattle.steps.proofs.Images.{lose-missing, lose-done, lose-counted}
 use Rattle.steps.proofs.lose.Statement.{statement}
 use Rattle.steps.proofs.lose.Tie as tie
 
-returns-2 : tie.Need-returns-2
-returns-2 c = let p = c.before.before.before.before.before.before.before.before.before.requires in (
-  lose-done _ _ (search rules) _ (search rules) (cc (c.before.before.remove.ensures, c.before.before.before.before.before.place_of.ensures.0)),
-  lose-counted _ _ p.0 _ _ (search rules) p.1 (cc (c.before.before.remove.ensures, c.before.before.before.before.before.place_of.ensures.0)),
+returns-2 : tie.Need-returns
+returns-2 c = let p = c.requires in (
+  lose-done _ _ (search rules) _ (search rules) (cc (c.remove.ensures, c.place_of-k.ensures.0)),
+  lose-counted _ _ p.0 _ _ (search rules) p.1 (cc (c.remove.ensures, c.place_of-k.ensures.0)),
 )
 
 pub lose_spec : {M : Type 1} → statement M

@@ -8,7 +8,7 @@ use Rattle.steps.proofs.open.Tie as tie
 
 returns : tie.Need-returns
 returns c = let b = c.before.before in
-    let p = b.before.before.before.requires in
+    let p = b.requires in
     open-stored base _ _ _ _ _ p.0 p.1 (omega arith) b.«open».ensures
 
 pub open_spec : {M : Type 1} → statement M

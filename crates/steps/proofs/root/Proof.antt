@@ -17,4 +17,4 @@ root_spec =
     (λ c κs. search rules)
     (λ c κs. (search rules, search rules, rw c.empty.ensures (bounded-empty _ _ _)))
     (λ c. search rules)
-    (λ c. root-done _ _ (search rules) _ _ (search rules) (search rules) (cc (c.before.before.«open».ensures, c.before.before.before.empty.ensures))))
+    (λ c. root-done _ _ (search rules) _ _ (search rules) (search rules) (cc (c.before.before.«open».ensures, c.empty.ensures))))

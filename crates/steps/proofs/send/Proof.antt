@@ -7,10 +7,10 @@ use Rattle.steps.proofs.send.Tie as tie
 append-requires : tie.Need-append-requires
 append-requires c κs = free-place-for _ _ _ (search rules) (search rules) (search rules) (search rules) _ (search rules)
 
-returns-4 : tie.Need-returns-4
-returns-4 c = let p = c.before.before.before.before.before.before.before.before.before.before.before.before.before.before.before.before.before.before.requires in (
-  send-done _ _ (search rules) (search rules) (search rules) (search rules) _ _ (search rules) c.before.before.append.ensures,
-  send-counted _ _ p.0 (search rules) (search rules) (search rules) _ _ p.1 c.before.before.append.ensures,
+returns-4 : tie.Need-returns
+returns-4 c = let p = c.requires in (
+  send-done _ _ (search rules) (search rules) (search rules) (search rules) _ _ (search rules) c.append.ensures,
+  send-counted _ _ p.0 (search rules) (search rules) (search rules) _ _ p.1 c.append.ensures,
 )
 
 pub send_spec : {M : Type 1} → statement M
@@ -25,11 +25,11 @@ send_spec =
     (λ c κs. search rules)
     (λ c κs. search rules)
     (λ c. search rules)
-    (λ c. (send-idle _ _ (search rules) (search rules) _ (search rules) (cc (c.answered2.ensures, c.before.before.busy-refusal.ensures)), search rules))
+    (λ c. (send-idle _ _ (search rules) (search rules) _ (search rules) (cc (c.answered-then-w-ne0.ensures, c.busy_refusal-w.ensures)), search rules))
     (λ c κs. search rules)
     (λ c κs. search rules)
     (λ c. search rules)
-    (λ c. (send-full _ _ (search rules) (search rules) (search rules) _ (search rules) (cc (c.answered3.ensures, c.before.before.room-refusal.ensures)), search rules))
+    (λ c. (send-full _ _ (search rules) (search rules) (search rules) _ (search rules) (cc (c.answered-then-r-ne0.ensures, c.room_refusal-r.ensures)), search rules))
     (λ c κs. search rules)
     append-requires
     (λ c. search rules)

@@ -8,13 +8,13 @@ use Rattle.steps.proofs.sign.Statement.{statement}
 use Rattle.steps.proofs.sign.Tie as tie
 
 -- the group was ready
-abbrev ready : tie.After-checkpoint → tie.Else2
+abbrev ready : tie.After-checkpoint → tie.Else-not-ready
 ready c = c.before.before
 
-returns-3 : tie.Need-returns-3
+returns-3 : tie.Need-returns
 returns-3 c = sign-done _ _ (search rules) (search rules) _ _
-    (ap not (sym (ready c.before.before.before).before.ready.ensures) ∙ (ready c.before.before.before).if2.false)
-    c.answered3.ensures c.before.before.before.checkpoint.ensures
+    (ap not (sym (ready c.before.before.before).ready.ensures) ∙ (ready c.before.before.before).if-not-ready.false-raw)
+    c.answered-2.ensures c.checkpoint.ensures
 
 pub sign_spec : {M : Type 1} → statement M
 sign_spec =
@@ -23,11 +23,11 @@ sign_spec =
     (λ c κs. search rules)
     (λ c κs. search rules)
     (λ c. search rules)
-    (λ c. sign-refused _ _ (search rules) _ (search rules) (cc (c.answered.ensures, c.before.before.refusal.ensures)))
+    (λ c. sign-refused _ _ (search rules) _ (search rules) (cc (c.answered.ensures, c.refusal-r.ensures)))
     (λ c κs. search rules)
     (λ c κs. search rules)
     (λ c. search rules)
-    (λ c. sign-unready _ _ (search rules) (search rules) _ (ap not (sym c.before.before.ready.ensures) ∙ c.before.if2.true) c.answered2.ensures)
+    (λ c. sign-unready _ _ (search rules) (search rules) _ (ap not (sym c.ready.ensures) ∙ c.if-not-ready.true-raw) c.answered-then-not-ready.ensures)
     (λ c κs. (search rules, state-room _ _ (search rules) (search rules)))
     (λ c κs. search rules)
     (λ c. search rules)
