@@ -1,5 +1,5 @@
 -- Two packed marks compared: each return of the code.
-use Prim.Native.Nat.{ℕ, ◌+◌, ◌≤◌}
+use Prim.Native.Nat.{ℕ}
 use mathlib.Core.Bool.{Bool, true, false, not}
 use mathlib.Core.Path.{◌≡◌, refl, sym, ap, ◌∙◌}
 use mathlib.Core.List.{List}
@@ -7,14 +7,13 @@ use native.Mathlib.Omega.{arith}
 use lib.ListN.{length}
 use lib.Dec.{eqb}
 use borrow.Author.Tests.{eq-eqb, ne_eqb, eqb-true}
-use Rattle.octets.specs.Bytes.{pick, ◌and◌, part}
+use Rattle.octets.specs.Bytes.{pick, part}
 use Rattle.octets.proofs.Put.{part-whole}
 use Rattle.octets.proofs.Tests.{passed, failed, pick-zero}
 use Rattle.marks.specs.declared.History.{History}
 use Rattle.marks.specs.Packed.{width, places, history_size, bit, unpack_history, present_in, formed_history}
 use Rattle.marks.specs.History.{incarnation_of, is_older}
 use Rattle.marks.specs.Relation.{relation_of, relation_number}
-use Rattle.decisive.specs.declared.Compared.{Compared}
 use Rattle.decisive.specs.Compared.{compared_of, is_history, compare_refusal, compare_answer, ComparePromise}
 
 -- ---- bytes that are a mark

@@ -1,21 +1,16 @@
 -- What is answered about a receipt is what the receipt does, by the marks that the rule names.
-use Prim.Native.Nat.{ℕ, ◌<◌}
-use mathlib.Core.Bool.{true, false}
-use mathlib.Core.Path.{◌≡◌, refl, sym, ap, ◌∙◌, subst}
+use Prim.Native.Nat.{ℕ}
+use mathlib.Core.Path.{◌≡◌, refl, sym, ◌∙◌, subst}
 use mathlib.Core.Option.{Option, none, some}
 use native.Mathlib.Omega.{arith}
-use lib.Dec.{eqb}
-use borrow.Author.Tests.{eq-eqb}
-use Rattle.octets.specs.Bytes.{pick}
 use Rattle.maps.specs.declared.DependenceMap.{DependenceMap}
 use Rattle.maps.specs.Map.{superseded_at, first_superseded}
 use Rattle.maps.proofs.Superseded.{First, found, nowhere, superseded-view}
 use Rattle.rules.specs.Layout.{Layout}
 use Rattle.rules.specs.State.{Transactor, Message, State}
 use Rattle.rules.specs.Step.{done, dropped}
-use Rattle.rules.specs.Rules.{Effect, known, rollback, message_superseded, receiver_superseded, receive_by, refusal, apply_receive, apply, step_of}
+use Rattle.rules.specs.Rules.{Effect, known, rollback, message_superseded, receiver_superseded, receive_by, refusal, apply_receive, step_of}
 use Rattle.rules.proofs.ByKind.Applied.{applies}
-use Rattle.decisive.specs.declared.Decision.{Decision}
 use Rattle.decisive.specs.Decision.{decider, numbered, addressee, decision_of, receiving, FirstSuperseded, NoneSuperseded, Decides, accepted, message-superseded, receiver-superseded}
 
 -- ---- the first that is stale, or none

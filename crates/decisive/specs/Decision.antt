@@ -1,6 +1,6 @@
 -- What the receipt of a waiting parcel would reply now, and by which take's marks: document 01, "Receive compares the parcel's map with state
 -- and creation maps joined."
-use Rattle.std.specs.Prelude.{ℕ, ◌<◌, Bool, true, false, not, ◌≡◌, List, eqb}
+use Rattle.std.specs.Prelude.{ℕ, ◌<◌, true, false, not, ◌≡◌, List, eqb}
 use Rattle.std.proofs.Math.Option.{Option, none, some}
 use Rattle.octets.specs.Bytes.{pick}
 use Rattle.maps.specs.declared.DependenceMap.{DependenceMap}

@@ -1,5 +1,4 @@
 -- Absent; or as the form says.
-use native.Mathlib.Omega.{arith}
 use borrow.Author.Rules.{rules}
 use Rattle.decisive.proofs.Comparing.{mark-absent, mark-formed}
 use Rattle.decisive.proofs.is_history.Statement.{statement}

@@ -1,5 +1,4 @@
 -- By the test.
-use native.Mathlib.Omega.{arith}
 use borrow.Author.Rules.{rules}
 use mathlib.Core.Path.{sym, ap, ◌∙◌}
 use Rattle.marks.specs.Packed.{bit}

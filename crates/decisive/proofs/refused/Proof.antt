@@ -1,5 +1,4 @@
 -- Each return by its law.
-use native.Mathlib.Omega.{arith}
 use borrow.Author.Rules.{rules}
 use Rattle.decisive.proofs.Comparing.{left-long, right-long, left-no-mark, right-no-mark, both-marks}
 use Rattle.decisive.proofs.refused.Statement.{statement}

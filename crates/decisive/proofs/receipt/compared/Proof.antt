@@ -2,7 +2,7 @@
 use native.Mathlib.Omega.{arith}
 use borrow.Author.Rules.{rules}
 use Rattle.decisive.proofs.Judging.{read-unrelated, read-message, read-receiver}
-use mathlib.Core.Path.{sym, ap, ◌∙◌}
+use mathlib.Core.Path.{◌∙◌}
 use Rattle.maps.proofs.Packed.{bounded-unpack, bounded-join}
 use Rattle.decisive.proofs.receipt.compared.Statement.{statement}
 use Rattle.decisive.proofs.receipt.compared.Tie as tie

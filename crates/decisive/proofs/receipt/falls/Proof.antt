@@ -1,5 +1,4 @@
 -- Never checkpointed; at the last incarnation; or another.
-use native.Mathlib.Omega.{arith}
 use borrow.Author.Rules.{rules}
 use Rattle.decisive.proofs.Judging.{falls-vanished, falls-last, falls-back}
 use Rattle.decisive.proofs.receipt.falls.Statement.{statement}
