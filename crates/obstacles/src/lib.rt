@@ -1,4 +1,6 @@
 // Why a group can't be checkpointed (document 01: a volume, signed).
+#![tactic(auto)]
+
 ghost use Rattle.std.specs.Prelude.{◌≡◌, ◌+◌, ◌≤◌, ◌<◌};
 ghost use Rattle.marks.specs.History.{Roomy};
 ghost use Rattle.marks.specs.Packed.{history_in};

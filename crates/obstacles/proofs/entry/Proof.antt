@@ -8,23 +8,23 @@ use Rattle.rules.proofs.Pack.Rooms.{room-state, room-creation}
 use Rattle.obstacles.proofs.entry.Statement.{statement}
 use Rattle.obstacles.proofs.entry.Tie as tie
 
-history-requires : tie.Need-history-requires
+history-requires : tie.Need-history-o-requires
 history-requires c κs =
-    let n = c.before in
+    let n = c in
     (search rules, search rules, search rules, search rules, room-state _ n.requires.0 n.args.u n.requires.2 n.args.t n.requires.1)
 
-history-requires-2 : tie.Need-history-requires-2
+history-requires-2 : tie.Need-history-requires
 history-requires-2 c κs =
-    let n = c.before.before.before.before in
+    let n = c in
     (search rules, search rules, search rules, search rules, room-creation _ n.requires.0 n.args.u n.requires.2 n.args.t n.requires.1)
 
-returns : tie.Need-returns
-returns c = entry-state base _ _ _ _ (search rules) (search rules) _ c.before.before.history.ensures (failed c.before.is-nothing.ensures c.if1.true)
+returns : tie.Need-returns-then-not-is_nothing
+returns c = entry-state base _ _ _ _ (search rules) (search rules) _ c.history-o.ensures (failed c.is_nothing.ensures c.if-not-is_nothing.true-raw)
 
-returns-2 : tie.Need-returns-2
+returns-2 : tie.Need-returns
 returns-2 c =
-    let n = c.before.before in
-    c.history2.ensures ∙ entry-creation base _ _ _ _ (search rules) (search rules) _ n.before.history.ensures (passed n.is-nothing.ensures c.before.if1.false)
+    let n = c in
+    c.history.ensures ∙ entry-creation base _ _ _ _ (search rules) (search rules) _ n.history-o.ensures (passed n.is_nothing.ensures c.if-not-is_nothing.false-raw)
 
 pub entry_spec : {M : Type 1} → statement M
 entry_spec =

@@ -9,21 +9,21 @@ use Rattle.obstacles.proofs.Blocking.{Sought, sought-none, sought-found, sought-
 use Rattle.obstacles.proofs.first_history.Statement.{statement}
 use Rattle.obstacles.proofs.first_history.Tie as tie
 
-abbrev invariant-loop : tie.invariant-loop
+abbrev invariant-loop : tie.invariant-loop-t
 invariant-loop image group t₀ t = Sought (map_obstacle base (unpack base image) group) base.transactors t
 
-abbrev decreases-loop : tie.decreases-loop
+abbrev decreases-loop : tie.decreases-loop-t
 decreases-loop image group t₀ t = base.transactors - t
 
-returns : tie.Need-returns invariant-loop decreases-loop
+returns : tie.Need-returns-then-not-is_nothing invariant-loop decreases-loop
 returns c =
-    let l = c.before.before.before.before in
-    sought-found l.loop.invariant (search rules) _ c.before.before.maps-of.ensures (failed c.before.is-nothing.ensures c.if1.true)
+    let l = c in
+    sought-found l.loop-t.invariant (search rules) _ c.maps_of-o.ensures (failed c.is_nothing.ensures c.if-not-is_nothing.true-raw)
 
-loop-again : tie.Need-loop-preserved invariant-loop decreases-loop
+loop-again : tie.Need-loop-t-preserved invariant-loop decreases-loop
 loop-again c =
-    let l = c.before.before.before.before in
-    sought-more l.loop.invariant (search rules) _ c.before.before.maps-of.ensures (passed c.before.is-nothing.ensures c.if1.false)
+    let l = c in
+    sought-more l.loop-t.invariant (search rules) _ c.maps_of-o.ensures (passed c.is_nothing.ensures c.if-not-is_nothing.false-raw)
 
 pub first_history_spec : {M : Type 1} → statement M
 first_history_spec =
@@ -38,4 +38,4 @@ first_history_spec =
     (λ c. search rules)
     (λ c. search rules)
     loop-again
-    (λ c. sought-all c.before.loop.invariant (search rules)))
+    (λ c. sought-all c.loop-t.invariant (search rules)))

@@ -9,27 +9,27 @@ use Rattle.obstacles.proofs.Blocking.{Sought, sought-none, sought-found, sought-
 use Rattle.obstacles.proofs.maps_of.Statement.{statement}
 use Rattle.obstacles.proofs.maps_of.Tie as tie
 
-abbrev invariant-loop : tie.invariant-loop
+abbrev invariant-loop : tie.invariant-loop-u
 invariant-loop image group t u₀ u = Sought (entry_obstacle (unpack base image) group t) base.transactors u
 
-abbrev decreases-loop : tie.decreases-loop
+abbrev decreases-loop : tie.decreases-loop-u
 decreases-loop image group t u₀ u = base.transactors - u
 
-returns-2 : tie.Need-returns-2 invariant-loop decreases-loop
+returns-2 : tie.Need-returns-then-not-is_nothing invariant-loop decreases-loop
 returns-2 c =
-    let l = c.before.before.before.before in
-    let n = l.before in
-    map-named base _ _ _ (passed n.before.is-named.ensures n.if1.false) (sought-found l.loop.invariant (search rules) _ c.before.before.entry.ensures (failed c.before.is-nothing.ensures c.if2.true))
+    let l = c in
+    let n = l in
+    map-named base _ _ _ (passed n.is_named.ensures n.if-not-is_named.false-raw) (sought-found l.loop-u.invariant (search rules) _ c.entry-o.ensures (failed c.is_nothing.ensures c.if-not-is_nothing.true-raw))
 
-loop-again : tie.Need-loop-preserved invariant-loop decreases-loop
+loop-again : tie.Need-loop-u-preserved invariant-loop decreases-loop
 loop-again c =
-    let l = c.before.before.before.before in
-    sought-more l.loop.invariant (search rules) _ c.before.before.entry.ensures (passed c.before.is-nothing.ensures c.if2.false)
+    let l = c in
+    sought-more l.loop-u.invariant (search rules) _ c.entry-o.ensures (passed c.is_nothing.ensures c.if-not-is_nothing.false-raw)
 
-returns-3 : tie.Need-returns-3 invariant-loop decreases-loop
+returns-3 : tie.Need-returns invariant-loop decreases-loop
 returns-3 c =
-    let n = c.before.before in
-    map-named base _ _ _ (passed n.before.is-named.ensures n.if1.false) (sought-all c.before.loop.invariant (search rules))
+    let n = c in
+    map-named base _ _ _ (passed n.is_named.ensures n.if-not-is_named.false-raw) (sought-all c.loop-u.invariant (search rules))
 
 pub maps_of_spec : {M : Type 1} → statement M
 maps_of_spec =
@@ -38,7 +38,7 @@ maps_of_spec =
     invariant-loop
     decreases-loop
     (λ c κs. search rules)
-    (λ c. map-unnamed base _ _ _ (failed c.before.is-named.ensures c.if1.true))
+    (λ c. map-unnamed base _ _ _ (failed c.is_named.ensures c.if-not-is_named.true-raw))
     (λ c. sought-none _ _)
     (λ c κs. search rules)
     (λ c κs. search rules)

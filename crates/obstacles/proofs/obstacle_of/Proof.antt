@@ -7,13 +7,13 @@ use Rattle.obstacles.proofs.Blocking.{obstacle-first, obstacle-next}
 use Rattle.obstacles.proofs.obstacle_of.Statement.{statement}
 use Rattle.obstacles.proofs.obstacle_of.Tie as tie
 
-returns : tie.Need-returns
-returns c = obstacle-first base _ _ _ c.before.before.first-unstable.ensures (failed c.before.is-nothing.ensures c.if1.true)
+returns : tie.Need-returns-then-not-is_nothing
+returns c = obstacle-first base _ _ _ c.first_unstable-o.ensures (failed c.is_nothing.ensures c.if-not-is_nothing.true-raw)
 
-returns-2 : tie.Need-returns-2
+returns-2 : tie.Need-returns
 returns-2 c =
-    let n = c.before.before in
-    c.first-history.ensures ∙ obstacle-next base _ _ _ n.before.first-unstable.ensures (passed n.is-nothing.ensures c.before.if1.false)
+    let n = c in
+    c.first_history.ensures ∙ obstacle-next base _ _ _ n.first_unstable-o.ensures (passed n.is_nothing.ensures c.if-not-is_nothing.false-raw)
 
 pub obstacle_of_spec : {M : Type 1} → statement M
 obstacle_of_spec =

@@ -6,22 +6,22 @@ use Rattle.obstacles.proofs.Blocking.{unstable-unnamed, unstable-stable, unstabl
 use Rattle.obstacles.proofs.unstable.Statement.{statement}
 use Rattle.obstacles.proofs.unstable.Tie as tie
 
-returns-2 : tie.Need-returns-2
+returns-2 : tie.Need-returns-then-h
 returns-2 c =
-    let n = c.before.before in
-    unstable-stable base _ _ _ (passed n.before.is-named.ensures n.if1.false) _ c.before.own.ensures c.if2.true
+    let n = c in
+    unstable-stable base _ _ _ (passed n.is_named.ensures n.if-not-is_named.false-raw) _ c.own-h.ensures c.if-h.true
 
-returns-3 : tie.Need-returns-3
+returns-3 : tie.Need-returns
 returns-3 c =
-    let n = c.before.before in
-    unstable-not base _ _ _ (passed n.before.is-named.ensures n.if1.false) _ c.before.own.ensures c.if2.false
+    let n = c in
+    unstable-not base _ _ _ (passed n.is_named.ensures n.if-not-is_named.false-raw) _ c.own-h.ensures c.if-h.false
 
 pub unstable_spec : {M : Type 1} → statement M
 unstable_spec =
     tie.close
     (tie.spec
     (λ c κs. search rules)
-    (λ c. unstable-unnamed base _ _ _ (failed c.before.is-named.ensures c.if1.true))
+    (λ c. unstable-unnamed base _ _ _ (failed c.is_named.ensures c.if-not-is_named.true-raw))
     (λ c κs. search rules)
     returns-2
     (λ c. search rules)
