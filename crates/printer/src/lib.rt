@@ -1,4 +1,6 @@
 // A list's canonical text.
+#![tactic(auto)]
+
 ghost use Rattle.std.specs.Prelude.{◌≡◌, ◌+◌, ◌≤◌, ◌<◌, false, [], length, ltb};
 ghost use Rattle.octets.specs.Bytes.{pick, put, part};
 ghost use Rattle.rules.specs.Step.{step_bytes, step_at, unpack_step, pack_step};

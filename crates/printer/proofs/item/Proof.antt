@@ -8,20 +8,20 @@ use Rattle.printer.proofs.Printer.{item-group, item-to, item-text, item-whole, i
 use Rattle.printer.proofs.item.Statement.{statement}
 use Rattle.printer.proofs.item.Tie as tie
 
-returns : tie.Need-returns
+returns : tie.Need-returns-then-c-eq5
 returns c = c.group.ensures ∙ ap (plus _) (sym (item-group _ _ (search rules)))
 
-returns-2 : tie.Need-returns-2
+returns-2 : tie.Need-returns-then-c-eq6
 returns-2 c = c.word.ensures ∙ ap (plus _) (sym (item-to _ _ (search rules)))
 
-returns-3 : tie.Need-returns-3
-returns-3 c = c.word2.ensures ∙ ap (plus _) (sym (item-text _ _ (search rules)))
+returns-3 : tie.Need-returns-then-c-eq7
+returns-3 c = c.word-then-c-eq7.ensures ∙ ap (plus _) (sym (item-text _ _ (search rules)))
 
-returns-4 : tie.Need-returns-4
-returns-4 c = c.hex.ensures ∙ ap (plus _) (ap hex c.before.before.before.before.before.before.requires.2 ∙ sym (item-whole _ _ (search rules)))
+returns-4 : tie.Need-returns-then-c-eq8
+returns-4 c = c.hex.ensures ∙ ap (plus _) (ap hex c.requires.2 ∙ sym (item-whole _ _ (search rules)))
 
-returns-5 : tie.Need-returns-5
-returns-5 c = c.number.ensures ∙ ap (plus _) (ap (decimal places) c.before.field.ensures ∙ sym (item-field _ _ (search rules) (omega arith)))
+returns-5 : tie.Need-returns
+returns-5 c = c.number.ensures ∙ ap (plus _) (ap (decimal places) c.field.ensures ∙ sym (item-field _ _ (search rules) (omega arith)))
 
 pub item_spec : {M : Type 1} → statement M
 item_spec =
@@ -29,10 +29,8 @@ item_spec =
     (tie.spec
     (λ c κs. search rules)
     returns
-    (λ c. search rules)
     (λ c κs. search rules)
     returns-2
-    (λ c. search rules)
     (λ c κs. search rules)
     returns-3
     (λ c κs. search rules)

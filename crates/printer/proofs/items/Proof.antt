@@ -13,33 +13,29 @@ use Rattle.kinds.proofs.Tables.{item-low, item-none, items-past}
 use Rattle.printer.proofs.items.Statement.{statement}
 use Rattle.printer.proofs.items.Tie as tie
 
-abbrev invariant-loop : tie.invariant-loop
+abbrev invariant-loop : tie.invariant-loop-i
 invariant-loop step p row r₀ i₀ r i = (i ≤ 5) × (plus (written r) (items_text p (drop i (template_of row))) ≡ plus (written r₀) (items_text p (template_of row))) × (written r ≡ plus (written r) [])
 
-abbrev decreases-loop : tie.decreases-loop
+abbrev decreases-loop : tie.decreases-loop-i
 decreases-loop step p row r₀ i₀ r i = 5 - i
 
-loop-holds : tie.Need-loop-init invariant-loop decreases-loop
+loop-holds : tie.Need-loop-i-init invariant-loop decreases-loop
 loop-holds c = (search rules, refl, plus_none _ (search rules))
 
-returns : tie.Need-returns invariant-loop decreases-loop
+returns : tie.Need-returns-then-c-eq0 invariant-loop decreases-loop
 returns c =
-    let b = c.before.before.before in
-    let a = b.before.before.args in
-    items-all _ _ _ _ _ b.loop.invariant.1 b.loop.invariant.2 (item-none a.row b.loop.i (search rules) (search rules) (sym c.before.item_of.ensures ∙ c.if1.true))
+    let a = c.args in
+    items-all _ _ _ _ _ c.loop-i.invariant.1 c.loop-i.invariant.2 (item-none a.row c.loop-i.i (search rules) (search rules) (sym c.item_of-c.ensures ∙ c.if-c-eq0.true))
 
-item-requires : tie.Need-item-requires invariant-loop decreases-loop
-item-requires c κs =
-    let l = c.before.before.before.before in
-    (search rules, item-low l.before.before.args.row l.loop.i (search rules) (search rules) _ c.before.before.item_of.ensures, c.before.before.before.before.before.before.requires.1)
+item-requires : tie.Need-item-r-requires invariant-loop decreases-loop
+item-requires c κs = (search rules, item-low c.args.row c.loop-i.i (search rules) (search rules) _ c.item_of-c.ensures, c.requires.1)
 
-loop-again : tie.Need-loop-preserved invariant-loop decreases-loop
+loop-again : tie.Need-loop-i-preserved invariant-loop decreases-loop
 loop-again c =
-    let b = c.before.before.before in
-    (search rules, items_more _ _ _ _ _ b.before.before.loop.invariant.1 _ _ _ b.item_of.ensures c.before.before.if1.false c.before.byte.ensures c.item.ensures, plus-settled _ _ _ c.item.ensures)
+    (search rules, items_more _ _ _ _ _ c.loop-i.invariant.1 _ _ _ c.item_of-c.ensures c.if-c-eq0.false c.byte.ensures c.item-r.ensures, plus-settled _ _ _ c.item-r.ensures)
 
-returns-2 : tie.Need-returns-2 invariant-loop decreases-loop
-returns-2 c = let b = c.before in items-all _ _ _ _ _ b.loop.invariant.1 b.loop.invariant.2 (items-past b.before.before.args.row b.loop.i (search rules) (omega arith))
+returns-2 : tie.Need-returns invariant-loop decreases-loop
+returns-2 c = items-all _ _ _ _ _ c.loop-i.invariant.1 c.loop-i.invariant.2 (items-past c.args.row c.loop-i.i (search rules) (omega arith))
 
 pub items_spec : {M : Type 1} → statement M
 items_spec =

@@ -6,19 +6,17 @@ use Rattle.printer.proofs.Printer.{row_below, bytes_of, line-says}
 use Rattle.printer.proofs.line_at.Statement.{statement}
 use Rattle.printer.proofs.line_at.Tie as tie
 
-name-requires : tie.Need-name-requires
-name-requires c κs = row_below _ _ c.row_of.ensures
+name-requires : tie.Need-name-l-requires
+name-requires c κs = row_below _ _ c.row_of-row.ensures
 
 items-requires : tie.Need-items-requires
 items-requires c κs =
-    let b = c.before.before.before in
-    (row_below _ _ c.before.before.row_of.ensures, bytes_of _ _ _ (octets-of _ b.before.shared-slice-known.given) (search rules) b.decode.ensures)
+    (row_below _ _ c.row_of-row.ensures, bytes_of _ _ _ (octets-of _ c.shared_slice_known-1.given) (search rules) c.decode-p.ensures)
 
 returns : tie.Need-returns
 returns c =
-    let b = c.before.before.before.before.before in
-    line-says _ _ (octets-of _ b.before.shared-slice-known.given) (search rules) _ b.decode.ensures _ c.before.before.before.before.row_of.ensures _ _ _ _
-    (written-empty _) c.before.before.before.name.ensures c.before.items.ensures c.byte.ensures (search rules)
+    line-says _ _ (octets-of _ c.shared_slice_known-1.given) (search rules) _ c.decode-p.ensures _ c.row_of-row.ensures _ _ _ _
+    (written-empty _) c.name-l.ensures c.items.ensures c.byte.ensures (search rules)
 
 pub line_at_spec : {M : Type 1} → statement M
 line_at_spec =

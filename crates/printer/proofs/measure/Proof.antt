@@ -9,35 +9,34 @@ use Rattle.printer.proofs.Printer.{lines_to, total-none, total-more, total-all, 
 use Rattle.printer.proofs.measure.Statement.{statement}
 use Rattle.printer.proofs.measure.Tie as tie
 
-abbrev invariant-loop : tie.invariant-loop
+abbrev invariant-loop : tie.invariant-loop-i
 invariant-loop list n total₀ i₀ total i = (i ≤ n) × (total ≡ length (lines_to list i))
 
-abbrev decreases-loop : tie.decreases-loop
+abbrev decreases-loop : tie.decreases-loop-i
 decreases-loop list n total₀ i₀ total i = n - i
 
-loop-holds : tie.Need-loop-init invariant-loop decreases-loop
+loop-holds : tie.Need-loop-i-init invariant-loop decreases-loop
 loop-holds c = (search rules, total-none _)
 
-mul-line-at : tie.Need-overflow-mul-line-at invariant-loop decreases-loop
+mul-line-at : tie.Need-overflow_mul-i invariant-loop decreases-loop
 mul-line-at c = search rules
 
-line-at-requires : tie.Need-line-at-requires invariant-loop decreases-loop
+line-at-requires : tie.Need-line_at-l-requires invariant-loop decreases-loop
 line-at-requires c κs = search rules
 
-add_total : tie.Need-overflow-add-total invariant-loop decreases-loop
+add_total : tie.Need-overflow_add-total invariant-loop decreases-loop
 add_total c =
-    let b = c.before.before.before in
-    let o = octets-of _ b.before.shared-slice-known.given in
-    let h = right-list _ b.before.before.requires in
-    let s = lines-short _ o b.loop.i in
-    let m = line-len _ o _ b.loop.i c.before.line_at_lem.ensures in
-    omega (arith, b.loop.invariant.1)
+    let o = octets-of _ c.shared_slice_known-1.given in
+    let h = right-list _ c.requires in
+    let s = lines-short _ o c.loop-i.i in
+    let m = line-len _ o _ c.loop-i.i c.line_at-l.ensures in
+    omega (arith, c.loop-i.invariant.1)
 
-loop-again : tie.Need-loop-preserved invariant-loop decreases-loop
-loop-again c = (search rules, total-more _ _ _ _ c.before.before.before.loop.invariant.1 c.before.line_at_lem.ensures)
+loop-again : tie.Need-loop-i-preserved invariant-loop decreases-loop
+loop-again c = (search rules, total-more _ _ _ _ c.loop-i.invariant.1 c.line_at-l.ensures)
 
 returns : tie.Need-returns invariant-loop decreases-loop
-returns c = total-all _ _ _ c.before.loop.invariant.1 (omega arith)
+returns c = total-all _ _ _ c.loop-i.invariant.1 (omega arith)
 
 pub measure_spec : {M : Type 1} → statement M
 measure_spec =

@@ -10,4 +10,4 @@ returns : tie.Need-returns
 returns c = c.row.ensures ∙ ap (plus _) (names-row _ (search rules))
 
 pub name_spec : {M : Type 1} → statement M
-name_spec = tie.close (tie.spec (λ c. search rules) (λ c κs. search rules) returns)
+name_spec = tie.close (tie.spec (λ c κs. search rules) returns)

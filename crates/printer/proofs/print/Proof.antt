@@ -6,22 +6,20 @@ use Rattle.printer.proofs.Printer.{print-wrong, print-full, print-done}
 use Rattle.printer.proofs.print.Statement.{statement}
 use Rattle.printer.proofs.print.Tie as tie
 
-returns : tie.Need-returns
-returns c = print-wrong _ _ _ c.before.wrong.ensures c.if1.true
+returns : tie.Need-returns-then-wrong
+returns c = print-wrong _ _ _ c.wrong.ensures c.if-wrong.true
 
-measure-requires : tie.Need-measure-requires
-measure-requires c κs = sym c.before.wrong.ensures ∙ c.if1.false
+measure-requires : tie.Need-measure-n-requires
+measure-requires c κs = sym c.wrong.ensures ∙ c.if-wrong.false
 
-returns-2 : tie.Need-returns-2
-returns-2 c = print-full _ _ _ c.before.before.before.wrong.ensures _ c.before.before.if1.false c.before.measure.ensures c.if2.true
+returns-2 : tie.Need-returns-then-out-n
+returns-2 c = print-full _ _ _ c.wrong.ensures _ c.if-wrong.false c.measure-n.ensures c.if-out-n.true
 
-put-text-requires : tie.Need-put-text-requires
-put-text-requires c κs = (sym c.before.before.before.before.wrong.ensures ∙ c.before.before.before.if1.false, omega (arith, c.before.before.measure.ensures, c.before.if2.false))
+put-text-requires : tie.Need-put_text-requires
+put-text-requires c κs = (sym c.wrong.ensures ∙ c.if-wrong.false, omega (arith, c.measure-n.ensures, c.if-out-n.false))
 
-returns-3 : tie.Need-returns-3
-returns-3 c =
-    let b = c.before.before.before.before.before in
-    print-done _ _ _ b.before.before.wrong.ensures _ _ b.before.if1.false b.measure.ensures c.before.before.before.before.if2.false c.before.before.put-text.ensures
+returns-3 : tie.Need-returns
+returns-3 c = print-done _ _ _ c.wrong.ensures _ _ c.if-wrong.false c.measure-n.ensures c.if-out-n.false c.put_text.ensures
 
 pub print_spec : {M : Type 1} → statement M
 print_spec =

@@ -9,45 +9,42 @@ use Rattle.printer.proofs.Printer.{lines_to, total-none, total-more, put-start, 
 use Rattle.printer.proofs.put_text.Statement.{statement}
 use Rattle.printer.proofs.put_text.Tie as tie
 
-abbrev invariant-loop : tie.invariant-loop
+abbrev invariant-loop : tie.invariant-loop-i
 invariant-loop list out₀ n at₀ i₀ out at i = (i ≤ n) × (at ≡ length (lines_to list i)) × (out ≡ put 0 (lines_to list i) out₀) × (length out ≡ length out₀)
 
-abbrev decreases-loop : tie.decreases-loop
+abbrev decreases-loop : tie.decreases-loop-i
 decreases-loop list out₀ n at₀ i₀ out at i = n - i
 
-loop-holds : tie.Need-loop-init invariant-loop decreases-loop
+loop-holds : tie.Need-loop-i-init invariant-loop decreases-loop
 loop-holds c = (search rules, total-none _, put-start _ _, refl)
 
-array-share-prefix-bytes : tie.Need-array-share-prefix-bytes invariant-loop decreases-loop
-array-share-prefix-bytes c = said-inside _ _ c.before.before.line_at_lem.ensures
+array-share-prefix-bytes : tie.Need-slice_bounds-bytes-end invariant-loop decreases-loop
+array-share-prefix-bytes c = said-inside _ _ c.line_at-l.ensures
 
-slice-aggregate-write : tie.Need-slice-aggregate-write invariant-loop decreases-loop
-slice-aggregate-write c = said-count _ _ c.before.before.before.line_at_lem.ensures
+slice-aggregate-write : tie.Need-slice_bounds-write-end invariant-loop decreases-loop
+slice-aggregate-write c = said-count _ _ c.line_at-l.ensures
 
 write-requires : tie.Need-write-requires invariant-loop decreases-loop
 write-requires c κs =
-    let b = c.before.before.before.before.before in
-    let h = line-room _ b.before.before.before.args.out.now b.loop.i _ c.before.before.before.line_at_lem.ensures (omega arith) b.before.before.before.requires.1 _ b.loop.invariant.1 in
-    omega (arith, b.loop.invariant.3)
+    let h = line-room _ c.args.out.now c.loop-i.i _ c.line_at-l.ensures (omega arith) c.requires.1 _ c.loop-i.invariant.1 in
+    omega (arith, c.loop-i.invariant.3)
 
-add_at : tie.Need-overflow-add-at invariant-loop decreases-loop
+add_at : tie.Need-overflow_add-at invariant-loop decreases-loop
 add_at c =
-    let b = c.before.before.before.before.before.before.before.before in
-    let s = c.before.before.before.before.before.before.line_at_lem.ensures in
-    let h = line-room _ b.before.before.before.args.out.now b.loop.i _ s (omega arith) b.before.before.before.requires.1 _ b.loop.invariant.1 in
+    let s = c.line_at-l.ensures in
+    let h = line-room _ c.args.out.now c.loop-i.i _ s (omega arith) c.requires.1 _ c.loop-i.invariant.1 in
     omega (arith, said-count _ _ s)
 
-loop-again : tie.Need-loop-preserved invariant-loop decreases-loop
+loop-again : tie.Need-loop-i-preserved invariant-loop decreases-loop
 loop-again c =
-    let b = c.before.before.before.before.before.before.before.before in
-    let s = c.before.before.before.before.before.before.line_at_lem.ensures in
-    (search rules, total-more _ _ _ _ b.loop.invariant.1 s, put-line _ b.before.before.before.args.out.now b.loop.i _ s (omega arith) b.before.before.before.requires.1 _ _ _ b.loop.invariant.1 b.loop.invariant.2 c.before.before.write.ensures, search rules)
+    let s = c.line_at-l.ensures in
+    (search rules, total-more _ _ _ _ c.loop-i.invariant.1 s, put-line _ c.args.out.now c.loop-i.i _ s (omega arith) c.requires.1 _ _ _ c.loop-i.invariant.1 c.loop-i.invariant.2 c.write.ensures, search rules)
 
-same_length : tie.Need-same-length invariant-loop decreases-loop
+same_length : tie.Need-shape_of-out invariant-loop decreases-loop
 same_length c = search rules
 
 returns : tie.Need-returns invariant-loop decreases-loop
-returns c = put_all _ _ _ _ c.before.loop.invariant.2 (omega arith)
+returns c = put_all _ _ _ _ c.loop-i.invariant.2 (omega arith)
 
 pub put_text_spec : {M : Type 1} → statement M
 put_text_spec =

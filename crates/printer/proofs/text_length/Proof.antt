@@ -7,13 +7,13 @@ use Rattle.printer.proofs.text_length.Statement.{statement}
 use Rattle.printer.proofs.text_length.Tie as tie
 
 measure-requires : tie.Need-measure-requires
-measure-requires c κs = sym c.before.wrong.ensures ∙ c.if1.false
+measure-requires c κs = sym c.wrong.ensures ∙ c.if-wrong.false
 
 pub text_length_spec : {M : Type 1} → statement M
 text_length_spec =
     tie.close
     (tie.spec
     (λ c κs. search rules)
-    (λ c. ap printed_numbers (length-wrong _ _ c.before.wrong.ensures c.if1.true))
+    (λ c. ap printed_numbers (length-wrong _ _ c.wrong.ensures c.if-wrong.true))
     measure-requires
-    (λ c. ap printed_numbers (length-right _ _ _ c.before.before.wrong.ensures c.before.if1.false c.measure.ensures)))
+    (λ c. ap printed_numbers (length-right _ _ _ c.wrong.ensures c.if-wrong.false c.measure.ensures)))
