@@ -1,18 +1,17 @@
 -- A closed hearing carried on: a session of the old form is one of the new form without the steps that it refused with 28, call by call and step by step.
-use Prim.Native.Nat.{ℕ, zero, suc, ◌+◌, ◌-◌, ◌*◌, ◌/◌, ◌%◌, ◌≤◌, ◌<◌}
-use mathlib.Core.Bool.{true, false, not}
+use Prim.Native.Nat.{ℕ, zero, suc, ◌-◌, ◌*◌, ◌/◌, ◌≤◌, ◌<◌}
+use mathlib.Core.Bool.{true}
 use mathlib.Core.Path.{◌≡◌, refl, ap, sym, ◌∙◌, subst}
-use mathlib.Core.List.{List, ◌∷◌}
+use mathlib.Core.List.{List}
 use native.Mathlib.Decide.{ℕ_discrete}
 use native.Mathlib.Omega.{arith}
-use lib.Dec.{eqb}
 use lib.ListN.{length}
 use borrow.Author.Tests.{eq-eqb, ne_eqb}
-use Rattle.octets.specs.Bytes.{pick, part, zeros, Octets}
+use Rattle.octets.specs.Bytes.{part, zeros, Octets}
 use Rattle.octets.specs.Numbers.{bound}
 use Rattle.octets.proofs.Put.{length_part, part-whole, octets-part}
 use Rattle.octets.proofs.Zero.{length-zeros}
-use Rattle.rules.specs.Layout.{Layout, Limits, in_range, widest, largest, image_bytes, narrow, base}
+use Rattle.rules.specs.Layout.{Limits, in_range, widest, largest, image_bytes, narrow, base}
 use Rattle.rules.specs.State.{State, fresh}
 use Rattle.rules.specs.declared.Step.{Step}
 use Rattle.rules.specs.declared.Reply.{Reply}
@@ -20,7 +19,7 @@ use Rattle.rules.specs.Step.{step_bytes, step_at, unpack_step}
 use Rattle.rules.specs.Rules.{step_of}
 use Rattle.rules.specs.Pack.{pack, unpack}
 use Rattle.rules.specs.Internal.Well.{WellFormed}
-use Rattle.rules.specs.Calls.{wrong_part, begin_answer, fresh_image, begin_image, state_after, steps_in, run_answer, ran_image, run_image}
+use Rattle.rules.specs.Calls.{begin_answer, fresh_image, begin_image, state_after, steps_in, run_answer, ran_image, run_image}
 use Rattle.rules.proofs.Calls.Begin as begin
 use Rattle.rules.proofs.Calls.Begin.{begin-accepted}
 use Rattle.rules.proofs.Calls.Run.{part-fine}
@@ -28,7 +27,7 @@ use Rattle.rules.proofs.Pack.RoundTrip.{unpack-pack}
 use Rattle.rules.proofs.Pack.Fresh.{pack-fresh}
 use Rattle.rules.proofs.Keep.State.{well-fresh}
 use Rattle.rules.proofs.Keep.Run.{step_ok-at}
-use Rattle.rules.proofs.Keep.Step.{fitting-base, fitting-narrow}
+use Rattle.rules.proofs.Keep.Step.{fitting-narrow}
 use Rattle.convert.specs.Convert.{forward, forward_answer, forward_image}
 use Rattle.convert.proofs.Images.{narrow-limits, formed-wide}
 use Rattle.convert.proofs.Steps.{same-refusal_of, same_step}
@@ -36,15 +35,15 @@ use Rattle.session.specs.Provenance.{Provenance, empty_provenance}
 use Rattle.session.specs.Steps.{provenance_seen, provenance_refusal, ProvenanceStep, refuses, applies, signing, not-ready}
 use Rattle.session.specs.Fed as book
 use Rattle.session.specs.Fed.{Call, run, call_refusal, ProvenanceSteps, ProvenanceCall, provenance-refuses, provenance-begins, provenance-runs, provenance-offers, provenance-shows, ProvenanceOf, new-provenance, fed}
-use Rattle.session.specs.Trace.{Answer, ran, Performed, beginning, running, offering, showing, Trace, opened, called, calls_of}
+use Rattle.session.specs.Trace.{Answer, Performed, beginning, running, offering, showing, Trace, opened, called, calls_of}
 use Rattle.session.proofs.Model.{view}
 use Rattle.session.proofs.Relation.{Rel}
 use Rattle.session.proofs.Unique.{provenance-unique}
 use Rattle.session.proofs.Step.{StepRight, step_right}
 use Rattle.session.proofs.Calls.{Holds, holds-pack, right-length, right-form, run-same, call-right}
-use Rattle.session.proofs.Points.{Beside, beside-steps}
+use Rattle.session.proofs.Points.{beside-steps}
 use Rattle.session.proofs.Traces.{fresh-begins}
-use Rattle.session.proofs.Grown.{Grown, grown}
+use Rattle.session.proofs.Grown.{grown}
 use Rattle.session.proofs.Demand3.{demand3-base}
 use Rattle.carried_on.specs.CarriedOn.{CarriedOn}
 
