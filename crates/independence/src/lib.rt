@@ -1,5 +1,7 @@
 // Whether two steps may come in either order on an image: whether neither sees what the other changes. What a step changes is found by
 // playing it on a copy; what a step sees is told by its kind, its fields and the image.
+#![tactic(auto)]
+
 ghost use Rattle.std.specs.Prelude.{◌≡◌, not, ◌<◌, eqb, length};
 ghost use Rattle.octets.specs.Bytes.{◌and◌};
 ghost use Rattle.rules.specs.Layout.{base, image_bytes};

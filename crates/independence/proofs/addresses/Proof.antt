@@ -7,6 +7,6 @@ pub addresses_spec : {M : Type 1} → statement M
 addresses_spec =
     tie.close
     (tie.spec
-    (λ c. address-letter _ _ c.before.if1.true)
-    (λ c. address-send _ _ c.before.before.if1.false c.before.if2.true)
-    (λ c. address-none _ _ c.before.if1.false c.if2.false))
+    (λ c. address-letter _ _ c.if-kind-eq-LETTER.true)
+    (λ c. address-send _ _ c.if-kind-eq-LETTER.false c.if-kind-eq-SEND.true)
+    (λ c. address-none _ _ c.if-kind-eq-LETTER.false c.if-kind-eq-SEND.false))

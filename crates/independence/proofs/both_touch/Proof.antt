@@ -10,6 +10,6 @@ both_touch_spec =
     tie.close
     (tie.spec
     (λ c κs. search rules)
-    (λ c. rw (failed c.before.touches.ensures c.if1.true))
+    (λ c. rw (failed c.touches.ensures c.if-not-touches.true-raw))
     (λ c κs. search rules)
-    (λ c. c.touches2.ensures ∙ rw (passed c.before.before.touches.ensures c.before.if1.false)))
+    (λ c. c.touches-2.ensures ∙ rw (passed c.touches.ensures c.if-not-touches.false-raw)))

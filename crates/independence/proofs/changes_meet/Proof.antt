@@ -9,6 +9,6 @@ changes_meet_spec =
     tie.close
     (tie.spec
     (λ c κs. search rules)
-    (λ c. rw (sym c.before.leaves.ensures ∙ c.if1.true))
+    (λ c. rw (sym c.leaves.ensures ∙ c.if-leaves.true))
     (λ c κs. search rules)
-    (λ c. c.transactors-meet.ensures ∙ rw (sym c.before.before.leaves.ensures ∙ c.before.if1.false)))
+    (λ c. c.transactors_meet.ensures ∙ rw (sym c.leaves.ensures ∙ c.if-leaves.false)))

@@ -6,17 +6,17 @@ use Rattle.independence.proofs.Clauses.{freed-full, freed-first, freed-both}
 use Rattle.independence.proofs.frees.Statement.{statement}
 use Rattle.independence.proofs.frees.Tie as tie
 
-returns-2 : tie.Need-returns-2
-returns-2 c = let s = c.before.before.before.args in freed-first s.p s.q s.full c.before.before.if1.false (failed c.before.consumes.ensures c.if2.true)
+returns-2 : tie.Need-returns-then-not-consumes
+returns-2 c = let s = c.args in freed-first s.p s.q s.full c.if-not-full.false-raw (failed c.consumes.ensures c.if-not-consumes.true-raw)
 
-returns-3 : tie.Need-returns-3
-returns-3 c = let s = c.before.before.before.before.args in c.sends.ensures ∙ freed-both s.p s.q s.full c.before.before.before.if1.false (passed c.before.before.consumes.ensures c.before.if2.false)
+returns-3 : tie.Need-returns
+returns-3 c = let s = c.args in c.sends.ensures ∙ freed-both s.p s.q s.full c.if-not-full.false-raw (passed c.consumes.ensures c.if-not-consumes.false-raw)
 
 pub frees_spec : {M : Type 1} → statement M
 frees_spec =
     tie.close
     (tie.spec
-    (λ c. let s = c.before.args in freed-full s.p s.q s.full c.if1.true)
+    (λ c. let s = c.args in freed-full s.p s.q s.full c.if-not-full.true-raw)
     (λ c κs. search rules)
     returns-2
     (λ c κs. search rules)

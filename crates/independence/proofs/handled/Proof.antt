@@ -10,5 +10,5 @@ handled_spec =
     tie.close
     (tie.spec
     (λ c κs. search rules)
-    (λ c. handled-sent _ _ (sym c.before.sends.ensures ∙ c.if1.true))
-    (λ c. handled-other _ _ (sym c.before.sends.ensures ∙ c.if1.false)))
+    (λ c. handled-sent _ _ (sym c.sends.ensures ∙ c.if-sends.true))
+    (λ c. handled-other _ _ (sym c.sends.ensures ∙ c.if-sends.false)))

@@ -9,6 +9,6 @@ handles_spec =
     tie.close
     (tie.spec
     (λ c κs. search rules)
-    (λ c. rw (sym c.before.consumes.ensures ∙ c.if1.true))
+    (λ c. rw (sym c.consumes.ensures ∙ c.if-consumes.true))
     (λ c κs. search rules)
-    (λ c. c.sends.ensures ∙ rw (sym c.before.before.consumes.ensures ∙ c.before.if1.false)))
+    (λ c. c.sends.ensures ∙ rw (sym c.consumes.ensures ∙ c.if-consumes.false)))

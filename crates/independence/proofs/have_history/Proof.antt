@@ -13,19 +13,19 @@ use Rattle.independence.proofs.Clauses.{Missed, missed-none, missed_more, missed
 use Rattle.independence.proofs.have_history.Statement.{statement}
 use Rattle.independence.proofs.have_history.Tie as tie
 
-abbrev invariant-loop : tie.invariant-loop
+abbrev invariant-loop : tie.invariant-loop-t
 invariant-loop image group u t₀ t = Missed (λ i. named group i and has_mark (transactor_at (unpack base image) i) u) base.transactors t
 
-abbrev decreases-loop : tie.decreases-loop
+abbrev decreases-loop : tie.decreases-loop-t
 decreases-loop image group u t₀ t = base.transactors - t
 
-returns : tie.Need-returns invariant-loop decreases-loop
+returns : tie.Need-returns-then-named_has invariant-loop decreases-loop
 unfolding has_marks any_named
-returns c = missed-hit c.before.before.before.loop.invariant (search rules) (sym c.before.named-has.ensures ∙ c.if1.true)
+returns c = missed-hit c.loop-t.invariant (search rules) (sym c.named_has.ensures ∙ c.if-named_has.true)
 
-returns-2 : tie.Need-returns-2 invariant-loop decreases-loop
+returns-2 : tie.Need-returns invariant-loop decreases-loop
 unfolding has_marks any_named
-returns-2 c = missed-all c.before.loop.invariant (search rules)
+returns-2 c = missed-all c.loop-t.invariant (search rules)
 
 pub have_history_spec : {M : Type 1} → statement M
 have_history_spec =
@@ -38,5 +38,5 @@ have_history_spec =
     returns
     (λ c. search rules)
     (λ c. search rules)
-    (λ c. missed_more c.before.before.before.loop.invariant (search rules) (sym c.before.named-has.ensures ∙ c.if1.false))
+    (λ c. missed_more c.loop-t.invariant (search rules) (sym c.named_has.ensures ∙ c.if-named_has.false))
     returns-2)

@@ -10,56 +10,56 @@ use Rattle.independence.proofs.Meeting.{answer-refused, fine, fine-good, fine-fi
 use Rattle.independence.proofs.independent.Statement.{statement}
 use Rattle.independence.proofs.independent.Tie as tie
 
-decode-requires : tie.Need-decode-requires
-decode-requires c κs = omega (arith, (fine _ _ _ _ c.before.refused.ensures c.if1.false).one)
+decode-requires : tie.Need-decode-p-requires
+decode-requires c κs = omega (arith, (fine _ _ _ _ c.refused-number.ensures c.if-number-ne0.false).one)
 
-decode-requires-2 : tie.Need-decode-requires-2
-decode-requires-2 c κs = omega (arith, (fine _ _ _ _ c.before.before.refused.ensures c.before.if1.false).other)
+decode-requires-2 : tie.Need-decode-q-requires
+decode-requires-2 c κs = omega (arith, (fine _ _ _ _ c.refused-number.ensures c.if-number-ne0.false).other)
 
 meets-requires : tie.Need-meets-requires
 meets-requires c κs =
-    let d = c.before in
-    let r = d.before.before in (
-      fine-good _ _ _ _ r.before.refused.ensures r.if1.false (octets-of _ r.before.before.before.before.shared-slice-known.given),
+    let d = c in
+    let r = d in (
+      fine-good _ _ _ _ r.refused-number.ensures r.if-number-ne0.false (octets-of _ r.shared_slice_known-1.given),
       search rules,
-      fine-first _ _ _ _ r.before.refused.ensures r.if1.false (octets-of _ r.before.before.before.before.shared-slice-known.given)
-          (octets-of _ r.before.before.before.shared-slice-known2.given) (octets-of _ r.before.before.shared-slice-known3.given) _ _ d.before.decode.ensures d.decode2.ensures,
+      fine-first _ _ _ _ r.refused-number.ensures r.if-number-ne0.false (octets-of _ r.shared_slice_known-1.given)
+          (octets-of _ r.shared_slice_known-2-1.given) (octets-of _ r.shared_slice_known-3-1.given) _ _ d.decode-p.ensures d.decode-q.ensures,
     )
 
-returns-2 : tie.Need-returns-2
+returns-2 : tie.Need-returns-then-meets
 returns-2 c =
-    let d = c.before.before.before.before in
-    let r = d.before.before in
-    answer-first _ _ _ _ r.before.refused.ensures r.if1.false (octets-of _ r.before.before.before.before.shared-slice-known.given)
-    (octets-of _ r.before.before.before.shared-slice-known2.given) (octets-of _ r.before.before.shared-slice-known3.given) _ _ d.before.decode.ensures d.decode2.ensures
-    (sym c.if2.true ∙ c.before.before.meets.ensures.0)
+    let d = c in
+    let r = d in
+    answer-first _ _ _ _ r.refused-number.ensures r.if-number-ne0.false (octets-of _ r.shared_slice_known-1.given)
+    (octets-of _ r.shared_slice_known-2-1.given) (octets-of _ r.shared_slice_known-3-1.given) _ _ d.decode-p.ensures d.decode-q.ensures
+    (sym c.if-meets.true ∙ c.meets.ensures.0)
 
 meets-requires-2 : tie.Need-meets-requires-2
 meets-requires-2 c κs =
-    let d = c.before.before.before.before.before in
-    let r = d.before.before in
-    let image = octets-of _ r.before.before.before.before.shared-slice-known.given in
-    let first = octets-of _ r.before.before.before.shared-slice-known2.given in
-    let second = octets-of _ r.before.before.shared-slice-known3.given in
-    let p = fine-first _ _ _ _ r.before.refused.ensures r.if1.false image first second _ _ d.before.decode.ensures d.decode2.ensures in
-    let q = fine-second _ _ _ _ r.before.refused.ensures r.if1.false image first second _ _ d.before.decode.ensures d.decode2.ensures in
-    (fine-good _ _ _ _ r.before.refused.ensures r.if1.false image, search rules, search (p, q))
+    let d = c in
+    let r = d in
+    let image = octets-of _ r.shared_slice_known-1.given in
+    let first = octets-of _ r.shared_slice_known-2-1.given in
+    let second = octets-of _ r.shared_slice_known-3-1.given in
+    let p = fine-first _ _ _ _ r.refused-number.ensures r.if-number-ne0.false image first second _ _ d.decode-p.ensures d.decode-q.ensures in
+    let q = fine-second _ _ _ _ r.refused-number.ensures r.if-number-ne0.false image first second _ _ d.decode-p.ensures d.decode-q.ensures in
+    (fine-good _ _ _ _ r.refused-number.ensures r.if-number-ne0.false image, search rules, search (p, q))
 
-returns-3 : tie.Need-returns-3
+returns-3 : tie.Need-returns
 returns-3 c =
-    let m = c.before.before.before.before.before in
-    let d = m.before.before in
-    let r = d.before.before in
-    answer-second _ _ _ _ r.before.refused.ensures r.if1.false (octets-of _ r.before.before.before.before.shared-slice-known.given)
-    (octets-of _ r.before.before.before.shared-slice-known2.given) (octets-of _ r.before.before.shared-slice-known3.given) _ _ d.before.decode.ensures d.decode2.ensures
-    (sym c.before.before.before.if2.false ∙ m.meets.ensures.0) _ c.before.meets2.ensures.0
+    let m = c in
+    let d = m in
+    let r = d in
+    answer-second _ _ _ _ r.refused-number.ensures r.if-number-ne0.false (octets-of _ r.shared_slice_known-1.given)
+    (octets-of _ r.shared_slice_known-2-1.given) (octets-of _ r.shared_slice_known-3-1.given) _ _ d.decode-p.ensures d.decode-q.ensures
+    (sym c.if-meets.false ∙ m.meets.ensures.0) _ c.meets-2.ensures.0
 
 pub independent_spec : {M : Type 1} → statement M
 independent_spec =
     tie.close
     (tie.spec
     (λ c κs. search rules)
-    (λ c. answer-refused _ _ _ _ c.before.refused.ensures c.if1.true)
+    (λ c. answer-refused _ _ _ _ c.refused-number.ensures c.if-number-ne0.true)
     decode-requires
     decode-requires-2
     (λ c. search rules)

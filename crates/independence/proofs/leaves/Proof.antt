@@ -4,17 +4,17 @@ use Rattle.independence.specs.Internal.Footprint.{leaves_by}
 use Rattle.independence.proofs.leaves.Statement.{statement}
 use Rattle.independence.proofs.leaves.Tie as tie
 
-returns : tie.Need-returns
+returns : tie.Need-returns-then-kind-eq-SEND
 unfolding leaves_by
-returns c = rw c.if1.true
+returns c = rw c.if-kind-eq-SEND.true
 
-returns-2 : tie.Need-returns-2
+returns-2 : tie.Need-returns-then-kind-eq-SIGN
 unfolding leaves_by
-returns-2 c = rw (ne_eqb _ 4 c.before.if1.false, c.if2.true)
+returns-2 c = rw (ne_eqb _ 4 c.if-kind-eq-SEND.false, c.if-kind-eq-SIGN.true)
 
-returns-3 : tie.Need-returns-3
+returns-3 : tie.Need-returns-else-kind-eq-SIGN
 unfolding leaves_by
-returns-3 c = rw (ne_eqb _ 4 c.before.if1.false, ne_eqb _ 12 c.if2.false)
+returns-3 c = rw (ne_eqb _ 4 c.if-kind-eq-SEND.false, ne_eqb _ 12 c.if-kind-eq-SIGN.false)
 
 pub leaves_spec : {M : Type 1} → statement M
 leaves_spec = tie.close (tie.spec returns returns-2 returns-3)

@@ -10,6 +10,6 @@ list_meets_spec =
     tie.close
     (tie.spec
     (λ c κs. search rules)
-    (λ c. rw (failed c.before.relisted.ensures c.if1.true))
+    (λ c. rw (failed c.relisted.ensures c.if-not-relisted.true-raw))
     (λ c κs. search rules)
-    (λ c. c.have-history.ensures ∙ rw (passed c.before.before.relisted.ensures c.before.if1.false)))
+    (λ c. c.have_history.ensures ∙ rw (passed c.relisted.ensures c.if-not-relisted.false-raw)))

@@ -6,27 +6,27 @@ use Rattle.independence.proofs.Clauses.{parcels-freed, parcels-first, parcels-se
 use Rattle.independence.proofs.messages_meet.Statement.{statement}
 use Rattle.independence.proofs.messages_meet.Tie as tie
 
-returns-3 : tie.Need-returns-3
+returns-3 : tie.Need-returns-then-not-handles-2
 returns-3 c =
-    let h = c.before.before in
-    let f = h.before.before in
-    parcels-second _ _ _ _ (sym f.before.frees.ensures ∙ f.if1.false) (passed h.before.handles.ensures h.if2.false) (failed c.before.handles2.ensures c.if3.true)
+    let h = c in
+    let f = h in
+    parcels-second _ _ _ _ (sym f.frees.ensures ∙ f.if-frees.false) (passed h.handles.ensures h.if-not-handles.false-raw) (failed c.handles-2.ensures c.if-not-handles-2.true-raw)
 
-returns-4 : tie.Need-returns-4
+returns-4 : tie.Need-returns
 returns-4 c =
-    let g = c.before.before in
-    let h = g.before.before in
-    let f = h.before.before in
-    parcels-both _ _ _ _ (sym f.before.frees.ensures ∙ f.if1.false) (passed h.before.handles.ensures h.if2.false) (passed g.before.handles2.ensures g.if3.false) _ _ c.before.handled.ensures c.handled2.ensures
+    let g = c in
+    let h = g in
+    let f = h in
+    parcels-both _ _ _ _ (sym f.frees.ensures ∙ f.if-frees.false) (passed h.handles.ensures h.if-not-handles.false-raw) (passed g.handles-2.ensures g.if-not-handles-2.false-raw) _ _ c.handled.ensures c.handled-2.ensures
 
 pub messages_meet_spec : {M : Type 1} → statement M
 messages_meet_spec =
     tie.close
     (tie.spec
     (λ c κs. search rules)
-    (λ c. parcels-freed _ _ _ _ (sym c.before.frees.ensures ∙ c.if1.true))
+    (λ c. parcels-freed _ _ _ _ (sym c.frees.ensures ∙ c.if-frees.true))
     (λ c κs. search rules)
-    (λ c. parcels-first _ _ _ _ (sym c.before.before.before.frees.ensures ∙ c.before.before.if1.false) (failed c.before.handles.ensures c.if2.true))
+    (λ c. parcels-first _ _ _ _ (sym c.frees.ensures ∙ c.if-frees.false) (failed c.handles.ensures c.if-not-handles.true-raw))
     (λ c κs. search rules)
     returns-3
     (λ c κs. search rules)

@@ -10,6 +10,6 @@ named_has_spec =
     tie.close
     (tie.spec
     (λ c κs. search rules)
-    (λ c. rw (failed c.before.is-named.ensures c.if1.true))
+    (λ c. rw (failed c.is_named.ensures c.if-not-is_named.true-raw))
     (λ c κs. search rules)
-    (λ c. c.has-history.ensures ∙ rw (passed c.before.before.is-named.ensures c.before.if1.false)))
+    (λ c. c.has_history.ensures ∙ rw (passed c.is_named.ensures c.if-not-is_named.false-raw)))

@@ -9,5 +9,5 @@ opens_at_spec =
     tie.close
     (tie.spec
     (λ c κs. search rules)
-    (λ c. rw (failed c.before.opens.ensures c.if1.true))
-    (λ c. rw (passed c.before.opens.ensures c.if1.false)))
+    (λ c. rw (failed c.opens.ensures c.if-not-opens.true-raw))
+    (λ c. rw (passed c.opens.ensures c.if-not-opens.false-raw)))

@@ -10,6 +10,6 @@ receiver_spec =
     (tie.spec
     (λ c κs. search rules)
     (λ c κs. search rules)
-    (λ c. receiver-none _ _ _ _ c.before.before.waiting.ensures.0 c.before.place_of.ensures.0 c.if1.true)
+    (λ c. receiver-none _ _ _ _ c.waiting-n.ensures.0 c.place_of-k.ensures.0 c.if-n-k.true)
     (λ c κs. search rules)
-    (λ c. receiver-some _ _ _ _ c.before.before.before.waiting.ensures.0 c.before.before.place_of.ensures.0 c.before.if1.false _ c.addressee.ensures.0))
+    (λ c. receiver-some _ _ _ _ c.waiting-n.ensures.0 c.place_of-k.ensures.0 c.if-n-k.false _ c.addressee.ensures.0))

@@ -13,5 +13,5 @@ refused_spec =
     (λ c. independent-17 _ _ _ (search rules) (search rules))
     (λ c. independent-17-second _ _ _ (search rules) (search rules) (search rules))
     (λ c κs. search rules)
-    (λ c. independent-19 _ _ _ (search rules) (search rules) (search rules) (failed c.before.formed.ensures c.if4.true))
-    (λ c. independent-0 _ _ _ (search rules) (search rules) (search rules) (passed c.before.formed.ensures c.if4.false)))
+    (λ c. independent-19 _ _ _ (search rules) (search rules) (search rules) (failed c.formed.ensures c.if-not-formed.true-raw))
+    (λ c. independent-0 _ _ _ (search rules) (search rules) (search rules) (passed c.formed.ensures c.if-not-formed.false-raw)))

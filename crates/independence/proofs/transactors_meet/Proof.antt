@@ -10,28 +10,28 @@ use Rattle.independence.proofs.Clauses.{Missed, missed-none, missed_more, missed
 use Rattle.independence.proofs.transactors_meet.Statement.{statement}
 use Rattle.independence.proofs.transactors_meet.Tie as tie
 
-abbrev invariant-loop : tie.invariant-loop
+abbrev invariant-loop : tie.invariant-loop-t
 invariant-loop image p q opened first second t₀ t = Missed (λ u. touches_in base (unpack base image) p u and touches_in base (unpack base image) q u) base.transactors t
 
-abbrev decreases-loop : tie.decreases-loop
+abbrev decreases-loop : tie.decreases-loop-t
 decreases-loop image p q opened first second t₀ t = base.transactors - t
 
-returns : tie.Need-returns invariant-loop decreases-loop
+returns : tie.Need-returns-then-both_touch invariant-loop decreases-loop
 unfolding transactors_meet
 returns c =
-    let l = c.before.before.before in
-    missed-hit l.loop.invariant (search rules)
-    (sym (touch-turn _ _ _ _ _ _ _ _ l.before.before.before.opened.ensures l.before.before.receiver.ensures l.before.receiver2.ensures c.before.both-touch.ensures) ∙ c.if1.true)
+    let l = c in
+    missed-hit l.loop-t.invariant (search rules)
+    (sym (touch-turn _ _ _ _ _ _ _ _ l.opened-opened.ensures l.receiver-first.ensures l.receiver-second.ensures c.both_touch.ensures) ∙ c.if-both_touch.true)
 
-loop-again : tie.Need-loop-preserved invariant-loop decreases-loop
+loop-again : tie.Need-loop-t-preserved invariant-loop decreases-loop
 loop-again c =
-    let l = c.before.before.before in
-    missed_more l.loop.invariant (search rules)
-    (sym (touch-turn _ _ _ _ _ _ _ _ l.before.before.before.opened.ensures l.before.before.receiver.ensures l.before.receiver2.ensures c.before.both-touch.ensures) ∙ c.if1.false)
+    let l = c in
+    missed_more l.loop-t.invariant (search rules)
+    (sym (touch-turn _ _ _ _ _ _ _ _ l.opened-opened.ensures l.receiver-first.ensures l.receiver-second.ensures c.both_touch.ensures) ∙ c.if-both_touch.false)
 
-returns-2 : tie.Need-returns-2 invariant-loop decreases-loop
+returns-2 : tie.Need-returns invariant-loop decreases-loop
 unfolding transactors_meet
-returns-2 c = missed-all c.before.loop.invariant (search rules)
+returns-2 c = missed-all c.loop-t.invariant (search rules)
 
 pub transactors_meet_spec : {M : Type 1} → statement M
 transactors_meet_spec =
