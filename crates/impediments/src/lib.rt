@@ -1,4 +1,6 @@
 // Why no group with a transactor could be checkpointed (document 01: no volume with a take could be signed).
+#![tactic(auto)]
+
 pub mod ways;
 
 ghost use Rattle.std.specs.Prelude.{◌≡◌, ◌≤◌, ◌<◌};

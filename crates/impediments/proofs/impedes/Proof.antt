@@ -6,14 +6,14 @@ use Rattle.impediments.proofs.Impeding.{impedes-hopeless, impedes-exhausted, imp
 use Rattle.impediments.proofs.impedes.Statement.{statement}
 use Rattle.impediments.proofs.impedes.Tie as tie
 
-returns : tie.Need-returns
-returns c = impedes-hopeless base _ _ c.before.if1.true c.lost-support.ensures.0
+returns : tie.Need-returns-then-kind-eq-HOPELESS
+returns c = impedes-hopeless base _ _ c.if-kind-eq-HOPELESS.true c.lost_ground.ensures.0
 
-returns-2 : tie.Need-returns-2
-returns-2 c = c.is-full.ensures ∙ impedes-exhausted base _ _ c.before.before.if1.false c.before.if2.true
+returns-2 : tie.Need-returns-then-kind-eq-EXHAUSTED
+returns-2 c = c.is_full.ensures ∙ impedes-exhausted base _ _ c.if-kind-eq-HOPELESS.false c.if-kind-eq-EXHAUSTED.true
 
-returns-3 : tie.Need-returns-3
-returns-3 c = let n = c.before.before in impedes-unstable base _ _ n.before.if1.false n.if2.false _ c.before.own.ensures
+returns-3 : tie.Need-returns
+returns-3 c = let n = c in impedes-unstable base _ _ n.if-kind-eq-HOPELESS.false n.if-kind-eq-EXHAUSTED.false _ c.own-h.ensures
 
 pub impedes_spec : {M : Type 1} → statement M
 impedes_spec = tie.close (tie.spec (λ c κs. search rules) returns (λ c κs. search rules) returns-2 (λ c κs. search rules) returns-3)

@@ -6,27 +6,27 @@ use Rattle.impediments.proofs.Impeding.{answer-hopeless, answer-exhausted, answe
 use Rattle.impediments.proofs.impediment_in.Statement.{statement}
 use Rattle.impediments.proofs.impediment_in.Tie as tie
 
-returns : tie.Need-returns
+returns : tie.Need-returns-then-hopeless-lt-TRANSACTORS
 returns c =
-    let n = c.before.before in
-    answer-hopeless base _ _ n.before.before.before.requires.2 n.before.lowest.ensures.0 n.if1.true c.before.lost-support.ensures.0 refl
+    let n = c in
+    answer-hopeless base _ _ n.requires.2 n.lowest-hopeless.ensures.0 n.if-hopeless-lt-TRANSACTORS.true c.lost_ground-support.ensures.0 refl
 
-returns-2 : tie.Need-returns-2
+returns-2 : tie.Need-returns-then-exhausted-lt-TRANSACTORS
 returns-2 c =
-    let n = c.before.before.before in
-    answer-exhausted base _ _ n.before.before.before.requires.2 n.before.lowest.ensures.0 n.if1.false c.before.before.lowest2.ensures.0 c.before.if2.true refl
+    let n = c in
+    answer-exhausted base _ _ n.requires.2 n.lowest-hopeless.ensures.0 n.if-hopeless-lt-TRANSACTORS.false c.lowest-exhausted.ensures.0 c.if-exhausted-lt-TRANSACTORS.true refl
 
-returns-3 : tie.Need-returns-3
+returns-3 : tie.Need-returns-then-unstable-lt-TRANSACTORS
 returns-3 c =
-    let m = c.before.before.before in
-    let n = m.before.before in
-    answer-unstable base _ _ n.before.before.before.requires.2 n.before.lowest.ensures.0 n.if1.false m.before.lowest2.ensures.0 m.if2.false c.before.before.lowest3.ensures.0 c.before.if3.true refl
+    let m = c in
+    let n = m in
+    answer-unstable base _ _ n.requires.2 n.lowest-hopeless.ensures.0 n.if-hopeless-lt-TRANSACTORS.false m.lowest-exhausted.ensures.0 m.if-exhausted-lt-TRANSACTORS.false c.lowest-unstable.ensures.0 c.if-unstable-lt-TRANSACTORS.true refl
 
-returns-4 : tie.Need-returns-4
+returns-4 : tie.Need-returns
 returns-4 c =
-    let m = c.before.before in
-    let n = m.before.before in
-    answer-nothing base _ _ n.before.before.before.requires.2 n.before.lowest.ensures.0 n.if1.false m.before.lowest2.ensures.0 m.if2.false c.before.lowest3.ensures.0 c.if3.false
+    let m = c in
+    let n = m in
+    answer-nothing base _ _ n.requires.2 n.lowest-hopeless.ensures.0 n.if-hopeless-lt-TRANSACTORS.false m.lowest-exhausted.ensures.0 m.if-exhausted-lt-TRANSACTORS.false c.lowest-unstable.ensures.0 c.if-unstable-lt-TRANSACTORS.false
 
 pub impediment_in_spec : {M : Type 1} → statement M
 impediment_in_spec =

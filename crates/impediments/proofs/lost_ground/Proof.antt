@@ -10,17 +10,17 @@ use Rattle.impediments.proofs.Impeding.{lost-found}
 use Rattle.impediments.proofs.lost_ground.Statement.{statement}
 use Rattle.impediments.proofs.lost_ground.Tie as tie
 
-abbrev invariant-loop : tie.invariant-loop
+abbrev invariant-loop : tie.invariant-loop-u
 invariant-loop image c u₀ u = Passed (withdrawn_by (unpack base image) c) base.transactors u
 
-abbrev decreases-loop : tie.decreases-loop
+abbrev decreases-loop : tie.decreases-loop-u
 decreases-loop image c u₀ u = base.transactors - u
 
-returns : tie.Need-returns invariant-loop decreases-loop
-returns c = lost-found base _ _ (passed-found c.before.before.before.loop.invariant (search rules) (sym c.before.superseded.ensures ∙ c.if1.true))
+returns : tie.Need-returns-then-superseded invariant-loop decreases-loop
+returns c = lost-found base _ _ (passed-found c.loop-u.invariant (search rules) (sym c.superseded.ensures ∙ c.if-superseded.true))
 
-loop-again : tie.Need-loop-preserved invariant-loop decreases-loop
-loop-again c = passed-more c.before.before.before.loop.invariant (search rules) (sym c.before.superseded.ensures ∙ c.if1.false)
+loop-again : tie.Need-loop-u-preserved invariant-loop decreases-loop
+loop-again c = passed-more c.loop-u.invariant (search rules) (sym c.superseded.ensures ∙ c.if-superseded.false)
 
 pub lost_ground_spec : {M : Type 1} → statement M
 lost_ground_spec =
@@ -34,4 +34,4 @@ lost_ground_spec =
     (λ c. search rules)
     (λ c. search rules)
     loop-again
-    (λ c. lost-found base _ _ (passed-all c.before.loop.invariant (search rules))))
+    (λ c. lost-found base _ _ (passed-all c.loop-u.invariant (search rules))))

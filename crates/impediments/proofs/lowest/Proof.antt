@@ -9,23 +9,23 @@ use Rattle.impediments.proofs.Impeding.{in_way, way-is, lowest-found}
 use Rattle.impediments.proofs.lowest.Statement.{statement}
 use Rattle.impediments.proofs.lowest.Tie as tie
 
-abbrev invariant-loop : tie.invariant-loop
+abbrev invariant-loop : tie.invariant-loop-c
 invariant-loop image kind t reach c₀ c = Passed (in_way base (unpack base image) kind t) base.transactors c
 
-abbrev decreases-loop : tie.decreases-loop
+abbrev decreases-loop : tie.decreases-loop-c
 decreases-loop image kind t reach c₀ c = base.transactors - c
 
-returns : tie.Need-returns invariant-loop decreases-loop
+returns : tie.Need-returns-then-in_way invariant-loop decreases-loop
 returns c =
-    let n = c.before.before.before.before in
-    let p = n.before.before.requires in
-    lowest-found base _ _ _ (passed-found n.loop.invariant (search rules) (sym (way-is base _ _ _ p.2 _ (search rules) p.1 refl c.before.in-way.ensures) ∙ c.if1.true))
+    let n = c in
+    let p = n.requires in
+    lowest-found base _ _ _ (passed-found n.loop-c.invariant (search rules) (sym (way-is base _ _ _ p.2 _ (search rules) p.1 refl c.in_way.ensures) ∙ c.if-in_way.true))
 
-loop-again : tie.Need-loop-preserved invariant-loop decreases-loop
+loop-again : tie.Need-loop-c-preserved invariant-loop decreases-loop
 loop-again c =
-    let n = c.before.before.before.before in
-    let p = n.before.before.requires in
-    passed-more n.loop.invariant (search rules) (sym (way-is base _ _ _ p.2 _ (search rules) p.1 refl c.before.in-way.ensures) ∙ c.if1.false)
+    let n = c in
+    let p = n.requires in
+    passed-more n.loop-c.invariant (search rules) (sym (way-is base _ _ _ p.2 _ (search rules) p.1 refl c.in_way.ensures) ∙ c.if-in_way.false)
 
 pub lowest_spec : {M : Type 1} → statement M
 lowest_spec =
@@ -41,4 +41,4 @@ lowest_spec =
     (λ c. search rules)
     (λ c. search rules)
     loop-again
-    (λ c. lowest-found base _ _ _ (passed-all c.before.loop.invariant (search rules))))
+    (λ c. lowest-found base _ _ _ (passed-all c.loop-c.invariant (search rules))))

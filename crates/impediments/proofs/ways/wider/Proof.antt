@@ -10,5 +10,5 @@ wider_spec =
     tie.close
     (tie.spec
     (λ c κs. search rules)
-    (λ c. pick-on _ _ _ (sym c.before.is-named.ensures ∙ c.if1.true))
-    (λ c. pick-off _ _ _ (sym c.before.is-named.ensures ∙ c.if1.false)))
+    (λ c. pick-on _ _ _ (sym c.is_named.ensures ∙ c.if-is_named.true))
+    (λ c. pick-off _ _ _ (sym c.is_named.ensures ∙ c.if-is_named.false)))
