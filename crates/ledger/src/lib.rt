@@ -1,4 +1,6 @@
 // The take ledger: begin, run, offer and show. A session lives in a lent image of IMAGE bytes, which each call takes as the last one left it.
+#![tactic(auto)]
+
 ghost use Rattle.std.specs.Prelude.{◌≡◌, ◌*◌, ◌/◌, length};
 ghost use Rattle.octets.specs.Bytes.{zeros};
 ghost use Rattle.rules.specs.Layout.{base, limits_of, image_bytes};

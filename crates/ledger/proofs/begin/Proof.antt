@@ -11,19 +11,19 @@ use Rattle.ledger.proofs.begin.Statement.{statement}
 use Rattle.ledger.proofs.begin.Tie as tie
 
 -- the limits are in range
-abbrev range : (c : tie.After-store-arg) → LimitsInRange (limits_of c.before.before.before.before.before.before.before.before.before.args.transactors c.before.before.before.before.before.before.before.before.before.args.messages c.before.before.before.before.before.before.before.before.before.args.checkpoints)
+abbrev range : (c : tie.After-store-arg-1) → LimitsInRange (limits_of c.args.transactors c.args.messages c.args.checkpoints)
 range c =
-    let b = c.before.before.before.before.before in
-    (in-range-exactly _).0 (sym b.before.in-range.ensures ∙ not-false _ b.if2.false)
+    let b = c in
+    (in-range-exactly _).0 (sym b.in_range.ensures ∙ not-false _ b.if-not-in_range.false-raw)
 
-returns-2 : tie.Need-returns-2
-returns-2 c = begin-33 base _ _ (search rules) (sym c.before.in-range.ensures ∙ not-true _ c.if2.true)
+returns-2 : tie.Need-returns-then-not-in_range
+returns-2 c = begin-33 base _ _ (search rules) (sym c.in_range.ensures ∙ not-true _ c.if-not-in_range.true-raw)
 
-returns-3 : tie.Need-returns-3
+returns-3 : tie.Need-returns
 returns-3 c =
-    let d = c.before.before in
-    let b = d.before.before.before.before.before.before in
-    begin-0 base _ _ (search rules) (sym b.before.in-range.ensures ∙ not-false _ b.if2.false) _ (fresh-stored base _ _ _ d.before.before.before.before.refresh.ensures d.store.ensures)
+    let d = c in
+    let b = d in
+    begin-0 base _ _ (search rules) (sym b.in_range.ensures ∙ not-false _ b.if-not-in_range.false-raw) _ (fresh-stored base _ _ _ d.refresh.ensures d.store.ensures)
 
 pub begin_spec : {M : Type 1} → statement M
 begin_spec =

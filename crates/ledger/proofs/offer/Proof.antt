@@ -13,33 +13,33 @@ use Rattle.rules.proofs.Calls.Offer.{offered-refused, offered-none, offered-some
 use Rattle.ledger.proofs.offer.Statement.{statement}
 use Rattle.ledger.proofs.offer.Tie as tie
 
-returns : tie.Need-returns
-returns c = offered-refused base _ _ _ c.before.query-refusal.ensures c.if1.true
+returns : tie.Need-returns-then-number-ne0
+returns c = offered-refused base _ _ _ c.query_refusal-number.ensures c.if-number-ne0.true
 
 -- not refused
-accepted : (c : tie.Else1) → Accepted base c.before.before.before.args.image.now c.before.before.before.args.transactor
-accepted c = query-accepted base _ _ (sym c.before.query-refusal.ensures ∙ c.if1.false)
+accepted : (c : tie.Else-number-ne0) → Accepted base c.args.image.now c.args.transactor
+accepted c = query-accepted base _ _ (sym c.query_refusal-number.ensures ∙ c.if-number-ne0.false)
 
-long : (c : tie.Else1) → length c.before.before.before.args.image.now ≡ image_bytes base
+long : (c : tie.Else-number-ne0) → length c.args.image.now ≡ image_bytes base
 long c = (accepted c).long
 
-well : (c : tie.Else1) → WellFormed base (unpack base c.before.before.before.args.image.now)
-well c = formed-state base _ (long c) (octets-of _ c.before.before.shared-slice-known.given) (accepted c).formed
+well : (c : tie.Else-number-ne0) → WellFormed base (unpack base c.args.image.now)
+well c = formed-state base _ (long c) (octets-of _ c.shared_slice_known-1.given) (accepted c).formed
 
-waiting-requires : tie.Need-waiting-requires
+waiting-requires : tie.Need-waiting-n-requires
 waiting-requires c κs = long c
 
-place-to-requires : tie.Need-place-to-requires
+place-to-requires : tie.Need-place_to-k-requires
 place-to-requires c κs = (long c.before, search rules, search rules)
 
-returns-2 : tie.Need-returns-2
-returns-2 c = offered-none base _ _ _ c.before.before.before.before.query-refusal.ensures c.before.before.before.if1.false _ _ c.before.before.waiting.ensures.0 c.before.place-to.ensures.0 (omega arith)
+returns-2 : tie.Need-returns-then-n-k
+returns-2 c = offered-none base _ _ _ c.query_refusal-number.ensures c.if-number-ne0.false _ _ c.waiting-n.ensures.0 c.place_to-k.ensures.0 (omega arith)
 
-number-of-requires : tie.Need-number-of-requires
+number-of-requires : tie.Need-number_of-requires
 number-of-requires c κs = (long c.before.before.before, search rules)
 
-returns-3 : tie.Need-returns-3
-returns-3 c = offered-some base _ _ _ c.before.before.before.before.before.query-refusal.ensures c.before.before.before.before.if1.false _ _ c.before.before.before.waiting.ensures.0 c.before.before.place-to.ensures.0 _ (well c.before.before.before.before) (omega arith) c.number_of_lem.ensures
+returns-3 : tie.Need-returns
+returns-3 c = offered-some base _ _ _ c.query_refusal-number.ensures c.if-number-ne0.false _ _ c.waiting-n.ensures.0 c.place_to-k.ensures.0 _ (well c.before.before.before.before) (omega arith) c.number_of.ensures
 
 pub offer_spec : {M : Type 1} → statement M
 offer_spec =

@@ -15,38 +15,38 @@ use Rattle.lists.proofs.Parts.{RightPart, right-part}
 use Rattle.ledger.proofs.run.Statement.{statement}
 use Rattle.ledger.proofs.run.Tie as tie
 
-abbrev start : tie.Else2 → tie.Start
+abbrev start : tie.Else-wrong_part → tie.Start
 start c = c.before.before.before.before.before.before
 
 -- the part is one
-fine : (c : tie.Else2) → wrong_part (start c).args.list.now (start c).args.start (start c).args.end ≡ false
-fine c = sym c.before.wrong-part.ensures ∙ c.if2.false
+fine : (c : tie.Else-wrong_part) → wrong_part (start c).args.list.now (start c).args.start (start c).args.end ≡ false
+fine c = sym c.wrong_part.ensures ∙ c.if-wrong_part.false
 
-right : (c : tie.Else2) → RightPart (start c).args.list.now (start c).args.start (start c).args.end
+right : (c : tie.Else-wrong_part) → RightPart (start c).args.list.now (start c).args.start (start c).args.end
 right c = right-part _ _ _ (fine c)
 
 -- the image's bytes, past all tests
-abbrev bytes : tie.Else4 → tie.After-slice-known
-bytes c = c.before.before.before.before.before.before.before.before.before
+abbrev bytes : tie.Else-not-formed → tie.After-slice_known-1
+bytes c = c.before.before.before.before.before.before.before.before
 
-formed : (c : tie.Else4) → not (well_formed base (bytes c).before.args.image.now) ≡ false
-formed c = ap not (sym c.before.formed.ensures) ∙ c.if4.false
+formed : (c : tie.Else-not-formed) → not (well_formed base (bytes c).args.image.now) ≡ false
+formed c = ap not (sym c.formed.ensures) ∙ c.if-not-formed.false-raw
 
-run-steps-requires : tie.Need-run-steps-requires
+run-steps-requires : tie.Need-run_steps-requires
 unfolding part
 run-steps-requires c κs =
-    let e = c.before.before.before in
-    let r = right e.before.before.before.before in
-    let a = (bytes c.before.before.before).before.args in
+    let e = c in
+    let r = right c.before.before.before.before.before.before in
+    let a = (bytes c.before.before.before).args in
     let n = part-steps a.list.now a.start a.end r.forth r.within r.whole a.replies.now (search rules) in
-    (good-formed _ (search rules) (octets-of _ (bytes c.before.before.before).slice-known.given) (not-false _ (formed c.before.before.before)), n.0, n.1)
+    (good-formed _ (search rules) (octets-of _ (bytes c.before.before.before).slice_known-1.given) (not-false _ (formed c.before.before.before)), n.0, n.1)
 
-returns-5 : tie.Need-returns-5
+returns-5 : tie.Need-returns
 unfolding part
 returns-5 c =
-    let e = c.before.before.before.before.before.before.before.before in
-    ran-0 base _ _ _ _ _ (search rules) (fine e.before.before.before.before) (search rules) _ _ (formed c.before.before.before.before.before.before.before.before)
-    c.before.before.before.before.run-steps.ensures.0 c.before.before.before.before.run-steps.ensures.1
+    let e = c in
+    ran-0 base _ _ _ _ _ (search rules) (fine c.before.before.before.before.before.before.before.before.before.before.before) (search rules) _ _ (formed c.before.before.before.before.before.before.before.before)
+    c.run_steps.ensures.0 c.run_steps.ensures.1
 
 pub run_spec : {M : Type 1} → statement M
 run_spec =
@@ -54,15 +54,15 @@ run_spec =
     (tie.spec
     (λ c. ran-16 base _ _ _ _ _ (search rules))
     (λ c κs. search rules)
-    (λ c. ran-17 base _ _ _ _ _ (search rules) (sym c.before.wrong-part.ensures ∙ c.if2.true))
+    (λ c. ran-17 base _ _ _ _ _ (search rules) (sym c.wrong_part.ensures ∙ c.if-wrong_part.true))
     (λ c. omega (arith, (right c).forth))
     (λ c. ran-18 base _ _ _ _ _ (search rules) (fine c.before) (search rules))
     (λ c κs. search rules)
     (λ c. search rules)
-    (λ c. ran-19 base _ _ _ _ _ (search rules) (fine c.before.before.before.before) (search rules) (ap not (sym c.before.formed.ensures) ∙ c.if4.true))
-    (λ c. omega (arith, (right c.before.before.before.before.before).forth))
-    (λ c. omega (arith, (right c.before.before.before.before.before).forth, (right c.before.before.before.before.before).within))
-    (λ c. omega (arith, (right c.before.before.before.before.before).within))
+    (λ c. ran-19 base _ _ _ _ _ (search rules) (fine c.before.before.before) (search rules) (ap not (sym c.formed.ensures) ∙ c.if-not-formed.true-raw))
+    (λ c. omega (arith, (right c.before.before.before.before).forth))
+    (λ c. omega (arith, (right c.before.before.before.before).forth, (right c.before.before.before.before).within))
+    (λ c. omega (arith, (right c.before.before.before.before).within))
     run-steps-requires
     (λ c. search rules)
     (λ c. search rules)

@@ -8,8 +8,8 @@ use Rattle.ledger.proofs.show.Statement.{statement}
 use Rattle.ledger.proofs.show.Tie as tie
 
 -- past the test the map stands inside the image
-within : (c : tie.Else1) → c.before.before.shown-at.result + map_bytes base ≤ length c.before.before.before.before.before.args.image.now
-within c = let a = c.before.before.shown-at.ensures in part-within base _ _ _ a.1 c.if1.false _ a.0
+within : (c : tie.Else-refusal-ne0) → c.shown_at-at.result + map_bytes base ≤ length c.args.image.now
+within c = let a = c.shown_at-at.ensures in part-within base _ _ _ a.1 c.if-refusal-ne0.false _ a.0
 
 pub show_spec : {M : Type 1} → statement M
 show_spec =
@@ -17,9 +17,9 @@ show_spec =
     (tie.spec
     (λ c κs. search rules)
     (λ c. search rules)
-    (λ c. (part-refused base _ _ _ c.before.before.before.shown-at.ensures.1 c.before.if1.true, search rules))
+    (λ c. (part-refused base _ _ _ c.shown_at-at.ensures.1 c.if-refusal-ne0.true, search rules))
     (λ c. search (rules, within c))
     (λ c. search rules)
     (λ c. search rules)
     (λ c. search (rules, within c))
-    (λ c. let a = c.before.before.before.shown-at.ensures in (part-shown base _ _ _ a.1 c.before.if1.false _ a.0, search rules)))
+    (λ c. let a = c.shown_at-at.ensures in (part-shown base _ _ _ a.1 c.if-refusal-ne0.false _ a.0, search rules)))
