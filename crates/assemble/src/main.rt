@@ -3,8 +3,10 @@
 //
 // The file stdin is document 01's session, with a comment after each opening that names its take; stdout is that session packed,
 // as document 01 packs it.
-use libc::{STDERR_FILENO, STDIN_FILENO, STDOUT_FILENO};
+#![tactic(auto)]
+
 use notation::{Expected, Parsed};
+use std::io;
 
 // The longest text.
 const TEXT: usize = 262144;
@@ -15,42 +17,40 @@ const LIST: usize = 8 * (TEXT / 7 + 1);
 const STEP: usize = 8;
 
 // Writes the first n steps of the list.
-fn pack(list: &[u8], n: usize) {
+fn pack(rt: &impl Print, list: &[u8], n: usize) -> io::Result<()> {
     if n <= list.len() / STEP {
         let end = STEP * n;
-        io::write_all(STDOUT_FILENO, &list[..end]);
+        rt.write_all(&list[..end])?;
     }
+    Ok(())
 }
 
 // Writes the line of a fault.
-fn tell(line: usize, column: usize, expected: Expected) {
-    io::print_decimal(STDERR_FILENO, line as u64);
-    io::write_all(STDERR_FILENO, b":");
-    io::print_decimal(STDERR_FILENO, column as u64);
-    io::write_all(STDERR_FILENO, b": expected ");
+fn tell(to: &impl Print, line: usize, column: usize, expected: Expected) -> io::Result<()> {
+    print!(to; "{line}:{column}: expected ")?;
     let words = faults::expected_line(faults::number_of(expected));
-    writing::show(STDERR_FILENO, words.byte(b'\n'));
+    writing::show(to, words.byte(b'\n'))?;
+    Ok(())
 }
 
-fn assemble(text: &[u8], list: &mut [u8]) {
+fn assemble(rt: HostRuntime, text: &[u8], list: &mut [u8]) -> io::Result<()> {
     let answer = parser::parse(text, list);
     match answer {
-        Parsed::Steps(n) => pack(list, n),
+        Parsed::Steps(n) => pack(&rt, list, n),
         Parsed::Fault {
             line,
             column,
             expected,
-        } => tell(line, column, expected),
+        } => tell(&rt.stderr(), line, column, expected),
     }
 }
 
-fn main() {
+fn main(rt: HostRuntime) -> io::Result<()> {
     let mut text = [0u8; TEXT];
-    let end = io::read_full(STDIN_FILENO, &mut text);
+    let end = reading::read_full(&mut rt.reader(), &mut text)?;
     if end == TEXT {
-        io::write_all(STDERR_FILENO, b"a text of less than 262144 bytes is read\n");
-        return;
+        return rt.eprintln("a text of less than 262144 bytes is read");
     }
     let mut list = [0u8; LIST];
-    assemble(&text[..end], &mut list);
+    assemble(rt, &text[..end], &mut list)
 }
