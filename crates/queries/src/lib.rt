@@ -1,4 +1,6 @@
 // What can be asked of an image besides document 01's calls; the image is only read.
+#![tactic(auto)]
+
 ghost use Rattle.rules.specs.Layout.{base};
 ghost use Rattle.rules.specs.Groups.{group_number};
 ghost use Rattle.rules.specs.Obstacle.{obstacle_numbers};

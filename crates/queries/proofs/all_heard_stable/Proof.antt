@@ -9,40 +9,40 @@ use Rattle.rules.proofs.Calls.Heard.{heard-refused, heard-state, heard-creation}
 use Rattle.queries.proofs.all_heard_stable.Statement.{statement}
 use Rattle.queries.proofs.all_heard_stable.Tie as tie
 
-returns : tie.Need-returns
-returns c = heard-refused base _ _ _ c.before.query-refusal.ensures c.if1.true
+returns : tie.Need-returns-then-number-ne0
+returns c = heard-refused base _ _ _ c.query_refusal-number.ensures c.if-number-ne0.true
 
 -- not refused
-accepted : (c : tie.Else1) → Accepted base c.before.before.before.args.image.now c.before.before.before.args.transactor
-accepted c = query-accepted base _ _ (sym c.before.query-refusal.ensures ∙ c.if1.false)
+accepted : (c : tie.Else-number-ne0) → Accepted base c.args.image.now c.args.transactor
+accepted c = query-accepted base _ _ (sym c.query_refusal-number.ensures ∙ c.if-number-ne0.false)
 
-mul_at : tie.Need-overflow-mul-at
+mul_at : tie.Need-overflow_mul-at
 mul_at c = let a = accepted c in omega (arith, a.below)
 
-add_at : tie.Need-overflow-add-at
+add_at : tie.Need-overflow_add-at
 add_at c = let a = accepted c in omega (arith, a.below)
 
-add-others-stable : tie.Need-overflow-add-others-stable
+add-others-stable : tie.Need-overflow_add-at-2
 add-others-stable c = let a = accepted c in omega (arith, a.below)
 
-others-stable-requires : tie.Need-others-stable-requires
+others-stable-requires : tie.Need-others_stable-requires
 others-stable-requires c κs = let a = accepted c in omega (arith, a.below, a.long)
 
-returns-2 : tie.Need-returns-2
+returns-2 : tie.Need-returns-then-not-others_stable
 returns-2 c =
-    let p = c.before.before in
-    heard-state base _ _ _ p.before.query-refusal.ensures p.if1.false _ c.before.others-stable.ensures (not-true _ c.if2.true)
+    let p = c in
+    heard-state base _ _ _ p.query_refusal-number.ensures p.if-number-ne0.false _ c.others_stable.ensures (not-true _ c.if-not-others_stable.true-raw)
 
-add-others-stable-2 : tie.Need-overflow-add-others-stable-2
+add-others-stable-2 : tie.Need-overflow_add-at-3
 add-others-stable-2 c = let a = accepted c.before.before in omega (arith, a.below)
 
-others-stable-requires-2 : tie.Need-others-stable-requires-2
+others-stable-requires-2 : tie.Need-others_stable-requires-2
 others-stable-requires-2 c κs = let a = accepted c.before.before in omega (arith, a.below, a.long)
 
-returns-3 : tie.Need-returns-3
+returns-3 : tie.Need-returns
 returns-3 c =
-    let p = c.before.before.before in
-    heard-creation base _ _ _ p.before.query-refusal.ensures p.if1.false _ c.before.before.others-stable.ensures (not-false _ c.before.if2.false) _ c.others-stable2.ensures
+    let p = c in
+    heard-creation base _ _ _ p.query_refusal-number.ensures p.if-number-ne0.false _ c.others_stable.ensures (not-false _ c.if-not-others_stable.false-raw) _ c.others_stable-2.ensures
 
 pub all_heard_stable_spec : {M : Type 1} → statement M
 all_heard_stable_spec =

@@ -14,28 +14,28 @@ use Rattle.queries.proofs.dependents.Statement.{statement}
 use Rattle.queries.proofs.dependents.Tie as tie
 
 -- not refused
-accepted : (c : tie.Else1) → Good c.before.before.before.args.image.now × (c.before.before.before.args.transactor < base.transactors)
+accepted : (c : tie.Else-number-ne0) → Good c.args.image.now × (c.args.transactor < base.transactors)
 accepted c =
-    let a = query-accepted base _ _ (sym c.before.query-refusal.ensures ∙ c.if1.false) in
-    (good-formed _ a.long (octets-of _ c.before.before.shared-slice-known.given) a.formed, a.below)
+    let a = query-accepted base _ _ (sym c.query_refusal-number.ensures ∙ c.if-number-ne0.false) in
+    (good-formed _ a.long (octets-of _ c.shared_slice_known-1.given) a.formed, a.below)
 
-dependents-of-requires : tie.Need-dependents-of-requires
+dependents-of-requires : tie.Need-dependents_of-requires
 dependents-of-requires c κs =
-    let n = c.before in
-    let a = accepted n.before in
-    (a.0, a.1, closure-through _ base refl n.all-resting.ensures a.1 (search rules) c.closure.ensures)
+    let n = c in
+    let a = accepted c.before.before in
+    (a.0, a.1, closure-through _ base refl n.all_resting.ensures a.1 (search rules) c.closure-through.ensures)
 
-returns-2 : tie.Need-returns-2
+returns-2 : tie.Need-returns
 returns-2 c =
-    let n = c.before.before.before in
-    dependents-0 base _ _ _ n.before.query-refusal.ensures n.if1.false _ c.dependents-of.ensures
+    let n = c in
+    dependents-0 base _ _ _ n.query_refusal-number.ensures n.if-number-ne0.false _ c.dependents_of.ensures
 
 pub dependents_spec : {M : Type 1} → statement M
 dependents_spec =
     tie.close
     (tie.spec
     (λ c κs. search rules)
-    (λ c. dependents-refused base _ _ _ c.before.query-refusal.ensures c.if1.true)
+    (λ c. dependents-refused base _ _ _ c.query_refusal-number.ensures c.if-number-ne0.true)
     (λ c κs. (accepted c).0)
     (λ c κs. (accepted c.before).1)
     dependents-of-requires

@@ -9,21 +9,21 @@ use Rattle.queries.proofs.Impeding.{impediment-refused, impediment-0}
 use Rattle.queries.proofs.impediment.Statement.{statement}
 use Rattle.queries.proofs.impediment.Tie as tie
 
-impediment-of-requires : tie.Need-impediment-of-requires
+impediment-of-requires : tie.Need-impediment_of-requires
 impediment-of-requires c κs =
-    let a = query-accepted base _ _ (sym c.before.query-refusal.ensures ∙ c.if1.false) in
-    (good-formed _ a.long (octets-of _ c.before.before.shared-slice-known.given) a.formed, a.below)
+    let a = query-accepted base _ _ (sym c.query_refusal-number.ensures ∙ c.if-number-ne0.false) in
+    (good-formed _ a.long (octets-of _ c.shared_slice_known-1.given) a.formed, a.below)
 
-returns-2 : tie.Need-returns-2
+returns-2 : tie.Need-returns
 returns-2 c =
-    let n = c.before in
-    impediment-0 base _ _ _ n.before.query-refusal.ensures n.if1.false _ c.impediment-of.ensures
+    let n = c in
+    impediment-0 base _ _ _ n.query_refusal-number.ensures n.if-number-ne0.false _ c.impediment_of.ensures
 
 pub impediment_spec : {M : Type 1} → statement M
 impediment_spec =
     tie.close
     (tie.spec
     (λ c κs. search rules)
-    (λ c. impediment-refused base _ _ _ c.before.query-refusal.ensures c.if1.true)
+    (λ c. impediment-refused base _ _ _ c.query_refusal-number.ensures c.if-number-ne0.true)
     impediment-of-requires
     returns-2)

@@ -12,40 +12,40 @@ use Rattle.form.proofs.Unsound.{image-refused, sound-long, sound-formed, sound-n
 use Rattle.queries.proofs.ready_count.Statement.{statement}
 use Rattle.queries.proofs.ready_count.Tie as tie
 
-returns : tie.Need-returns
+returns : tie.Need-returns-then-r-ne0
 returns c =
-    let s = c.before.before.before.args in
-    image-refused base _ _ c.before.image-refusal.ensures (λ (n : ℕ). (n ≡ ready_refusal base s.image.now s.size) × (0 ≡ ready_answer base s.image.now s.size))
-    (ready-16 base _ _) (ready-19 base _ _) c.if1.true
+    let s = c.args in
+    image-refused base _ _ c.image_refusal-r.ensures (λ (n : ℕ). (n ≡ ready_refusal base s.image.now s.size) × (0 ≡ ready_answer base s.image.now s.size))
+    (ready-16 base _ _) (ready-19 base _ _) c.if-r-ne0.true
 
-returns-2 : tie.Need-returns-2
+returns-2 : tie.Need-returns-then-size-lt1
 returns-2 c =
-    let f = c.before in
-    let e = f.before.image-refusal.ensures in
-    ready-low base _ _ (sound-long base _ _ e f.if1.false) (sound-not base _ _ e f.if1.false) (search rules)
+    let f = c in
+    let e = f.image_refusal-r.ensures in
+    ready-low base _ _ (sound-long base _ _ e f.if-r-ne0.false) (sound-not base _ _ e f.if-r-ne0.false) (search rules)
 
-returns-3 : tie.Need-returns-3
+returns-3 : tie.Need-returns-then-size-gt-TRANSACTORS
 returns-3 c =
-    let f = c.before.before in
-    let e = f.before.image-refusal.ensures in
-    ready-high base _ _ (sound-long base _ _ e f.if1.false) (sound-not base _ _ e f.if1.false) (search rules) (search rules)
+    let f = c in
+    let e = f.image_refusal-r.ensures in
+    ready-high base _ _ (sound-long base _ _ e f.if-r-ne0.false) (sound-not base _ _ e f.if-r-ne0.false) (search rules) (search rules)
 
 -- not refused
-accepted : (c : tie.Else3) → Good c.before.before.before.before.before.args.image.now
+accepted : (c : tie.Else-size-gt-TRANSACTORS) → Good c.args.image.now
 accepted c =
-    let f = c.before.before in
-    let e = f.before.image-refusal.ensures in
-    good-formed _ (sound-long base _ _ e f.if1.false) (octets-of _ f.before.before.shared-slice-known.given) (sound-formed base _ _ e f.if1.false)
+    let f = c in
+    let e = f.image_refusal-r.ensures in
+    good-formed _ (sound-long base _ _ e f.if-r-ne0.false) (octets-of _ f.shared_slice_known-1.given) (sound-formed base _ _ e f.if-r-ne0.false)
 
-needs-of-requires : tie.Need-needs-of-requires
+needs-of-requires : tie.Need-needs_of-requires
 needs-of-requires c κs = accepted c
 
-returns-4 : tie.Need-returns-4
+returns-4 : tie.Need-returns
 returns-4 c =
-    let p = c.before.before in
-    let f = p.before.before in
-    let e = f.before.image-refusal.ensures in
-    ready-0 base _ _ (sound-long base _ _ e f.if1.false) (sound-not base _ _ e f.if1.false) (search rules) (search rules) (accepted p).well refl c.before.needs-of.ensures _ c.count.ensures
+    let p = c in
+    let f = p in
+    let e = f.image_refusal-r.ensures in
+    ready-0 base _ _ (sound-long base _ _ e f.if-r-ne0.false) (sound-not base _ _ e f.if-r-ne0.false) (search rules) (search rules) (accepted c.before.before).well refl c.needs_of.ensures _ c.count.ensures
 
 pub ready_count_spec : {M : Type 1} → statement M
 ready_count_spec =

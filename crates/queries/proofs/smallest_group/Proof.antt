@@ -12,31 +12,31 @@ use Rattle.rules.proofs.Groups.Smallest.{grouped-refused, grouped-none, grouped-
 use Rattle.queries.proofs.smallest_group.Statement.{statement}
 use Rattle.queries.proofs.smallest_group.Tie as tie
 
-returns : tie.Need-returns
-returns c = grouped-refused base _ _ _ c.before.query-refusal.ensures c.if1.true
+returns : tie.Need-returns-then-number-ne0
+returns c = grouped-refused base _ _ _ c.query_refusal-number.ensures c.if-number-ne0.true
 
 -- not refused
-accepted : (c : tie.Else1) → Good c.before.before.before.args.image.now × (c.before.before.before.args.transactor < base.transactors)
+accepted : (c : tie.Else-number-ne0) → Good c.args.image.now × (c.args.transactor < base.transactors)
 accepted c =
-    let a = query-accepted base _ _ (sym c.before.query-refusal.ensures ∙ c.if1.false) in
-    (good-formed _ a.long (octets-of _ c.before.before.shared-slice-known.given) a.formed, a.below)
+    let a = query-accepted base _ _ (sym c.query_refusal-number.ensures ∙ c.if-number-ne0.false) in
+    (good-formed _ a.long (octets-of _ c.shared_slice_known-1.given) a.formed, a.below)
 
-needs-of-requires : tie.Need-needs-of-requires
+needs-of-requires : tie.Need-needs_of-needs-requires
 needs-of-requires c κs = (accepted c).0
 
-closure-requires : tie.Need-closure-requires
+closure-requires : tie.Need-closure-group-requires
 closure-requires c κs = (accepted c.before).1
 
-returns-2 : tie.Need-returns-2
+returns-2 : tie.Need-returns-then-is_inside
 unfolding bound
 returns-2 c =
-    let n = c.before.before.before in
-    grouped-some base _ _ _ n.before.before.query-refusal.ensures n.before.if1.false (accepted n.before).0.well refl n.needs-of.ensures _ c.before.before.closure.ensures _ c.before.is-inside.ensures (search rules) c.if2.true
+    let n = c in
+    grouped-some base _ _ _ n.query_refusal-number.ensures n.if-number-ne0.false (accepted c.before.before.before.before).0.well refl n.needs_of-needs.ensures _ c.closure-group.ensures _ c.is_inside.ensures (search rules) c.if-is_inside.true
 
-returns-3 : tie.Need-returns-3
+returns-3 : tie.Need-returns
 returns-3 c =
-    let n = c.before.before.before in
-    grouped-none base _ _ _ n.before.before.query-refusal.ensures n.before.if1.false (accepted n.before).0.well refl n.needs-of.ensures _ c.before.before.closure.ensures _ c.before.is-inside.ensures c.if2.false
+    let n = c in
+    grouped-none base _ _ _ n.query_refusal-number.ensures n.if-number-ne0.false (accepted c.before.before.before.before).0.well refl n.needs_of-needs.ensures _ c.closure-group.ensures _ c.is_inside.ensures c.if-is_inside.false
 
 pub smallest_group_spec : {M : Type 1} → statement M
 smallest_group_spec =
