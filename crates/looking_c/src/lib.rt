@@ -1,6 +1,8 @@
 // The calls for a program in another language that looks on, as include/looking.h declares them: a slice is a pointer and a length, a lent
 // number a pointer. None has a precondition. They stand apart from ledger_c: a second caller would keep the ledger's form test and
 // receipts from being compiled in one piece.
+#![tactic(auto)]
+
 ghost use Rattle.std.specs.Prelude.{◌≡◌, ◌≤◌, eqb};
 ghost use Rattle.rules.specs.Layout.{base};
 ghost use Rattle.fields.specs.Field.{field_of};
