@@ -16,24 +16,15 @@ invariant-loop image group most number₀ t₀ number t = Blocking (unpack base 
 abbrev decreases-loop : tie.decreases-loop-t
 decreases-loop image group most number₀ t₀ number t = base.transactors - t
 
-returns : tie.Need-returns-then-r-eq-GONE invariant-loop decreases-loop
-returns c =
-    let m = c in
-    let n = m in
-    let l = n in
-    roomy-gone _ _ _ _ l.loop-t.invariant (search rules) (sym n.is_named.ensures ∙ n.if-is_named.true) _
-    (member-in _ _ _ _ _ _ m.member-r.ensures l.checkpoints-most.ensures m.status.ensures m.count.ensures) c.if-r-eq-GONE.true
-
 loop-again : tie.Need-loop-t-preserved invariant-loop decreases-loop
 loop-again c =
-    let l = c in
-    let b = l.loop-t in
+    let b = c.loop-t in
     let n = c.is_named.ensures in
-    let most = l.checkpoints-most.ensures in
+    let most = c.checkpoints-most.ensures in
     ⊎_elim
-    (λ w. roomy-full _ _ _ _ b.invariant (search rules) (sym n ∙ w.if-is_named.true) _ (member-in _ _ _ _ _ _ w.member-r.ensures most w.status.ensures w.count.ensures) w.if-r-eq-GONE.false _ w.if-r-ne0.true w.number-is)
+    (λ w. roomy-full _ _ _ _ b.invariant (search rules) (sym n ∙ w.if-is_named.true) _ (member-in _ _ _ _ _ _ w.member-r.ensures most w.status.ensures w.count.ensures) (search rules) _ w.if-r-ne0.true w.number-is)
     (⊎_elim
-    (λ w. roomy-more _ _ _ _ b.invariant (search rules) (sym n ∙ w.if-is_named.true) _ (member-in _ _ _ _ _ _ w.member-r.ensures most w.status.ensures w.count.ensures) w.if-r-eq-GONE.false _ w.if-r-ne0.false w.number-is)
+    (λ w. roomy-more _ _ _ _ b.invariant (search rules) (sym n ∙ w.if-is_named.true) _ (member-in _ _ _ _ _ _ w.member-r.ensures most w.status.ensures w.count.ensures) (search rules) _ w.if-r-ne0.false w.number-is)
     (λ w. roomy-unnamed _ _ _ _ b.invariant (search rules) (sym n ∙ w.if-is_named.false) _ w.number-is))
     c.if-is_named.branch-raw
 
@@ -52,7 +43,9 @@ blocked_spec =
     (λ c κs. search rules)
     (λ c κs. search rules)
     (λ c κs. search rules)
-    returns
+    (λ c.
+    roomy-gone _ _ _ _ c.loop-t.invariant (search rules) (sym c.is_named.ensures ∙ c.if-is_named.true) _
+    (member-in _ _ _ _ _ _ c.member-r.ensures c.checkpoints-most.ensures c.status.ensures c.count.ensures) (search rules))
     (λ c. search rules)
     (λ c. search rules)
     loop-again
