@@ -1,4 +1,6 @@
 // Replies in words.
+#![tactic(auto)]
+
 ghost use Rattle.std.specs.Prelude.{◌≡◌, ◌+◌, ◌-◌, ◌≤◌, ◌<◌, eqb, length};
 ghost use Rattle.octets.specs.Bytes.{pick, ◌and◌, ◌or◌, part};
 ghost use Rattle.rules.specs.Step.{step_bytes, receive};

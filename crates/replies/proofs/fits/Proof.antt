@@ -8,4 +8,4 @@ fits_spec =
     tie.close
     (tie.spec
     (λ c. search rules)
-    (λ c. rw c.if1.false))
+    (λ c. rw c.if-used.false))

@@ -5,17 +5,17 @@ use Rattle.replies.proofs.Replying.{fit, outcome-high, outcome-transactor, outco
 use Rattle.replies.proofs.is_outcome.Statement.{statement}
 use Rattle.replies.proofs.is_outcome.Tie as tie
 
-returns : tie.Need-returns
+returns : tie.Need-returns-then-r-gt-NOT_READY
 returns c = outcome-high _ _ (search rules)
 
-returns-2 : tie.Need-returns-2
-returns-2 c = outcome-transactor _ _ (search rules) (failed (fit c.before.before.before.before.before.before.args.r.transactor c.before.fits2.ensures c.before.before.before.replies-transactor.ensures) c.if2.true)
+returns-2 : tie.Need-returns-then-not-fits
+returns-2 c = outcome-transactor _ _ (search rules) (failed (fit c.args.r.transactor c.fits.ensures c.replies_transactor.ensures) c.if-not-fits.true-raw)
 
-returns-3 : tie.Need-returns-3
-returns-3 c = outcome-message _ _ (search rules) (passed (fit c.before.before.before.before.before.before.before.before.before.before.args.r.transactor c.before.before.before.before.before.fits2.ensures c.before.before.before.before.before.before.before.replies-transactor.ensures) c.before.before.before.before.if2.false) (failed (fit c.before.before.before.before.before.before.before.before.before.before.args.r.message c.before.fits3.ensures c.before.before.before.replies-message.ensures) c.if3.true)
+returns-3 : tie.Need-returns-then-not-fits-2
+returns-3 c = outcome-message _ _ (search rules) (passed (fit c.args.r.transactor c.fits.ensures c.replies_transactor.ensures) c.if-not-fits.false-raw) (failed (fit c.args.r.message c.fits-2.ensures c.replies_message.ensures) c.if-not-fits-2.true-raw)
 
-returns-4 : tie.Need-returns-4
-returns-4 c = outcome-value _ _ _ (search rules) (passed (fit c.before.before.before.before.before.before.before.before.before.before.before.before.args.r.transactor c.before.before.before.before.before.before.before.fits2.ensures c.before.before.before.before.before.before.before.before.before.replies-transactor.ensures) c.before.before.before.before.before.before.if2.false) (passed (fit c.before.before.before.before.before.before.before.before.before.before.before.before.args.r.message c.before.before.before.fits3.ensures c.before.before.before.before.before.replies-message.ensures) c.before.before.if3.false) (fit c.before.before.before.before.before.before.before.before.before.before.before.before.args.r.value c.fits4.ensures c.before.replies-value.ensures)
+returns-4 : tie.Need-returns
+returns-4 c = outcome-value _ _ _ (search rules) (passed (fit c.args.r.transactor c.fits.ensures c.replies_transactor.ensures) c.if-not-fits.false-raw) (passed (fit c.args.r.message c.fits-2.ensures c.replies_message.ensures) c.if-not-fits-2.false-raw) (fit c.args.r.value c.fits-3.ensures c.replies_value.ensures)
 
 pub is_outcome_spec : {M : Type 1} → statement M
 is_outcome_spec =

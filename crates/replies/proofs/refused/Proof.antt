@@ -5,16 +5,14 @@ use Rattle.replies.proofs.refused.Statement.{statement}
 use Rattle.replies.proofs.refused.Tie as tie
 
 returns : tie.Need-returns
-returns c = refused-said _ _ _ _ _ _ _ c.before.before.before.before.word.ensures c.before.before.before.number.ensures c.before.word2.ensures c.sentence.ensures
+returns c = refused-said _ _ _ _ _ _ _ c.word.ensures c.number.ensures c.word-number.ensures c.sentence.ensures
 
 pub refused_spec : {M : Type 1} → statement M
 refused_spec =
     tie.close
     (tie.spec
-    (λ c. search rules)
     (λ c κs. search rules)
     (λ c κs. search rules)
-    (λ c. search rules)
     (λ c κs. search rules)
     (λ c κs. search rules)
     returns)

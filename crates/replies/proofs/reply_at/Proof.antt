@@ -7,17 +7,17 @@ use Rattle.lines.proofs.Lining.{written-empty}
 use Rattle.replies.proofs.reply_at.Statement.{statement}
 use Rattle.replies.proofs.reply_at.Tie as tie
 
-row-requires : tie.Need-row-requires
-row-requires c κs = omega (arith, outcome-low _ _ _ c.before.before.before.is-outcome.ensures c.before.before.if1.true)
+row-requires : tie.Need-row-l-requires
+row-requires c κs = omega (arith, outcome-low _ _ _ c.is_outcome.ensures c.if-is_outcome.true)
 
-returns : tie.Need-returns
-returns c = outcome-says _ _ _ c.before.before.before.before.before.before.decode-reply.ensures _ (search rules) _ c.before.before.before.before.before.is-outcome.ensures _ _ c.before.before.before.before.if1.true (written-empty _) c.before.row.ensures c.fields.ensures
+returns : tie.Need-returns-then-is_outcome
+returns c = outcome-says _ _ _ c.decode_reply-r.ensures _ (search rules) _ c.is_outcome.ensures _ _ c.if-is_outcome.true (written-empty _) c.row-l.ensures c.fields.ensures
 
-returns-2 : tie.Need-returns-2
-returns-2 c = refusal-says _ _ _ c.before.before.before.before.before.decode-reply.ensures _ (search rules) _ c.before.before.before.before.is-outcome.ensures c.before.before.before.if1.false _ c.before.before.is-refused.ensures _ c.before.if2.true (written-empty _) c.refused.ensures
+returns-2 : tie.Need-returns-then-is_refused
+returns-2 c = refusal-says _ _ _ c.decode_reply-r.ensures _ (search rules) _ c.is_outcome.ensures c.if-is_outcome.false _ c.is_refused.ensures _ c.if-is_refused.true (written-empty _) c.refused.ensures
 
-returns-3 : tie.Need-returns-3
-returns-3 c = raw-says _ _ _ c.before.before.before.before.before.before.before.before.decode-reply.ensures _ (search rules) _ c.before.before.before.before.before.before.before.is-outcome.ensures c.before.before.before.before.before.before.if1.false _ c.before.before.before.before.before.is-refused.ensures _ _ (length_part _ _ _ (search rules)) c.before.before.before.before.if2.false (written-empty _) c.before.before.word.ensures (step_part _ _ _ _ c.hex.ensures)
+returns-3 : tie.Need-returns
+returns-3 c = raw-says _ _ _ c.decode_reply-r.ensures _ (search rules) _ c.is_outcome.ensures c.if-is_outcome.false _ c.is_refused.ensures _ _ (length_part _ _ _ (search rules)) c.if-is_refused.false (written-empty _) c.word.ensures (step_part _ _ _ _ c.hex.ensures)
 
 pub reply_at_spec : {M : Type 1} → statement M
 reply_at_spec =
@@ -26,14 +26,12 @@ reply_at_spec =
     (λ c κs. search rules)
     (λ c κs. search rules)
     (λ c. search rules)
-    (λ c. search rules)
     row-requires
     (λ c κs. search rules)
     returns
     (λ c κs. search rules)
     (λ c κs. search rules)
     returns-2
-    (λ c. search rules)
     (λ c. search rules)
     (λ c κs. search rules)
     (λ c. search rules)
