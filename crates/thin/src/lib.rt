@@ -1,4 +1,6 @@
 // Document 02, W12: a step list without its refused steps, and without the reads whose map is emptied unused.
+#![tactic(auto)]
+
 mod lookahead;
 
 ghost use Rattle.std.specs.Prelude.{◌≡◌, ◌+◌, ◌*◌, ◌/◌, ◌≤◌, ◌<◌, length};

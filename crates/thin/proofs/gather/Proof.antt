@@ -7,25 +7,25 @@ use Rattle.thin.proofs.Gathering.{known-transactor, Gathering, gathering-none, g
 use Rattle.thin.proofs.gather.Statement.{statement}
 use Rattle.thin.proofs.gather.Tie as tie
 
-abbrev invariant-loop : tie.invariant-loop
+abbrev invariant-loop : tie.invariant-loop-i
 invariant-loop list out₀ n ahead₀ k₀ i₀ out ahead k i = Gathering list out₀ i k ahead.emptied out
 
-abbrev decreases-loop : tie.decreases-loop
+abbrev decreases-loop : tie.decreases-loop-i
 decreases-loop list out₀ n ahead₀ k₀ i₀ out ahead k i = i
 
-loop-holds : tie.Need-loop-init invariant-loop decreases-loop
+loop-holds : tie.Need-loop-i-init invariant-loop decreases-loop
 unfolding tabulate
-loop-holds c = gathering-none _ _ c.before.before.requires.0 c.before.before.requires.1 _ says_none
+loop-holds c = gathering-none _ _ c.requires.0 c.requires.1 _ says_none
 
-loop-again : tie.Need-loop-preserved invariant-loop decreases-loop
+loop-again : tie.Need-loop-i-preserved invariant-loop decreases-loop
 loop-again c =
-    let d = c.before.before.before.before.before.before.before in
-    let l = d.before.before in
-    let s = l.before.before.before in
-    gathering-more _ _ s.requires.0 s.requires.1 l.loop.invariant (search rules) d.decode.ensures refl c.before.before.before.before.before.keeps.ensures c.before.before.before.place.ensures c.with.ensures
+    let d = c in
+    let l = d in
+    let s = l in
+    gathering-more _ _ s.requires.0 s.requires.1 l.loop-i.invariant (search rules) d.decode-p.ensures refl c.keeps-kept.ensures c.place-k.ensures c.with-ahead.ensures
 
 returns : tie.Need-returns invariant-loop decreases-loop
-returns c = let s = c.before.before.before.before in gathering-all _ _ s.requires.0 s.requires.1 c.before.loop.invariant (search rules)
+returns c = let s = c in gathering-all _ _ s.requires.0 s.requires.1 c.loop-i.invariant (search rules)
 
 pub gather_spec : {M : Type 1} → statement M
 gather_spec =
@@ -39,9 +39,9 @@ gather_spec =
     (λ c κs. search rules)
     (λ c. search rules)
     (λ c. search rules)
-    (λ c κs. known-transactor _ c.before.decode.ensures)
+    (λ c κs. known-transactor _ c.decode-p.ensures)
     (λ c κs. search rules)
-    (λ c κs. known-transactor _ c.before.before.before.before.before.before.decode.ensures)
+    (λ c κs. known-transactor _ c.decode-p.ensures)
     (λ c. search rules)
     loop-again
     (λ c. search rules)

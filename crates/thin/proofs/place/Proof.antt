@@ -5,14 +5,14 @@ use Rattle.thin.proofs.Gathering.{unplaced, placed}
 use Rattle.thin.proofs.place.Statement.{statement}
 use Rattle.thin.proofs.place.Tie as tie
 
-returns-2 : tie.Need-returns-2
-returns-2 c = placed (not-false c.before.before.before.before.before.before.before.before.args.kept c.before.before.before.before.before.if1.false) c.before.before.write.ensures
+returns-2 : tie.Need-returns
+returns-2 c = placed (not-false c.args.kept c.if-not-kept.false-raw) c.write.ensures
 
 pub place_spec : {M : Type 1} → statement M
 place_spec =
     tie.close
     (tie.spec
-    (λ c. unplaced (not-true c.before.before.before.args.kept c.if1.true))
+    (λ c. unplaced (not-true c.args.kept c.if-not-kept.true-raw))
     (λ c. search rules)
     (λ c. search rules)
     (λ c. search rules)

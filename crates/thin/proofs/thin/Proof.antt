@@ -9,25 +9,25 @@ use Rattle.thin.proofs.Thinning.{pass-refused, pass-steps, pass-0}
 use Rattle.thin.proofs.thin.Statement.{statement}
 use Rattle.thin.proofs.thin.Tie as tie
 
-returns : tie.Need-returns
-returns c = let r = c.before.before.before.run-copy.ensures in pass-refused _ _ _ _ _ r.0 r.1 (search rules)
+returns : tie.Need-returns-then-number-ne0
+returns c = let r = c.run_copy-number.ensures in pass-refused _ _ _ _ _ r.0 r.1 (search rules)
 
-ok : (c : tie.Else1) → Accepted base c.before.before.before.before.before.before.before.before.args.image.now c.before.before.before.before.before.before.before.before.args.list.now c.before.before.before.before.before.before.before.before.args.start c.before.before.before.before.before.before.before.before.args.end c.before.before.before.before.before.before.before.before.args.out.now
-ok c = accepted base _ _ _ _ _ (sym c.before.before.before.run-copy.ensures.0 ∙ c.if1.false)
+ok : (c : tie.Else-number-ne0) → Accepted base c.args.image.now c.args.list.now c.args.start c.args.end c.args.out.now
+ok c = accepted base _ _ _ _ _ (sym c.run_copy-number.ensures.0 ∙ c.if-number-ne0.false)
 
 shorten-requires : tie.Need-shorten-requires
 unfolding part
 shorten-requires c κs =
-    let r = c.before.before.before.before.before.run-copy.ensures in
-    let s = c.before.before.before.before.before.before.before.before in
-    pass-steps _ _ _ _ _ r.0 r.1 c.before.before.if1.false (octets-of _ s.before.shared-slice-known.given) (octets-of _ s.shared-slice-known2.given) (search rules)
+    let r = c.run_copy-number.ensures in
+    let s = c in
+    pass-steps _ _ _ _ _ r.0 r.1 c.if-number-ne0.false (octets-of _ s.shared_slice_known-1.given) (octets-of _ s.shared_slice_known-2-1.given) (search rules)
 
-returns-2 : tie.Need-returns-2
+returns-2 : tie.Need-returns
 unfolding part
 returns-2 c =
-    let r = c.before.before.before.before.before.before.before.before.run-copy.ensures in
-    let s = c.before.before.before.before.before.before.before.before.before.before.before in
-    pass-0 _ _ _ _ _ r.0 r.1 c.before.before.before.before.before.if1.false (octets-of _ s.before.shared-slice-known.given) (octets-of _ s.shared-slice-known2.given) (search rules) c.before.before.shorten.ensures
+    let r = c.run_copy-number.ensures in
+    let s = c in
+    pass-0 _ _ _ _ _ r.0 r.1 c.if-number-ne0.false (octets-of _ s.shared_slice_known-1.given) (octets-of _ s.shared_slice_known-2-1.given) (search rules) c.shorten.ensures
 
 pub thin_spec : {M : Type 1} → statement M
 thin_spec =

@@ -7,21 +7,21 @@ use Rattle.thin.specs.Internal.Gather.{kept_by}
 use Rattle.thin.proofs.lookahead.Lookahead.keeps.Statement.{statement}
 use Rattle.thin.proofs.lookahead.Lookahead.keeps.Tie as tie
 
-returns : tie.Need-returns
+returns : tie.Need-returns-then-is_refusal
 unfolding kept_by not_refused
-returns c = rw (sym c.before.is-refusal.ensures ∙ c.if1.true)
+returns c = rw (sym c.is_refusal.ensures ∙ c.if-is_refusal.true)
 
-returns-2 : tie.Need-returns-2
+returns-2 : tie.Need-returns-then-p-ne-READ
 unfolding kept_by not_refused
 returns-2 c =
-    let e = c.before.before in
-    rw (sym e.before.is-refusal.ensures ∙ e.if1.false, ne_eqb _ 5 c.if2.true)
+    let e = c in
+    rw (sym e.is_refusal.ensures ∙ e.if-is_refusal.false, ne_eqb _ 5 c.if-p-ne-READ.true)
 
-returns-3 : tie.Need-returns-3
+returns-3 : tie.Need-returns
 unfolding kept_by not_refused
 returns-3 c =
-    let e = c.before.before.before.before in
-    rw (sym e.before.is-refusal.ensures ∙ e.if1.false, c.before.before.if2.false)
+    let e = c in
+    rw (sym e.is_refusal.ensures ∙ e.if-is_refusal.false, c.if-p-ne-READ.false)
 
 pub keeps_spec : {M : Type 1} → statement M
 keeps_spec = tie.close (tie.spec (λ c κs. search rules) returns returns-2 (λ c. search rules) (λ c. search rules) returns-3)

@@ -6,22 +6,22 @@ use Rattle.thin.proofs.Looking.{with-refused, with-action, with-other, with-unsi
 use Rattle.thin.proofs.lookahead.Lookahead.with.Statement.{statement}
 use Rattle.thin.proofs.lookahead.Lookahead.with.Tie as tie
 
-returns : tie.Need-returns
-returns c = with-refused _ _ _ (search rules) (leb-true 20 _ (sym c.before.is-refusal.ensures ∙ c.if1.true))
+returns : tie.Need-returns-then-is_refusal
+returns c = with-refused _ _ _ (search rules) (leb-true 20 _ (sym c.is_refusal.ensures ∙ c.if-is_refusal.true))
 
-returns-2 : tie.Need-returns-2
+returns-2 : tie.Need-returns-then-acts
 returns-2 c =
-    let e = c.before.before.before.before in
-    with-action _ _ _ (search rules) (leb-false 20 _ (sym e.before.is-refusal.ensures ∙ e.if1.false)) (sym c.before.before.before.acts.ensures ∙ c.before.before.if2.true) (search rules) _ c.empties.ensures
+    let e = c in
+    with-action _ _ _ (search rules) (leb-false 20 _ (sym e.is_refusal.ensures ∙ e.if-is_refusal.false)) (sym c.acts.ensures ∙ c.if-acts.true) (search rules) _ c.empties.ensures
 
-returns-3 : tie.Need-returns-3
-returns-3 c = with-other _ _ _ (search rules) (sym c.before.before.acts.ensures ∙ c.before.if2.false) (search rules)
+returns-3 : tie.Need-returns-then-kind-ne-SIGN
+returns-3 c = with-other _ _ _ (search rules) (sym c.acts.ensures ∙ c.if-acts.false) (search rules)
 
-returns-4 : tie.Need-returns-4
-returns-4 c = with-unsigned _ _ _ (search rules) (sym c.before.before.before.acts.ensures ∙ c.before.before.if2.false) (search rules)
+returns-4 : tie.Need-returns-then-outcome-ne-DONE
+returns-4 c = with-unsigned _ _ _ (search rules) (sym c.acts.ensures ∙ c.if-acts.false) (search rules)
 
-returns-5 : tie.Need-returns-5
-returns-5 c = with-checkpointed _ _ _ (search rules) (sym c.before.before.before.before.acts.ensures ∙ c.before.before.before.if2.false) (search rules) (search rules) c.with-group.ensures
+returns-5 : tie.Need-returns
+returns-5 c = with-checkpointed _ _ _ (search rules) (sym c.acts.ensures ∙ c.if-acts.false) (search rules) (search rules) c.with_group.ensures
 
 pub with_spec : {M : Type 1} → statement M
 with_spec =

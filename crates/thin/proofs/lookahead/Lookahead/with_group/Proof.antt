@@ -11,22 +11,22 @@ use Rattle.thin.proofs.Looking.{named_below, named_none, named-on, named-off, na
 use Rattle.thin.proofs.lookahead.Lookahead.with_group.Statement.{statement}
 use Rattle.thin.proofs.lookahead.Lookahead.with_group.Tie as tie
 
-abbrev invariant-loop : tie.invariant-loop
+abbrev invariant-loop : tie.invariant-loop-t
 invariant-loop group self₀ t₀ self t = (t ≤ base.transactors) × Says (named_below group self₀.emptied t) self.emptied
 
-abbrev decreases-loop : tie.decreases-loop
+abbrev decreases-loop : tie.decreases-loop-t
 decreases-loop group self₀ t₀ self t = base.transactors - t
 
-loop-again : tie.Need-loop-preserved invariant-loop decreases-loop
+loop-again : tie.Need-loop-t-preserved invariant-loop decreases-loop
 loop-again c =
-    let b = c.before.before.before.loop in
-    let g = c.before.before.before.before.args in
-    let P : Lookahead → Type 0 = λ s. Says (named_below g.group g.t1.emptied (b.t + 1)) s.emptied in (
+    let b = c.loop-t in
+    let g = c.args in
+    let P : Lookahead → Type 0 = λ s. Says (named_below g.group g.self.emptied (b.t + 1)) s.emptied in (
       omega arith,
       ⊎_elim
-          (λ w. subst P (sym w.1) (named-on _ _ b.t b.invariant.1 (omega arith) (sym w.0.taken ∙ c.before.is-named.ensures)))
-          (λ w. subst P (sym w.1) (named-off _ _ b.t b.invariant.1 (omega arith) (sym w.0.left ∙ c.before.is-named.ensures)))
-          c.if1.branch,
+          (λ w. subst P (sym w.self-is) (named-on _ _ b.t b.invariant.1 (omega arith) (sym w.if-is_named.true ∙ c.is_named.ensures)))
+          (λ w. subst P (sym w.self-is) (named-off _ _ b.t b.invariant.1 (omega arith) (sym w.if-is_named.false ∙ c.is_named.ensures)))
+          c.if-is_named.branch-raw,
     )
 
 pub with_group_spec : {M : Type 1} → statement M
@@ -41,4 +41,4 @@ with_group_spec =
     (λ c. search rules)
     (λ c. search rules)
     loop-again
-    (λ c. named-all _ _ c.before.loop.t c.before.loop.invariant.1 (omega arith)))
+    (λ c. named-all _ _ c.loop-t.t c.loop-t.invariant.1 (omega arith)))
