@@ -47,7 +47,7 @@ use Rattle.session.proofs.Relation as relation
 use Rattle.session.proofs.Sign.{checkpointed-stands, present-stands}
 use Rattle.session.proofs.ViewState.{own_view}
 use Rattle.session.proofs.ViewSeen.{seen-checkpoints}
-use Rattle.session.proofs.Resting.{rests-below, ground-live, rests-support, rests-exactly, through-live, through-to, live_below}
+use Rattle.session.proofs.Resting.{rests-below, ground-live, rests-ground, rests-exactly, through-live, through-to, live_below}
 use Rattle.session.proofs.Reached.{related, well}
 use Rattle.session.proofs.Obstacles.{life-is, live_to, live_of, stands-rests, withdrawn-mark}
 use Rattle.session.proofs.Withdrawal.{held-opened, spoilt-doomed, query-live}
@@ -99,7 +99,7 @@ module _ {y : Layout} {s : State} (w : WellFormed y s) {b : Provenance} (r : Rel
 
   mark : {x u : ℕ} {a : Incarnation} → RestsOn b x u a → SupersededOrAnnihilated b u a → Mark x u
   unfolding view
-  mark {x} {u} {a} rests wd = go (⊎_elim (λ g. g) (λ c. absurd (checkpointed-stands b c wd)) (rests-support (view s) b r rests))
+  mark {x} {u} {a} rests wd = go (⊎_elim (λ g. g) (λ c. absurd (checkpointed-stands b c wd)) (rests-ground (view s) b r rests))
     where
       go : Ground (b.holders x) u a → Mark x u
       go (in-state i) =
@@ -112,7 +112,7 @@ module _ {y : Layout} {s : State} (w : WellFormed y s) {b : Provenance} (r : Rel
   -- a mark is of a take of the layout
   mark-low : {x u : ℕ} {a : Incarnation} → RestsOn b x u a → SupersededOrAnnihilated b u a → u < y.transactors
   unfolding view
-  mark-low {x} {u} {a} rests wd = go (⊎_elim (λ g. g) (λ c. absurd (checkpointed-stands b c wd)) (rests-support (view s) b r rests))
+  mark-low {x} {u} {a} rests wd = go (⊎_elim (λ g. g) (λ c. absurd (checkpointed-stands b c wd)) (rests-ground (view s) b r rests))
     where
       low : u < s.opened → u < y.transactors
       low h = omega (arith, w.opened, w.limits.transactors-high)
@@ -122,7 +122,7 @@ module _ {y : Layout} {s : State} (w : WellFormed y s) {b : Provenance} (r : Rel
       go (in-creation i) = let k = cell-some a i ((r.holders x).creation u) in low (held-opened w r x u k.0 (inr k.1))
 
   rests-low : {x u : ℕ} {a : Incarnation} → RestsOn b x u a → SupersededOrAnnihilated b u a → x < y.transactors
-  rests-low {x} rests wd = go (⊎_elim (λ g. g) (λ c. absurd (checkpointed-stands b c wd)) (rests-support (view s) b r rests))
+  rests-low {x} rests wd = go (⊎_elim (λ g. g) (λ c. absurd (checkpointed-stands b c wd)) (rests-ground (view s) b r rests))
     where
       go : {u : ℕ} {a : Incarnation} → Ground (b.holders x) u a → x < y.transactors
       go g = live_below w r x (ground-live (view s) b r g)

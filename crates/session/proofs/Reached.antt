@@ -17,7 +17,7 @@ use Rattle.session.proofs.Model.{view}
 use Rattle.session.proofs.Relation.{Rel}
 use Rattle.session.proofs.Sign.{checkpointed_now-of, checkpointed_now-to, own-has, own-uncheckpointed, settled-equal, equal-settled}
 use Rattle.session.proofs.Points.{point-beside}
-use Rattle.session.proofs.Resting.{rests-support}
+use Rattle.session.proofs.Resting.{rests-ground}
 
 module _ {y : Layout} (z : Fitting y) {img : List ℕ} {τ : Trace y img} {s : State} {b : Provenance} (k : Point y img τ s b) where
   -- the ledger's state there is related to the book
@@ -41,7 +41,7 @@ module _ {y : Layout} (z : Fitting y) {img : List ℕ} {τ : Trace y img} {s : S
 
   -- What a take rests on beyond its own two sets is signed: notes and lists bring in nothing that a signing waits for.
   pub rests-beyond : {t u : ℕ} {a : Incarnation} → RestsOn b t u a → Ground (b.holders t) u a ⊎ CheckpointedNow b u a
-  rests-beyond = rests-support (view s) b related
+  rests-beyond = rests-ground (view s) b related
 
   -- ---- what signed texts rest on
 

@@ -52,10 +52,10 @@ ground-live l b r {u} {t} {a} g = go (live-or-not (b.holders u).status)
     go (inr k) = absurd (none (subst (λ (h : Holder). Ground h t a) ((r.holders u).gone k) g))
 
 -- what a take rests on beyond its own two sets is signed
-pub rests-support : (l : Ledger) (b : Provenance) → Rel l b → {t u : ℕ} {a : Incarnation} → RestsOn b t u a → Ground (b.holders t) u a ⊎ CheckpointedNow b u a
-rests-support l b r (from_start g) = inl g
-rests-support l b r (from-noted {t} {u} {a} {c} x y) = inr (checkpointed_now-of b (r.noted.grounds t a u c y))
-rests-support l b r {t} (from_list {u} {a} {c} x e) = inr (⊎_elim (λ g. under g) (λ s. checkpointed s) (rests-support l b r x))
+pub rests-ground : (l : Ledger) (b : Provenance) → Rel l b → {t u : ℕ} {a : Incarnation} → RestsOn b t u a → Ground (b.holders t) u a ⊎ CheckpointedNow b u a
+rests-ground l b r (from_start g) = inl g
+rests-ground l b r (from-noted {t} {u} {a} {c} x y) = inr (checkpointed_now-of b (r.noted.grounds t a u c y))
+rests-ground l b r {t} (from_list {u} {a} {c} x e) = inr (⊎_elim (λ g. under g) (λ s. checkpointed s) (rests-ground l b r x))
   where
     whole : Ground (b.holders t) u a → Whole (b.holders t) u a
     whole (in-state i) = relation.in-state i
@@ -69,7 +69,7 @@ rests-support l b r {t} (from_list {u} {a} {c} x e) = inr (⊎_elim (λ g. under
 
 -- a present life is not signed: what rests on it has it in its own sets
 pub rests-present : (l : Ledger) (b : Provenance) → Rel l b → {u t : ℕ} → RestsOn b u t (b.holders t).history.incarnation → Ground (b.holders u) t (b.holders t).history.incarnation
-rests-present l b r x = ⊎_elim (λ g. g) (λ s. absurd (checkpointed-longer s.is refl)) (rests-support l b r x)
+rests-present l b r x = ⊎_elim (λ g. g) (λ s. absurd (checkpointed-longer s.is refl)) (rests-ground l b r x)
 
 -- ---- a map holds the present life exactly if its set does
 

@@ -171,13 +171,13 @@ module _ (l : Ledger) (b : Provenance) (r : Rel l b) (g : ℕ) where
         let under : Under a k.0.incarnation = ⊎_elim (λ z. z) (λ z. absurd ((r.holders t).coherent u a k.0.incarnation (whole a x) (whole k.0.incarnation k.2.has) z)) (precedes-split (k.2.top a x)) in
         settle-history u a k.0 under (test k.0 k.1)
 
-    settle-support : (t : ℕ) → named g t ≡ true → (u : ℕ) (a : Incarnation) → Ground (b.holders t) u a → Settled b g u a
-    settle-support t n u a (in-state x) = settle-cell t u a (l.nodes t).state (b.holders t).state (r.holders t).state (λ c. relation.in-state) (ok.state t n u) x
-    settle-support t n u a (in-creation x) = settle-cell t u a (l.nodes t).creation (b.holders t).creation (r.holders t).creation (λ c. relation.in-creation) (ok.creation t n u) x
+    settle-ground : (t : ℕ) → named g t ≡ true → (u : ℕ) (a : Incarnation) → Ground (b.holders t) u a → Settled b g u a
+    settle-ground t n u a (in-state x) = settle-cell t u a (l.nodes t).state (b.holders t).state (r.holders t).state (λ c. relation.in-state) (ok.state t n u) x
+    settle-ground t n u a (in-creation x) = settle-cell t u a (l.nodes t).creation (b.holders t).creation (r.holders t).creation (λ c. relation.in-creation) (ok.creation t n u) x
 
     -- all that a named take rests on is settled
     pub settled : (t : ℕ) → named g t ≡ true → (u : ℕ) (a : Incarnation) → RestsOn b t u a → Settled b g u a
-    settled t n = settle b g (λ t a u c y. checkpointed_now-of b (r.noted.grounds t a u c y)) (settle-support t n)
+    settled t n = settle b g (λ t a u c y. checkpointed_now-of b (r.noted.grounds t a u c y)) (settle-ground t n)
 
     pub ready-equal : Equal b g
     ready-equal = settled-equal b g settled (λ t n k. own-has l b r t k)

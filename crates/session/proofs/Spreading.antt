@@ -58,7 +58,7 @@ use Rattle.session.proofs.Relation as relation
 use Rattle.session.proofs.ViewState.{no-transactor, view-no-map}
 use Rattle.session.proofs.ViewSeen.{seen-status}
 use Rattle.session.proofs.Accepted.{provenance-accepted, acting-live, receiving-live, named_live}
-use Rattle.session.proofs.Resting.{rests-support, holds-exactly}
+use Rattle.session.proofs.Resting.{rests-ground, holds-exactly}
 use Rattle.session.proofs.Turns.{dead-live, Past, passed, vanished, past-on, turn}
 use Rattle.session.proofs.Kept.{provenance-determined}
 use Rattle.session.proofs.ViewStep.{state-kept}
@@ -173,7 +173,7 @@ pub record Absent (b : Provenance) (t : ℕ) (a : Incarnation) : Type 0 where
 
 -- nobody rests on it
 pub absent-rests : (l : Ledger) (b : Provenance) → Rel l b → {t : ℕ} {a : Incarnation} → Absent b t a → (u : ℕ) → RestsOn b u t a → ⊥
-absent-rests l b r {t} {a} k u rests = ⊎_elim support (λ c. checkpointed-stands b c (past-withdrawn b k.past)) (rests-support l b r rests)
+absent-rests l b r {t} {a} k u rests = ⊎_elim support (λ c. checkpointed-stands b c (past-withdrawn b k.past)) (rests-ground l b r rests)
   where
     support : Ground (b.holders u) t a → ⊥
     support (in-state i) = k.sets u (relation.in-state i)

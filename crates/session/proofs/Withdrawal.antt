@@ -67,7 +67,7 @@ use Rattle.session.proofs.Calls.{holds-pack, query-same}
 use Rattle.session.proofs.Onward.{Stays, stays-refl, limits-stay}
 use Rattle.session.proofs.Carried.{signing-on}
 use Rattle.session.proofs.Waiting.{signs-exactly, ready_on, ready-rule, call-keeps}
-use Rattle.session.proofs.Resting.{ground-live, rests-support, rests-present, resting-exactly, rests-trans, through-exactly}
+use Rattle.session.proofs.Resting.{ground-live, rests-ground, rests-present, resting-exactly, rests-trans, through-exactly}
 use Rattle.session.proofs.Turns.{Keeps, Turns, kept-all, Past, passed, vanished, past-on, past_all, Turn, turn, SignedBy, turn-signs, Fate, kept, lost, fate-on}
 use Rattle.session.proofs.Turns as turns
 use Rattle.session.proofs.Falling.{rolled, rolled-past, present-not-past, Alone, checkpointed-others, alone}
@@ -181,7 +181,7 @@ module _ {b c : Provenance} {t : ℕ} (k : Alone b c t) (u : ℕ) (n : t ≢ u) 
 
 -- no take rests on a life of its own that is past
 own-not-past : (l : Ledger) (c : Provenance) → Rel l c → {t : ℕ} {a : Incarnation} → Past (c.holders t) a → RestsOn c t t a → ⊥
-own-not-past l c r {t} {a} p rests = ⊎_elim (λ g. support p g) (λ s. checkpointed-stands c s (past-withdrawn c p)) (rests-support l c r rests)
+own-not-past l c r {t} {a} p rests = ⊎_elim (λ g. support p g) (λ s. checkpointed-stands c s (past-withdrawn c p)) (rests-ground l c r rests)
   where
     whole : Ground (c.holders t) t a → Whole (c.holders t) t a
     whole (in-state i) = relation.in-state i
@@ -227,13 +227,13 @@ module _ {y : Layout} (z : Fitting y) {s : State} (w : WellFormed y s) {b : Prov
 
   module _ {u t : ℕ} {a : Incarnation} (rests : RestsOn b u t a) (withdrawn : SupersededOrAnnihilated b t a) {after : State} (o : Further y s after) (same : SameIncarnation s after u) where
     support : Ground (b.holders u) t a
-    support = ⊎_elim (λ g. g) (λ c. absurd (checkpointed-stands b c withdrawn)) (rests-support (view s) b r rests)
+    support = ⊎_elim (λ g. g) (λ c. absurd (checkpointed-stands b c withdrawn)) (rests-ground (view s) b r rests)
 
     far : Reaches y b after
     far = reach o
 
-    keeps-support : Ground (far.after.holders u) t a
-    keeps-support =
+    keeps-ground : Ground (far.after.holders u) t a
+    keeps-ground =
         let e = sym (life-is after far.well far.after far.rel u) ∙ same.is ∙ life-is s w b r u in
         (kept-all (ground-live (view s) b r support) (far.turns u) (status-live after far.after far.rel u same.live) e).grounds t a support
 
@@ -241,7 +241,7 @@ module _ {y : Layout} (z : Fitting y) {s : State} (w : WellFormed y s) {b : Prov
     still-withdrawn = past-withdrawn far.after (past_all (withdrawn-past w r support withdrawn) (far.turns t))
 
     pub never-ready : (v : ℕ) → named v u ≡ true → ReadyGroup y after v → ⊥
-    never-ready v n k = spoilt (view after) far.after far.rel (from_start keeps-support) still-withdrawn v n (ready-rule z far.well far.rel k)
+    never-ready v n k = spoilt (view after) far.after far.rel (from_start keeps-ground) still-withdrawn v n (ready-rule z far.well far.rel k)
 
 -- ---- what rests on a take that can't be signed any more
 
@@ -261,7 +261,7 @@ module _ {y : Layout} (z : Fitting y) {s : State} (w : WellFormed y s) {b : Prov
 
   pub withdrawn-unready : {u t : ℕ} {a : Incarnation} → RestsOn b u t a → SupersededOrAnnihilated b t a → Unready u
   withdrawn-unready rests wd after o same v n ok =
-      spoilt (view after) (far z w r rests wd o same).after (far z w r rests wd o same).rel (from_start (keeps-support z w r rests wd o same)) (still-withdrawn z w r rests wd o same) v n ok
+      spoilt (view after) (far z w r rests wd o same).after (far z w r rests wd o same).rel (from_start (keeps-ground z w r rests wd o same)) (still-withdrawn z w r rests wd o same) v n ok
 
   -- where R is true the signing rule is met, and it is true where a step signs
   record Signs (R : State → ℕ → Type 0) : Type 1 where
@@ -536,7 +536,7 @@ module _ {y : Layout} (z : Fitting y) {img : List ℕ} {τ : Trace y img} {s : S
     spoilt-after {x} n (on-withdrawn {u = u} {a = a} rests q) =
         on-withdrawn (rests-of only-t x n rests)
         (⊎_elim (λ g. past-withdrawn c (past-on (withdrawn-past (well z k) (related z k) g q) (turn (view s) b (related z k) y p ok.message taken u)))
-        (λ m. absurd (checkpointed-stands b m q)) (rests-support (view s) b (related z k) rests))
+        (λ m. absurd (checkpointed-stands b m q)) (rests-ground (view s) b (related z k) rests))
     spoilt-after {x} n (on-spoilt {u = u} q rests) = go (ℕ_discrete t u) (λ (m : t ≢ u). spoilt-after m q)
       where
         go : Dec (t ≡ u) → (t ≢ u → Spoilt c u) → Spoilt c x
