@@ -1,6 +1,8 @@
 // What is left to do so that a transactor is checkpointed (document 01: a take is signed). The call writes a
 // list of steps. For each transactor of the group that has to be signed together, and that is not frozen
 // yet, there is a task: freeze it, or wake it by a letter and then freeze it. The signing comes last.
+#![tactic(auto)]
+
 ghost use Rattle.std.specs.Prelude.{◌≡◌, ◌+◌, ◌*◌, ◌≤◌, ◌<◌, length};
 ghost use Rattle.octets.specs.Bytes.{put, chunks, zeros};
 ghost use Rattle.rules.specs.Layout.{base};

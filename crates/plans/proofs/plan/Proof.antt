@@ -11,54 +11,54 @@ use Rattle.plans.proofs.Writing.{resting-group-is, plan-refused, plan-room, plan
 use Rattle.plans.proofs.plan.Statement.{statement}
 use Rattle.plans.proofs.plan.Tie as tie
 
-reach-of-requires : tie.Need-reach-of-requires
+reach-of-requires : tie.Need-reach_of-reach-requires
 reach-of-requires c κs =
-    let m = c.before.before.before.before.before in
-    let a = query-accepted base _ _ (sym m.before.query-refusal.ensures ∙ m.if1.false) in
-    (good-formed _ a.long (octets-of _ m.before.before.before.shared-slice-known.given) a.formed, a.below)
+    let m = c in
+    let a = query-accepted base _ _ (sym m.query_refusal-number.ensures ∙ m.if-number-ne0.false) in
+    (good-formed _ a.long (octets-of _ m.shared_slice_known-1.given) a.formed, a.below)
 
-impediment-in-requires : tie.Need-impediment-in-requires
+impediment-in-requires : tie.Need-impediment_in-o-requires
 impediment-in-requires c κs =
-    let m = c.before.before.before.before.before.before in
-    let a = query-accepted base _ _ (sym m.before.query-refusal.ensures ∙ m.if1.false) in
-    (good-formed _ a.long (octets-of _ m.before.before.before.shared-slice-known.given) a.formed, a.below, c.reach_of.ensures)
+    let m = c in
+    let a = query-accepted base _ _ (sym m.query_refusal-number.ensures ∙ m.if-number-ne0.false) in
+    (good-formed _ a.long (octets-of _ m.shared_slice_known-1.given) a.formed, a.below, c.reach_of-reach.ensures)
 
-returns-3 : tie.Need-returns-3
+returns-3 : tie.Need-returns-then-not-is_mendable
 returns-3 c =
-    let m = c.before.before.before.before.before.before in
-    let n = m.before.before.before in
-    plan-lasting _ _ _ _ n.before.query-refusal.ensures n.if1.false m.before.before.if2.false _ m.clear.ensures
-    (sym (ap mendable c.before.before.impediment-in.ensures) ∙ failed c.before.is-mendable.ensures c.if3.true)
+    let m = c in
+    let n = m in
+    plan-lasting _ _ _ _ n.query_refusal-number.ensures n.if-number-ne0.false m.if-out-ne-PLAN.false _ m.clear.ensures
+    (sym (ap mendable c.impediment_in-o.ensures) ∙ failed c.is_mendable.ensures c.if-not-is_mendable.true-raw)
 
-resting-group-requires : tie.Need-resting-group-requires
+resting-group-requires : tie.Need-resting_group-group-requires
 resting-group-requires c κs =
-    let m = c.before.before.before.before.before.before.before.before.before in
-    (query-accepted base _ _ (sym m.before.query-refusal.ensures ∙ m.if1.false)).below
+    let m = c in
+    (query-accepted base _ _ (sym m.query_refusal-number.ensures ∙ m.if-number-ne0.false)).below
 
-store-plan-requires : tie.Need-store-plan-requires
+store-plan-requires : tie.Need-store_plan-requires
 store-plan-requires c κs =
-    let b = c.before.before.before.before.before.before.before.before in
-    let m = b.before.before.before in
-    let a = query-accepted base _ _ (sym m.before.query-refusal.ensures ∙ m.if1.false) in
-    (good-formed _ a.long (octets-of _ m.before.before.before.shared-slice-known.given) a.formed, cleared _ _ b.before.before.if2.false b.clear.ensures)
+    let b = c in
+    let m = b in
+    let a = query-accepted base _ _ (sym m.query_refusal-number.ensures ∙ m.if-number-ne0.false) in
+    (good-formed _ a.long (octets-of _ m.shared_slice_known-1.given) a.formed, cleared _ _ b.if-out-ne-PLAN.false b.clear.ensures)
 
-returns-4 : tie.Need-returns-4
+returns-4 : tie.Need-returns
 returns-4 c =
-    let v = c.before.before.before.before in
-    let m = v.before.before.before.before.before.before.before in
-    let n = m.before.before.before in
-    let a = query-accepted base _ _ (sym n.before.query-refusal.ensures ∙ n.if1.false) in
-    plan-some _ _ _ _ n.before.query-refusal.ensures n.if1.false m.before.before.if2.false _
-    (resting-group-is _ _ v.before.before.before.before.reach_of.ensures a.below _ v.resting-group.ensures) _ _ c.before.before.store-plan.ensures
-    (sym (ap mendable v.before.before.before.impediment-in.ensures) ∙ passed v.before.before.is-mendable.ensures v.before.if3.false)
+    let v = c in
+    let m = v in
+    let n = m in
+    let a = query-accepted base _ _ (sym n.query_refusal-number.ensures ∙ n.if-number-ne0.false) in
+    plan-some _ _ _ _ n.query_refusal-number.ensures n.if-number-ne0.false m.if-out-ne-PLAN.false _
+    (resting-group-is _ _ v.reach_of-reach.ensures a.below _ v.resting_group-group.ensures) _ _ c.store_plan.ensures
+    (sym (ap mendable v.impediment_in-o.ensures) ∙ passed v.is_mendable.ensures v.if-not-is_mendable.false-raw)
 
 pub plan_spec : {M : Type 1} → statement M
 plan_spec =
     tie.close
     (tie.spec
     (λ c κs. search rules)
-    (λ c. plan-refused _ _ _ _ c.before.query-refusal.ensures c.if1.true)
-    (λ c. plan-room _ _ _ _ c.before.before.query-refusal.ensures c.before.if1.false c.if2.true)
+    (λ c. plan-refused _ _ _ _ c.query_refusal-number.ensures c.if-number-ne0.true)
+    (λ c. plan-room _ _ _ _ c.query_refusal-number.ensures c.if-number-ne0.false c.if-out-ne-PLAN.true)
     (λ c κs. search rules)
     reach-of-requires
     impediment-in-requires

@@ -13,25 +13,25 @@ use Rattle.plans.proofs.Writing.{row_is, rows_end}
 use Rattle.plans.proofs.resting_group.Statement.{statement}
 use Rattle.plans.proofs.resting_group.Tie as tie
 
-abbrev invariant-loop : tie.invariant-loop
+abbrev invariant-loop : tie.invariant-loop-c
 invariant-loop t reach group₀ c₀ group c = Names (row_names reach.through t) c group × (c ≤ base.transactors)
 
-abbrev decreases-loop : tie.decreases-loop
+abbrev decreases-loop : tie.decreases-loop-c
 decreases-loop t reach group₀ c₀ group c = base.transactors - c
 
-add-group : tie.Need-overflow-add-group invariant-loop decreases-loop
+add-group : tie.Need-overflow_add-group invariant-loop decreases-loop
 add-group c =
-    let b = c.before.before.before.before.loop in
+    let b = c.loop-c in
     omega (arith, word_fits b.invariant.0 (search rules) _ (shifted _ group_bits (search rules)))
 
-loop-again : tie.Need-loop-preserved invariant-loop decreases-loop
+loop-again : tie.Need-loop-c-preserved invariant-loop decreases-loop
 loop-again c =
-    let b = c.before.before.before.before.loop in
-    let n = sym (row_is _ _ _ _ refl) ∙ sym c.before.is-named.ensures in
+    let b = c.loop-c in
+    let n = sym (row_is _ _ _ _ refl) ∙ sym c.is_named.ensures in
     ⊎_elim
-    (λ w. (subst (Names (row_names _ _) _) (sym w.1) (names-on b.invariant.0 _ (shifted _ group_bits (search rules)) (n ∙ w.0.taken)), search rules))
-    (λ w. (subst (Names (row_names _ _) _) (sym w.1) (names-off b.invariant.0 (n ∙ w.0.left)), search rules))
-    c.if1.branch
+    (λ w. (subst (Names (row_names _ _) _) (sym w.group-is) (names-on b.invariant.0 _ (shifted _ group_bits (search rules)) (n ∙ w.if-is_named.true)), search rules))
+    (λ w. (subst (Names (row_names _ _) _) (sym w.group-is) (names-off b.invariant.0 (n ∙ w.if-is_named.false)), search rules))
+    c.if-is_named.branch-raw
 
 pub resting_group_spec : {M : Type 1} → statement M
 resting_group_spec =
@@ -49,4 +49,4 @@ resting_group_spec =
     (λ c. search rules)
     (λ c. search rules)
     loop-again
-    (λ c. rows_end c.before.loop.invariant.0 c.before.loop.invariant.1 (search rules)))
+    (λ c. rows_end c.loop-c.invariant.0 c.loop-c.invariant.1 (search rules)))

@@ -16,4 +16,4 @@ store_spec =
     (λ c. search rules)
     (λ c κs. search rules)
     (λ c. search rules)
-    (λ c. stored-step _ _ _ _ _ _ c.before.before.write.ensures))
+    (λ c. stored-step _ _ _ _ _ _ c.write.ensures))

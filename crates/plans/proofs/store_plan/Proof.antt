@@ -9,29 +9,29 @@ use Rattle.plans.proofs.Writing.{planned-none, planned-some, sign-none}
 use Rattle.plans.proofs.store_plan.Statement.{statement}
 use Rattle.plans.proofs.store_plan.Tie as tie
 
-store-tasks-requires : tie.Need-store-tasks-requires
-store-tasks-requires c κs = let p = c.before.before.before.before.before.requires in (p.0, ap length p.1 ∙ length-zeros 392)
+store-tasks-requires : tie.Need-store_tasks-at-requires
+store-tasks-requires c κs = let p = c.requires in (p.0, ap length p.1 ∙ length-zeros 392)
 
 store-requires : tie.Need-store-requires
 store-requires c κs =
-    let m = c.before.before.before in
-    let p = m.before.before.before.before.before.before.requires in
-    let e : length m.before.before.before.before.before.before.args.out.now ≡ 392 = ap length p.1 ∙ length-zeros 392 in
-    search (rules, e, m.store-tasks.ensures.1)
+    let m = c in
+    let p = m.requires in
+    let e : length m.args.out.now ≡ 392 = ap length p.1 ∙ length-zeros 392 in
+    search (rules, e, m.store_tasks-at.ensures.1)
 
-returns-2 : tie.Need-returns-2
+returns-2 : tie.Need-returns
 returns-2 c =
-    let m = c.before.before.before.before.before.before in
-    let n = m.before.before in
-    let p = n.before.before.before.before.requires in
-    planned-some _ _ (passed n.before.letters-fit.ensures n.if1.false) _ _ _ _ p.1 m.store-tasks.ensures.0 m.store-tasks.ensures.1 c.before.before.store.ensures
+    let m = c in
+    let n = m in
+    let p = n.requires in
+    planned-some _ _ (passed n.letters_fit.ensures n.if-not-letters_fit.false-raw) _ _ _ _ p.1 m.store_tasks-at.ensures.0 m.store_tasks-at.ensures.1 c.store.ensures
 
 pub store_plan_spec : {M : Type 1} → statement M
 store_plan_spec =
     tie.close
     (tie.spec
     (λ c κs. search rules)
-    (λ c. planned-none _ _ (sign-none _ _ (failed c.before.letters-fit.ensures c.if1.true)) c.before.before.before.before.requires.1)
+    (λ c. planned-none _ _ (sign-none _ _ (failed c.letters_fit.ensures c.if-not-letters_fit.true-raw)) c.requires.1)
     store-tasks-requires
     store-requires
     (λ c. search rules)

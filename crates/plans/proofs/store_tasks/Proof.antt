@@ -10,32 +10,32 @@ use Rattle.plans.proofs.Writing.{Stored, stored-none, stored_more, stored-all}
 use Rattle.plans.proofs.store_tasks.Statement.{statement}
 use Rattle.plans.proofs.store_tasks.Tie as tie
 
-abbrev invariant-loop : tie.invariant-loop
+abbrev invariant-loop : tie.invariant-loop-c
 invariant-loop image group out₀ number₀ at₀ c₀ out number at c = Stored (unpack base image) group c out₀ out at number × (c ≤ base.transactors) × (number ≤ 65535 + c) × (length out ≡ 392)
 
-abbrev decreases-loop : tie.decreases-loop
+abbrev decreases-loop : tie.decreases-loop-c
 decreases-loop image group out₀ number₀ at₀ c₀ out number at c = base.transactors - c
 
-loop-holds : tie.Need-loop-init invariant-loop decreases-loop
-loop-holds c = (stored-none _ _ _ _ c.next.ensures, search rules, search rules, c.before.before.before.requires.1)
+loop-holds : tie.Need-loop-c-init invariant-loop decreases-loop
+loop-holds c = (stored-none _ _ _ _ c.next-number.ensures, search rules, search rules, c.requires.1)
 
-store-task-requires : tie.Need-store-task-requires invariant-loop decreases-loop
-store-task-requires c κs = let i = c.before.before.before.loop.invariant in (omega (arith, i.0.short, i.3, c.before.before.loop-test.true), search rules)
+store-task-requires : tie.Need-store_task-at-requires invariant-loop decreases-loop
+store-task-requires c κs = let i = c.loop-c.invariant in (omega (arith, i.0.short, i.3, c.loop-c-test.true), search rules)
 
-number-after-requires : tie.Need-number-after-requires invariant-loop decreases-loop
-number-after-requires c κs = let i = c.before.before.before.before.before.before.loop.invariant in omega (arith, i.2, c.before.before.before.before.before.loop-test.true)
+number-after-requires : tie.Need-number_after-number-requires invariant-loop decreases-loop
+number-after-requires c κs = let i = c.loop-c.invariant in omega (arith, i.2, c.loop-c-test.true)
 
-loop-again : tie.Need-loop-preserved invariant-loop decreases-loop
+loop-again : tie.Need-loop-c-preserved invariant-loop decreases-loop
 loop-again c =
-    let t = c.before.before.before in
-    let k = t.before.before in
-    let m = k.before.before in
-    let i = m.loop.invariant in
-    let p = m.before.before.before.before.requires in
-    (stored_more i.0 (search rules) p.1 k.task.ensures t.store-task.ensures.0 t.store-task.ensures.1 c.number-after.ensures.0, search rules, omega (arith, i.2, c.number-after.ensures.1), search (rules, i.3))
+    let t = c in
+    let k = t in
+    let m = k in
+    let i = m.loop-c.invariant in
+    let p = m.requires in
+    (stored_more i.0 (search rules) p.1 k.task-k.ensures t.store_task-at.ensures.0 t.store_task-at.ensures.1 c.number_after-number.ensures.0, search rules, omega (arith, i.2, c.number_after-number.ensures.1), search (rules, i.3))
 
 returns : tie.Need-returns invariant-loop decreases-loop
-returns c = let i = c.before.loop.invariant in (stored-all i.0 i.1 (search rules), omega (arith, i.0.short, i.1))
+returns c = let i = c.loop-c.invariant in (stored-all i.0 i.1 (search rules), omega (arith, i.0.short, i.1))
 
 pub store_tasks_spec : {M : Type 1} → statement M
 store_tasks_spec =
