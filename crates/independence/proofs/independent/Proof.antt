@@ -2,10 +2,7 @@
 use mathlib.Core.Path.{sym, ◌∙◌}
 use native.Mathlib.Omega.{arith}
 use borrow.Author.Rules.{rules}
-use Rattle.octets.specs.Bytes.{Octets}
 use Rattle.octets.proofs.Put.{octets-of}
-use Rattle.rules.specs.Internal.Good.{Good}
-use Rattle.rules.specs.Internal.Well.{StepOk}
 use Rattle.independence.proofs.Meeting.{answer-refused, fine, fine-good, fine-first, fine-second, answer-first, answer-second}
 use Rattle.independence.proofs.independent.Statement.{statement}
 use Rattle.independence.proofs.independent.Tie as tie

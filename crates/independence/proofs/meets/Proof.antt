@@ -1,12 +1,6 @@
 -- One test after the other; the copy holds the state after the first step.
-use Prim.Native.Nat.{ℕ}
-use mathlib.Core.Bool.{false}
-use mathlib.Core.Path.{◌≡◌, sym, ◌∙◌}
+use mathlib.Core.Path.{sym, ◌∙◌}
 use borrow.Author.Rules.{rules}
-use lib.ListN.{length}
-use Rattle.rules.specs.Layout.{base, image_bytes}
-use Rattle.rules.specs.Refusals.{malformed}
-use Rattle.rules.specs.Internal.Good.{Good}
 use Rattle.independence.proofs.Clauses.{played-good, played-says, meets-malformed, meets-refused, meets-heads, meets-transactors, meets-lists}
 use Rattle.independence.proofs.meets.Statement.{statement}
 use Rattle.independence.proofs.meets.Tie as tie
