@@ -1,11 +1,14 @@
 // Plays packed steps from standard input on a fresh session, part by part, and prints a line for each: step from 1, outcome or
 // refusal, transactor, message, value. A rest under 8 bytes is ignored.
-ghost use Rattle.std.specs.Prelude.{◌+◌, ◌*◌, ◌^◌, ◌≤◌, ◌<◌, ◌≡◌, length};
-ghost use Rattle.io.specs.Counts.{IsPrefixLen};
+#![tactic(auto)]
+
+ghost use Rattle.std.specs.Prelude.{◌+◌, ◌*◌, ◌^◌, ◌≤◌, ◌<◌, ◌≡◌, length, take, decimal};
 
 use image::layout::IMAGE;
-use libc::{STDIN_FILENO, STDOUT_FILENO};
+use itoa::Buffer;
 use lists::LONGEST;
+use std::io;
+use std::io::Read;
 
 // The longest part of a run, in bytes and in steps.
 const PART: usize = LONGEST;
@@ -20,9 +23,13 @@ const PARTS: u64 = 0x4_0000_0000_0000;
 
 // The decimal digits of n, at the start of text; answers how many.
 fn digits(n: u64, text: &mut [u8; 20]) -> usize
-    ensures { IsPrefixLen result text.new × (result ≤ 20) }
+    ensures within { result ≤ 20 }
+    ensures value { take result text.new ≡ decimal n }
 {
-    io::decimal(n, text)
+    let mut buffer = Buffer::new();
+    let written = buffer.format(n).as_bytes();
+    octets::write(text, 0, written);
+    written.len()
 }
 
 // Writes n in decimal and then the byte after; answers the place after them.
@@ -63,52 +70,68 @@ fn put_lines(out: &mut [u8], replies: &[u8], n: usize, done: u64) -> usize
     ensures { result ≤ 105 * n }
 {
     let mut at: usize = 0;
-    let mut i: usize = 0;
-    while i < n {
+    for i in 0..n {
         at = put_line(out, at, done + i as u64 + 1, replies, 8 * i);
-        i += 1;
     }
     at
 }
 
 // Runs the first steps of the list, as many as there is room for replies, and prints the replies, to the steps after those
 // done.
-fn play(image: &mut [u8], list: &[u8], replies: &mut [u8], out: &mut [u8], done: u64) -> bool
+fn play(
+    to: &impl Print,
+    image: &mut [u8],
+    list: &[u8],
+    replies: &mut [u8],
+    out: &mut [u8],
+    done: u64,
+) -> io::Result<()>
     requires { (length replies.old ≤ 8192) × (length out.old ≡ 107520) × (done + 1024 < 2 ^ 64) }
 {
     let end = replies.len();
     ledger::run(image, list, 0, end, replies);
     let k = put_lines(out, replies, end / 8, done);
-    io::write_all(STDOUT_FILENO, &out[..k])
+    to.write_all(&out[..k])
 }
 
-// Reads a part and plays it. Answers whether to go on: it was a whole part, and its lines are written.
-fn part(image: &mut [u8], list: &mut [u8], replies: &mut [u8], out: &mut [u8], done: u64) -> bool
+// Reads a part, plays it and prints its lines. Answers whether to go on: it was a whole part.
+fn part(
+    from: &mut impl Read,
+    to: &impl Print,
+    image: &mut [u8],
+    list: &mut [u8],
+    replies: &mut [u8],
+    out: &mut [u8],
+    done: u64,
+) -> io::Result<bool>
     requires { (length list.old ≡ 8192) × (length replies.old ≡ 8192) × (length out.old ≡ 107520) × (done + 1024 < 2 ^ 64) }
 {
-    let got = io::read_full(STDIN_FILENO, list);
+    let got = reading::read_full(from, list)?;
     let end = got / 8 * 8;
-    let written = play(image, list, &mut replies[..end], out, done);
-    written & (got == PART)
+    play(to, image, list, &mut replies[..end], out, done)?;
+    Ok(got == PART)
 }
 
 // The part after the steps done, with buffers of its own.
-fn turn(image: &mut [u8], done: u64) -> bool
+fn turn(from: &mut impl Read, to: &impl Print, image: &mut [u8], done: u64) -> io::Result<bool>
     requires { done + 1024 < 2 ^ 64 }
 {
     let mut list = [0u8; PART];
     let mut replies = [0u8; PART];
     let mut out = [0u8; TEXT];
-    part(image, &mut list, &mut replies, &mut out, done)
+    part(from, to, image, &mut list, &mut replies, &mut out, done)
 }
 
 // All of standard input. A loop must end, so the parts are counted.
-pub fn replay() {
+pub fn replay(rt: &(impl Input + Print)) -> io::Result<()> {
+    let mut from = rt.reader();
     let mut space = [0u8; IMAGE];
     let image: &mut [u8] = &mut space;
     ledger::begin(image, 16, 32, 15);
-    let mut parts: u64 = 0;
-    while parts < PARTS && turn(image, STEPS * parts) {
-        parts += 1;
+    for parts in 0..PARTS {
+        if !turn(&mut from, rt, image, STEPS * parts)? {
+            break;
+        }
     }
+    Ok(())
 }

@@ -1,4 +1,8 @@
 // Document 01: the replay program.
-fn main() {
-    playback::replay();
+#![tactic(auto)]
+
+use std::io;
+
+fn main(rt: HostRuntime) -> io::Result<()> {
+    playback::replay(&rt)
 }
