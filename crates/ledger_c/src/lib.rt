@@ -1,5 +1,7 @@
 // The ledger's calls for programs in other languages, as include/ledger.h declares them: a slice is a pointer and a length, a
 // lent number a pointer. None has a precondition, and each promises what the call of ledger, queries, plans, actors, defects, thin, convert or window promises.
+#![tactic(auto)]
+
 ghost use Rattle.std.specs.Prelude.{◌≡◌};
 ghost use Rattle.rules.specs.Layout.{base, limits_of};
 ghost use Rattle.rules.specs.Calls.{query_refusal, show_refusal};

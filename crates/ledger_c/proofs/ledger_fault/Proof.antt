@@ -7,7 +7,7 @@ use Rattle.ledger_c.proofs.ledger_fault.Tie as tie
 
 returns : tie.Need-returns
 returns c =
-    let f = c.first-defect.ensures in
+    let f = c.first_defect-d.ensures in
     (f.0, ap (λ (d : Defect). d.at) f.1, ap (λ (d : Defect). d.clause) f.1)
 
 pub ledger_fault_spec : {M : Type 1} → statement M

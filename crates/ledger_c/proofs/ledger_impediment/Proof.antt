@@ -5,25 +5,25 @@ use Rattle.rules.specs.Impediment.{impediment_numbers}
 use Rattle.ledger_c.proofs.ledger_impediment.Statement.{statement}
 use Rattle.ledger_c.proofs.ledger_impediment.Tie as tie
 
-returns : tie.Need-returns
+returns : tie.Need-returns-in-Nothing
 returns c =
-    let f = c.before.before.impediment.ensures in
-    (f.0, ap impediment_numbers (sym c.enum_told.given.1) ∙ f.1)
+    let f = c.impediment.ensures in
+    (f.0, ap impediment_numbers (sym c.in-Nothing.is) ∙ f.1)
 
-returns-2 : tie.Need-returns-2
+returns-2 : tie.Need-returns-in-Hopeless
 returns-2 c =
-    let f = c.before.before.before.impediment.ensures in
-    (f.0, ap impediment_numbers (sym c.before.c.given.1) ∙ f.1)
+    let f = c.impediment.ensures in
+    (f.0, ap impediment_numbers (sym c.in-Hopeless.is) ∙ f.1)
 
-returns-3 : tie.Need-returns-3
+returns-3 : tie.Need-returns-in-Exhausted
 returns-3 c =
-    let f = c.before.before.before.impediment.ensures in
-    (f.0, ap impediment_numbers (sym c.before.c2.given.1) ∙ f.1)
+    let f = c.impediment.ensures in
+    (f.0, ap impediment_numbers (sym c.in-Exhausted.is) ∙ f.1)
 
-returns-4 : tie.Need-returns-4
+returns-4 : tie.Need-returns-in-Unstable
 returns-4 c =
-    let f = c.before.before.before.impediment.ensures in
-    (f.0, ap impediment_numbers (sym c.before.c3.given.1) ∙ f.1)
+    let f = c.impediment.ensures in
+    (f.0, ap impediment_numbers (sym c.in-Unstable.is) ∙ f.1)
 
 pub ledger_impediment_spec : {M : Type 1} → statement M
 ledger_impediment_spec =

@@ -5,25 +5,25 @@ use Rattle.rules.specs.Obstacle.{obstacle_numbers}
 use Rattle.ledger_c.proofs.ledger_obstacle.Statement.{statement}
 use Rattle.ledger_c.proofs.ledger_obstacle.Tie as tie
 
-returns : tie.Need-returns
+returns : tie.Need-returns-in-Nothing
 returns c =
-    let f = c.before.before.obstacle.ensures in
-    (f.0, ap obstacle_numbers (sym c.enum_told.given.1) ∙ f.1)
+    let f = c.obstacle.ensures in
+    (f.0, ap obstacle_numbers (sym c.in-Nothing.is) ∙ f.1)
 
-returns-2 : tie.Need-returns-2
+returns-2 : tie.Need-returns-in-Unstable
 returns-2 c =
-    let f = c.before.before.before.obstacle.ensures in
-    (f.0, ap obstacle_numbers (sym c.before.t.given.1) ∙ f.1)
+    let f = c.obstacle.ensures in
+    (f.0, ap obstacle_numbers (sym c.in-Unstable.is) ∙ f.1)
 
-returns-3 : tie.Need-returns-3
+returns-3 : tie.Need-returns-in-Outside
 returns-3 c =
-    let f = c.before.before.before.obstacle.ensures in
-    (f.0, ap obstacle_numbers (sym c.before.t2.given.1) ∙ f.1)
+    let f = c.obstacle.ensures in
+    (f.0, ap obstacle_numbers (sym c.in-Outside.is) ∙ f.1)
 
-returns-4 : tie.Need-returns-4
+returns-4 : tie.Need-returns-in-SupersededOrAnnihilated
 returns-4 c =
-    let f = c.before.before.before.obstacle.ensures in
-    (f.0, ap obstacle_numbers (sym c.before.t3.given.1) ∙ f.1)
+    let f = c.obstacle.ensures in
+    (f.0, ap obstacle_numbers (sym c.in-SupersededOrAnnihilated.is) ∙ f.1)
 
 pub ledger_obstacle_spec : {M : Type 1} → statement M
 ledger_obstacle_spec =

@@ -5,8 +5,8 @@ use Rattle.ledger_c.proofs.Answers.{part-shown, part-refused}
 use Rattle.ledger_c.proofs.ledger_show.Statement.{statement}
 use Rattle.ledger_c.proofs.ledger_show.Tie as tie
 
-returns-2 : tie.Need-returns-2
-returns-2 c = let a = c.before.before.shown-at.ensures in (search rules, part-shown _ _ (sym a.1 ∙ c.if1.false) _ a.0)
+returns-2 : tie.Need-returns
+returns-2 c = let a = c.shown_at-offset.ensures in (search rules, part-shown _ _ (sym a.1 ∙ c.if-refusal-ne0.false) _ a.0)
 
 pub ledger_show_spec : {M : Type 1} → statement M
 ledger_show_spec =
