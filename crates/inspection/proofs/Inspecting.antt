@@ -8,7 +8,7 @@ use native.Mathlib.Omega.{arith}
 use borrow.Author.Tests.{lt-ltb, le-ltb, le-leb, lt-leb, ne_eqb, eq-eqb}
 use lib.Dec.{eqb, ltb, leb}
 use lib.ListN.{length, drop, get_or, length-append, length-drop}
-use Rattle.octets.specs.Bytes.{pick, ◌or◌, part, chunks}
+use Rattle.octets.specs.Bytes.{pick, part, chunks}
 use Rattle.octets.specs.Numbers.{of_be}
 use Rattle.octets.proofs.Chunks.{chunks-suc}
 use Rattle.marks.specs.declared.History.{History}

@@ -1,4 +1,6 @@
 // An image as text, a line at a time.
+#![tactic(auto)]
+
 ghost use Rattle.std.specs.Prelude.{◌≡◌, ◌+◌, ◌≤◌, ◌<◌, length};
 ghost use Rattle.rules.specs.Layout.{base, image_bytes, map_bytes};
 ghost use Rattle.rules.specs.State.{transactor_at, message_at};

@@ -10,20 +10,20 @@ use Rattle.inspection.proofs.Inspecting.{entries_to, entries_none, entries-more,
 use Rattle.inspection.proofs.entries.Statement.{statement}
 use Rattle.inspection.proofs.entries.Tie as tie
 
-abbrev invariant-loop : tie.invariant-loop
+abbrev invariant-loop : tie.invariant-loop-i
 invariant-loop h n r₀ i₀ r i = (i ≤ n) × (written r ≡ plus [] (entries_to h i)) × (length r.bytes ≡ line_room)
 
-abbrev decreases-loop : tie.decreases-loop
+abbrev decreases-loop : tie.decreases-loop-i
 decreases-loop h n r₀ i₀ r i = n - i
 
-loop-holds : tie.Need-loop-init invariant-loop decreases-loop
+loop-holds : tie.Need-loop-i-init invariant-loop decreases-loop
 loop-holds c = (search rules, entries_none _ _, search rules)
 
-loop-again : tie.Need-loop-preserved invariant-loop decreases-loop
-loop-again c = (search rules, entries-more _ _ _ _ _ c.before.before.before.before.loop.invariant.1 c.before.byte.ensures c.number.ensures, search rules)
+loop-again : tie.Need-loop-i-preserved invariant-loop decreases-loop
+loop-again c = (search rules, entries-more _ _ _ _ _ c.loop-i.invariant.1 c.byte.ensures c.number-r.ensures, search rules)
 
 returns : tie.Need-returns invariant-loop decreases-loop
-returns c = entries-all _ _ _ c.before.loop.invariant.1 (omega arith) c.before.before.requires c.before.loop.invariant.2
+returns c = entries-all _ _ _ c.loop-i.invariant.1 (omega arith) c.requires c.loop-i.invariant.2
 
 pub entries_spec : {M : Type 1} → statement M
 entries_spec =

@@ -6,38 +6,38 @@ use borrow.Author.Rules.{rules}
 use Rattle.inspection.proofs.entry.Statement.{statement}
 use Rattle.inspection.proofs.entry.Tie as tie
 
-mul-from : tie.Need-overflow-mul-from
+mul-from : tie.Need-overflow_mul-from
 mul-from c = search rules
 
-add-from : tie.Need-overflow-add-from
+add-from : tie.Need-overflow_add-from
 add-from c = search rules
 
 present-requires : tie.Need-present-requires
 present-requires c κs = search rules
 
-returns : tie.Need-returns
-returns c = entry-none _ _ _ c.before.before.before.before.args.u (search rules) _ _ c.before.present.ensures (not-true _ c.if1.true)
+returns : tie.Need-returns-then-not-present
+returns c = entry-none _ _ _ c.args.u (search rules) _ _ c.present.ensures (not-true _ c.if-not-present.true-raw)
 
-load-requires : tie.Need-load-requires
+load-requires : tie.Need-load-h-requires
 load-requires c κs = search rules
 
-cast-put : tie.Need-overflow-cast-put
+cast-put : tie.Need-overflow_cast-u
 cast-put c = search rules
 
-put-requires : tie.Need-put-requires
+put-requires : tie.Need-put-named-requires
 put-requires c κs = search rules
 
 byte-requires : tie.Need-byte-requires
 byte-requires c κs = search rules
 
-put-history-requires : tie.Need-put-history-requires
-put-history-requires c κs = count_low _ _ c.before.before.load.ensures
+put-history-requires : tie.Need-put_history-requires
+put-history-requires c κs = count_low _ _ c.load-h.ensures
 
 byte-requires-2 : tie.Need-byte-requires-2
 byte-requires-2 c κs = search rules
 
-returns-2 : tie.Need-returns-2
-returns-2 c = entry-some _ _ _ c.before.before.before.before.before.before.before.before.before.args.u (search rules) _ _ _ _ _ _ _ c.before.before.before.before.before.before.present.ensures (not-false _ c.before.before.before.before.before.if1.false) c.before.before.before.before.load.ensures (written-empty _) c.before.before.before.put.ensures c.before.before.byte.ensures c.before.put-history.ensures c.byte2.ensures (search rules) (search rules)
+returns-2 : tie.Need-returns
+returns-2 c = entry-some _ _ _ c.args.u (search rules) _ _ _ _ _ _ _ c.present.ensures (not-false _ c.if-not-present.false-raw) c.load-h.ensures (written-empty _) c.put-named.ensures c.byte.ensures c.put_history.ensures c.byte-2.ensures (search rules) (search rules)
 
 pub entry_spec : {M : Type 1} → statement M
 entry_spec =

@@ -1,4 +1,5 @@
 -- Refused, the end, or a line.
+use native.Mathlib.Omega.{arith}
 use borrow.Author.Rules.{rules}
 use Rattle.rules.specs.Layout.{base}
 use Rattle.form.proofs.Unsound.{sound-long}
@@ -6,17 +7,21 @@ use Rattle.inspection.proofs.Inspecting.{answers-refused, answers-end, answers-l
 use Rattle.inspection.proofs.image_line.Statement.{statement}
 use Rattle.inspection.proofs.image_line.Tie as tie
 
-returns : tie.Need-returns
-returns c = answers-refused _ c.before.before.before.args.n _ c.before.image-refusal.ensures _ c.if1.true
+returns : tie.Need-returns-then-refusal-ne0
+returns c = answers-refused _ c.args.n _ c.image_refusal-refusal.ensures _ c.if-refusal-ne0.true
 
-returns-2 : tie.Need-returns-2
-returns-2 c = answers-end _ c.before.before.before.before.args.n _ c.before.before.image-refusal.ensures c.before.if1.false _ c.if2.true
+line-of-requires : tie.Need-line_of-line-requires
+line-of-requires c κs = (sound-long base _ _ c.image_refusal-refusal.ensures c.if-refusal-ne0.false, search rules)
 
-line-of-requires : tie.Need-line-of-requires
-line-of-requires c κs = (sound-long base _ _ c.before.before.image-refusal.ensures c.before.if1.false, search rules)
-
-returns-3 : tie.Need-returns-3
-returns-3 c = answers-line _ c.before.before.before.before.before.args.n _ c.before.before.before.image-refusal.ensures c.before.before.if1.false _ c.before.if2.false c.Line-of.ensures
+returns-2 : tie.Need-returns
+returns-2 c = answers-line _ c.args.n _ c.image_refusal-refusal.ensures c.if-refusal-ne0.false _ (omega arith) c.line_of-line.ensures
 
 pub image_line_spec : {M : Type 1} → statement M
-image_line_spec = tie.close (tie.spec (λ c κs. search rules) returns returns-2 line-of-requires returns-3)
+image_line_spec =
+    tie.close
+    (tie.spec
+    (λ c κs. search rules)
+    returns
+    (λ c. answers-end _ c.args.n _ c.image_refusal-refusal.ensures c.if-refusal-ne0.false _ (omega arith))
+    line-of-requires
+    returns-2)

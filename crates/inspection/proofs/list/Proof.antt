@@ -7,14 +7,11 @@ use borrow.Author.Rules.{rules}
 use Rattle.inspection.proofs.list.Statement.{statement}
 use Rattle.inspection.proofs.list.Tie as tie
 
-slice-aggregate-word : tie.Need-slice-aggregate-word
-slice-aggregate-word c = search rules
-
 word-requires : tie.Need-word-requires
 word-requires c κs = search rules
 
-returns : tie.Need-returns
-returns c = c.word.ensures ∙ ap (plus _) (sym (list-empty c.before.before.before.before.args.h (search rules)))
+returns : tie.Need-returns-then-h-eq0
+returns c = c.word.ensures ∙ ap (plus _) (sym (list-empty c.args.h (search rules)))
 
 entries-requires : tie.Need-entries-requires
 entries-requires c κs = search rules
@@ -22,10 +19,10 @@ entries-requires c κs = search rules
 rest-requires : tie.Need-rest-requires
 rest-requires c κs = search rules
 
-returns-2 : tie.Need-returns-2
-returns-2 c = c.rest.ensures ∙ ap (plus _) (ap (drop 1) c.before.entries.ensures.0 ∙ sym (list-some c.before.before.before.before.args.h (search rules)))
+returns-2 : tie.Need-returns
+returns-2 c = c.rest.ensures ∙ ap (plus _) (ap (drop 1) c.entries.ensures.0 ∙ sym (list-some c.args.h (search rules)))
 
 pub list_spec : {M : Type 1} → statement M
 list_spec =
     tie.close
-    (tie.spec slice-aggregate-word word-requires returns entries-requires rest-requires returns-2)
+    (tie.spec word-requires returns entries-requires rest-requires returns-2)

@@ -5,7 +5,7 @@ use Rattle.inspection.proofs.put.Statement.{statement}
 use Rattle.inspection.proofs.put.Tie as tie
 
 returns : tie.Need-returns
-returns c = piece-said _ _ _ _ _ c.before.word.ensures c.number.ensures
+returns c = piece-said _ _ _ _ _ c.word.ensures c.number.ensures
 
 pub put_spec : {M : Type 1} → statement M
 put_spec =

@@ -7,13 +7,10 @@ use Rattle.inspection.proofs.put_incarnation.Tie as tie
 byte-requires : tie.Need-byte-requires
 byte-requires c κs = search rules
 
-list-requires : tie.Need-list-requires
+list-requires : tie.Need-list-listed-requires
 list-requires c κs = search rules
 
-slice-aggregate-put : tie.Need-slice-aggregate-put
-slice-aggregate-put c = search rules
-
-cast-put : tie.Need-overflow-cast-put
+cast-put : tie.Need-overflow_cast-h
 cast-put c = search rules
 
 put-requires : tie.Need-put-requires
@@ -23,7 +20,7 @@ byte-requires-2 : tie.Need-byte-requires-2
 byte-requires-2 c κs = search rules
 
 returns : tie.Need-returns
-returns c = incarnation-said _ _ _ _ _ _ c.before.before.before.before.before.byte.ensures c.before.before.before.before.list.ensures c.before.put.ensures c.byte2.ensures
+returns c = incarnation-said _ _ _ _ _ _ c.byte.ensures c.list-listed.ensures c.put.ensures c.byte-2.ensures
 
 pub put_incarnation_spec : {M : Type 1} → statement M
 put_incarnation_spec =
@@ -31,7 +28,6 @@ put_incarnation_spec =
     (tie.spec
     byte-requires
     list-requires
-    slice-aggregate-put
     cast-put
     put-requires
     byte-requires-2

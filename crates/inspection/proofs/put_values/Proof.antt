@@ -4,17 +4,14 @@ use borrow.Author.Rules.{rules}
 use Rattle.inspection.proofs.put_values.Statement.{statement}
 use Rattle.inspection.proofs.put_values.Tie as tie
 
-saved-of-requires : tie.Need-saved-of-requires
+saved-of-requires : tie.Need-saved_of-saved-requires
 saved-of-requires c κs = search rules
 
-value-of-requires : tie.Need-value-of-requires
+value-of-requires : tie.Need-value_of-requires
 value-of-requires c κs = search rules
 
 number-requires : tie.Need-number-requires
 number-requires c κs = search rules
-
-slice-aggregate-put : tie.Need-slice-aggregate-put
-slice-aggregate-put c = search rules
 
 put-requires : tie.Need-put-requires
 put-requires c κs = search rules
@@ -23,7 +20,7 @@ byte-requires : tie.Need-byte-requires
 byte-requires c κs = search rules
 
 returns : tie.Need-returns
-returns c = values-said _ _ _ _ _ _ _ c.before.before.before.before.value_of_lem.ensures c.before.before.before.number.ensures c.before.before.before.before.before.saved-of.ensures c.before.put.ensures c.byte.ensures
+returns c = values-said _ _ _ _ _ _ _ c.value_of.ensures c.number.ensures c.saved_of-saved.ensures c.put.ensures c.byte.ensures
 
 pub put_values_spec : {M : Type 1} → statement M
 put_values_spec =
@@ -32,7 +29,6 @@ put_values_spec =
     saved-of-requires
     value-of-requires
     number-requires
-    slice-aggregate-put
     put-requires
     byte-requires
     returns)

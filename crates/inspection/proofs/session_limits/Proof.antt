@@ -6,40 +6,31 @@ use borrow.Author.Rules.{rules}
 use Rattle.inspection.proofs.session_limits.Statement.{statement}
 use Rattle.inspection.proofs.session_limits.Tie as tie
 
-transactors-requires : tie.Need-transactors-requires
+transactors-requires : tie.Need-transactors-transactors-requires
 transactors-requires c κs = search rules
 
-cast-transactors : tie.Need-overflow-cast-transactors
+cast-transactors : tie.Need-overflow_cast-transactors
 cast-transactors c = search rules
 
-messages-requires : tie.Need-messages-requires
+messages-requires : tie.Need-messages-messages-requires
 messages-requires c κs = search rules
 
-cast-messages : tie.Need-overflow-cast-messages
+cast-messages : tie.Need-overflow_cast-messages
 cast-messages c = search rules
 
-checkpoints-requires : tie.Need-checkpoints-requires
+checkpoints-requires : tie.Need-checkpoints-checkpoints-requires
 checkpoints-requires c κs = search rules
 
-cast-checkpoints : tie.Need-overflow-cast-checkpoints
+cast-checkpoints : tie.Need-overflow_cast-checkpoints
 cast-checkpoints c = search rules
-
-slice-aggregate-put : tie.Need-slice-aggregate-put
-slice-aggregate-put c = search rules
 
 put-requires : tie.Need-put-requires
 put-requires c κs = search rules
 
-slice-aggregate-put-2 : tie.Need-slice-aggregate-put-2
-slice-aggregate-put-2 c = search rules
-
-put-requires-2 : tie.Need-put-requires-2
+put-requires-2 : tie.Need-put-said-requires
 put-requires-2 c κs = search rules
 
-slice-aggregate-put-3 : tie.Need-slice-aggregate-put-3
-slice-aggregate-put-3 c = search rules
-
-put-requires-3 : tie.Need-put-requires-3
+put-requires-3 : tie.Need-put-requires-2
 put-requires-3 c κs = search rules
 
 byte-requires : tie.Need-byte-requires
@@ -47,7 +38,7 @@ byte-requires c κs = search rules
 
 returns : tie.Need-returns
 unfolding limits_text
-returns c = three-say _ (search rules) _ _ _ (written-empty _) _ _ _ _ _ _ c.before.before.before.before.before.before.before.before.before.transactors.ensures c.before.before.before.before.before.before.before.before.messages.ensures c.before.before.before.before.before.put.ensures c.before.before.before.put2.ensures _ _ _ _ c.before.before.before.before.before.before.before.checkpoints.ensures c.before.put3.ensures c.byte.ensures (search rules)
+returns c = three-say _ (search rules) _ _ _ (written-empty _) _ _ _ _ _ _ c.transactors-transactors.ensures c.messages-messages.ensures c.put.ensures c.put-said.ensures _ _ _ _ c.checkpoints-checkpoints.ensures c.put-2.ensures c.byte.ensures (search rules)
 
 pub session_limits_spec : {M : Type 1} → statement M
 session_limits_spec =
@@ -59,11 +50,8 @@ session_limits_spec =
     cast-messages
     checkpoints-requires
     cast-checkpoints
-    slice-aggregate-put
     put-requires
-    slice-aggregate-put-2
     put-requires-2
-    slice-aggregate-put-3
     put-requires-3
     byte-requires
     returns)
