@@ -1,6 +1,8 @@
 // Lists, replies and images as text for programs in other languages, as include/notation.h declares them: a slice is a pointer and a
 // length. None has a precondition, and each promises what the function of crate parser, faults, printer, replies,
 // refusal_words or inspection promises.
+#![tactic(auto)]
+
 ghost use Rattle.std.specs.Prelude.{◌≡◌, [], ltb, length};
 ghost use Rattle.octets.specs.Bytes.{pick};
 ghost use Rattle.rules.specs.Step.{step_at};

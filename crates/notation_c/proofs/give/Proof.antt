@@ -5,23 +5,23 @@ use borrow.Author.Rules.{rules}
 use Rattle.notation_c.proofs.give.Statement.{statement}
 use Rattle.notation_c.proofs.give.Tie as tie
 
-returns : tie.Need-returns
-returns c = give-none _ _ c.before.before.before.requires c.if1.true
+returns : tie.Need-returns-then-out-n
+returns c = give-none _ _ c.requires c.if-out-n.true
 
-array-share-prefix-bytes : tie.Need-array-share-prefix-bytes
-array-share-prefix-bytes c = give-inside _ c.before.before.before.before.args.out.now c.before.before.before.before.requires
+array-share-prefix-bytes : tie.Need-slice_bounds-bytes-end
+array-share-prefix-bytes c = give-inside _ c.args.out.now c.requires
 
-slice-aggregate-write : tie.Need-slice-aggregate-write
-slice-aggregate-write c = give-counts _ c.before.before.before.before.before.args.out.now c.before.before.before.before.before.requires
+slice-aggregate-write : tie.Need-slice_bounds-write-end
+slice-aggregate-write c = give-counts _ c.args.out.now c.requires
 
 write-requires : tie.Need-write-requires
-write-requires c κs = omega (arith, give-counts c.before.before.before.before.before.args.l c.before.before.before.before.before.args.out.now c.before.before.before.before.before.requires)
+write-requires c κs = omega (arith, give-counts c.args.l c.args.out.now c.requires)
 
-same_length : tie.Need-same-length
+same_length : tie.Need-shape_of-out
 same_length c = search rules
 
-returns-2 : tie.Need-returns-2
-returns-2 c = give_all _ _ c.before.before.before.before.before.before.before.before.requires _ c.before.before.before.before.before.if1.false c.before.before.write.ensures
+returns-2 : tie.Need-returns
+returns-2 c = give_all _ _ c.requires _ c.if-out-n.false c.write.ensures
 
 pub give_spec : {M : Type 1} → statement M
 give_spec =

@@ -4,20 +4,20 @@ use borrow.Author.Rules.{rules}
 use Rattle.notation_c.proofs.notation_image.Statement.{statement}
 use Rattle.notation_c.proofs.notation_image.Tie as tie
 
-image-line-requires : tie.Need-image-line-requires
+image-line-requires : tie.Need-image_line-r-requires
 image-line-requires c κs = search rules
 
-returns : tie.Need-returns
-returns c = image-refused _ c.before.before.before.before.args.n _ _ c.before.image-line.ensures.0 c.if1.true
+returns : tie.Need-returns-then-refusal-ne0
+returns c = image-refused _ c.args.n _ _ c.image_line-r.ensures.0 c.if-refusal-ne0.true
 
 give-requires : tie.Need-give-requires
-give-requires c κs = says-counts _ _ c.before.before.image-line.ensures.2
+give-requires c κs = says-counts _ _ c.image_line-r.ensures.2
 
-same_length : tie.Need-same-length
+same_length : tie.Need-shape_of-out
 same_length c = search rules
 
-returns-2 : tie.Need-returns-2
-returns-2 c = image-given _ c.before.before.before.before.before.before.before.before.args.n _ _ c.before.before.before.before.before.image-line.ensures.0 _ _ _ c.before.before.before.before.if1.false c.before.before.before.before.before.image-line.ensures.2 c.before.before.give.ensures
+returns-2 : tie.Need-returns
+returns-2 c = image-given _ c.args.n _ _ c.image_line-r.ensures.0 _ _ _ c.if-refusal-ne0.false c.image_line-r.ensures.2 c.give.ensures
 
 pub notation_image_spec : {M : Type 1} → statement M
 notation_image_spec =

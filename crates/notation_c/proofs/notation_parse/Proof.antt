@@ -6,15 +6,15 @@ use Rattle.notation_c.specs.Interface.{parsed_as}
 use Rattle.notation_c.proofs.notation_parse.Statement.{statement}
 use Rattle.notation_c.proofs.notation_parse.Tie as tie
 
-returns : tie.Need-returns
+returns : tie.Need-returns-in-Steps
 returns c =
-    let f = c.before.before.before.before.before.parse.ensures in
-    (ap parsed_numbers (sym c.before.n.given.1) ∙ f.0, f.1)
+    let f = c.parse.ensures in
+    (ap parsed_numbers (sym c.in-Steps.is) ∙ f.0, f.1)
 
-returns-2 : tie.Need-returns-2
+returns-2 : tie.Need-returns-in-Fault
 returns-2 c =
-    let f = c.before.before.before.before.before.before.parse.ensures in
-    (ap (parsed_as 0 _ _) c.number_of_lem.ensures ∙ ap parsed_numbers (sym c.before.before.l.given.1) ∙ f.0, f.1)
+    let f = c.parse.ensures in
+    (ap (parsed_as 0 _ _) c.number_of.ensures ∙ ap parsed_numbers (sym c.in-Fault.is) ∙ f.0, f.1)
 
 pub notation_parse_spec : {M : Type 1} → statement M
 notation_parse_spec =

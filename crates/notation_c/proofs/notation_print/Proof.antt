@@ -11,11 +11,11 @@ print-requires c κs = search rules
 told-requires : tie.Need-told-requires
 told-requires c κs = search rules
 
-same_length : tie.Need-same-length
+same_length : tie.Need-shape_of-out
 same_length c = search rules
 
 returns : tie.Need-returns
-returns c = (c.told.ensures ∙ ap given_by c.before.before.before.print.ensures.0, c.before.before.before.print.ensures.1)
+returns c = (c.told.ensures ∙ ap given_by c.print.ensures.0, c.print.ensures.1)
 
 pub notation_print_spec : {M : Type 1} → statement M
 notation_print_spec = tie.close (tie.spec print-requires told-requires same_length returns)

@@ -4,17 +4,17 @@ use borrow.Author.Rules.{rules}
 use Rattle.notation_c.proofs.notation_refusal_text.Statement.{statement}
 use Rattle.notation_c.proofs.notation_refusal_text.Tie as tie
 
-refusal-line-requires : tie.Need-refusal-line-requires
+refusal-line-requires : tie.Need-refusal_line-requires
 refusal-line-requires c κs = search rules
 
 give-requires : tie.Need-give-requires
-give-requires c κs = says-counts _ _ c.before.refusal-line.ensures
+give-requires c κs = says-counts _ _ c.refusal_line.ensures
 
-same_length : tie.Need-same-length
+same_length : tie.Need-shape_of-out
 same_length c = search rules
 
 returns : tie.Need-returns
-returns c = gives _ _ _ _ _ c.before.before.before.before.refusal-line.ensures c.before.before.give.ensures
+returns c = gives _ _ _ _ _ c.refusal_line.ensures c.give.ensures
 
 pub notation_refusal_text_spec : {M : Type 1} → statement M
 notation_refusal_text_spec = tie.close (tie.spec refusal-line-requires give-requires same_length returns)
