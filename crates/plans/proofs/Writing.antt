@@ -1,5 +1,5 @@
 -- A plan as the code writes it: what is to be done with each take, its steps one behind the other, zeros after them.
-use Prim.Native.Nat.{ℕ, zero, suc, ◌+◌, ◌*◌, ◌-◌, ◌/◌, ◌%◌, ◌≤◌, ◌<◌}
+use Prim.Native.Nat.{ℕ, suc, ◌+◌, ◌*◌, ◌-◌, ◌/◌, ◌%◌, ◌≤◌, ◌<◌}
 use mathlib.Core.Bool.{Bool, true, false}
 use mathlib.Core.Path.{◌≡◌, refl, sym, ap, ◌∙◌, subst}
 use mathlib.Core.List.{List, [], ◌∷◌, ◌++◌}
@@ -8,7 +8,7 @@ use native.Mathlib.Omega.{arith}
 use lib.Dec.{eqb, leb}
 use lib.ListN.{length, get_or, take, drop, length-append, length-drop}
 use borrow.Author.Tests.{eq-eqb, ne_eqb, lt-ltb, le-ltb}
-use Rattle.octets.specs.Bytes.{pick, ◌and◌, ◌or◌, put, chunks, zeros}
+use Rattle.octets.specs.Bytes.{pick, ◌and◌, put, chunks, zeros}
 use Rattle.octets.specs.Numbers.{be}
 use Rattle.octets.proofs.Put.{put-def, put-append, put-nil, put_whole}
 use Rattle.octets.proofs.Zero.{length-zeros, zeros-is, all_zero-drop, all_zero-zeros}

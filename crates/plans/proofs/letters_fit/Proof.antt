@@ -1,5 +1,4 @@
 -- No letter, no place, or by the numbers.
-use mathlib.Core.Path.{sym, ◌∙◌}
 use native.Mathlib.Omega.{arith}
 use borrow.Author.Rules.{rules}
 use Rattle.rules.specs.Layout.{base}

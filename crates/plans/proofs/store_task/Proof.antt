@@ -1,5 +1,4 @@
 -- Nothing, one step, or three.
-use mathlib.Core.Path.{sym, ap, ◌∙◌}
 use borrow.Author.Rules.{rules}
 use Rattle.plans.proofs.Writing.{tasked-none, tasked-freeze, tasked-wake}
 use Rattle.plans.proofs.store_task.Statement.{statement}
