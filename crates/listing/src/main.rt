@@ -1,11 +1,14 @@
 // Packed steps from standard input as text, each with its reply as a comment, played part by part on a fresh session. A rest under 8
 // bytes is ignored.
+#![tactic(auto)]
+
 ghost use Rattle.std.specs.Prelude.{◌≡◌, length};
 
 use image::layout::IMAGE;
-use libc::{STDIN_FILENO, STDOUT_FILENO};
 use lines::{Line, ROOM};
 use lists::LONGEST;
+use std::io;
+use std::io::Read;
 
 // The longest part of a run.
 const PART: usize = LONGEST;
@@ -35,55 +38,62 @@ fn append(a: Line, b: Line) -> Line {
 }
 
 // Step i and its reply.
-fn listed(list: &[u8], replied: &[u8], i: usize) -> bool {
+fn listed(to: &impl Print, list: &[u8], replied: &[u8], i: usize) -> io::Result<bool> {
     let step = cut(printer::step_line(list, i));
     let reply = replies::reply_line(list, replied, i);
-    writing::show(STDOUT_FILENO, append(step.word(b" # "), reply).byte(b'\n'))
+    writing::show(to, append(step.word(b" # "), reply).byte(b'\n'))
 }
 
 // The first n steps; answers whether all were written.
-fn lines(list: &[u8], replied: &[u8], n: usize) -> bool {
-    let mut i: usize = 0;
-    while i < n {
-        if !listed(list, replied, i) {
-            return false;
+fn lines(to: &impl Print, list: &[u8], replied: &[u8], n: usize) -> io::Result<bool> {
+    for i in 0..n {
+        if !listed(to, list, replied, i)? {
+            return Ok(false);
         }
-        i += 1;
     }
-    true
+    Ok(true)
 }
 
 // Runs as many steps of the list as there is room for replies, and lists them.
-fn play(image: &mut [u8], list: &[u8], replied: &mut [u8]) -> bool {
+fn play(to: &impl Print, image: &mut [u8], list: &[u8], replied: &mut [u8]) -> io::Result<bool> {
     let end = replied.len();
     ledger::run(image, list, 0, end, replied);
-    lines(list, replied, end / 8)
+    lines(to, list, replied, end / 8)
 }
 
 // Reads a part and plays it. Answers whether to go on: it was a whole part, and its lines are written.
-fn part(image: &mut [u8], list: &mut [u8], replied: &mut [u8]) -> bool
+fn part(
+    from: &mut impl Read,
+    to: &impl Print,
+    image: &mut [u8],
+    list: &mut [u8],
+    replied: &mut [u8],
+) -> io::Result<bool>
     requires { (length list.old ≡ 8192) × (length replied.old ≡ 8192) }
 {
-    let got = io::read_full(STDIN_FILENO, list);
+    let got = reading::read_full(from, list)?;
     let end = got / 8 * 8;
-    let written = play(image, list, &mut replied[..end]);
-    written & (got == PART)
+    let written = play(to, image, list, &mut replied[..end])?;
+    Ok(written & (got == PART))
 }
 
 // The next part, with buffers of its own.
-fn turn(image: &mut [u8]) -> bool {
+fn turn(from: &mut impl Read, to: &impl Print, image: &mut [u8]) -> io::Result<bool> {
     let mut list = [0u8; PART];
     let mut replied = [0u8; PART];
-    part(image, &mut list, &mut replied)
+    part(from, to, image, &mut list, &mut replied)
 }
 
 // All of standard input. A loop must end, so the parts are counted.
-fn main() {
+fn main(rt: HostRuntime) -> io::Result<()> {
+    let mut from = rt.reader();
     let mut space = [0u8; IMAGE];
     let image: &mut [u8] = &mut space;
     ledger::begin(image, 16, 32, 15);
-    let mut parts: u64 = 0;
-    while parts < PARTS && turn(image) {
-        parts += 1;
+    for _ in 0..PARTS {
+        if !turn(&mut from, &rt, image)? {
+            break;
+        }
     }
+    Ok(())
 }

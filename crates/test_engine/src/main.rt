@@ -6,11 +6,14 @@
 // The file stdin has 24 lists, with limits from the least to the greatest and chosen by the state of the session, so that every outcome,
 // and every refusal that a session of this length can have, comes up many times. The file stdout was not made by this program: an
 // independent model of documents 01 and 02 gave the replies to the same lists.
+#![tactic(auto)]
+
 ghost use Rattle.std.specs.Prelude.{◌≤◌, ◌<◌};
 
 use image::layout::IMAGE;
-use libc::{STDIN_FILENO, STDOUT_FILENO};
 use lists::STEP;
+use std::io;
+use std::io::Read;
 
 const LISTS: usize = 24;
 
@@ -19,9 +22,8 @@ const LIST: usize = 8192;
 
 const LIMITS: usize = 8;
 
-fn print(n: u64, after: &[u8]) {
-    io::print_decimal(STDOUT_FILENO, n);
-    io::write_all(STDOUT_FILENO, after);
+fn print(to: &impl Print, n: u64, after: &str) -> io::Result<()> {
+    print!(to; "{n}{after}")
 }
 
 // 1 if the outcome or refusal is from low up to high, else 0.
@@ -37,67 +39,75 @@ fn within(outcome: u8, low: u8, high: u8) -> u64
 // How many replies have an outcome or a refusal from low up to high.
 fn count(replies: &[u8], low: u8, high: u8) -> u64 {
     let mut n: u64 = 0;
-    let mut i: usize = 0;
-    while i < replies.len() / STEP {
+    for i in 0..replies.len() / STEP {
         n += within(replies[STEP * i], low, high);
-        i += 1;
     }
     n
 }
 
-// The first byte at which they differ, or the length of a.
+// The first byte at which they differ, or the length of the shorter.
 fn difference(a: &[u8], b: &[u8]) -> usize {
-    let mut i: usize = 0;
-    while i < a.len() && i < b.len() {
+    let end = a.len().min(b.len());
+    for i in 0..end {
         if a[i] != b[i] {
             return i;
         }
-        i += 1;
     }
-    i
+    end
 }
 
-fn share(replies: &[u8], low: u8, high: u8, after: &[u8]) {
-    print(count(replies, low, high), after);
+fn share(to: &impl Print, replies: &[u8], low: u8, high: u8, after: &str) -> io::Result<()> {
+    print(to, count(replies, low, high), after)
 }
 
-fn outcomes(replies: &[u8]) {
-    share(replies, 0, 1, b" done, ");
-    share(replies, 1, 2, b" held, ");
-    share(replies, 2, 3, b" dropped, ");
-    share(replies, 3, 4, b" fallen back, ");
-    share(replies, 4, 5, b" vanished, ");
-    share(replies, 5, 6, b" not ready, ");
-    share(replies, 20, 255, b" refused: ");
+fn outcomes(to: &impl Print, replies: &[u8]) -> io::Result<()> {
+    share(to, replies, 0, 1, " done, ")?;
+    share(to, replies, 1, 2, " held, ")?;
+    share(to, replies, 2, 3, " dropped, ")?;
+    share(to, replies, 3, 4, " fallen back, ")?;
+    share(to, replies, 4, 5, " vanished, ")?;
+    share(to, replies, 5, 6, " not ready, ")?;
+    share(to, replies, 20, 255, " refused: ")
 }
 
-fn verdict(replies: &[u8], others: &[u8]) {
+fn verdict(to: &impl Print, replies: &[u8], others: &[u8]) -> io::Result<()> {
     let at = difference(replies, others);
     if at == replies.len() && at == others.len() {
-        io::write_all(STDOUT_FILENO, b"all replies equal\n");
-        return;
+        return to.println("all replies equal");
     }
-    io::write_all(STDOUT_FILENO, b"they differ at step ");
-    print((at / STEP) as u64 + 1, b"\n");
+    to.print("they differ at step ")?;
+    print(to, (at / STEP) as u64 + 1, "\n")
 }
 
-fn title(transactors: usize, messages: usize, checkpoints: usize, steps: usize) {
-    print(transactors as u64, b" ");
-    print(messages as u64, b" ");
-    print(checkpoints as u64, b": ");
-    print(steps as u64, b" steps, ");
+fn title(
+    to: &impl Print,
+    transactors: usize,
+    messages: usize,
+    checkpoints: usize,
+    steps: usize,
+) -> io::Result<()> {
+    print(to, transactors as u64, " ")?;
+    print(to, messages as u64, " ")?;
+    print(to, checkpoints as u64, ": ")?;
+    print(to, steps as u64, " steps, ")
 }
 
 // One list, by both. The rooms for the replies differ, so that a refused list is not taken for equal replies.
-fn play(list: &[u8], transactors: usize, messages: usize, checkpoints: usize) {
+fn play(
+    to: &impl Print,
+    list: &[u8],
+    transactors: usize,
+    messages: usize,
+    checkpoints: usize,
+) -> io::Result<()> {
     let mut image = [0u8; IMAGE];
     let mut replies = [255u8; LIST];
     let mut others = [254u8; LIST];
     ledger::begin(&mut image, transactors, messages, checkpoints);
     ledger::run(&mut image, list, 0, list.len(), &mut replies);
     engine::play(list, &mut others, transactors, messages, checkpoints);
-    outcomes(&replies);
-    verdict(&replies, &others);
+    outcomes(to, &replies)?;
+    verdict(to, &replies, &others)
 }
 
 fn wide(x: u8) -> usize
@@ -107,26 +117,26 @@ fn wide(x: u8) -> usize
 }
 
 // The next list of the input, with these limits.
-fn play_with(limits: &[u8; LIMITS]) {
+fn play_with(from: &mut impl Read, to: &impl Print, limits: &[u8; LIMITS]) -> io::Result<()> {
     let mut list = [0u8; LIST];
-    io::read_full(STDIN_FILENO, &mut list);
+    reading::read_full(from, &mut list)?;
     let transactors = wide(limits[0]);
     let messages = wide(limits[1]);
     let checkpoints = wide(limits[2]);
-    title(transactors, messages, checkpoints, list.len() / STEP);
-    play(&list, transactors, messages, checkpoints);
+    title(to, transactors, messages, checkpoints, list.len() / STEP)?;
+    play(to, &list, transactors, messages, checkpoints)
 }
 
-fn play_next() {
+fn play_next(from: &mut impl Read, to: &impl Print) -> io::Result<()> {
     let mut limits = [0u8; LIMITS];
-    io::read_full(STDIN_FILENO, &mut limits);
-    play_with(&limits);
+    reading::read_full(from, &mut limits)?;
+    play_with(from, to, &limits)
 }
 
-fn main() {
-    let mut i: usize = 0;
-    while i < LISTS {
-        play_next();
-        i += 1;
+fn main(rt: HostRuntime) -> io::Result<()> {
+    let mut from = rt.reader();
+    for _ in 0..LISTS {
+        play_next(&mut from, &rt)?;
     }
+    Ok(())
 }

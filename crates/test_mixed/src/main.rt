@@ -5,10 +5,12 @@
 // The file stdin has 20,000 steps, chosen by the state of the session so that every outcome, and every refusal of a step but 28,
 // for which its sessions are too short, and 31, which no session from a fresh image meets, comes up many times. The file stdout was
 // not made by this program: an independent model of documents 01 and 02 gave the lines for the same steps.
+#![tactic(auto)]
+
 ghost use Rattle.std.specs.Prelude.{◌<◌};
 
 use image::layout::IMAGE;
-use libc::{STDIN_FILENO, STDOUT_FILENO};
+use std::io;
 
 // Bytes and steps of a part, parts of a session, parts, and bytes of them all.
 const PART: usize = 2000;
@@ -30,33 +32,30 @@ fn wide(x: u8) -> u32
 fn adler32(s: &[u8]) -> u32 {
     let mut a: u32 = 1;
     let mut b: u32 = 0;
-    let mut i: usize = 0;
-    while i < s.len() {
-        a = (a + wide(s[i])) % 65521;
+    for x in s {
+        a = (a + wide(*x)) % 65521;
         b = (b + a) % 65521;
-        i += 1;
     }
     b * 65536 + a
 }
 
-fn print(n: u64, after: &[u8]) {
-    io::print_decimal(STDOUT_FILENO, n);
-    io::write_all(STDOUT_FILENO, after);
+fn print(to: &impl Print, n: u64, after: &str) -> io::Result<()> {
+    print!(to; "{n}{after}")
 }
 
 // The line of step, which the last reply answers.
-fn line(step: u64, replies: &[u8], image: &[u8]) {
+fn line(to: &impl Print, step: u64, replies: &[u8], image: &[u8]) -> io::Result<()> {
     if replies.len() < 8 {
-        return;
+        return Ok(());
     }
     let at = replies.len() - 8;
-    print(step, b" ");
-    print(wide(replies[at]) as u64, b" ");
-    print(wide(replies[at + 1]) as u64, b" ");
-    print(octets::load16(replies, at + 2) as u64, b" ");
-    print(octets::load32(replies, at + 4) as u64, b" ");
-    print(adler32(replies) as u64, b" ");
-    print(adler32(image) as u64, b"\n");
+    print(to, step, " ")?;
+    print(to, wide(replies[at]) as u64, " ")?;
+    print(to, wide(replies[at + 1]) as u64, " ")?;
+    print(to, octets::load16(replies, at + 2) as u64, " ")?;
+    print(to, octets::load32(replies, at + 4) as u64, " ")?;
+    print(to, adler32(replies) as u64, " ")?;
+    print(to, adler32(image) as u64, "\n")
 }
 
 // Before the first part of a session: a fresh image, of every fourth session with number 65,280 next.
@@ -71,27 +70,32 @@ fn begin(image: &mut [u8], i: usize) {
 }
 
 // Runs part i of the list.
-fn play(image: &mut [u8], list: &[u8], i: usize, replies: &mut [u8])
+fn play(
+    to: &impl Print,
+    image: &mut [u8],
+    list: &[u8],
+    i: usize,
+    replies: &mut [u8],
+) -> io::Result<()>
     requires { i < 80 }
 {
     let start = PART * i;
     ledger::run(image, list, start, start + PART, replies);
-    line(STEPS * (i as u64 + 1), replies, image);
+    line(to, STEPS * (i as u64 + 1), replies, image)
 }
 
-fn play_all(image: &mut [u8], list: &[u8], replies: &mut [u8]) {
-    let mut i: usize = 0;
-    while i < PARTS {
+fn play_all(to: &impl Print, image: &mut [u8], list: &[u8], replies: &mut [u8]) -> io::Result<()> {
+    for i in 0..PARTS {
         begin(image, i);
-        play(image, list, i, replies);
-        i += 1;
+        play(to, image, list, i, replies)?;
     }
+    Ok(())
 }
 
-fn main() {
+fn main(rt: HostRuntime) -> io::Result<()> {
     let mut list = [0u8; INPUT];
-    io::read_full(STDIN_FILENO, &mut list);
+    reading::read_full(&mut rt.reader(), &mut list)?;
     let mut image = [0u8; IMAGE];
     let mut replies = [0u8; PART];
-    play_all(&mut image, &list, &mut replies);
+    play_all(&rt, &mut image, &list, &mut replies)
 }
