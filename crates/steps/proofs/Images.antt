@@ -16,7 +16,7 @@ use Rattle.rules.specs.declared.Step.{Step}
 use Rattle.rules.specs.declared.Reply.{Reply}
 use Rattle.rules.specs.Step.{done, not_ready, root, letter, new, send, lose, sign}
 use Rattle.rules.specs.Refusals.{malformed}
-use Rattle.rules.specs.Rules.{no_dependences, carried, group_ready, checkpoint_group, refusal, answer, opened, apply_root, apply_letter, apply_new, apply_send, apply_lose, apply_sign}
+use Rattle.rules.specs.Rules.{no_dependences, carried, group_ready, checkpoint_group, refusal, answer, apply_root, apply_letter, apply_new, apply_send, apply_lose, apply_sign}
 use Rattle.rules.specs.Pack.{pack_transactor, unpack_transactor, waiting_in, pack, unpack}
 use Rattle.rules.specs.Internal.Good.{Good}
 use Rattle.steps.specs.Internal.Stepped.{Stepped, Asked, Counted}

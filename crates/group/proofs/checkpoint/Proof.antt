@@ -19,7 +19,7 @@ loop-holds : tie.Need-loop-t-init invariant-loop decreases-loop
 loop-holds c = (search rules, checkpointed-none _ (search rules) _)
 
 part-checkpoint-end : tie.Need-slice_bounds-checkpoint-end invariant-loop decreases-loop
-part-checkpoint-end c = let b = c in omega (arith, checkpointed-long _ (search rules) _ _ _ b.loop-t.invariant.1)
+part-checkpoint-end c = omega (arith, checkpointed-long _ (search rules) _ _ _ c.loop-t.invariant.1)
 
 checkpoint-requires : tie.Need-checkpoint-requires invariant-loop decreases-loop
 checkpoint-requires c κs =

@@ -15,8 +15,7 @@ checkpointed-by-requires c κs =
 
 returns : tie.Need-returns-then-is_named
 returns c =
-    let n = c in
-    c.checkpointed_by.ensures ∙ checkpointed-named base _ _ _ _ n.requires.3 (sym n.is_named.ensures ∙ c.if-is_named.true)
+    c.checkpointed_by.ensures ∙ checkpointed-named base _ _ _ _ c.requires.3 (sym c.is_named.ensures ∙ c.if-is_named.true)
 
 returns-2 : tie.Need-returns-then-not-is_live
 returns-2 c = checkpointed-dead base _ 0 _ _ (failed c.is_live.ensures c.if-not-is_live.true-raw)

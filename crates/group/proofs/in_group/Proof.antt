@@ -15,14 +15,12 @@ same-as-requires c κs =
 
 returns-2 : tie.Need-returns-then-not-is_named
 returns-2 c =
-    let there = c in
-    in-group-unnamed base _ _ _ _ (ap not (sym there.present.ensures) ∙ there.if-not-present.false-raw) (failed c.is_named.ensures c.if-not-is_named.true-raw)
+    in-group-unnamed base _ _ _ _ (ap not (sym c.present.ensures) ∙ c.if-not-present.false-raw) (failed c.is_named.ensures c.if-not-is_named.true-raw)
 
 returns-3 : tie.Need-returns
 returns-3 c =
-    let n = c in
     c.same_as.ensures
-    ∙ in-group-same base _ _ _ _ (ap not (sym n.present.ensures) ∙ n.if-not-present.false-raw) n.requires.3 (passed n.is_named.ensures c.if-not-is_named.false-raw)
+    ∙ in-group-same base _ _ _ _ (ap not (sym c.present.ensures) ∙ c.if-not-present.false-raw) c.requires.3 (passed c.is_named.ensures c.if-not-is_named.false-raw)
 
 pub in_group_spec : {M : Type 1} → statement M
 in_group_spec =

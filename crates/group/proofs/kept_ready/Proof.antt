@@ -24,9 +24,8 @@ state-ready c =
 
 returns : tie.Need-returns-then-not-checkpointed
 returns c =
-    let v = c in
     pair-off base _ _ _ _
-    (sym (kept-other base _ _ _ _ v.requires.3 (failed v.in_group.ensures c.if-not-in_group.true-raw)) ∙ failed c.checkpointed.ensures c.if-not-checkpointed.true-raw)
+    (sym (kept-other base _ _ _ _ c.requires.3 (failed c.in_group.ensures c.if-not-in_group.true-raw)) ∙ failed c.checkpointed.ensures c.if-not-checkpointed.true-raw)
 
 returns-2 : tie.Need-returns-then-not-in_group-2
 returns-2 c =

@@ -32,24 +32,18 @@ all_stable c = present-stable base _ _ c.presents-kept.ensures c.if-kept-group.f
 
 kept-ready-requires : tie.Need-kept_ready-requires invariant-loop decreases-loop invariant-named decreases-named
 kept-ready-requires c κs =
-    let p = c in
-    (search rules, search rules, search rules, kept-named base _ _ p.presents-kept.ensures p.if-kept-group.false p.requires.well _ (search rules))
+    (search rules, search rules, search rules, kept-named base _ _ c.presents-kept.ensures c.if-kept-group.false c.requires.well _ (search rules))
 
 named_again : tie.Need-named-preserved-then-not-is_named invariant-loop decreases-loop invariant-named decreases-named
 named_again c = (held_more (search rules) (search rules) (ready-unnamed base _ _ _ (failed c.is_named.ensures c.if-not-is_named.true-raw)), search rules)
 
 named-again-2 : tie.Need-named-preserved invariant-loop decreases-loop invariant-named decreases-named
 named-again-2 c =
-    let l = c in
-    let n = l in
-    (held_more (search rules) (search rules) (ready-named base _ _ _ (search rules) (all_stable c.before.before.before.before.before.before) (passed n.is_named.ensures l.if-not-is_named.false-raw) l.loop-u.invariant.0 (search rules)), search rules)
+    (held_more (search rules) (search rules) (ready-named base _ _ _ (search rules) (all_stable c.before.before.before.before.before.before) (passed c.is_named.ensures c.if-not-is_named.false-raw) c.loop-u.invariant.0 (search rules)), search rules)
 
 returns-3 : tie.Need-returns-then-not-kept_ready invariant-loop decreases-loop invariant-named decreases-named
 returns-3 c =
-    let l = c in
-    let n = l in
-    let p = n in
-    ready-unmet base _ _ _ (search rules) (all_stable c.before.before.before.before.before.before.before.before.before) (passed n.is_named.ensures l.if-not-is_named.false-raw) l.loop-u.invariant.0 (search rules)
+    ready-unmet base _ _ _ (search rules) (all_stable c.before.before.before.before.before.before.before.before.before) (passed c.is_named.ensures c.if-not-is_named.false-raw) c.loop-u.invariant.0 (search rules)
     (ap not (sym c.kept_ready.ensures) ∙ c.if-not-kept_ready.true-raw)
 
 pub ready_spec : {M : Type 1} → statement M

@@ -10,7 +10,7 @@ use Rattle.group.proofs.refusal.Statement.{statement}
 use Rattle.group.proofs.refusal.Tie as tie
 
 -- 29, 21 of what the image says
-names : (c : tie.After-group-r) → let s = c in c.group-r.result ≡ names_refusal (unpack base s.args.image.now).opened s.args.group
+names : (c : tie.After-group-r) → c.group-r.result ≡ names_refusal (unpack base c.args.image.now).opened c.args.group
 names c = c.group-r.ensures ∙ ap (λ (n : ℕ). names_refusal n c.args.group) c.opened.ensures
 
 pub refusal_spec : {M : Type 1} → statement M

@@ -13,17 +13,14 @@ use Rattle.ledger.proofs.begin.Tie as tie
 -- the limits are in range
 abbrev range : (c : tie.After-store-arg-1) → LimitsInRange (limits_of c.args.transactors c.args.messages c.args.checkpoints)
 range c =
-    let b = c in
-    (in-range-exactly _).0 (sym b.in_range.ensures ∙ not-false _ b.if-not-in_range.false-raw)
+    (in-range-exactly _).0 (sym c.in_range.ensures ∙ not-false _ c.if-not-in_range.false-raw)
 
 returns-2 : tie.Need-returns-then-not-in_range
 returns-2 c = begin-33 base _ _ (search rules) (sym c.in_range.ensures ∙ not-true _ c.if-not-in_range.true-raw)
 
 returns-3 : tie.Need-returns
 returns-3 c =
-    let d = c in
-    let b = d in
-    begin-0 base _ _ (search rules) (sym b.in_range.ensures ∙ not-false _ b.if-not-in_range.false-raw) _ (fresh-stored base _ _ _ d.refresh.ensures d.store.ensures)
+    begin-0 base _ _ (search rules) (sym c.in_range.ensures ∙ not-false _ c.if-not-in_range.false-raw) _ (fresh-stored base _ _ _ c.refresh.ensures c.store.ensures)
 
 pub begin_spec : {M : Type 1} → statement M
 begin_spec =

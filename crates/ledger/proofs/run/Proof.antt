@@ -35,7 +35,6 @@ formed c = ap not (sym c.formed.ensures) ∙ c.if-not-formed.false-raw
 run-steps-requires : tie.Need-run_steps-requires
 unfolding part
 run-steps-requires c κs =
-    let e = c in
     let r = right c.before.before.before.before.before.before in
     let a = (bytes c.before.before.before).args in
     let n = part-steps a.list.now a.start a.end r.forth r.within r.whole a.replies.now (search rules) in
@@ -44,7 +43,6 @@ run-steps-requires c κs =
 returns-5 : tie.Need-returns
 unfolding part
 returns-5 c =
-    let e = c in
     ran-0 base _ _ _ _ _ (search rules) (fine c.before.before.before.before.before.before.before.before.before.before.before) (search rules) _ _ (formed c.before.before.before.before.before.before.before.before)
     c.run_steps.ensures.0 c.run_steps.ensures.1
 

@@ -9,19 +9,15 @@ use Rattle.steps.proofs.local.Tie as tie
 
 act-requires : tie.Need-act-a-requires
 act-requires c κs =
-    let start = c in
-    (good-lent _ start.requires.0 _ start.requires.1.transactor, search rules, search rules, search rules)
+    (good-lent _ c.requires.0 _ c.requires.1.transactor, search rules, search rules, search rules)
 
 returns-2 : tie.Need-returns-then-is_refusal
 returns-2 c =
-    let r = c in
-    let act = r in
-    local-refused _ _ (search rules) (search rules) (search rules) (search rules) (search rules) _ _ _ act.act-a.ensures _ (leb-true 20 _ (sym r.is_refusal.ensures ∙ c.if-is_refusal.true)) c.answered-then-is_refusal.ensures
+    local-refused _ _ (search rules) (search rules) (search rules) (search rules) (search rules) _ _ _ c.act-a.ensures _ (leb-true 20 _ (sym c.is_refusal.ensures ∙ c.if-is_refusal.true)) c.answered-then-is_refusal.ensures
 
 returns-3 : tie.Need-returns
 returns-3 c =
-    let act = c in
-    local-done _ _ (search rules) (search rules) (search rules) (search rules) (search rules) _ _ _ act.act-a.ensures (leb-false 20 _ (sym c.is_refusal.ensures ∙ c.if-is_refusal.false))
+    local-done _ _ (search rules) (search rules) (search rules) (search rules) (search rules) _ _ _ c.act-a.ensures (leb-false 20 _ (sym c.is_refusal.ensures ∙ c.if-is_refusal.false))
 
 pub local_spec : {M : Type 1} → statement M
 local_spec =

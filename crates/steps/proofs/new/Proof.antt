@@ -13,9 +13,8 @@ adopt-requires c κs = (good-lent _ (start c.before.before).requires.good _ (sta
 
 open-requires : tie.Need-open-requires
 open-requires c κs =
-    let adopt = c in
     let asked = (start c.before.before.before.before.before.before).requires in
-    (length_back _ asked.good _ asked.step.transactor _ _ adopt.adopt.ensures, search rules, rw adopt.carry-creation.ensures (bounded-carried _ _))
+    (length_back _ asked.good _ asked.step.transactor _ _ c.adopt.ensures, search rules, rw c.carry-creation.ensures (bounded-carried _ _))
 
 abbrev adopt : tie.After-open → tie.After-adopt
 adopt c = c.before.before.before.before

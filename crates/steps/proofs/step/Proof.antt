@@ -25,7 +25,7 @@ asked : (c : tie.Else-malformed) (k : ℕ) → c.args.p.kind ≡ k → Asked k c
 asked c k e = let p = c.requires in record { good = p.0; step = p.1; formed = well c; kind = e }
 
 -- as the four that are lent the number want it
-counted : (c : tie.Else-malformed) (k : ℕ) → let d = c in d.args.p.kind ≡ k → Asked k d.args.image.now d.args.p × Counted d.args.waiting.now d.args.image.now
+counted : (c : tie.Else-malformed) (k : ℕ) → c.args.p.kind ≡ k → Asked k c.args.image.now c.args.p × Counted c.args.waiting.now c.args.image.now
 counted c k e = (asked c k e, c.requires.2)
 
 -- kinds 5 to 10
@@ -36,35 +36,30 @@ ranged c =
 
 local-requires : tie.Need-local-requires
 local-requires c κs =
-    let e = c in
-    let p = e.requires in
+    let p = c.requires in
     (p.0, p.1, well c.before.before, (ranged c).0, (ranged c).1)
 
 -- the others leave the number as it was
 root-returns : tie.Need-returns-in-0
 root-returns c =
-    let d = c in
-    let p = d.requires in
-    (d.root.ensures, still-counted p.0 p.1 (by-root d.in-0.is) d.root.ensures p.2)
+    let p = c.requires in
+    (c.root.ensures, still-counted p.0 p.1 (by-root c.in-0.is) c.root.ensures p.2)
 
 new-returns : tie.Need-returns-in-3
 new-returns c =
-    let d = c in
-    let p = d.requires in
-    (d.new.ensures, still-counted p.0 p.1 (by-new d.in-3.is) d.new.ensures p.2)
+    let p = c.requires in
+    (c.new.ensures, still-counted p.0 p.1 (by-new c.in-3.is) c.new.ensures p.2)
 
 sign-returns : tie.Need-returns-in-12
 sign-returns c =
-    let d = c in
-    let p = d.requires in
-    (d.sign.ensures, still-counted p.0 p.1 (by_sign d.in-12.is) d.sign.ensures p.2)
+    let p = c.requires in
+    (c.sign.ensures, still-counted p.0 p.1 (by_sign c.in-12.is) c.sign.ensures p.2)
 
 local-returns : tie.Need-returns-in_default
 local-returns c =
-    let d = c in
-    let p = d.requires in
+    let p = c.requires in
     let k = ranged c.before.before.before in
-    (d.local.ensures, still-counted p.0 p.1 (by-local k.0 k.1) d.local.ensures p.2)
+    (c.local.ensures, still-counted p.0 p.1 (by-local k.0 k.1) c.local.ensures p.2)
 
 pub step_spec : {M : Type 1} → statement M
 step_spec =

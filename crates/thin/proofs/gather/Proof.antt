@@ -19,13 +19,10 @@ loop-holds c = gathering-none _ _ c.requires.0 c.requires.1 _ says_none
 
 loop-again : tie.Need-loop-i-preserved invariant-loop decreases-loop
 loop-again c =
-    let d = c in
-    let l = d in
-    let s = l in
-    gathering-more _ _ s.requires.0 s.requires.1 l.loop-i.invariant (search rules) d.decode-p.ensures refl c.keeps-kept.ensures c.place-k.ensures c.with-ahead.ensures
+    gathering-more _ _ c.requires.0 c.requires.1 c.loop-i.invariant (search rules) c.decode-p.ensures refl c.keeps-kept.ensures c.place-k.ensures c.with-ahead.ensures
 
 returns : tie.Need-returns invariant-loop decreases-loop
-returns c = let s = c in gathering-all _ _ s.requires.0 s.requires.1 c.loop-i.invariant (search rules)
+returns c = gathering-all _ _ c.requires.0 c.requires.1 c.loop-i.invariant (search rules)
 
 pub gather_spec : {M : Type 1} → statement M
 gather_spec =

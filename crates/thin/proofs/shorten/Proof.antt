@@ -16,9 +16,8 @@ remove-requires c κs = let s = c.requires in omega (arith, gathered-few _ _ s.0
 
 returns : tie.Need-returns
 returns c =
-    let g = c in
-    let s = g.requires in
-    shortened _ _ s.0 s.1 g.gather-n.ensures c.remove.ensures
+    let s = c.requires in
+    shortened _ _ s.0 s.1 c.gather-n.ensures c.remove.ensures
 
 pub shorten_spec : {M : Type 1} → statement M
 shorten_spec = tie.close (tie.spec (λ c κs. search rules) mul-size sub-gap remove-requires (λ c. search rules) returns)

@@ -19,15 +19,13 @@ shorten-requires : tie.Need-shorten-requires
 unfolding part
 shorten-requires c κs =
     let r = c.run_copy-number.ensures in
-    let s = c in
-    pass-steps _ _ _ _ _ r.0 r.1 c.if-number-ne0.false (octets-of _ s.shared_slice_known-1.given) (octets-of _ s.shared_slice_known-2-1.given) (search rules)
+    pass-steps _ _ _ _ _ r.0 r.1 c.if-number-ne0.false (octets-of _ c.shared_slice_known-1.given) (octets-of _ c.shared_slice_known-2-1.given) (search rules)
 
 returns-2 : tie.Need-returns
 unfolding part
 returns-2 c =
     let r = c.run_copy-number.ensures in
-    let s = c in
-    pass-0 _ _ _ _ _ r.0 r.1 c.if-number-ne0.false (octets-of _ s.shared_slice_known-1.given) (octets-of _ s.shared_slice_known-2-1.given) (search rules) c.shorten.ensures
+    pass-0 _ _ _ _ _ r.0 r.1 c.if-number-ne0.false (octets-of _ c.shared_slice_known-1.given) (octets-of _ c.shared_slice_known-2-1.given) (search rules) c.shorten.ensures
 
 pub thin_spec : {M : Type 1} → statement M
 thin_spec =

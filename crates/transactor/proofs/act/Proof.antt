@@ -25,50 +25,43 @@ early e = act-early base _ _ _ _ _ e.local-r.ensures e.if-r-ne0.false
 returns : tie.Need-returns-then-r-ne0
 unfolding unpack_transactor
 returns c =
-    let d = c in
-    acted (act-refused base _ _ _ _ _ d.local-r.ensures d.if-r-ne0.true) c.outcome_of.ensures (sym d.requires.0.back)
+    acted (act-refused base _ _ _ _ _ c.local-r.ensures c.if-r-ne0.true) c.outcome_of.ensures (sym c.requires.0.back)
 
 returns-2 : tie.Need-returns-in-5
 unfolding unpack_transactor local_by
 returns-2 c =
-    let d = c in
     acts-as
-    (early c.before.before.before.before.before d.in-5.is (omega arith) refl)
+    (early c.before.before.before.before.before c.in-5.is (omega arith) refl)
     c.read.ensures
 
 returns-3 : tie.Need-returns-in-6
 unfolding unpack_transactor local_by
 returns-3 c =
-    let d = c in
     acts-as
-    (early c.before.before.before.before.before d.in-6.is (omega arith) refl)
+    (early c.before.before.before.before.before c.in-6.is (omega arith) refl)
     c.write.ensures
 
 returns-4 : tie.Need-returns-in-7
 unfolding unpack_transactor local_by
 returns-4 c =
-    let d = c in
     acts-as
-    (early c.before.before.before.before.before d.in-7.is (omega arith) refl)
+    (early c.before.before.before.before.before c.in-7.is (omega arith) refl)
     c.freeze.ensures
 
 returns-5 : tie.Need-returns-in-8
 unfolding unpack_transactor local_by finish_by
 returns-5 c =
-    let d = c in
     acted
-    (early c.before.before.before.before.before.before d.in-8.is (omega arith) refl)
+    (early c.before.before.before.before.before.before c.in-8.is (omega arith) refl)
     c.outcome_of-in-8.ensures c.become_idle.ensures
 
 returns-6 : tie.Need-returns-in_default
 unfolding unpack_transactor
 returns-6 c =
-    let d = c in
-    let e = d in
     let s = start c.before.before.before.before.before in
-    let r = d.in_default.in_default-own.rest in
+    let r = c.in_default.in_default-own.rest in
     acts-as
-    (act-late base _ _ _ _ _ e.local-r.ensures e.if-r-ne0.false s.requires.2 s.requires.3 r.0.0.0.1 r.0.0.1 r.0.1 r.1)
+    (act-late base _ _ _ _ _ c.local-r.ensures c.if-r-ne0.false s.requires.2 s.requires.3 r.0.0.0.1 r.0.0.1 r.0.1 r.1)
     c.rollback_unless_stable.ensures
 
 pub act_spec : {M : Type 1} → statement M

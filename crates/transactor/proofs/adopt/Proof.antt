@@ -14,18 +14,12 @@ use Rattle.transactor.proofs.adopt.Tie as tie
 
 store-requires : tie.Need-store-requires
 store-requires c κs =
-    let d = c in
-    let e = d in
-    (search rules, rw (d.join-joined.ensures, e.load-behaviour.ensures, e.one-one.ensures) (bounded-join _ _ _ _ (bounded-singleton _ _ _ _ _ (omega arith)) (bounded-unpack _ _ _ _ (omega arith))))
+    (search rules, rw (c.join-joined.ensures, c.load-behaviour.ensures, c.one-one.ensures) (bounded-join _ _ _ _ (bounded-singleton _ _ _ _ _ (omega arith)) (bounded-unpack _ _ _ _ (omega arith))))
 
 returns : tie.Need-returns
 unfolding adopts unpack_transactor zeros
 returns c =
-    let d = c in
-    let e = d in
-    let f = e in
-    let g = f in
-    stored base _ _ _ _ (put-behaviour base _ _) (sym g.requires.0.back) (d.store.ensures ∙ rw (e.join-joined.ensures, f.load-behaviour.ensures, g.one-one.ensures))
+    stored base _ _ _ _ (put-behaviour base _ _) (sym c.requires.0.back) (c.store.ensures ∙ rw (c.join-joined.ensures, c.load-behaviour.ensures, c.one-one.ensures))
 
 pub adopt_spec : {M : Type 1} → statement M
 adopt_spec =

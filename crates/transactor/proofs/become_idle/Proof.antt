@@ -19,8 +19,7 @@ same_length c = omega (arith, length-set c.args.part.now 0 64)
 returns : tie.Need-returns
 unfolding finish_by
 returns c =
-    let d = c in
-    behaviour-cleared base _ (status-stored base _ idle (sym d.requires.back) (omega arith)) d.clear.ensures
+    behaviour-cleared base _ (status-stored base _ idle (sym c.requires.back) (omega arith)) c.clear.ensures
 
 pub become_idle_spec : {M : Type 1} → statement M
 become_idle_spec =

@@ -8,7 +8,7 @@ use Rattle.transactor.proofs.carry.Tie as tie
 
 returns : tie.Need-returns
 unfolding carried unpack_transactor
-returns c = let d = c in c.join_entry.ensures ∙ rw (d.joined.ensures, d.own-h.ensures)
+returns c = c.join_entry.ensures ∙ rw (c.joined.ensures, c.own-h.ensures)
 
 pub carry_spec : {M : Type 1} → statement M
 carry_spec = tie.close (tie.spec (λ c κs. search rules) (λ c κs. search rules) (λ c κs. search rules) returns)

@@ -12,14 +12,12 @@ checkpoint-requires c κs = rw c.own.ensures (search rules)
 
 renew-requires : tie.Need-renew-requires
 renew-requires c κs =
-    let d = c in (search rules, search rules, rw (d.checkpoint-h.ensures, d.own.ensures) (omega arith))
+    (search rules, search rules, rw (c.checkpoint-h.ensures, c.own.ensures) (omega arith))
 
 returns : tie.Need-returns
 unfolding checkpoint_by unpack_transactor
 returns c =
-    let d = c in
-    let e = d in
-    d.renew.ensures ∙ rw (e.checkpoint-h.ensures, e.own.ensures, d.load32-value.ensures)
+    c.renew.ensures ∙ rw (c.checkpoint-h.ensures, c.own.ensures, c.load32-value.ensures)
 
 pub checkpoint_spec : {M : Type 1} → statement M
 checkpoint_spec =

@@ -16,12 +16,8 @@ store-requires c κs = (search rules, rw c.stabilize-h.ensures (own-bounded _ _ 
 returns : tie.Need-returns
 unfolding freeze_by unpack_transactor
 returns c =
-    let d = c in
-    let e = d in
-    let f = e in
-    let s = f in
     acted refl c.outcome_of.ensures
-    (history-stored base _ _ (sized-unpack _ _ _ _) s.requires.1 (sym s.requires.0.back) (e.stabilize-h.ensures ∙ ap stabilized f.own.ensures) d.store.ensures)
+    (history-stored base _ _ (sized-unpack _ _ _ _) c.requires.1 (sym c.requires.0.back) (c.stabilize-h.ensures ∙ ap stabilized c.own.ensures) c.store.ensures)
 
 pub freeze_spec : {M : Type 1} → statement M
 freeze_spec =

@@ -10,7 +10,7 @@ use Rattle.transactor.proofs.open.Tie as tie
 returns : tie.Need-returns
 unfolding zeros
 returns c =
-    let d = c in stored base _ _ _ _ (put-creation base _ _) d.renew.ensures d.store.ensures
+    stored base _ _ _ _ (put-creation base _ _) c.renew.ensures c.store.ensures
 
 pub open_spec : {M : Type 1} → statement M
 open_spec = tie.close (tie.spec (λ c κs. search rules) (λ c κs. search rules) (λ c. search rules) returns)

@@ -1,5 +1,5 @@
 -- The behaviour map changes; the text stands before it.
-use mathlib.Core.Path.{refl, sym, ◌∙◌}
+use mathlib.Core.Path.{refl, sym}
 use native.Mathlib.Omega.{arith}
 use borrow.Author.Rules.{rules}
 use Rattle.rules.specs.Layout.{base, behaviour_at}
@@ -22,11 +22,10 @@ join-into-requires c κs =
 returns : tie.Need-returns
 unfolding read_by unpack_transactor
 returns c =
-    let d = c in
     record {
       outcome = refl;
-      value = value-behind base _ _ (search rules) d.join_into.ensures c.load32-value.ensures;
-      bytes = stored base _ _ _ _ (put-behaviour base _ _) (sym d.requires.back) d.join_into.ensures;
+      value = value-behind base _ _ (search rules) c.join_into.ensures c.load32-value.ensures;
+      bytes = stored base _ _ _ _ (put-behaviour base _ _) (sym c.requires.back) c.join_into.ensures;
     }
 
 pub read_spec : {M : Type 1} → statement M

@@ -17,35 +17,27 @@ store32-requires c κs = simp length-set (omega arith)
 
 store32-requires-2 : tie.Need-store32-requires-2
 store32-requires-2 c κs =
-    let g = c in
-    let n = cleared-long base 64 _ g.requires.0 g.clear.ensures in
+    let n = cleared-long base 64 _ c.requires.0 c.clear.ensures in
     omega (arith, n)
 
 store-requires : tie.Need-store-requires
 store-requires c κs =
-    let g = c in
-    let n = cleared-long base 64 _ g.requires.0 g.clear.ensures in
+    let n = cleared-long base 64 _ c.requires.0 c.clear.ensures in
     (omega (arith, n), search rules)
 
 same_length : tie.Need-shape_of-part
 same_length c =
-    let g = c in
-    let n = cleared-long base 64 _ g.requires.0 g.clear.ensures in
+    let n = cleared-long base 64 _ c.requires.0 c.clear.ensures in
     omega (arith, n)
 
 returns : tie.Need-returns
 unfolding singleton
 returns c =
-    let d = c in
-    let e = d in
-    let f = e in
-    let g = f in
-    let s = g in
-    history-stored base _ _ (sized-empty _ _) s.requires.1
+    history-stored base _ _ (sized-empty _ _) c.requires.1
     (stored base _ _ _ _ (put-saved base _ _)
-    (stored base _ _ _ _ (put-value base _ _) (status-stored base _ idle (cleared base _ s.requires.0 g.clear.ensures) (omega arith)) f.store32.ensures)
-    e.store32-2.ensures)
-    refl d.store.ensures
+    (stored base _ _ _ _ (put-value base _ _) (status-stored base _ idle (cleared base _ c.requires.0 c.clear.ensures) (omega arith)) c.store32.ensures)
+    c.store32-2.ensures)
+    refl c.store.ensures
 
 pub renew_spec : {M : Type 1} → statement M
 renew_spec =

@@ -11,18 +11,13 @@ use Rattle.transactor.proofs.rollback.Tie as tie
 
 returns : tie.Need-returns-then-h-eq0
 returns c =
-    let d = c in
-    let e = d in
-    acted (rollback-uncheckpointed base _ _ e.own-h.ensures e.if-h-eq0.true) c.outcome_of.ensures d.strip.ensures
+    acted (rollback-uncheckpointed base _ _ c.own-h.ensures c.if-h-eq0.true) c.outcome_of.ensures c.strip.ensures
 
 returns-2 : tie.Need-returns-then-h
 returns-2 c =
-    let d = c in
-    let e = d in
-    let f = e in
     acted
-    (rollback-last base _ _ f.own-h.ensures e.if-h-eq0.false (d.if-h.true ∙ sym largest-base)) c.outcome_of-then-h.ensures
-    (sym f.requires.0.back)
+    (rollback-last base _ _ c.own-h.ensures c.if-h-eq0.false (c.if-h.true ∙ sym largest-base)) c.outcome_of-then-h.ensures
+    (sym c.requires.0.back)
 
 renew-requires : tie.Need-renew-requires
 renew-requires c κs = (search rules, search rules, rw c.rollback.ensures (own-bounded _ _ c.own-h.ensures))
@@ -30,12 +25,9 @@ renew-requires c κs = (search rules, search rules, rw c.rollback.ensures (own-b
 returns-3 : tie.Need-returns
 unfolding unpack_transactor
 returns-3 c =
-    let d = c in
-    let e = d in
-    let f = e in
     acted
-    (rollback-next base _ _ f.own-h.ensures f.if-h-eq0.false (omega (arith, largest-base)) e.rollback.ensures e.load32-saved.ensures)
-    c.outcome_of-2.ensures d.renew.ensures
+    (rollback-next base _ _ c.own-h.ensures c.if-h-eq0.false (omega (arith, largest-base)) c.rollback.ensures c.load32-saved.ensures)
+    c.outcome_of-2.ensures c.renew.ensures
 
 pub rollback_spec : {M : Type 1} → statement M
 rollback_spec =

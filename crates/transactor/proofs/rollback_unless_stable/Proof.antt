@@ -12,20 +12,16 @@ use Rattle.transactor.proofs.rollback_unless_stable.Tie as tie
 
 returns : tie.Need-returns-then-not-h
 returns c =
-    let d = c in
-    let e = d in
-    acts-as (unstable-rolls base _ _ e.own-h.ensures _ (not-true _ e.if-not-h.true)) d.rollback.ensures
+    acts-as (unstable-rolls base _ _ c.own-h.ensures _ (not-true _ c.if-not-h.true)) c.rollback.ensures
 
 same-length-2 : tie.Need-shape_of-part
 same-length-2 c = ⊎_elim (λ w. omega (arith, ap length w.part-is)) (λ w. omega (arith, ap length w.part-is)) c.if-kind-eq-FALL.branch-raw
 
 returns-2 : tie.Need-returns
 returns-2 c =
-    let d = c in
-    let e = d in
     ⊎_elim
-    (λ w. acted (unstable-fall base _ _ e.own-h.ensures _ (not-false _ d.if-not-h.false) w.if-kind-eq-FALL.true) c.outcome_of.ensures (w.part-is ∙ w.become_idle.ensures))
-    (λ w. acted (unstable-fail base _ _ e.own-h.ensures _ (not-false _ d.if-not-h.false) w.if-kind-eq-FALL.false) c.outcome_of.ensures (w.part-is ∙ sym e.requires.0.back))
+    (λ w. acted (unstable-fall base _ _ c.own-h.ensures _ (not-false _ c.if-not-h.false) w.if-kind-eq-FALL.true) c.outcome_of.ensures (w.part-is ∙ w.become_idle.ensures))
+    (λ w. acted (unstable-fail base _ _ c.own-h.ensures _ (not-false _ c.if-not-h.false) w.if-kind-eq-FALL.false) c.outcome_of.ensures (w.part-is ∙ sym c.requires.0.back))
     c.if-kind-eq-FALL.branch-raw
 
 pub rollback_unless_stable_spec : {M : Type 1} → statement M

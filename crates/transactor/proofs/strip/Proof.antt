@@ -14,34 +14,27 @@ store32-requires c κs = simp length-set (omega arith)
 
 store32-requires-2 : tie.Need-store32-requires-2
 store32-requires-2 c κs =
-    let s = c in omega (arith, length-set s.args.part.now 0 (64 * s.args.status))
+    omega (arith, length-set c.args.part.now 0 (64 * c.args.status))
 
 store-empty-requires : tie.Need-store_empty-requires
 store-empty-requires c κs =
-    let s = c in omega (arith, length-set s.args.part.now 0 (64 * s.args.status))
+    omega (arith, length-set c.args.part.now 0 (64 * c.args.status))
 
 store-empty-requires-2 : tie.Need-store_empty-requires-2
 store-empty-requires-2 c κs =
-    let s = c in omega (arith, length-set s.args.part.now 0 (64 * s.args.status))
+    omega (arith, length-set c.args.part.now 0 (64 * c.args.status))
 
 store-empty-requires-3 : tie.Need-store_empty-requires-3
 store-empty-requires-3 c κs =
-    let s = c in omega (arith, length-set s.args.part.now 0 (64 * s.args.status))
+    omega (arith, length-set c.args.part.now 0 (64 * c.args.status))
 
 same_length : tie.Need-shape_of-part
 same_length c =
-    let s = c in
-    omega (arith, length-set s.args.part.now 0 (64 * s.args.status))
+    omega (arith, length-set c.args.part.now 0 (64 * c.args.status))
 
 returns : tie.Need-returns
 returns c =
-    let d = c in
-    let e = d in
-    let f = e in
-    let h = f in
-    let i = h in
-    let s = i in
-    stripped base s.args.part.now s.requires.0 _ s.requires.1 _ refl _ _ _ _ _ i.store32.ensures h.store32-2.ensures f.store_empty.ensures e.store_empty-2.ensures d.store_empty-3.ensures
+    stripped base c.args.part.now c.requires.0 _ c.requires.1 _ refl _ _ _ _ _ c.store32.ensures c.store32-2.ensures c.store_empty.ensures c.store_empty-2.ensures c.store_empty-3.ensures
 
 pub strip_spec : {M : Type 1} → statement M
 strip_spec =

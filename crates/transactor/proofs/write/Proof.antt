@@ -11,33 +11,27 @@ use Rattle.transactor.proofs.write.Tie as tie
 
 returns : tie.Need-returns-then-h
 returns c =
-    let d = c in
-    let e = d in
-    acted (write-stable base _ _ e.own-h.ensures _ d.if-h.true) c.outcome_of.ensures (sym e.requires.0.back)
+    acted (write-stable base _ _ c.own-h.ensures _ c.if-h.true) c.outcome_of.ensures (sym c.requires.0.back)
 
 join-into-requires : tie.Need-join_into-requires
 unfolding unpack_transactor
 join-into-requires c κs =
-    let d = c in
-    let p = d.requires.0 in (
+    let p = c.requires.0 in (
       search rules,
       search rules,
       map-exact base _ state_at _ (omega arith) (put-state base _ _)
-          (stored base _ _ _ _ (put-value base _ _) (sym p.back) d.store32.ensures) (map-behind base _ _ p.long d.store32.ensures state_at (omega arith)),
+          (stored base _ _ _ _ (put-value base _ _) (sym p.back) c.store32.ensures) (map-behind base _ _ p.long c.store32.ensures state_at (omega arith)),
     )
 
 returns-2 : tie.Need-returns
 unfolding unpack_transactor
 returns-2 c =
-    let d = c in
-    let e = d in
-    let f = e in
-    let p = f.requires.0 in
-    let kept = map-behind base _ _ p.long e.store32.ensures in
+    let p = c.requires.0 in
+    let kept = map-behind base _ _ p.long c.store32.ensures in
     acted
-    (write-unstable base _ _ f.own-h.ensures _ f.if-h.false) c.outcome_of-2.ensures
-    (stored base _ _ _ _ (put-state base _ _) (stored base _ _ _ _ (put-value base _ _) (sym p.back) e.store32.ensures)
-    (d.join_into.ensures ∙ rw (kept (behaviour_at base) (omega arith), kept state_at (omega arith))))
+    (write-unstable base _ _ c.own-h.ensures _ c.if-h.false) c.outcome_of-2.ensures
+    (stored base _ _ _ _ (put-state base _ _) (stored base _ _ _ _ (put-value base _ _) (sym p.back) c.store32.ensures)
+    (c.join_into.ensures ∙ rw (kept (behaviour_at base) (omega arith), kept state_at (omega arith))))
 
 pub write_spec : {M : Type 1} → statement M
 write_spec =

@@ -16,9 +16,7 @@ all-zero-requires c κs = omega (arith, waiting_few base c.args.image.now)
 
 returns : tie.Need-returns-then-all_zero
 returns c =
-    let m = c in
-    let s = m in
-    unheard base _ _ s.requires.1 _ s.requires.2 s.requires.0.back (rw m.map_at-from.ensures at (sym c.all_zero.ensures ∙ c.if-all_zero.true))
+    unheard base _ _ c.requires.1 _ c.requires.2 c.requires.0.back (rw c.map_at-from.ensures at (sym c.all_zero.ensures ∙ c.if-all_zero.true))
 
 pub hear_spec : {M : Type 1} → statement M
 hear_spec =

@@ -11,21 +11,15 @@ map-at-requires : tie.Need-map_at-from-requires
 map-at-requires c κs = omega (arith, waiting_few base c.args.image.now)
 
 inform-requires : tie.Need-inform-requires
-inform-requires c κs = let s = c in rw c.map_at-from.ensures (state-asked base _ _ s.requires.1 _ s.requires.2 s.requires.0.back)
+inform-requires c κs = rw c.map_at-from.ensures (state-asked base _ _ c.requires.1 _ c.requires.2 c.requires.0.back)
 
 inform-requires-2 : tie.Need-inform-requires-2
 inform-requires-2 c κs =
-    let i = c in
-    let m = i in
-    let s = m in
-    rw m.map_at-from.ensures (creation-asked base _ _ s.requires.1 _ s.requires.2 s.requires.0.back _ (rw m.map_at-from.ensures at i.inform.ensures))
+    rw c.map_at-from.ensures (creation-asked base _ _ c.requires.1 _ c.requires.2 c.requires.0.back _ (rw c.map_at-from.ensures at c.inform.ensures))
 
 returns : tie.Need-returns
 returns c =
-    let i = c in
-    let m = i in
-    let s = m in
-    heard base _ _ s.requires.1 _ s.requires.2 s.requires.0.back _ (rw m.map_at-from.ensures at i.inform.ensures) _ (rw m.map_at-from.ensures at c.inform-2.ensures)
+    heard base _ _ c.requires.1 _ c.requires.2 c.requires.0.back _ (rw c.map_at-from.ensures at c.inform.ensures) _ (rw c.map_at-from.ensures at c.inform-2.ensures)
 
 pub inform_spec : {M : Type 1} → statement M
 inform_spec =

@@ -15,38 +15,27 @@ compared-requires c κs = (search rules, search rules, omega (arith, waiting_few
 
 returns : tie.Need-returns-then-answers
 returns c =
-    let asked = c in
-    let said = rw asked.map_at.ensures at asked.compared-answers.ensures in
-    let s = asked in
+    let said = rw c.map_at.ensures at c.compared-answers.ensures in
     acted-at _ _
-    (accepts-unrelated base _ _ s.requires.1 _ s.requires.2 _ said.0 c.if-answers.true)
-    c.outcome_of.ensures (kept_at _ s.requires.0 _)
+    (accepts-unrelated base _ _ c.requires.1 _ c.requires.2 _ said.0 c.if-answers.true)
+    c.outcome_of.ensures (kept_at _ c.requires.0 _)
 
 settle-requires : tie.Need-settle-requires
 settle-requires c κs = c.requires
 
 returns-2 : tie.Need-returns-in_default
 returns-2 c =
-    let settled = c in
-    let told = settled in
-    let branch = told in
-    let asked = branch in
-    let said = rw asked.map_at.ensures at asked.compared-answers.ensures in
-    let s = asked in
+    let said = rw c.map_at.ensures at c.compared-answers.ensures in
     acts-as _ _
-    (accepts-settled base _ _ s.requires.1 _ s.requires.2 _ said.0 branch.if-answers.false _ said.1 told.in_default.is asked.compared-answers.result.own said.2)
-    settled.settle.ensures
+    (accepts-settled base _ _ c.requires.1 _ c.requires.2 _ said.0 c.if-answers.false _ said.1 c.in_default.is c.compared-answers.result.own said.2)
+    c.settle.ensures
 
 returns-3 : tie.Need-returns
 returns-3 c =
-    let told = c in
-    let branch = told in
-    let asked = branch in
-    let said = rw asked.map_at.ensures at asked.compared-answers.ensures in
-    let s = asked in
+    let said = rw c.map_at.ensures at c.compared-answers.ensures in
     acted-at _ _
-    (accepts-dropped base _ _ s.requires.1 _ s.requires.2 _ said.0 branch.if-answers.false _ said.1 told.in-Superseded.is)
-    c.outcome_of-2.ensures (kept_at _ s.requires.0 _)
+    (accepts-dropped base _ _ c.requires.1 _ c.requires.2 _ said.0 c.if-answers.false _ said.1 c.in-Superseded.is)
+    c.outcome_of-2.ensures (kept_at _ c.requires.0 _)
 
 pub accept_spec : {M : Type 1} → statement M
 accept_spec =

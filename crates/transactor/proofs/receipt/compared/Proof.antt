@@ -24,8 +24,7 @@ compare-requires c κs =
 
 returns-2 : tie.Need-returns
 returns-2 c =
-    let j = c in
-    (c.compare.ensures.0 ∙ rw j.joined-known.ensures, c.compare.ensures.1 ∙ rw j.joined-known.ensures, c.compare.ensures.2 ∙ rw j.joined-known.ensures)
+    (c.compare.ensures.0 ∙ rw c.joined-known.ensures, c.compare.ensures.1 ∙ rw c.joined-known.ensures, c.compare.ensures.2 ∙ rw c.joined-known.ensures)
 
 pub compared_spec : {M : Type 1} → statement M
 compared_spec = tie.close (tie.spec (λ c κs. search rules) returns (λ c κs. search rules) compare-requires returns-2)

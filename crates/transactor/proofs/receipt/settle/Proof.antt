@@ -10,30 +10,20 @@ use Rattle.transactor.proofs.receipt.settle.Tie as tie
 
 take-in-requires : tie.Need-take_in-requires
 take-in-requires c κs =
-    let h = c in
-    let s = h in
-    (heard-good _ s.requires.0 _ s.requires.1 _ s.requires.2 _ h.hear.ensures, s.requires.1, heard-waits _ s.requires.0 _ s.requires.1 _ s.requires.2 _ h.hear.ensures)
+    (heard-good _ c.requires.0 _ c.requires.1 _ c.requires.2 _ c.hear.ensures, c.requires.1, heard-waits _ c.requires.0 _ c.requires.1 _ c.requires.2 _ c.hear.ensures)
 
 returns : tie.Need-returns-in_default
 returns c =
-    let taken = c in
-    let h = taken in
-    let told = h in
-    let s = told in
-    acted-at _ _ (settles-done base _ _ _ _ told.in_default.is) c.outcome_of.ensures
-    (heard-taken _ s.requires.0 _ s.requires.1 _ s.requires.2 _ h.hear.ensures _ taken.take_in.ensures)
+    acted-at _ _ (settles-done base _ _ _ _ c.in_default.is) c.outcome_of.ensures
+    (heard-taken _ c.requires.0 _ c.requires.1 _ c.requires.2 _ c.hear.ensures _ c.take_in.ensures)
 
 rollback-requires : tie.Need-rollback-requires
 rollback-requires c κs =
-    let s = c in
-    (good-lent _ s.requires.0 _ s.requires.1, s.requires.1)
+    (good-lent _ c.requires.0 _ c.requires.1, c.requires.1)
 
 returns-2 : tie.Need-returns
 returns-2 c =
-    let rolled = c in
-    let told = rolled in
-    let s = told in
-    lent_at _ s.requires.0 _ s.requires.1 (rollback_or28 base _) (settles-rollback base _ _ _ _ told.in-Superseded.is) rolled.rollback.ensures
+    lent_at _ c.requires.0 _ c.requires.1 (rollback_or28 base _) (settles-rollback base _ _ _ _ c.in-Superseded.is) c.rollback.ensures
 
 pub settle_spec : {M : Type 1} → statement M
 settle_spec =

@@ -19,9 +19,7 @@ same_length c = simp length-set at c.lower.auto.image
 
 returns : tie.Need-returns
 returns c =
-    let m = c in
-    let s = m in
-    taken-in base _ _ s.requires.1 _ s.requires.2 s.requires.0.back _ _ (rw m.map_at-from.ensures) c.lower.ensures
+    taken-in base _ _ c.requires.1 _ c.requires.2 c.requires.0.back _ _ (rw c.map_at-from.ensures) c.lower.ensures
 
 pub take_in_spec : {M : Type 1} → statement M
 take_in_spec =

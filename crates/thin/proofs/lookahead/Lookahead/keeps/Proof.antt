@@ -14,14 +14,12 @@ returns c = rw (sym c.is_refusal.ensures ∙ c.if-is_refusal.true)
 returns-2 : tie.Need-returns-then-p-ne-READ
 unfolding kept_by not_refused
 returns-2 c =
-    let e = c in
-    rw (sym e.is_refusal.ensures ∙ e.if-is_refusal.false, ne_eqb _ 5 c.if-p-ne-READ.true)
+    rw (sym c.is_refusal.ensures ∙ c.if-is_refusal.false, ne_eqb _ 5 c.if-p-ne-READ.true)
 
 returns-3 : tie.Need-returns
 unfolding kept_by not_refused
 returns-3 c =
-    let e = c in
-    rw (sym e.is_refusal.ensures ∙ e.if-is_refusal.false, c.if-p-ne-READ.false)
+    rw (sym c.is_refusal.ensures ∙ c.if-is_refusal.false, c.if-p-ne-READ.false)
 
 pub keeps_spec : {M : Type 1} → statement M
 keeps_spec = tie.close (tie.spec (λ c κs. search rules) returns returns-2 (λ c. search rules) (λ c. search rules) returns-3)

@@ -11,17 +11,13 @@ returns c = with-refused _ _ _ (search rules) (leb-true 20 _ (sym c.is_refusal.e
 
 returns-2 : tie.Need-returns-then-acts
 returns-2 c =
-    let e = c in
-    with-action _ _ _ (search rules) (leb-false 20 _ (sym e.is_refusal.ensures ∙ e.if-is_refusal.false)) (sym c.acts.ensures ∙ c.if-acts.true) (search rules) _ c.empties.ensures
+    with-action _ _ _ (search rules) (leb-false 20 _ (sym c.is_refusal.ensures ∙ c.if-is_refusal.false)) (sym c.acts.ensures ∙ c.if-acts.true) (search rules) _ c.empties.ensures
 
 returns-3 : tie.Need-returns-then-kind-ne-SIGN
 returns-3 c = with-other _ _ _ (search rules) (sym c.acts.ensures ∙ c.if-acts.false) (search rules)
 
-returns-4 : tie.Need-returns-then-outcome-ne-DONE
-returns-4 c = with-unsigned _ _ _ (search rules) (sym c.acts.ensures ∙ c.if-acts.false) (search rules)
-
-returns-5 : tie.Need-returns
-returns-5 c = with-checkpointed _ _ _ (search rules) (sym c.acts.ensures ∙ c.if-acts.false) (search rules) (search rules) c.with_group.ensures
+returns-4 : tie.Need-returns
+returns-4 c = with-checkpointed _ _ _ (search rules) (sym c.acts.ensures ∙ c.if-acts.false) (search rules) (search rules) c.with_group.ensures
 
 pub with_spec : {M : Type 1} → statement M
 with_spec =
@@ -35,6 +31,6 @@ with_spec =
     (λ c. search rules)
     returns-2
     returns-3
-    returns-4
+    (λ c. with-unsigned _ _ _ (search rules) (sym c.acts.ensures ∙ c.if-acts.false) (search rules))
     (λ c κs. search rules)
-    returns-5)
+    returns-4)
