@@ -1,36 +1,40 @@
 // An image from standard input as text.
+#![tactic(auto)]
+
 use image::layout::IMAGE;
 use inspection::LINES;
-use libc::{STDIN_FILENO, STDOUT_FILENO};
 use lines::Line;
+use std::io;
 
 // Line n, or why there is none; answers whether to go on.
-fn line(image: &[u8], n: usize) -> bool {
+fn line(to: &impl Print, image: &[u8], n: usize) -> io::Result<bool> {
     let r = inspection::image_line(image, n);
     let refusal = r.refusal;
     if refusal != 0 {
         writing::show(
-            STDOUT_FILENO,
+            to,
             Line::EMPTY
                 .word(b"refused ")
                 .number(refusal as u32)
                 .byte(b'\n'),
-        );
-        return false;
+        )?;
+        return Ok(false);
     }
-    writing::show(STDOUT_FILENO, r.line)
+    writing::show(to, r.line)
 }
 
-fn lines(image: &[u8]) {
-    let mut n: usize = 0;
-    while n < LINES && line(image, n) {
-        n += 1;
+fn lines(to: &impl Print, image: &[u8]) -> io::Result<()> {
+    for n in 0..LINES {
+        if !line(to, image, n)? {
+            break;
+        }
     }
+    Ok(())
 }
 
 // One byte more than an image has, so that a longer input is refused.
-fn main() {
+fn main(rt: HostRuntime) -> io::Result<()> {
     let mut space = [0u8; IMAGE + 1];
-    let got = io::read_full(STDIN_FILENO, &mut space);
-    lines(&space[..got]);
+    let got = reading::read_full(&mut rt.reader(), &mut space)?;
+    lines(&rt, &space[..got])
 }
