@@ -23,19 +23,15 @@ pub fn set(s: &mut [u8], at: usize, b: usize)
 
 // Every byte is b.
 pub(crate) fn fill(s: &mut [u8], b: usize) {
-    let mut i: usize = 0;
-    while i < s.len() {
+    for i in 0..s.len() {
         set(s, i, b);
-        i += 1;
     }
 }
 
 // The first bytes are those of from.
 pub(crate) fn copy(s: &mut [u8], from: &[u8]) {
-    let mut i: usize = 0;
-    while i < s.len() {
+    for i in 0..s.len() {
         set(s, i, get(from, i) as usize);
-        i += 1;
     }
 }
 
@@ -43,12 +39,10 @@ pub(crate) fn copy(s: &mut [u8], from: &[u8]) {
 pub fn starts_with(s: &[u8], start: &[u8]) -> bool
     ensures { result ≡ every (length start.now) (λ i. eqb (get_or s.now i 0) (get_or start.now i 0)) }
 {
-    let mut i: usize = 0;
-    while i < start.len() {
+    for i in 0..start.len() {
         if get(s, i) != start[i] {
             return false;
         }
-        i += 1;
     }
     true
 }
@@ -56,10 +50,8 @@ pub fn starts_with(s: &[u8], start: &[u8]) -> bool
 // The number of so many bytes from at on.
 pub(crate) fn packed(s: &[u8], at: usize, width: usize) -> usize {
     let mut n: usize = 0;
-    let mut k: usize = 0;
-    while k < width {
+    for k in 0..width {
         n = n % 16777216 * 256 + get(s, at % 4294967296 + k % 4) as usize;
-        k += 1;
     }
     n
 }

@@ -2,20 +2,14 @@
 use crate::print::COMPARE;
 use crate::{bytes, numbers, print};
 use image::layout::IMAGE;
+use std::io;
 
 // The longest destination that a script asks for.
 const ROOM: usize = IMAGE + 1;
 
 // Whether every byte is 255.
 fn untouched(s: &[u8]) -> bool {
-    let mut i: usize = 0;
-    while i < s.len() {
-        if s[i] != 255 {
-            return false;
-        }
-        i += 1;
-    }
-    true
+    s.iter().all(|b| *b == 255)
 }
 
 // j, k: the image forward or back.
@@ -27,41 +21,61 @@ fn carried(op: u8, image: &[u8], target: &mut [u8]) -> u8 {
 }
 
 // Into a destination of which every byte is 255. Prints the answer, and whether the destination changed.
-fn converted(op: u8, image: &[u8], target: &mut [u8], number: usize) -> bool {
+fn converted(
+    to: &impl Print,
+    op: u8,
+    image: &[u8],
+    target: &mut [u8],
+    number: usize,
+) -> io::Result<bool> {
     bytes::fill(target, 255);
     let answer = carried(op, image, target);
-    print::number(answer as usize);
-    print::finish(COMPARE, untouched(target), number);
-    answer == 0
+    print::number(to, answer as usize)?;
+    print::finish(to, COMPARE, untouched(target), number)?;
+    Ok(answer == 0)
 }
 
 // From the image of length old at the front of space into the first bytes of other, and back to space if the answer is 0. Gives the
 // image's length from then on.
-fn moved(n: &[u8], space: &mut [u8], old: usize, other: &mut [u8], number: usize) -> usize {
+fn moved(
+    to: &impl Print,
+    n: &[u8],
+    space: &mut [u8],
+    old: usize,
+    other: &mut [u8],
+    number: usize,
+) -> io::Result<usize> {
     let length = numbers::at(n, 1);
     if space.len() < old {
-        print::bad(number);
-        return old;
+        print::bad(to, number)?;
+        return Ok(old);
     }
     if other.len() < length {
-        print::bad(number);
-        return old;
+        print::bad(to, number)?;
+        return Ok(old);
     }
     if !converted(
+        to,
         bytes::get(n, 0),
         &space[..old],
         &mut other[..length],
         number,
-    ) {
-        return old;
+    )? {
+        return Ok(old);
     }
     bytes::copy(space, &other[..length]);
-    length
+    Ok(length)
 }
 
 // Plays the line with this number on an image of length old. If the answer is 0, the destination is the image from then on. Gives the
 // image's length.
-pub(crate) fn play(space: &mut [u8], old: usize, n: &[u8], number: usize) -> usize {
+pub(crate) fn play(
+    to: &impl Print,
+    space: &mut [u8],
+    old: usize,
+    n: &[u8],
+    number: usize,
+) -> io::Result<usize> {
     let mut other = [0u8; ROOM];
-    moved(n, space, old, &mut other, number)
+    moved(to, n, space, old, &mut other, number)
 }

@@ -4,6 +4,7 @@ ghost use Rattle.std.specs.Prelude.{◌<◌};
 use crate::print::{BAD, PRINTED, SILENT};
 use crate::{bytes, numbers, print};
 use maps::Comparison;
+use std::io;
 
 // J: the map at a joined with that at b, from at on.
 fn join(image: &mut [u8], a: usize, b: usize, at: usize) -> u8
@@ -20,41 +21,41 @@ fn join(image: &mut [u8], a: usize, b: usize, at: usize) -> u8
 }
 
 // E: whether the map at at is empty.
-fn empty(image: &[u8], at: usize) -> u8
+fn empty(to: &impl Print, image: &[u8], at: usize) -> io::Result<u8>
     requires { at < 4294967296 }
 {
     if image.len() < at + maps::SIZE {
-        return BAD;
+        return Ok(BAD);
     }
-    print::truth(packed_maps::load(image, at).is_empty());
-    PRINTED
+    print::truth(to, packed_maps::load(image, at).is_empty())?;
+    Ok(PRINTED)
 }
 
 // M: the first take whose mark in the map at at is stale by that in the maps at a and b joined.
-fn compare(image: &[u8], at: usize, a: usize, b: usize) -> u8
+fn compare(to: &impl Print, image: &[u8], at: usize, a: usize, b: usize) -> io::Result<u8>
     requires { (a < 4294967296) × (b < 4294967296) × (at < 4294967296) }
 {
     let n = image.len();
     if n < a + maps::SIZE || n < b + maps::SIZE || n < at + maps::SIZE {
-        return BAD;
+        return Ok(BAD);
     }
     let known = packed_maps::joined(image, a, b);
     let found = packed_maps::compare(known, image, at).packed;
     match found {
-        Comparison::Superseded(t) => print::number(t),
-        Comparison::Current => print::truth(false),
-    }
-    PRINTED
+        Comparison::Superseded(t) => print::number(to, t),
+        Comparison::Current => print::truth(to, false),
+    }?;
+    Ok(PRINTED)
 }
 
-pub(crate) fn play(image: &mut [u8], n: &[u8]) -> u8 {
+pub(crate) fn play(to: &impl Print, image: &mut [u8], n: &[u8]) -> io::Result<u8> {
     let op = bytes::get(n, 0);
     let a = numbers::at(n, 1);
     let b = numbers::at(n, 2);
     let c = numbers::at(n, 3);
     match op {
-        b'J' => join(image, a, b, c),
-        b'E' => empty(image, a),
-        _ => compare(image, a, b, c),
+        b'J' => Ok(join(image, a, b, c)),
+        b'E' => empty(to, image, a),
+        _ => compare(to, image, a, b, c),
     }
 }

@@ -16,12 +16,10 @@ fn matches(forms: &[u8], i: usize, op: u8, count: u8) -> bool
 pub(crate) fn group(forms: &[u8], n: &[u8]) -> u8 {
     let op = get(n, 0);
     let count = (48 + numbers::count(n)) as u8;
-    let mut k: usize = 0;
-    while k < 64 {
+    for k in 0..64 {
         if matches(forms, 5 * k, op, count) {
             return get(forms, 5 * k + 3);
         }
-        k += 1;
     }
     0
 }

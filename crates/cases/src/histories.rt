@@ -5,6 +5,7 @@ use crate::print::{BAD, PRINTED, SILENT};
 use crate::{bytes, numbers, print};
 use lists::limits::LAST;
 use marks::{History, Relation};
+use std::io;
 
 // A history of a flag, an incarnation number and a list: the numbers from the second on, of which there are 2 to 17.
 fn history(n: &[u8]) -> History {
@@ -12,10 +13,8 @@ fn history(n: &[u8]) -> History {
     h.stable = numbers::at(n, 2) != 0;
     h.incarnation = (numbers::at(n, 3) % 65536) as u16;
     h.count = ((numbers::count(n) + 13) % 16) as u8;
-    let mut k: usize = 0;
-    while k < marks::PLACES {
+    for k in 0..marks::PLACES {
         h.checkpoints[k] = (numbers::at(n, k + 4) % 65536) as u16;
-        k += 1;
     }
     h
 }
@@ -111,17 +110,17 @@ fn relation(x: History, y: History) -> usize {
     x.compare(y).number() as usize
 }
 
-fn pair(op: u8, image: &[u8], a: usize, b: usize) -> u8
+fn pair(to: &impl Print, op: u8, image: &[u8], a: usize, b: usize) -> io::Result<u8>
     requires { (a < 4294967296) × (b < 4294967296) }
 {
     let x = load(image, a);
     let y = load(image, b);
     if op == b'T' {
-        print::number(relation(x, y));
+        print::number(to, relation(x, y))?;
     } else {
-        print::truth(related(op, x, y));
+        print::truth(to, related(op, x, y))?;
     }
-    PRINTED
+    Ok(PRINTED)
 }
 
 // W, P, Q: whether the bytes from at on are well-formed, a history is present in them, and it is frozen.
@@ -138,22 +137,22 @@ fn told(op: u8, image: &[u8], at: usize) -> bool
     }
 }
 
-fn ask(op: u8, image: &[u8], at: usize) -> u8
+fn ask(to: &impl Print, op: u8, image: &[u8], at: usize) -> io::Result<u8>
     requires { at < 4294967296 }
 {
-    print::truth(told(op, image, at));
-    PRINTED
+    print::truth(to, told(op, image, at))?;
+    Ok(PRINTED)
 }
 
-pub(crate) fn play(image: &mut [u8], n: &[u8]) -> u8 {
+pub(crate) fn play(to: &impl Print, image: &mut [u8], n: &[u8]) -> io::Result<u8> {
     let op = bytes::get(n, 0);
     let a = numbers::at(n, 1);
     let b = numbers::at(n, 2);
     match op {
-        b'H' => store(image, a, history(n)),
-        b'Z' | b'R' | b'K' => advance(op, image, a),
-        b'N' => newer(image, a, b, numbers::at(n, 3)),
-        b'W' | b'P' | b'Q' => ask(op, image, a),
-        _ => pair(op, image, a, b),
+        b'H' => Ok(store(image, a, history(n))),
+        b'Z' | b'R' | b'K' => Ok(advance(op, image, a)),
+        b'N' => Ok(newer(image, a, b, numbers::at(n, 3))),
+        b'W' | b'P' | b'Q' => ask(to, op, image, a),
+        _ => pair(to, op, image, a, b),
     }
 }

@@ -1,4 +1,6 @@
 // A script of cases: lines of an operation's letter, its numbers and a label, the operations, and what they print.
+#![tactic(auto)]
+
 pub mod bytes;
 mod calls;
 mod conversions;

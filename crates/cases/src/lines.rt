@@ -8,28 +8,24 @@ pub fn line_end(s: &[u8], from: usize) -> usize
     requires { from < length s.now }
     ensures { (from ≤ result) × (result ≤ length s.now) }
 {
-    let mut i = from;
-    while i < s.len() {
+    for i in from..s.len() {
         if s[i] == b'\n' {
             return i;
         }
-        i += 1;
     }
-    i
+    s.len()
 }
 
 // The end of a line's letter and numbers.
 pub(crate) fn numbers_end(s: &[u8]) -> usize
     ensures { result ≤ length s.now }
 {
-    let mut i: usize = 0;
-    while i < s.len() {
+    for i in 0..s.len() {
         if s[i] == b' ' && bytes::get(s, i + 1) == b'|' {
             return i;
         }
-        i += 1;
     }
-    i
+    s.len()
 }
 
 // The label of a line whose numbers end there.

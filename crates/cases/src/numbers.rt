@@ -38,14 +38,12 @@ pub(crate) fn count(n: &[u8]) -> usize
 {
     let mut found: usize = 0;
     let mut left: usize = 1;
-    let mut i: usize = 1;
-    while i < n.len() {
+    for i in 1..n.len() {
         left = left_after(left, n[i], bytes::get(n, i + 1));
         if left == 0 {
             return WRONG;
         }
         found += one_if(left == 10);
-        i += 1;
     }
     if WRONG < found {
         return WRONG;
@@ -70,12 +68,10 @@ pub(crate) fn at(n: &[u8], k: usize) -> usize
 {
     let mut value: usize = 0;
     let mut found: usize = 0;
-    let mut i: usize = 1;
-    while i < n.len() {
+    for i in 1..n.len() {
         let c = n[i];
         found += one_if(c == b' ');
         value = extended(value, c, found == k);
-        i += 1;
     }
     value
 }
@@ -87,10 +83,8 @@ pub(crate) fn put(s: &mut [u8], n: &[u8]) -> u8 {
     if s.len() + 1 < from + end {
         return print::BAD;
     }
-    let mut k: usize = 1;
-    while k < end {
+    for k in 1..end {
         bytes::set(s, from + (k - 1), at(n, k + 1));
-        k += 1;
     }
     print::SILENT
 }

@@ -3,6 +3,7 @@ ghost use Rattle.std.specs.Prelude.{◌<◌};
 
 use crate::print::{BAD, PRINTED, SILENT};
 use crate::{bytes, numbers, print};
+use std::io;
 
 // i: an image of one byte.
 fn filled(image: &mut [u8], b: usize) -> u8 {
@@ -11,17 +12,24 @@ fn filled(image: &mut [u8], b: usize) -> u8 {
 }
 
 // z: whether all bytes are zero.
-fn zero(image: &[u8]) -> u8 {
-    print::truth(octets::all_zero(image, 0, image.len()));
-    PRINTED
+fn zero(to: &impl Print, image: &[u8]) -> io::Result<u8> {
+    print::truth(to, octets::all_zero(image, 0, image.len()))?;
+    Ok(PRINTED)
 }
 
 // v: a number of so many bytes, divided by a number and modulo another, if these are given.
-fn number(image: &[u8], at: usize, width: usize, by: usize, modulo: usize) -> u8
+fn number(
+    to: &impl Print,
+    image: &[u8],
+    at: usize,
+    width: usize,
+    by: usize,
+    modulo: usize,
+) -> io::Result<u8>
     requires { (at < 4294967296) × (width < 4294967296) }
 {
     if image.len() < at + width {
-        return BAD;
+        return Ok(BAD);
     }
     let mut x = bytes::packed(image, at, width);
     if 0 < by {
@@ -30,30 +38,30 @@ fn number(image: &[u8], at: usize, width: usize, by: usize, modulo: usize) -> u8
     if 0 < modulo {
         x = x % modulo;
     }
-    print::number(x);
-    PRINTED
+    print::number(to, x)?;
+    Ok(PRINTED)
 }
 
 // x: so many bytes from at on.
-fn row(image: &[u8], at: usize, count: usize) -> u8
+fn row(to: &impl Print, image: &[u8], at: usize, count: usize) -> io::Result<u8>
     requires { (at < 4294967296) × (count < 4294967296) }
 {
     if image.len() < at + count {
-        return BAD;
+        return Ok(BAD);
     }
-    print::row(image, at, count);
-    PRINTED
+    print::row(to, image, at, count)?;
+    Ok(PRINTED)
 }
 
-pub(crate) fn play(image: &mut [u8], n: &[u8]) -> u8 {
+pub(crate) fn play(to: &impl Print, image: &mut [u8], n: &[u8]) -> io::Result<u8> {
     let op = bytes::get(n, 0);
     let a = numbers::at(n, 1);
     let b = numbers::at(n, 2);
     match op {
-        b'i' => filled(image, b),
-        b'z' => zero(image),
-        b'p' => numbers::put(image, n),
-        b'v' => number(image, a, b, numbers::at(n, 3), numbers::at(n, 4)),
-        _ => row(image, a, b),
+        b'i' => Ok(filled(image, b)),
+        b'z' => zero(to, image),
+        b'p' => Ok(numbers::put(image, n)),
+        b'v' => number(to, image, a, b, numbers::at(n, 3), numbers::at(n, 4)),
+        _ => row(to, image, a, b),
     }
 }

@@ -1,6 +1,7 @@
 // Operations that run steps, one or a list, by the ledger or by the engine, or thin a list.
 use crate::print::{BAD, CHANGED, COMPARE, PRINTED, SILENT};
 use crate::{bytes, numbers, print};
+use std::io;
 
 // The longest list, and the most replies.
 pub const LIST: usize = 8208;
@@ -25,60 +26,66 @@ fn packed(n: &[u8]) -> [u8; 8] {
 // s, r: runs a step so often.
 fn repeat(image: &mut [u8], list: &[u8], times: usize) -> u8 {
     let mut replies = [0u8; 8];
-    let mut i: usize = 0;
-    while i < times {
+    for _ in 0..times {
         ledger::run(image, list, 0, 8, &mut replies);
-        i += 1;
     }
     SILENT
 }
 
-fn reply(r: &[u8]) {
-    print::number(bytes::packed(r, 0, 1));
-    print::number(bytes::packed(r, 1, 1));
-    print::number(bytes::packed(r, 2, 2));
-    print::number(bytes::packed(r, 4, 4));
+fn reply(to: &impl Print, r: &[u8]) -> io::Result<()> {
+    print::number(to, bytes::packed(r, 0, 1))?;
+    print::number(to, bytes::packed(r, 1, 1))?;
+    print::number(to, bytes::packed(r, 2, 2))?;
+    print::number(to, bytes::packed(r, 4, 4))
 }
 
 // c: runs a step, and prints its reply.
-fn step(image: &mut [u8], list: &[u8]) -> u8 {
+fn step(to: &impl Print, image: &mut [u8], list: &[u8]) -> io::Result<u8> {
     let mut replies = [0u8; 8];
     ledger::run(image, list, 0, 8, &mut replies);
-    reply(&replies);
-    COMPARE
+    reply(to, &replies)?;
+    Ok(COMPARE)
 }
 
 // Runs a part of a list, with zeros for the replies; prints the answer.
-fn run(image: &mut [u8], list: &[u8], start: usize, end: usize, replies: &mut [u8]) -> u8 {
+fn run(
+    to: &impl Print,
+    image: &mut [u8],
+    list: &[u8],
+    start: usize,
+    end: usize,
+    replies: &mut [u8],
+) -> io::Result<u8> {
     let answer = ledger::run(image, list, start, end, replies);
-    print::number(answer as usize);
+    print::number(to, answer as usize)?;
     if octets::all_zero(replies, 0, replies.len()) {
-        return COMPARE;
+        return Ok(COMPARE);
     }
-    CHANGED
+    Ok(CHANGED)
 }
 
 // The short list of a part, in a buffer of which every byte was 255: prints the refusal, how many steps are kept, and so many bytes of the
 // buffer.
 fn thinned(
+    to: &impl Print,
     image: &[u8],
     list: &[u8],
     start: usize,
     end: usize,
     out: &mut [u8],
     shown: usize,
-) -> u8 {
+) -> io::Result<u8> {
     bytes::fill(out, 255);
     let mut refusal: u8 = 255;
     let kept = thin::thin(image, list, start, end, out, &mut refusal);
-    print::number(refusal as usize);
-    print::number(kept);
-    print::row(out, 0, shown);
-    PRINTED
+    print::number(to, refusal as usize)?;
+    print::number(to, kept)?;
+    print::row(to, out, 0, shown)?;
+    Ok(PRINTED)
 }
 
 // The engine on a whole list, with replies of which every byte was 255: prints the answer, and so many bytes of the replies.
-fn chained(list: &[u8], replies: &mut [u8], n: &[u8]) -> u8 {
+fn chained(to: &impl Print, list: &[u8], replies: &mut [u8], n: &[u8]) -> io::Result<u8> {
     bytes::fill(replies, 255);
     let answer = engine::play(
         list,
@@ -87,33 +94,46 @@ fn chained(list: &[u8], replies: &mut [u8], n: &[u8]) -> u8 {
         numbers::at(n, 2),
         numbers::at(n, 3),
     );
-    print::number(answer as usize);
-    print::row(replies, 0, numbers::at(n, 6));
-    PRINTED
+    print::number(to, answer as usize)?;
+    print::row(to, replies, 0, numbers::at(n, 6))?;
+    Ok(PRINTED)
 }
 
 // Runs or thins a part, or plays the whole list by the engine.
-fn listed(image: &mut [u8], list: &[u8], buffer: &mut [u8], n: &[u8]) -> u8 {
+fn listed(
+    to: &impl Print,
+    image: &mut [u8],
+    list: &[u8],
+    buffer: &mut [u8],
+    n: &[u8],
+) -> io::Result<u8> {
     let start = numbers::at(n, 1);
     let end = numbers::at(n, 2);
     let op = bytes::get(n, 0);
     match op {
-        b'u' => run(image, list, start, end, buffer),
-        b'd' => thinned(image, list, start, end, buffer, numbers::at(n, 5)),
-        _ => chained(list, buffer, n),
+        b'u' => run(to, image, list, start, end, buffer),
+        b'd' => thinned(to, image, list, start, end, buffer, numbers::at(n, 5)),
+        _ => chained(to, list, buffer, n),
     }
 }
 
 // u, d, G: a list of so many bytes, with a buffer of so many bytes.
-fn part(image: &mut [u8], list: &[u8], n: &[u8], length: usize, room: usize) -> u8 {
+fn part(
+    to: &impl Print,
+    image: &mut [u8],
+    list: &[u8],
+    n: &[u8],
+    length: usize,
+    room: usize,
+) -> io::Result<u8> {
     if list.len() < length {
-        return BAD;
+        return Ok(BAD);
     }
     if LIST < room {
-        return BAD;
+        return Ok(BAD);
     }
     let mut buffer = [0u8; LIST];
-    listed(image, &list[..length], &mut buffer[..room], n)
+    listed(to, image, &list[..length], &mut buffer[..room], n)
 }
 
 // m: puts a step in the list.
@@ -128,37 +148,37 @@ fn put(list: &mut [u8], n: &[u8]) -> u8 {
 }
 
 // t: the worst window of a list of so many bytes of replies.
-fn worst(list: &[u8], length: usize, width: usize) -> u8 {
+fn worst(to: &impl Print, list: &[u8], length: usize, width: usize) -> io::Result<u8> {
     if list.len() < length {
-        return BAD;
+        return Ok(BAD);
     }
     let mut refusal: u8 = 99;
     let w = window::worst_window(&list[..length], width, &mut refusal);
-    print::number(refusal as usize);
-    print::number(w.count);
-    print::number(w.place);
-    PRINTED
+    print::number(to, refusal as usize)?;
+    print::number(to, w.count)?;
+    print::number(to, w.place)?;
+    Ok(PRINTED)
 }
 
-fn steps(op: u8, image: &mut [u8], n: &[u8]) -> u8 {
+fn steps(to: &impl Print, op: u8, image: &mut [u8], n: &[u8]) -> io::Result<u8> {
     let list = packed(n);
     match op {
-        b's' => repeat(image, &list, 1),
-        b'r' => repeat(image, &list, numbers::at(n, 6)),
-        _ => step(image, &list),
+        b's' => Ok(repeat(image, &list, 1)),
+        b'r' => Ok(repeat(image, &list, numbers::at(n, 6))),
+        _ => step(to, image, &list),
     }
 }
 
 // Plays an operation: the image, the list that lines build, and the line up to its label.
-pub(crate) fn play(image: &mut [u8], list: &mut [u8], n: &[u8]) -> u8 {
+pub(crate) fn play(to: &impl Print, image: &mut [u8], list: &mut [u8], n: &[u8]) -> io::Result<u8> {
     let op = bytes::get(n, 0);
     match op {
-        b'l' => numbers::put(list, n),
-        b'm' => put(list, n),
-        b'u' => part(image, list, n, numbers::at(n, 3), numbers::at(n, 4)),
-        b'd' => part(image, list, n, numbers::at(n, 3), numbers::at(n, 4)),
-        b'G' => part(image, list, n, numbers::at(n, 4), numbers::at(n, 5)),
-        b't' => worst(list, numbers::at(n, 1), numbers::at(n, 2)),
-        _ => steps(op, image, n),
+        b'l' => Ok(numbers::put(list, n)),
+        b'm' => Ok(put(list, n)),
+        b'u' => part(to, image, list, n, numbers::at(n, 3), numbers::at(n, 4)),
+        b'd' => part(to, image, list, n, numbers::at(n, 3), numbers::at(n, 4)),
+        b'G' => part(to, image, list, n, numbers::at(n, 4), numbers::at(n, 5)),
+        b't' => worst(to, list, numbers::at(n, 1), numbers::at(n, 2)),
+        _ => steps(to, op, image, n),
     }
 }

@@ -3,10 +3,12 @@
 // a fault that does not leave the list as it was says so.
 //
 // The lines of the file stdout were not made by this program: they were written by hand.
+#![tactic(auto)]
+
 use cases::lines::line_end;
 use cases::{bytes, print};
-use libc::{STDIN_FILENO, STDOUT_FILENO};
 use notation::{Expected, Parsed};
+use std::io;
 
 // The longest script, the longest case, the list, and what it holds before.
 const SCRIPT: usize = 65536;
@@ -28,74 +30,71 @@ fn byte_of(c: u8) -> usize {
 
 // The case as a text.
 fn decode(text: &mut [u8], line: &[u8]) {
-    let mut i: usize = 0;
-    while i < line.len() {
+    for i in 0..line.len() {
         bytes::set(text, i, byte_of(line[i]));
-        i += 1;
     }
 }
 
-fn tell(line: usize, column: usize, expected: Expected) {
-    print::text(b" line");
-    print::number(line);
-    print::text(b" column");
-    print::number(column);
-    print::text(b", expected ");
+fn tell(to: &impl Print, line: usize, column: usize, expected: Expected) -> io::Result<()> {
+    print!(to; " line {line} column {column}, expected ")?;
     let words = faults::expected_line(faults::number_of(expected));
-    writing::show(STDOUT_FILENO, words);
+    writing::show(to, words)?;
+    Ok(())
 }
 
 // Whether the list is as it was.
-fn compare(list: &[u8]) {
+fn compare(to: &impl Print, list: &[u8]) -> io::Result<()> {
     let before = [BEFORE; LIST];
     if !bytes::starts_with(list, &before) {
-        print::text(b", list changed");
+        print::text(to, b", list changed")?;
     }
+    Ok(())
 }
 
-fn play(text: &[u8], list: &mut [u8]) {
+fn play(to: &impl Print, text: &[u8], list: &mut [u8]) -> io::Result<()> {
     let answer = parser::parse(text, list);
     match answer {
-        Parsed::Steps(n) => print::row(list, 0, n % 11 * 8),
+        Parsed::Steps(n) => print::row(to, list, 0, n % 11 * 8),
         Parsed::Fault {
             line,
             column,
             expected,
         } => {
-            tell(line, column, expected);
-            compare(list);
+            tell(to, line, column, expected)?;
+            compare(to, list)
         }
     }
 }
 
-fn case(line: &[u8]) {
+fn case(to: &impl Print, line: &[u8]) -> io::Result<()> {
     let n = line.len();
     if TEXT < n {
-        return;
+        return Ok(());
     }
     if bytes::get(line, 0) == b'=' {
-        return;
+        return Ok(());
     }
     let mut text = [0u8; TEXT];
     decode(&mut text, line);
     let mut list = [BEFORE; LIST];
-    print::label(line);
-    play(&text[..n], &mut list);
-    print::text(b"\n");
+    print::label(to, line)?;
+    play(to, &text[..n], &mut list)?;
+    print::text(to, b"\n")
 }
 
 // One case after the other.
-fn cases(s: &[u8]) {
+fn cases(to: &impl Print, s: &[u8]) -> io::Result<()> {
     let mut at: usize = 0;
     while at < s.len() {
         let end = line_end(s, at);
-        case(&s[at..end]);
+        case(to, &s[at..end])?;
         at = end + 1;
     }
+    Ok(())
 }
 
-fn main() {
+fn main(rt: HostRuntime) -> io::Result<()> {
     let mut text = [0u8; SCRIPT];
-    let end = io::read_full(STDIN_FILENO, &mut text);
-    cases(&text[..end]);
+    let end = reading::read_full(&mut rt.reader(), &mut text)?;
+    cases(&rt, &text[..end])
 }

@@ -4,16 +4,18 @@
 //
 // To add a case, add its line to stdin and what it should print to stdout: no proof changes. To add an operation, write its function
 // in the crate cases, with its letter in the play of its group, and give it a row of script::FORMS.
+#![tactic(auto)]
+
 use cases::{runs, script};
-use libc::STDIN_FILENO;
+use std::io;
 
 // The longest script.
 const SCRIPT: usize = 131072;
 
-fn main() {
+fn main(rt: HostRuntime) -> io::Result<()> {
     let mut text = [0u8; SCRIPT];
-    let end = io::read_full(STDIN_FILENO, &mut text);
+    let end = reading::read_full(&mut rt.reader(), &mut text)?;
     let mut space = [0u8; script::ROOM];
     let mut list = [0u8; runs::LIST];
-    script::play(&mut space, &mut list, &text[..end]);
+    script::play(&rt, &mut space, &mut list, &text[..end])
 }
