@@ -12,23 +12,17 @@ use Rattle.grounds.proofs.works.Tie as tie
 
 holds-requires : tie.Need-holds-requires
 holds-requires c κs =
-    let n = c in
-    (search rules, search rules, search rules, room-behaviour _ n.requires.0 n.args.t n.requires.1 n.args.u n.requires.2)
-
-returns : tie.Need-returns-then-status-ne-BUSY
-returns c = works-idle base _ _ (search rules) _ (search rules) (ap (λ n. eqb n busy) (sym c.status-status.ensures) ∙ ne_eqb _ busy c.if-status-ne-BUSY.true)
+    (search rules, search rules, search rules, room-behaviour _ c.requires.0 c.args.t c.requires.1 c.args.u c.requires.2)
 
 returns-2 : tie.Need-returns
-returns-2 c =
-    let l = c in
-    c.holds.ensures ∙ works-busy base _ _ (search rules) _ (search rules) (ap (λ n. eqb n busy) (sym l.status-status.ensures) ∙ eq-eqb _ busy l.if-status-ne-BUSY.false)
+returns-2 c = c.holds.ensures ∙ works-busy base _ _ (search rules) _ (search rules) (ap (λ n. eqb n busy) (sym c.status-status.ensures) ∙ eq-eqb _ busy (search rules))
 
 pub works_spec : {M : Type 1} → statement M
 works_spec =
     tie.close
     (tie.spec
     (λ c κs. search rules)
-    returns
+    (λ c. works-idle base _ _ (search rules) _ (search rules) (ap (λ n. eqb n busy) (sym c.status-status.ensures) ∙ ne_eqb _ busy (search rules)))
     (λ c. search rules)
     (λ c. search rules)
     (λ c. search rules)
