@@ -2,8 +2,6 @@
 use Rattle.std.specs.Prelude.{ℕ, zero, suc, ◌+◌, ◌-◌, ◌/◌, ◌%◌, ◌≤◌, ◌<◌, Bool, not, ◌≡◌, List, [], ◌++◌, length, eqb, ltb, leb}
 use Rattle.std.proofs.Math.Option.{Option, none, some}
 use Rattle.octets.specs.Bytes.{pick, ◌or◌, put, part, chunks, zeros}
-use Rattle.rules.specs.declared.Offered.{Offered}
-use Rattle.rules.specs.declared.Offered.TheVariants.{Message, Nothing}
 use Rattle.rules.specs.Layout.{Layout, Limits, in_range, head_bytes, image_bytes, message_address, dependences_at, map_bytes}
 use Rattle.rules.specs.Status.{annihilated}
 use Rattle.rules.specs.State.{State, transactor_at, message_at, place_of}
@@ -100,11 +98,6 @@ query_refusal y img t =
     (pick (eqb (transactor_at (unpack y img) t).status annihilated) 22 0)))
 
 -- ---- offer a parcel
-
--- the number of the parcel offered, or none
-abbrev pub offered_number : Offered → Option ℕ
-offered_number (Message n) = some n
-offered_number Nothing = none
 
 -- the parcel with number n waits, addressed to take t
 pub record WaitsFor (s : State) (t n : ℕ) : Type 0 where

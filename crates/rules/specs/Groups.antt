@@ -3,8 +3,6 @@ use Rattle.std.specs.Prelude.{ℕ, ◌^◌, ◌<◌, true, ◌≡◌, List, leb}
 use Rattle.std.proofs.Math.Option.{Option, none, some}
 use Rattle.octets.specs.Bytes.{pick}
 use Rattle.octets.specs.Numbers.{bound}
-use Rattle.rules.specs.declared.Grouped.{Grouped}
-use Rattle.rules.specs.declared.Grouped.TheVariants.{Group, NoGroup}
 use Rattle.rules.specs.Layout.{Layout}
 use Rattle.rules.specs.State.{State, transactor_at, own_history}
 use Rattle.rules.specs.Step.{Step, sign, done}
@@ -39,11 +37,6 @@ pub record Meets (y : Layout) (s : State) (t v : ℕ) : Type 0 where
 -- every take of v is one of w
 unfoldable pub Within : ℕ → ℕ → Type 0
 Within v w = (u : ℕ) → named v u ≡ true → named w u ≡ true
-
--- the volume that the answer names, or none
-abbrev pub group_number : Grouped → Option ℕ
-group_number (Group v) = some v
-group_number NoGroup = none
 
 -- "the smallest volume containing it that could be signed now, or say that none exists". Refused, as offer is: none.
 pub data Smallest (y : Layout) (img : List ℕ) (t : ℕ) : Option ℕ → Type 0 where

@@ -10,6 +10,7 @@ pub mod InOrder
 pub mod Internal
 pub mod Layout
 pub mod News
+pub mod Numbers
 pub mod Obstacle
 pub mod Pack
 pub mod Examples

@@ -1,7 +1,11 @@
 // Steps, replies and answers, and document 01's numbers. The rules themselves are definitions: specs/.
 #![tactic(auto)]
 
+pub mod kinds;
 pub mod numbers;
+pub mod outcomes;
+pub mod refusals;
+pub mod statuses;
 
 // A step of a list, as document 01 packs it.
 #[derive(Clone, Copy)]
@@ -41,20 +45,6 @@ pub struct Told {
     pub transactor: u8,
     // The parcel made, received or lost.
     pub message: u16,
-}
-
-// What offer gives: the number of a waiting message, or nothing.
-#[derive(Clone, Copy)]
-pub enum Offered {
-    Message(u16),
-    Nothing,
-}
-
-// Which transactors to put in a group: their bits, or none.
-#[derive(Clone, Copy)]
-pub enum Grouped {
-    Group(u16),
-    NoGroup,
 }
 
 // What rests on the present incarnation of a transactor.
