@@ -12,10 +12,9 @@ use lib.ListN.{length}
 use Rattle.octets.specs.Bytes.{pick}
 use Rattle.octets.proofs.Chunks.{sides, cases}
 use Rattle.octets.proofs.Tests.{pick-zero}
-use Rattle.rules.specs.Step.{fallen_back, vanished}
 use Rattle.rules.specs.Calls.{steps_in, longest, wrong_part}
 use Rattle.lists.proofs.Parts.{right-part}
-use Rattle.window.specs.Window.{Worst, outcome_at, is_rollback, rollback_at, rollbacks, window_length, last_place, window_count, worse_of, worst_up_to, worst, widest, wrong_width, window_refusal, worst_window}
+use Rattle.window.specs.Window.{Worst, outcome_at, is_rollback, rollback_at, rollbacks, window_length, last_place, window_count, worse_of, worst_up_to, worst, wrong_width, window_refusal, worst_window}
 
 -- ---- windows
 
@@ -126,18 +125,6 @@ module _ (b : List ℕ) (w : ℕ) where
 
 -- ---- a reply
 
-pub rollback-fallen : (b : List ℕ) (i : ℕ) → outcome_at b i ≡ fallen_back → 1 ≡ rollback_at b i
-unfolding rollback_at is_rollback
-rollback-fallen b i e = rw (eq-eqb (outcome_at b i) fallen_back e)
-
-pub rollback-vanished : (b : List ℕ) (i : ℕ) → (outcome_at b i ≡ fallen_back → ⊥) → outcome_at b i ≡ vanished → 1 ≡ rollback_at b i
-unfolding rollback_at is_rollback
-rollback-vanished b i n e = rw (ne_eqb (outcome_at b i) fallen_back n, eq-eqb (outcome_at b i) vanished e)
-
-pub rollback-off : (b : List ℕ) (i : ℕ) → (outcome_at b i ≡ fallen_back → ⊥) → (outcome_at b i ≡ vanished → ⊥) → 0 ≡ rollback_at b i
-unfolding rollback_at is_rollback
-rollback-off b i n m = rw (ne_eqb (outcome_at b i) fallen_back n, ne_eqb (outcome_at b i) vanished m)
-
 rollback-most : (b : List ℕ) (i : ℕ) → rollback_at b i ≤ 1
 unfolding rollback_at
 rollback-most b i = go (is_rollback (outcome_at b i))
@@ -164,9 +151,6 @@ pub rollbacks-more : (b : List ℕ) (n c t : ℕ) → c ≡ rollbacks b 0 n → 
 unfolding rollbacks
 rollbacks-more b n c t e f = let z : 0 + n ≡ n = omega arith in rw (add-one, e, f, z)
 
-pub rollbacks-end : (b : List ℕ) (n k c : ℕ) → c ≡ rollbacks b 0 k → k ≡ n → c ≡ rollbacks b 0 n
-rollbacks-end b n k c e h = e ∙ rw h
-
 -- what comes in, and what goes out
 turn : (b : List ℕ) (p n : ℕ) → rollbacks b p n + rollback_at b (p + n) ≡ rollback_at b p + rollbacks b (p + 1) n
 unfolding rollbacks
@@ -185,14 +169,6 @@ rollbacks-left b p n c i o e f g = omega (arith, turn b p n)
 
 -- ---- the worst so far
 
-pub worse-greater : (x : Worst) (n p : ℕ) → x.count < n → record { count = n; place = p } ≡ worse_of x n p
-unfolding worse_of
-worse-greater x n p h = rw (lt-ltb x.count n h)
-
-pub worse-not : (x : Worst) (n p : ℕ) → n ≤ x.count → x ≡ worse_of x n p
-unfolding worse_of
-worse-not x n p h = rw (le-ltb x.count n h)
-
 pub up_to-first : (b : List ℕ) (n c : ℕ) → c ≡ rollbacks b 0 n → record { count = c; place = 0 } ≡ worst_up_to b n 0
 unfolding worst_up_to
 up_to-first b n c e = rw e
@@ -201,28 +177,7 @@ pub up_to-more : (b : List ℕ) (n k c : ℕ) (x : Worst) (z : Worst) → x ≡ 
 unfolding worst_up_to
 up_to-more b n k c x z e f g = g ∙ rw (e, f, add-one)
 
-pub up_to-end : (b : List ℕ) (n k m : ℕ) (x : Worst) → x ≡ worst_up_to b n k → k ≡ m → x ≡ worst_up_to b n m
-up_to-end b n k m x e h = e ∙ rw h
-
 -- ---- the call
-
-module _ (b : List ℕ) (w : ℕ) where
-  pub refusal-part : wrong_part b 0 (length b) ≡ true → 17 ≡ window_refusal b w
-  unfolding window_refusal
-  refusal-part e = rw e
-
-  module _ (fine : wrong_part b 0 (length b) ≡ false) where
-    pub refusal-narrow : w < 1 → 35 ≡ window_refusal b w
-    unfolding window_refusal wrong_width
-    refusal-narrow h = rw (fine, lt-ltb w 1 h)
-
-    pub refusal-wide : 1 ≤ w → widest < w → 35 ≡ window_refusal b w
-    unfolding window_refusal wrong_width
-    refusal-wide h i = rw (fine, le-ltb w 1 h, lt-ltb widest w i)
-
-    pub refusal-none : 1 ≤ w → w ≤ widest → 0 ≡ window_refusal b w
-    unfolding window_refusal wrong_width
-    refusal-none h i = rw (fine, le-ltb w 1 h, le-ltb widest w i)
 
 -- r is the refusal
 module _ (b : List ℕ) (w r : ℕ) (is : r ≡ window_refusal b w) where

@@ -21,18 +21,13 @@ pub struct Worst {
 }
 
 // 1 if reply i has outcome 3 or 4, else 0.
+#[tactic(auto, unfolding(crate::specs::Window::rollback_at, crate::specs::Window::is_rollback))]
 fn rollback(replies: &[u8], i: usize) -> usize
     requires { step_bytes * i < length replies.now }
     ensures { result ≡ rollback_at replies.now i }
 {
     let outcome = replies[STEP * i];
-    if outcome == numbers::FALLEN_BACK {
-        return 1;
-    }
-    if outcome == numbers::VANISHED {
-        return 1;
-    }
-    0
+    usize::from(outcome == numbers::FALLEN_BACK || outcome == numbers::VANISHED)
 }
 
 // How many of the first n replies have outcome 3 or 4.
@@ -40,16 +35,15 @@ fn first(replies: &[u8], n: usize) -> usize
     requires { (step_bytes * n ≤ length replies.now) × (length replies.now ≤ longest) }
     ensures { result ≡ rollbacks replies.now 0 n }
 {
-    let mut count: usize = 0;
-    let mut i: usize = 0;
-    while i < n {
+    let mut count = 0;
+    for i in 0..n {
         count += rollback(replies, i);
-        i += 1;
     }
     count
 }
 
 // The worst so far, or the window at place with this count, if that is greater.
+#[tactic(auto, unfolding(crate::specs::Window::worse_of))]
 fn worse(best: Worst, count: usize, place: usize) -> Worst
     ensures { result ≡ worse_of best count place }
 {
@@ -68,16 +62,15 @@ fn slide(replies: &[u8], width: usize) -> Worst
     let n = replies.len() / STEP;
     let mut count = first(replies, width);
     let mut best = Worst { count, place: 0 };
-    let mut place: usize = 0;
-    while place + width < n {
+    for place in 0..n - width {
         count = count + rollback(replies, place + width) - rollback(replies, place);
-        place += 1;
-        best = worse(best, count, place);
+        best = worse(best, count, place + 1);
     }
     best
 }
 
 // The refusal, 17 or 35, or 0.
+#[tactic(auto, unfolding(crate::specs::Window::window_refusal, crate::specs::Window::wrong_width))]
 fn window_refusal(replies: &[u8], width: usize) -> u8
     ensures { result ≡ window_refusal replies.now width }
 {
