@@ -1,62 +1,31 @@
--- The loops that write, clear, lower and raise: what each has put after i turns.
-use Prim.Native.Nat.{ℕ, ◌+◌, ◌≤◌, ◌<◌}
-use mathlib.Core.Path.{◌≡◌, ap, ◌∙◌}
-use mathlib.Core.List.{List, ◌++◌}
-use native.Mathlib.Nat.{zero-add}
+-- What a copy, a fill and a move within a buffer leave, as put.
+use Prim.Native.Nat.{ℕ, zero, suc, ◌+◌, ◌≤◌}
+use mathlib.Core.Path.{◌≡◌, refl, ap, ◌∙◌}
+use mathlib.Core.List.{List, ◌∷◌, ◌++◌, append_assoc}
 use native.Mathlib.Omega.{arith}
-use lib.ListN.{length, get_or, set}
+use borrow.Rule.Slice.PartMut.{put_mid}
+use lib.ListN.{length, drop, replicate}
+use lib.Seq.{paste, drop-drop}
 use Rattle.octets.specs.Bytes.{put, part, zeros}
-use Rattle.octets.proofs.Put.{part-def, part-suc, part-whole, length_part, get_or-put-after, get_or-put-before, put-nil, put-snoc, put-append}
-use Rattle.octets.proofs.Zero.{length-zeros, zeros-suc}
+use Rattle.octets.proofs.Put.{put-def, part-def, length_part, put-append}
+use Rattle.octets.proofs.Zero.{length-zeros}
 
--- the first turn: nothing is put
-pub part_none : (at from : ℕ) (s l : List ℕ) → l ≡ put at (part from 0 s) l
-part_none at from s l = rw part-def (put-nil at l)
+-- bs in the place of the k bytes from at on
+pub placed : (at k : ℕ) (bs l : List ℕ) → length bs ≡ k → put_mid at k l bs ≡ put at bs l
+placed at k bs l e = rw (put-def, append_assoc, e, drop-drop)
 
-pub zeros-none : (at : ℕ) (l : List ℕ) → l ≡ put at (zeros 0) l
+-- the k bytes from from on, copied to to on
+pub moved : (to from k m : ℕ) (l : List ℕ) → m ≡ k → from + k ≤ length l → paste l to (drop from l) m ≡ put to (part from k l) l
+moved to from k m l e h = rw (e, put-def, length_part from k l h, part-def)
+
+-- n zeros in the place of the k bytes from at on
+pub zeros-replicate : (n : ℕ) → replicate n 0 ≡ zeros n
 unfolding zeros
-zeros-none at l = put-nil at l
+zeros-replicate zero = refl
+zeros-replicate (suc n) = ap (λ (l : List ℕ). 0 ∷ l) (zeros-replicate n)
 
--- a turn that copies byte from + i of s
-pub part-more : (at from i v : ℕ) (s l l' : List ℕ) → l' ≡ put at (part from i s) l → from + i < length s → at + i < length l → v ≡ get_or s (from + i) 0
-    → set l' (at + i) v ≡ put at (part from (i + 1) s) l
-part-more at from i v s l l' e p q f =
-    rw (part-suc from i s p, ← f, put-snoc at i v (part from i s) l l' e (length_part from i s (omega arith)) q)
-
-pub write-more : (at i : ℕ) (s l l' : List ℕ) → l' ≡ put at (part 0 i s) l → i < length s → at + i < length l
-    → set l' (at + i) (get_or s i 0) ≡ put at (part 0 (i + 1) s) l
-write-more at i s l l' e p q = part-more at 0 i (get_or s i 0) s l l' e (rw zero-add p) q (rw zero-add)
-
-pub write-all : (at i : ℕ) (s l l' : List ℕ) → l' ≡ put at (part 0 i s) l → i ≡ length s → l' ≡ put at s l
-write-all at i s l l' e h = e ∙ rw (part-whole i s (omega arith))
-
--- the byte that a turn of lower reads is not yet written
-pub lower-more : (at gap i : ℕ) (l l' : List ℕ) → l' ≡ put at (part (at + gap) i l) l → at + gap + i < length l
-    → set l' (at + i) (get_or l' (at + gap + i) 0) ≡ put at (part (at + gap) (i + 1) l) l
-lower-more at gap i l l' e h =
-    let n : length (part (at + gap) i l) ≡ i = length_part (at + gap) i l (omega arith) in
-    part-more at (at + gap) i (get_or l' (at + gap + i) 0) l l l' e h (omega arith)
-    (ap (λ (x : List ℕ). get_or x (at + gap + i) 0) e ∙ get_or-put-after at (part (at + gap) i l) l (at + gap + i) (omega arith) (omega arith))
-
--- nor is the byte that a turn of raise reads
-pub raise-more : (from to i : ℕ) (l l' : List ℕ) → l' ≡ put to (part from i l) l → from + i < to → to + i < length l
-    → set l' (to + i) (get_or l' (from + i) 0) ≡ put to (part from (i + 1) l) l
-raise-more from to i l l' e h k =
-    let long : length (part from i l) ≡ i = length_part from i l (omega arith) in
-    part-more to from i (get_or l' (from + i) 0) l l l' e (omega arith) (omega arith)
-    (ap (λ (x : List ℕ). get_or x (from + i) 0) e ∙ get_or-put-before to (part from i l) l (from + i) (omega arith) (omega arith))
-
-pub raise-all : (from to i n : ℕ) (l l' : List ℕ) → l' ≡ put to (part from i l) l → i ≡ n → l' ≡ put to (part from n l) l
-raise-all from to i n l l' e h = e ∙ rw h
-
-pub lower-all : (at gap i n : ℕ) (l l' : List ℕ) → l' ≡ put at (part (at + gap) i l) l → i ≡ n → l' ≡ put at (part (at + gap) n l) l
-lower-all at gap i n l l' e h = e ∙ rw h
-
-pub clear-more : (at i : ℕ) (l l' : List ℕ) → l' ≡ put at (zeros i) l → at + i < length l → set l' (at + i) 0 ≡ put at (zeros (i + 1)) l
-clear-more at i l l' e h = put-snoc at i 0 (zeros i) l l' e (length-zeros i) h ∙ rw zeros-suc
-
-pub clear-all : (at i n : ℕ) (l l' : List ℕ) → l' ≡ put at (zeros i) l → i ≡ n → l' ≡ put at (zeros n) l
-clear-all at i n l l' e h = e ∙ rw h
+pub cleared : (at k n m : ℕ) (bs l : List ℕ) → bs ≡ replicate m 0 → m ≡ n → k ≡ n → put_mid at k l bs ≡ put at (zeros n) l
+cleared at k n m bs l e f g = rw (e, f, g, zeros-replicate n) (placed at n (zeros n) l (length-zeros n))
 
 pub removed : (at gap n : ℕ) (l l' l'' : List ℕ) → at + gap + n ≤ length l → l' ≡ put at (part (at + gap) n l) l → l'' ≡ put (at + n) (zeros gap) l'
     → l'' ≡ put at (part (at + gap) n l ++ zeros gap) l

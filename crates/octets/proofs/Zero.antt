@@ -8,10 +8,10 @@ use native.Mathlib.Numerals.{add-one}
 use native.Mathlib.Omega.{arith}
 use lib.Bits.{bit_or, or_add_and, and_le_l, and_le_r}
 use lib.Dec.{eqb}
-use lib.ListN.{length, get_or, take, drop, length-drop}
+use lib.ListN.{length, get_or, take, drop, length-take, length-drop}
 use mathlib.Core.Logic.{⊎_elim}
 use Rattle.octets.proofs.Chunks.{cases}
-use lib.Seq.{take_at, drop_at, drop-drop}
+use lib.Seq.{take_at, drop_at, drop-drop, get_or-take, get_or-drop}
 use borrow.Author.Tests.{eq-eqb, ne_eqb, eqb-true, eqb-false, not-true, not-false}
 use Rattle.octets.specs.Bytes.{pick, ◌and◌, ◌or◌, part, zeros, all_zero, every, any, chunks, tabulate, Octets}
 use Rattle.octets.proofs.Tests.{and-true, never, or-to, or-none, or_assoc}
@@ -106,6 +106,13 @@ zero-none at s = refl
 
 pub zero_more : (at i any : ℕ) (s : List ℕ) → eqb any 0 ≡ all_zero (part at i s) → at + i < length s → eqb (bit_or any (get_or s (at + i) 0)) 0 ≡ all_zero (part at (i + 1) s)
 zero_more at i any s e h = rw (or-zero any (get_or s (at + i) 0), part-suc at i s h, all_zero-snoc, e)
+
+-- the byte taken from the m that stand from at on
+pub zero_next : (at i m any : ℕ) (s : List ℕ) → eqb any 0 ≡ all_zero (part at i s) → i < length (take m (drop at s))
+    → eqb (bit_or any (get_or (take m (drop at s)) i 0)) 0 ≡ all_zero (part at (i + 1) s)
+zero_next at i m any s e h =
+    let long : i < m = omega (arith, length-take m (drop at s)) in
+    rw (get_or-take m (drop at s) i 0 long, get_or-drop at s i 0) (zero_more at i any s e (omega (arith, length-take m (drop at s), length-drop at s)))
 
 pub zero-end : (at i n : ℕ) (s : List ℕ) (t : Bool) → t ≡ all_zero (part at i s) → i ≡ n → t ≡ all_zero (part at n s)
 zero-end at i n s t e h = e ∙ rw h

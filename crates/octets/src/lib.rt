@@ -10,11 +10,8 @@ pub fn write(image: &mut [u8], at: usize, src: &[u8])
     requires { at + length src.now ≤ length image.old }
     ensures { image.new ≡ put at src.now image.old }
 {
-    let mut i: usize = 0;
-    while i < src.len() {
-        image[at + i] = src[i];
-        i += 1;
-    }
+    let end = at + src.len();
+    image[at..end].copy_from_slice(src);
 }
 
 // Writes n zero bytes from at on.
@@ -22,11 +19,7 @@ pub fn clear(image: &mut [u8], at: usize, n: usize)
     requires { at + n ≤ length image.old }
     ensures { image.new ≡ put at (zeros n) image.old }
 {
-    let mut i: usize = 0;
-    while i < n {
-        image[at + i] = 0;
-        i += 1;
-    }
+    image[at..at + n].fill(0);
 }
 
 // Moves the n bytes from at + gap on down to at.
@@ -34,11 +27,8 @@ pub fn lower(image: &mut [u8], at: usize, gap: usize, n: usize)
     requires { at + gap + n ≤ length image.old }
     ensures { image.new ≡ put at (part (at + gap) n image.old) image.old }
 {
-    let mut i: usize = 0;
-    while i < n {
-        image[at + i] = image[at + gap + i];
-        i += 1;
-    }
+    let from = at + gap;
+    image.copy_within(from..from + n, at);
 }
 
 // Copies the n bytes from from on to to on, which is behind them.
@@ -46,11 +36,7 @@ pub fn raise(image: &mut [u8], from: usize, to: usize, n: usize)
     requires { (from + n ≤ to) × (to + n ≤ length image.old) }
     ensures { image.new ≡ put to (part from n image.old) image.old }
 {
-    let mut i: usize = 0;
-    while i < n {
-        image[to + i] = image[from + i];
-        i += 1;
-    }
+    image.copy_within(from..from + n, to);
 }
 
 // Removes the gap bytes at at, of those up to at + gap + n, and clears the last gap of these.
@@ -68,10 +54,8 @@ pub fn all_zero(s: &[u8], at: usize, n: usize) -> bool
     ensures { result ≡ all_zero (part at n s.now) }
 {
     let mut any: u8 = 0;
-    let mut i: usize = 0;
-    while i < n {
-        any = any | s[at + i];
-        i += 1;
+    for x in &s[at..at + n] {
+        any |= *x;
     }
     any == 0
 }
