@@ -9,6 +9,28 @@ use Rattle.rules.specs.Layout.{Layout, history_bytes, map_bytes, value_at, saved
 use Rattle.rules.specs.State.{State, transactor_at, message_at}
 use Rattle.rules.specs.Pack.{pack}
 use Rattle.fields.specs.declared.Field.{Field}
+use Rattle.fields.specs.declared.FieldKind.{FieldKind}
+use Rattle.fields.specs.declared.FieldKind.TheVariants as kinds
+
+-- the number of what stands in a field, for C
+abbrev pub kind_number : FieldKind → ℕ
+kind_number kinds.Nothing = 0
+kind_number kinds.Opened = 1
+kind_number kinds.Next = 2
+kind_number kinds.HeadZero = 3
+kind_number kinds.Transactors = 4
+kind_number kinds.Messages = 5
+kind_number kinds.Checkpoints = 6
+kind_number kinds.LimitsZero = 7
+kind_number kinds.Status = 8
+kind_number kinds.Value = 9
+kind_number kinds.Saved = 10
+kind_number kinds.Addressee = 11
+kind_number kinds.Number = 12
+kind_number kinds.Content = 13
+kind_number kinds.Flags = 14
+kind_number kinds.Incarnation = 15
+kind_number kinds.Checkpoint = 16
 
 -- a field that is no part of a map
 abbrev pub plain : (kind holder byte : ℕ) → Field

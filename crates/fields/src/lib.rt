@@ -3,7 +3,7 @@
 
 ghost use Rattle.std.specs.Prelude.{◌≡◌, ◌<◌};
 ghost use Rattle.rules.specs.Layout.{base, map_bytes, transactor_bytes, message_bytes, image_bytes};
-ghost use Rattle.fields.specs.Field.{front_field, history_field, map_field, transactor_field, message_field, field_of};
+ghost use Rattle.fields.specs.Field.{kind_number, front_field, history_field, map_field, transactor_field, message_field, field_of};
 
 use image::layout::{
     CONTENT, DEPENDENCES, FIRST_MESSAGE, FIRST_TRANSACTOR, IMAGE, MESSAGE, NUMBER, SAVED, STATE,
@@ -28,30 +28,40 @@ pub struct Field {
     pub byte: u8,
 }
 
-const STATUS_KIND: u8 = 8;
-
-const VALUE_KIND: u8 = 9;
-
-const SAVED_KIND: u8 = 10;
-
-const ADDRESSEE_KIND: u8 = 11;
-
-const NUMBER_KIND: u8 = 12;
-
-const CONTENT_KIND: u8 = 13;
-
-const FLAGS_KIND: u8 = 14;
-
-const INCARNATION_KIND: u8 = 15;
-
-const CHECKPOINT_KIND: u8 = 16;
+// What stands in a field.
+#[derive(Clone, Copy, Debug, PartialEq, Eq)]
+enum FieldKind {
+    // past the image
+    Nothing = 0,
+    // how many transactors are opened
+    Opened = 1,
+    // the next message number
+    Next = 2,
+    // zero, of the head
+    HeadZero = 3,
+    // the session's limits: transactors opened, messages waiting, checkpoints of one transactor
+    Transactors = 4,
+    Messages = 5,
+    Checkpoints = 6,
+    // zero, of the limits
+    LimitsZero = 7,
+    Status = 8,
+    Value = 9,
+    Saved = 10,
+    Addressee = 11,
+    Number = 12,
+    Content = 13,
+    Flags = 14,
+    Incarnation = 15,
+    Checkpoint = 16,
+}
 
 // A field that is no part of a map.
-fn plain(kind: u8, holder: u8, byte: u8) -> Field
-    ensures { result ≡ record { kind = kind; holder = holder; map = 0; support = 0; entry = 0; byte = byte } }
+fn plain(kind: FieldKind, holder: u8, byte: u8) -> Field
+    ensures { result ≡ record { kind = kind_number kind; holder = holder; map = 0; support = 0; entry = 0; byte = byte } }
 {
     Field {
-        kind,
+        kind: kind as u8,
         holder,
         map: 0,
         support: 0,
@@ -61,25 +71,29 @@ fn plain(kind: u8, holder: u8, byte: u8) -> Field
 }
 
 // Byte at of the head and the limits.
+#[tactic(auto, unfolding(crate::specs::Field::front_field))]
 fn of_front(at: u8) -> Field
-    ensures { result ≡ front_field at }
+    ensures { at < 8 → result ≡ front_field at }
 {
-    if at < 1 {
-        return plain(1, 0, 0);
+    match at {
+        0 => plain(FieldKind::Opened, 0, 0),
+        1 | 2 => plain(FieldKind::Next, 0, at - 1),
+        3 => plain(FieldKind::HeadZero, 0, 0),
+        4 => plain(FieldKind::Transactors, 0, 0),
+        5 => plain(FieldKind::Messages, 0, 0),
+        6 => plain(FieldKind::Checkpoints, 0, 0),
+        _ => plain(FieldKind::LimitsZero, 0, 0),
     }
-    if at < 3 {
-        return plain(2, 0, at - 1);
-    }
-    plain(at, 0, 0)
 }
 
 // Byte at of the history of that transactor in a map.
+#[tactic(auto, unfolding(crate::specs::Field::history_field))]
 fn of_history(map: u8, holder: u8, support: u8, at: u8) -> Field
     ensures { result ≡ history_field base map holder support at }
 {
     if at < 1 {
         return Field {
-            kind: FLAGS_KIND,
+            kind: FieldKind::Flags as u8,
             holder,
             map,
             support,
@@ -89,7 +103,7 @@ fn of_history(map: u8, holder: u8, support: u8, at: u8) -> Field
     }
     if at < 3 {
         return Field {
-            kind: INCARNATION_KIND,
+            kind: FieldKind::Incarnation as u8,
             holder,
             map,
             support,
@@ -99,7 +113,7 @@ fn of_history(map: u8, holder: u8, support: u8, at: u8) -> Field
     }
     let rest = at - 3;
     Field {
-        kind: CHECKPOINT_KIND,
+        kind: FieldKind::Checkpoint as u8,
         holder,
         map,
         support,
@@ -109,6 +123,7 @@ fn of_history(map: u8, holder: u8, support: u8, at: u8) -> Field
 }
 
 // Byte at of a map.
+#[tactic(auto, unfolding(crate::specs::Field::map_field))]
 fn of_map(map: u8, holder: u8, at: usize) -> Field
     requires { at < map_bytes base }
     ensures { result ≡ map_field base map holder at }
@@ -119,20 +134,21 @@ fn of_map(map: u8, holder: u8, at: usize) -> Field
 }
 
 // Byte at of a transactor.
+#[tactic(auto, unfolding(crate::specs::Field::transactor_field))]
 fn of_transactor(holder: u8, at: usize) -> Field
     requires { at < transactor_bytes base }
     ensures { result ≡ transactor_field base holder at }
 {
     if at < VALUE {
-        return plain(STATUS_KIND, holder, 0);
+        return plain(FieldKind::Status, holder, 0);
     }
     if at < SAVED {
         let byte = at - VALUE;
-        return plain(VALUE_KIND, holder, byte as u8);
+        return plain(FieldKind::Value, holder, byte as u8);
     }
     if at < STATE {
         let byte = at - SAVED;
-        return plain(SAVED_KIND, holder, byte as u8);
+        return plain(FieldKind::Saved, holder, byte as u8);
     }
     let rest = at - STATE;
     let map = rest / maps::SIZE;
@@ -140,25 +156,27 @@ fn of_transactor(holder: u8, at: usize) -> Field
 }
 
 // Byte at of a message's place.
+#[tactic(auto, unfolding(crate::specs::Field::message_field))]
 fn of_message(holder: u8, at: usize) -> Field
     requires { at < message_bytes base }
     ensures { result ≡ message_field base holder at }
 {
     if at < NUMBER {
-        return plain(ADDRESSEE_KIND, holder, 0);
+        return plain(FieldKind::Addressee, holder, 0);
     }
     if at < CONTENT {
         let byte = at - NUMBER;
-        return plain(NUMBER_KIND, holder, byte as u8);
+        return plain(FieldKind::Number, holder, byte as u8);
     }
     if at < DEPENDENCES {
         let byte = at - CONTENT;
-        return plain(CONTENT_KIND, holder, byte as u8);
+        return plain(FieldKind::Content, holder, byte as u8);
     }
     of_map(3, holder, at - DEPENDENCES)
 }
 
 // The field that byte at of an image belongs to; past the image, all are 0.
+#[tactic(auto, unfolding(crate::specs::Field::field_of))]
 pub fn field_at(at: usize) -> Field
     ensures { result ≡ field_of base at }
 {
@@ -175,5 +193,5 @@ pub fn field_at(at: usize) -> Field
         let k = rest / MESSAGE;
         return of_message(k as u8, rest % MESSAGE);
     }
-    plain(0, 0, 0)
+    plain(FieldKind::Nothing, 0, 0)
 }
