@@ -8,6 +8,7 @@ ghost use Rattle.rules.specs.State.{place_from, place_of, transactor_at, message
 ghost use Rattle.rules.specs.Pack.{waiting_in, pack, unpack};
 ghost use Rattle.rules.specs.Internal.Good.{Good};
 ghost use Rattle.rules.specs.State.{addressed_to};
+ghost use Rattle.image.specs.Internal.Search.{Found};
 
 use crate::head;
 use crate::layout::{
@@ -20,52 +21,33 @@ pub fn waiting(image: &[u8]) -> usize
     requires { length image.now ≡ image_bytes base }
     ensures { (result ≡ waiting_in base image.now) × (result ≤ base.messages) }
 {
-    let mut k: usize = 0;
-    while k < MESSAGES {
-        if image[FIRST_MESSAGE + MESSAGE * k] < 128 {
-            return k;
-        }
-        k += 1;
-    }
-    k
+    (0..MESSAGES)
+        .find(|k| image[FIRST_MESSAGE + MESSAGE * *k] < 128)
+        .unwrap_or(MESSAGES)
 }
 
-// The place of the message with this number, or n, how many wait.
-pub fn place_numbered(image: &[u8], n: usize, number: usize) -> usize
+// The place of the message with this number, among the n that wait.
+pub fn place_numbered(image: &[u8], n: usize, number: usize) -> Option<usize>
     requires { (length image.now ≡ image_bytes base) × (n ≡ waiting_in base image.now) × (n ≤ base.messages) }
-    ensures { (result ≡ place_of (unpack base image.now) number) × (result ≤ n) }
+    ensures { Found (place_of (unpack base image.now) number) n result }
 {
-    let mut k: usize = 0;
-    while k < n {
-        if number_of(image, k) as usize == number {
-            return k;
-        }
-        k += 1;
-    }
-    k
+    (0..n).find(|k| number_of(image, *k) as usize == number)
 }
 
 // The same of a number that a message can have.
-pub fn place_of(image: &[u8], n: usize, number: u16) -> usize
+pub fn place_of(image: &[u8], n: usize, number: u16) -> Option<usize>
     requires { (length image.now ≡ image_bytes base) × (n ≡ waiting_in base image.now) × (n ≤ base.messages) }
-    ensures { (result ≡ place_of (unpack base image.now) number) × (result ≤ n) }
+    ensures { Found (place_of (unpack base image.now) number) n result }
 {
-    place_numbered(image, n, number as usize)
+    place_numbered(image, n, usize::from(number))
 }
 
-// The first place of a message to transactor t, or n, how many wait.
-pub fn place_to(image: &[u8], n: usize, t: usize) -> usize
+// The first place of a message to transactor t, among the n that wait.
+pub fn place_to(image: &[u8], n: usize, t: usize) -> Option<usize>
     requires { (length image.now ≡ image_bytes base) × (n ≡ waiting_in base image.now) × (n ≤ base.messages) }
-    ensures { (result ≡ place_from (addressed_to (unpack base image.now) t) 0 n) × (result ≤ n) }
+    ensures { Found (place_from (addressed_to (unpack base image.now) t) 0 n) n result }
 {
-    let mut k: usize = 0;
-    while k < n {
-        if addressee(image, k) == t {
-            return k;
-        }
-        k += 1;
-    }
-    k
+    (0..n).find(|k| addressee(image, *k) == t)
 }
 
 // The addressee of the message in place k.

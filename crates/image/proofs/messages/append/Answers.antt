@@ -1,15 +1,12 @@
 -- The fields of the message are put one after the other, then what the take carries, then the next number.
-use mathlib.Core.Path.{refl, ◌∙◌}
-use native.Mathlib.Omega.{arith}
-use borrow.Author.Rules.{rules}
+use Rattle.std.proofs.Common.{refl, ◌∙◌, arith}
 use Rattle.rules.specs.Layout.{base, message_address}
 use Rattle.rules.proofs.Pack.Exact.{creation-ok, behaviour-ok, behaviour-exact-there, carried-there}
 use Rattle.rules.proofs.Pack.Messages.{fields-before, append-image}
-use Rattle.image.proofs.messages.append.Statement.{statement}
-use Rattle.image.proofs.messages.append.Tie as tie
+use Rattle.image.proofs.messages.append.Goals as goal
 
-join-to-requires : tie.Need-join_to-requires
-join-to-requires c κs =
+pub join_to-requires : goal.join_to-requires
+join_to-requires c =
     let a = message_address base c.args.n in
     let good = c.requires.0 in
     let same = fields-before base _ good.long good.back _ c.requires.1 _ _ _ _ c.requires.2 c.requires.3 c.store_fields.ensures in
@@ -24,7 +21,7 @@ join-to-requires c κs =
       behaviour-exact-there base _ good.back c.args.t c.requires.5 _ a (omega arith) same,
     )
 
-returns : tie.Need-returns
+pub returns : goal.returns
 returns c =
     let a = message_address base c.args.n in
     let good = c.requires.0 in
@@ -33,23 +30,3 @@ returns c =
     c.next-number.ensures refl c.store_fields.ensures
     (c.join_to.ensures ∙ rw (c.own_at-own.ensures, carried-there base _ good.back c.args.t c.requires.5 _ a (omega arith) same (omega arith)))
     c.store16.ensures
-
-pub append_spec : {M : Type 1} → statement M
-append_spec =
-    tie.close
-    (tie.spec
-    (λ c κs. search rules)
-    (λ c. search rules)
-    (λ c. search rules)
-    (λ c κs. search rules)
-    (λ c. search rules)
-    (λ c. search rules)
-    (λ c. search rules)
-    (λ c. search rules)
-    (λ c κs. search rules)
-    (λ c. search rules)
-    join-to-requires
-    (λ c. search rules)
-    (λ c κs. search rules)
-    (λ c. search rules)
-    returns)

@@ -1,0 +1,8 @@
+-- The first of the four bytes after the head.
+use Rattle.std.proofs.Common.{sym, refl, ap}
+use Rattle.rules.specs.Layout.{Limits}
+use Rattle.rules.proofs.Pack.Loads.{read-limits}
+use Rattle.image.proofs.limits.transactors.Goals as goal
+
+pub returns : goal.returns
+returns c = sym (ap (λ (m : Limits). m.transactors) (read-limits _ _ refl))
