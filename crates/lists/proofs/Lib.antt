@@ -1,5 +1,3 @@
 mod Decoding
 mod Encoding
 pub mod Parts
-mod Refusing
-mod Stray

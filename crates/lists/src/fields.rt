@@ -1,80 +1,68 @@
 // 20: which fields of a step must be zero.
 ghost use Rattle.std.specs.Prelude.{◌≡◌, not, eqb};
 ghost use Rattle.octets.specs.Bytes.{◌or◌};
+ghost use Rattle.rules.specs.Numbers.{kind_number};
 ghost use Rattle.rules.specs.Refusals as refusals;
+ghost use Rattle.rules.specs.Step.{send};
 
-use rules::{Step, numbers};
+use rules::Step;
+use rules::kinds::Kind;
 
 // A field that is not used and is not zero.
 fn stray(used: bool, field: u32) -> bool
     ensures { result ≡ not (used or eqb field 0) }
 {
-    if used {
-        return false;
-    }
-    field != 0
+    !used && field != 0
 }
 
-fn uses_transactor(kind: u8) -> bool
-    ensures { result ≡ refusals.uses_transactor kind }
+fn uses_transactor(kind: Kind) -> bool
+    ensures { result ≡ refusals.uses_transactor (kind_number kind) }
 {
-    if kind == numbers::LETTER {
-        return true;
+    match kind {
+        Kind::Letter
+        | Kind::New
+        | Kind::Send
+        | Kind::Read
+        | Kind::Write
+        | Kind::Freeze
+        | Kind::Finish
+        | Kind::Fall
+        | Kind::Fail => true,
+        Kind::Root | Kind::Receive | Kind::Lose | Kind::Sign => false,
     }
-    if kind < numbers::NEW {
-        return false;
-    }
-    kind <= numbers::FAIL
 }
 
-fn uses_message(kind: u8) -> bool
-    ensures { result ≡ refusals.uses_message kind }
+fn uses_other(kind: Kind) -> bool
+    ensures { result ≡ eqb (kind_number kind) send }
 {
-    if kind == numbers::RECEIVE {
-        return true;
-    }
-    if kind == numbers::LOSE {
-        return true;
-    }
-    kind == numbers::SIGN
+    matches!(kind, Kind::Send)
 }
 
-fn uses_value(kind: u8) -> bool
-    ensures { result ≡ refusals.uses_value kind }
+fn uses_message(kind: Kind) -> bool
+    ensures { result ≡ refusals.uses_message (kind_number kind) }
 {
-    if kind == numbers::ROOT {
-        return true;
-    }
-    if kind == numbers::LETTER {
-        return true;
-    }
-    if kind == numbers::NEW {
-        return true;
-    }
-    if kind == numbers::SEND {
-        return true;
-    }
-    kind == numbers::WRITE
+    matches!(kind, Kind::Receive | Kind::Lose | Kind::Sign)
 }
 
+fn uses_value(kind: Kind) -> bool
+    ensures { result ≡ refusals.uses_value (kind_number kind) }
+{
+    matches!(
+        kind,
+        Kind::Root | Kind::Letter | Kind::New | Kind::Send | Kind::Write
+    )
+}
+
+#[tactic(auto, unfolding(rules::specs::Refusals::malformed))]
 pub fn malformed(p: Step) -> bool
     ensures { result ≡ refusals.malformed p }
 {
-    let kind = p.kind;
-    if numbers::SIGN < kind {
+    let Ok(kind) = Kind::try_from(p.kind) else {
         return true;
-    }
-    if stray(uses_transactor(kind), p.transactor as u32) {
-        return true;
-    }
-    if stray(kind == numbers::SEND, p.other as u32) {
-        return true;
-    }
-    if p.zero != 0 {
-        return true;
-    }
-    if stray(uses_message(kind), p.message as u32) {
-        return true;
-    }
-    stray(uses_value(kind), p.value)
+    };
+    stray(uses_transactor(kind), p.transactor as u32)
+        || stray(uses_other(kind), p.other as u32)
+        || p.zero != 0
+        || stray(uses_message(kind), p.message as u32)
+        || stray(uses_value(kind), p.value)
 }

@@ -20,17 +20,9 @@ pub const LONGEST: usize = 8192;
 pub const NUMBERS: usize = LONGEST / STEP;
 
 // 17: the bytes from start up to end are no part of the list, no whole steps, or too many.
+#[tactic(auto, unfolding(rules::specs::Calls::wrong_part))]
 pub fn wrong_part(list: &[u8], start: usize, end: usize) -> bool
     ensures { result ≡ wrong_part list.now start end }
 {
-    if end < start {
-        return true;
-    }
-    if list.len() < end {
-        return true;
-    }
-    if (end - start) % STEP != 0 {
-        return true;
-    }
-    LONGEST < end - start
+    end < start || list.len() < end || (end - start) % STEP != 0 || LONGEST < end - start
 }

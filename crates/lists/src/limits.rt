@@ -20,21 +20,15 @@ pub const LAST: u16 = 65535;
 fn is_within(n: usize, most: usize) -> bool
     ensures { result ≡ leb 1 n and leb n most }
 {
-    if n == 0 {
-        return false;
-    }
-    n <= most
+    (1..=most).contains(&n)
 }
 
 // Whether a session can have these limits; if not, 33.
+#[tactic(auto, unfolding(rules::specs::Layout::in_range))]
 pub fn in_range(transactors: usize, messages: usize, checkpoints: usize) -> bool
     ensures { result ≡ in_range base (limits_of transactors messages checkpoints) }
 {
-    if !is_within(transactors, TRANSACTORS) {
-        return false;
-    }
-    if !is_within(messages, MESSAGES) {
-        return false;
-    }
-    is_within(checkpoints, CHECKPOINTS)
+    is_within(transactors, TRANSACTORS)
+        && is_within(messages, MESSAGES)
+        && is_within(checkpoints, CHECKPOINTS)
 }
