@@ -1,17 +1,19 @@
 -- The tests of the code one by one, as specs/Internal/Footprint has them.
-use Prim.Native.Nat.{ℕ, ◌+◌, ◌*◌, ◌≤◌, ◌<◌}
-use mathlib.Core.Bool.{Bool, true, false, not}
+use Prim.Native.Nat.{ℕ, zero, suc, ◌+◌, ◌*◌, ◌≤◌, ◌<◌}
+use mathlib.Core.Bool.{Bool, true, false, not, ◌||◌}
 use mathlib.Core.Path.{◌≡◌, refl, sym, ap, ◌∙◌}
 use mathlib.Core.List.{List}
 use mathlib.Core.Logic.{⊎_elim}
+use native.Mathlib.Nat.{add-zero}
 use native.Mathlib.Omega.{arith}
 use lib.Dec.{eqb, leb}
 use lib.ListN.{length, take}
 use borrow.Author.Tests.{le-leb, lt-leb, leb-true, leb-false, ne_eqb, eq-eqb, eqb-true}
+use Rattle.std.specs.List.{list_any, range_with_len}
 use Rattle.octets.specs.Bytes.{pick, ◌and◌, ◌or◌, put, part, any}
 use Rattle.octets.proofs.Put.{put_whole}
 use Rattle.octets.proofs.Tests.{never, or-none, and-true}
-use Rattle.octets.proofs.Zero.{any_none, any-more, any-on}
+use Rattle.octets.proofs.Zero.{any_same, any-first}
 use Rattle.marks.specs.declared.History.{History}
 use Rattle.marks.specs.Incarnation.{Incarnation, same_list, same_incarnation}
 use Rattle.marks.specs.Packed.{present_in}
@@ -38,24 +40,21 @@ use Rattle.rules.proofs.Independent.Steps.{decided}
 use Rattle.rules.proofs.Pack.Loads.{held-at, read-state, read-creation, unpack-waiting}
 use Rattle.independence.specs.Internal.Footprint.{receiver_of, touches, touches_in, leaves, leaves_by, transactors_meet, addresses, handles, handled, parcels_meet, heads_meet, relisted, has_marks, lists_meet, meets}
 
--- ---- a test that fails at the first k
+-- ---- a test at 0, 1, .., as a chain over a range makes it
 
-pub record Missed (f : ℕ → Bool) (n k : ℕ) : Type 0 where
-  pub none : any k f ≡ false
-  pub within : k ≤ n
+or-either : (a b c : Bool) → b ≡ c → a || b ≡ a or c
+or-either true b c e = refl
+or-either false b c e = e
 
-pub missed-none : (f : ℕ → Bool) (n : ℕ) → Missed f n 0
-missed-none f n = record { none = any_none f; within = omega arith }
+ranged_from : (f : ℕ → Bool) (a n : ℕ) → list_any f (range_with_len a n) ≡ any n (λ i. f (a + i))
+unfolding any
+ranged_from f a zero = refl
+ranged_from f a (suc n) =
+    or-either (f a) _ _ (ranged_from f (a + 1) n ∙ any_same (λ i. f (a + 1 + i)) (λ i. f (a + suc i)) n (λ i h. ap f (omega arith)))
+    ∙ sym (any-first (λ i. f (a + i)) n ∙ ap (λ (k : ℕ). f k or any n (λ i. f (a + suc i))) (add-zero a))
 
-module _ {f : ℕ → Bool} {n k : ℕ} (m : Missed f n k) where
-  pub missed_more : k < n → f k ≡ false → Missed f n (k + 1)
-  missed_more h e = record { none = any-more f k m.none e; within = omega arith }
-
-  pub missed-hit : k < n → f k ≡ true → true ≡ any n f
-  missed-hit h e = sym (any-on f n k h e)
-
-  pub missed-all : n ≤ k → false ≡ any n f
-  missed-all h = let e : k ≡ n = omega (arith, m.within) in sym m.none ∙ ap (λ (i : ℕ). any i f) e
+pub any-ranged : (f : ℕ → Bool) (n : ℕ) → list_any f (range_with_len 0 n) ≡ any n f
+any-ranged f n = ranged_from f 0 n ∙ any_same (λ i. f (0 + i)) f n (λ i h. ap f (omega arith))
 
 -- ---- takes
 

@@ -117,14 +117,7 @@ fn transactors_meet(image: &[u8], p: Step, q: Step) -> bool
     let opened = head::opened(image) as usize;
     let first = receiver(image, p.message);
     let second = receiver(image, q.message);
-    let mut t: usize = 0;
-    while t < TRANSACTORS {
-        if both_touch(p, q, opened, first, second, t) {
-            return true;
-        }
-        t += 1;
-    }
-    false
+    (0..TRANSACTORS).any(|t| both_touch(p, q, opened, first, second, t))
 }
 
 // Whether the step is a letter or a send to transactor t.
@@ -249,14 +242,7 @@ fn have_history(image: &[u8], group: u16, u: usize) -> bool
     requires { Good image.now × (u < base.transactors) }
     ensures { result ≡ footprint.has_marks (unpack base image.now) group u }
 {
-    let mut t: usize = 0;
-    while t < TRANSACTORS {
-        if named_has(image, group, t, u) {
-            return true;
-        }
-        t += 1;
-    }
-    false
+    (0..TRANSACTORS).any(|t| named_has(image, group, t, u))
 }
 
 // Whether transactor t has another list in the copy, and one that the group names has a history of it.
@@ -279,14 +265,7 @@ fn lists_meet(image: &[u8], copy: &[u8], q: Step) -> bool
         return false;
     }
     let group = q.message;
-    let mut t: usize = 0;
-    while t < TRANSACTORS {
-        if list_meets(image, copy, group, t) {
-            return true;
-        }
-        t += 1;
-    }
-    false
+    (0..TRANSACTORS).any(|t| list_meets(image, copy, group, t))
 }
 
 // ---- two steps
