@@ -2,18 +2,20 @@
 use Prim.Native.Nat.{ℕ, ◌+◌, ◌-◌, ◌*◌, ◌≤◌, ◌<◌}
 use mathlib.Core.Bool.{Bool, true, false}
 use mathlib.Core.Path.{◌≡◌, sym, ap, ◌∙◌}
-use mathlib.Core.List.{List}
+use mathlib.Core.List.{List, [], ◌∷◌}
 use native.Mathlib.Omega.{arith}
 use native.Mathlib.Nat.{add-zero}
 use lib.Dec.{eqb}
-use lib.ListN.{get_or}
+use lib.ListN.{length, get_or}
 use borrow.Author.Tests.{eqb-true, eq-eqb}
-use Rattle.octets.specs.Bytes.{◌and◌, every, alike, Octets}
-use Rattle.octets.specs.Numbers.{turned4}
-use Rattle.octets.proofs.Put.{octet}
-use Rattle.octets.proofs.Zero.{both, every-none, every_more, every-all, every-at, every-same}
+use Rattle.std.specs.Int.{w64, from_le_bytes, to_le_bytes}
+use Rattle.std.proofs.lemmas.Grind.{same_number_lists}
+use Rattle.std.proofs.lemmas.Nat.{le_bytes_8}
+use Rattle.octets.specs.Bytes.{◌and◌, part, every, alike, Octets}
+use Rattle.octets.proofs.Put.{octet, octets-part, length_part, get_d_part}
+use Rattle.octets.proofs.Zero.{every-all, every-at, every-same}
 use Rattle.octets.proofs.Runs.{every-add}
-use Rattle.octets.proofs.Tests.{same_test, and-of}
+use Rattle.octets.proofs.Tests.{same_test}
 
 module _ (l : List ℕ) (a b : ℕ) where
   pub alike_at : (n i : ℕ) → alike l a b n ≡ true → i < n → get_or l (a + i) 0 ≡ get_or l (b + i) 0
@@ -54,56 +56,46 @@ alike-add l a b n m = every-add n m f ∙ ap (λ (t : Bool). every n f and t) (e
 pub digit : (x y p q : ℕ) → p < 256 → q < 256 → x * 256 + p ≡ y * 256 + q → (x ≡ y) × (p ≡ q)
 digit x y p q h k e = (omega arith, omega arith)
 
+-- the 8 bytes from place at on
+pub word-is : (at n : ℕ) (l : List ℕ)
+    → n
+    ≡ from_le_bytes w64 (
+    get_or l at 0 ∷ get_or l (at + 1) 0 ∷ get_or l (at + 2) 0 ∷ get_or l (at + 3) 0 ∷ get_or l (at + 4) 0 ∷ get_or l (at + 5) 0 ∷ get_or l (at + 6) 0 ∷ get_or l (at + 7) 0 ∷ []
+    )
+    → n ≡ from_le_bytes w64 (part at 8 l)
+word-is at n l e =
+    let g : (i : ℕ) → i < 8 → get_or (part at 8 l) i 0 ≡ get_or l (at + i) 0 = get_d_part at 8 l in
+    e
+    ∙ rw (
+      g 0 (omega arith),
+      g 1 (omega arith),
+      g 2 (omega arith),
+      g 3 (omega arith),
+      g 4 (omega arith),
+      g 5 (omega arith),
+      g 6 (omega arith),
+      g 7 (omega arith),
+      add-zero at,
+    )
+
 module _ (l : List ℕ) (octets : Octets l) where
-  turned-low : (at : ℕ) → turned4 l at < 4294967296
-  unfolding turned4
-  turned-low at = omega (arith, octet l octets (at + 3), octet l octets (at + 2), octet l octets (at + 1), octet l octets at)
+  word-bytes : (at n : ℕ) → at + 8 ≤ length l → n ≡ from_le_bytes w64 (part at 8 l) → to_le_bytes w64 n ≡ part at 8 l
+  word-bytes at n h e = le_bytes_8 (part at 8 l) n (length_part at 8 l h) (octet (part at 8 l) (octets-part at 8 l octets)) e
 
-  turned_same : (a b : ℕ) → turned4 l a ≡ turned4 l b → alike l a b 4 ≡ true
-  unfolding turned4 alike
-  turned_same a b e =
-      let o : (i : ℕ) → get_or l i 0 < 256 = octet l octets in
-      let d = digit _ _ _ _ (o a) (o b) e in
-      let c = digit _ _ _ _ (o (a + 1)) (o (b + 1)) d.0 in
-      let f = digit _ _ _ _ (o (a + 2)) (o (b + 2)) c.0 in
-      let z : get_or l (a + 0) 0 ≡ get_or l (b + 0) 0 = rw (add-zero a, add-zero b) d.1 in
-      every_more t 3 (every_more t 2 (every_more t 1 (every_more t 0 (every-none t) (eq-eqb _ _ z)) (eq-eqb _ _ c.1)) (eq-eqb _ _ f.1)) (eq-eqb _ _ f.0)
+  pub same-8 : (a b x y : ℕ) → a + 8 ≤ length l → b + 8 ≤ length l → x ≡ from_le_bytes w64 (part a 8 l) → y ≡ from_le_bytes w64 (part b 8 l) → eqb x y ≡ alike l a b 8
+  same-8 a b x y p q e f = same_test (eqb x y) (alike l a b 8) to of
     where
-      t : ℕ → Bool
-      t i = eqb (get_or l (a + i) 0) (get_or l (b + i) 0)
+      to : eqb x y ≡ true → alike l a b 8 ≡ true
+      to t =
+          let same : part a 8 l ≡ part b 8 l = sym (word-bytes a x p e) ∙ ap (to_le_bytes w64) (eqb-true x y t) ∙ word-bytes b y q f in
+          alike_all l a b 8 (λ i h. sym (get_d_part a 8 l i h) ∙ ap (λ (z : List ℕ). get_or z i 0) same ∙ get_d_part b 8 l i h)
 
-  same-turned : (a b : ℕ) → alike l a b 4 ≡ true → turned4 l a ≡ turned4 l b
-  unfolding turned4
-  same-turned a b e =
-      let z : get_or l (a + 0) 0 ≡ get_or l (b + 0) 0 = alike_at l a b 4 0 e (omega arith) in
-      let f : get_or l a 0 ≡ get_or l b 0 = rw (← add-zero a, ← add-zero b) z in
-      rw (alike_at l a b 4 3 e (omega arith), alike_at l a b 4 2 e (omega arith), alike_at l a b 4 1 e (omega arith), f)
-
-  -- two numbers of 4 bytes as one of 8
-  halves : (x y p q : ℕ) → p < 4294967296 → q < 4294967296 → x * 4294967296 + p ≡ y * 4294967296 + q → (x ≡ y) × (p ≡ q)
-  halves x y p q h k e = (omega arith, omega arith)
-
-  same-words : (a b : ℕ) → eqb (turned4 l (a + 4) * 4294967296 + turned4 l a) (turned4 l (b + 4) * 4294967296 + turned4 l b) ≡ alike l a b 8
-  same-words a b = same_test _ (alike l a b 8) to of
-    where
-      to : eqb (turned4 l (a + 4) * 4294967296 + turned4 l a) (turned4 l (b + 4) * 4294967296 + turned4 l b) ≡ true → alike l a b 8 ≡ true
-      to e =
-          let d = halves _ _ _ _ (turned-low a) (turned-low b) (eqb-true _ _ e) in
-          alike-add l a b 4 4 ∙ and-of (alike l a b 4) (alike l (a + 4) (b + 4) 4) (turned_same a b d.1) (turned_same (a + 4) (b + 4) d.0)
-
-      of : alike l a b 8 ≡ true → eqb (turned4 l (a + 4) * 4294967296 + turned4 l a) (turned4 l (b + 4) * 4294967296 + turned4 l b) ≡ true
-      of e =
-          let p = both (alike l a b 4) (alike l (a + 4) (b + 4) 4) (sym (alike-add l a b 4 4) ∙ e) in
-          eq-eqb (turned4 l (a + 4) * 4294967296 + turned4 l a) (turned4 l (b + 4) * 4294967296 + turned4 l b) (rw (same-turned a b p.0, same-turned (a + 4) (b + 4) p.1))
-
-  pub same-8 : (a b x y : ℕ) → x ≡ turned4 l (a + 4) * 4294967296 + turned4 l a → y ≡ turned4 l (b + 4) * 4294967296 + turned4 l b → eqb x y ≡ alike l a b 8
-  same-8 a b x y e f = rw (e, f) (same-words a b)
-
--- the 4 bytes, one by one
-pub turned-is : (l : List ℕ) (at x y z t : ℕ) → x ≡ get_or l (at + 3) 0 → y ≡ get_or l (at + 2) 0 → z ≡ get_or l (at + 1) 0 → t ≡ get_or l at 0
-    → ((x * 256 + y) * 256 + z) * 256 + t ≡ turned4 l at
-unfolding turned4
-turned-is l at x y z t e f g h = rw (e, f, g, h)
+      of : alike l a b 8 ≡ true → eqb x y ≡ true
+      of t =
+          let long : length (part a 8 l) ≡ 8 = length_part a 8 l p in
+          let same : part a 8 l ≡ part b 8 l = same_number_lists _ _ (long ∙ sym (length_part b 8 l q))
+          (λ i h. let k : i < 8 = omega arith in get_d_part a 8 l i k ∙ alike_at l a b 8 i t k ∙ sym (get_d_part b 8 l i k)) in
+          eq-eqb x y (e ∙ ap (from_le_bytes w64) same ∙ sym f)
 
 -- the second 8 of 16 bytes, after the first
 module _ (l : List ℕ) (a b : ℕ) where

@@ -73,12 +73,12 @@ of_be-more at n w r x l h e f = rw (add-one, e, f, get_d_part at n l w h)
 pub two_bytes : (at : ℕ) (l : List ℕ) → of_be 2 (part at 2 l) ≡ get_or l at 0 * 256 + get_or l (at + 1) 0
 two_bytes at l = sym (of_be-more at 2 1 (get_or l at 0) (get_or l (at + 1) 0) l (omega arith) (of_be-first at 2 (get_or l at 0) l (omega arith) refl) refl)
 
--- two bytes, read with the first as the lower one and turned round
-pub of_be-turned : (at x : ℕ) (l : List ℕ) → get_or l at 0 < 256 → x ≡ get_or l (at + 1) 0 * 256 + get_or l at 0 → x % 256 * 256 + x / 256 ≡ of_be 2 (part at 2 l)
-of_be-turned at x l o e =
-    let high : x % 256 ≡ get_or l at 0 = omega (arith, e, o) in
-    let low : x / 256 ≡ get_or l (at + 1) 0 = omega (arith, e, o) in
-    of_be-more at 2 1 (x % 256) (x / 256) l (omega arith) (of_be-first at 2 (x % 256) l (omega arith) high) low
+pub four_bytes : (at : ℕ) (l : List ℕ) → of_be 4 (part at 4 l) ≡ ((get_or l at 0 * 256 + get_or l (at + 1) 0) * 256 + get_or l (at + 2) 0) * 256 + get_or l (at + 3) 0
+four_bytes at l =
+    let one = of_be-first at 4 (get_or l at 0) l (omega arith) refl in
+    let two = of_be-more at 4 1 _ (get_or l (at + 1) 0) l (omega arith) one refl in
+    let three = of_be-more at 4 2 _ (get_or l (at + 2) 0) l (omega arith) two refl in
+    sym (of_be-more at 4 3 _ (get_or l (at + 3) 0) l (omega arith) three refl)
 
 -- ---- there and back
 
@@ -104,17 +104,14 @@ be-of_be (suc w) b e h =
     let back : be w (of_be w (take w b)) ≡ take w b = be-of_be w (take w b) (length-take-le w b (omega arith)) (octets-take w b h) in
     rw (high, low, front, back, ← take-suc b w 0 (omega arith)) (take_all (suc w) b (omega arith))
 
--- a number turned round, with the lower byte first
-low_byte : (q r : ℕ) → q < 256 → (r * 256 + q) % 256 ≡ q
-low_byte q r h = omega arith
-
-high_byte : (q r : ℕ) → q < 256 → r < 256 → (r * 256 + q) / 256 % 256 ≡ r
-high_byte q r h k = omega arith
-
-pub be-turned : (n : ℕ) → n < 65536 → (n % 256 * 256 + n / 256) % 256 ∷ (n % 256 * 256 + n / 256) / 256 % 256 ∷ [] ≡ be 2 n
+-- in 2 and in 4 bytes, the highest first
+pub be-two : (n : ℕ) → n / 256 % 256 ∷ n % 256 ∷ [] ≡ be 2 n
 unfolding be
-be-turned n h =
-    let q : n / 256 < 256 = omega arith in
-    let r : n % 256 < 256 = omega arith in
-    let e : n / 256 % 256 ≡ n / 256 = omega arith in
-    rw (low_byte (n / 256) (n % 256) q, high_byte (n / 256) (n % 256) q r, e)
+be-two n = refl
+
+pub be-four : (n : ℕ) → n / 16777216 % 256 ∷ n / 65536 % 256 ∷ n / 256 % 256 ∷ n % 256 ∷ [] ≡ be 4 n
+unfolding be
+be-four n =
+    let e : n / 16777216 ≡ n / 256 / 256 / 256 = omega arith in
+    let f : n / 65536 ≡ n / 256 / 256 = omega arith in
+    rw (e, f)

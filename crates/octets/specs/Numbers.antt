@@ -15,7 +15,3 @@ of_be (suc w) b = of_be w b * 256 + get_or b w 0
 unfoldable pub bound : ℕ → ℕ
 bound zero = 1
 bound (suc w) = bound w * 256
-
--- the number that the 4 bytes of b from place at on give, least significant first
-unfoldable pub turned4 : List ℕ → ℕ → ℕ
-turned4 b at = ((get_or b (at + 3) 0 * 256 + get_or b (at + 2) 0) * 256 + get_or b (at + 1) 0) * 256 + get_or b at 0

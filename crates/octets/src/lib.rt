@@ -2,8 +2,9 @@
 #![tactic(auto)]
 
 ghost use Rattle.std.specs.Prelude.{◌≡◌, ◌+◌, ◌*◌, ◌<◌, ◌≤◌, ◌++◌, length, get_or};
+ghost use Rattle.std.specs.Int.{w64, from_le_bytes};
 ghost use Rattle.octets.specs.Bytes.{put, part, zeros, all_zero, alike};
-ghost use Rattle.octets.specs.Numbers.{be, of_be, turned4};
+ghost use Rattle.octets.specs.Numbers.{be, of_be};
 
 // Writes all of src from at on.
 pub fn write(image: &mut [u8], at: usize, src: &[u8])
@@ -60,44 +61,29 @@ pub fn all_zero(s: &[u8], at: usize, n: usize) -> bool
     any == 0
 }
 
-// A byte in 32 bits, with its bound, so that no product of it overflows.
-fn wide(x: u8) -> u32
-    ensures { (result ≡ x) × (result < 256) }
-{
-    x as u32
-}
-
-// The 2 bytes from at on with the first as the lower one: the order of the machine, which reads them at once.
-fn little16(s: &[u8], at: usize) -> u16
-    requires { at + 2 ≤ length s.now }
-    ensures { result ≡ get_or s.now (at + 1) 0 * 256 + get_or s.now at 0 }
-{
-    (wide(s[at + 1]) * 256 + wide(s[at])) as u16
-}
-
-// The number in the 2 bytes from at on. Read at once and then turned round, so that a run of numbers is read and turned as one.
+// The number in the 2 bytes from at on.
 pub fn load16(s: &[u8], at: usize) -> u16
     requires { at + 2 ≤ length s.now }
     ensures { result ≡ of_be 2 (part at 2 s.now) }
 {
-    let x = little16(s, at);
-    x % 256 * 256 + x / 256
+    u16::from_be_bytes([s[at], s[at + 1]])
 }
 
-// The 4 bytes from at on, likewise.
-fn little32(s: &[u8], at: usize) -> u32
-    requires { at + 4 ≤ length s.now }
-    ensures { result ≡ turned4 s.now at }
-{
-    ((wide(s[at + 3]) * 256 + wide(s[at + 2])) * 256 + wide(s[at + 1])) * 256 + wide(s[at])
-}
-
-// The 8 bytes from at on, likewise.
-fn little64(s: &[u8], at: usize) -> u64
+// The 8 bytes from at on as one number, the first the lowest: one read.
+fn word(s: &[u8], at: usize) -> u64
     requires { at + 8 ≤ length s.now }
-    ensures { result ≡ turned4 s.now (at + 4) * 4294967296 + turned4 s.now at }
+    ensures { result ≡ from_le_bytes w64 (part at 8 s.now) }
 {
-    (little32(s, at + 4) as u64) * 4294967296 + (little32(s, at) as u64)
+    u64::from_le_bytes([
+        s[at],
+        s[at + 1],
+        s[at + 2],
+        s[at + 3],
+        s[at + 4],
+        s[at + 5],
+        s[at + 6],
+        s[at + 7],
+    ])
 }
 
 // Whether the 8 bytes from a on are those from b on: two reads, and no loop, so that it costs little wherever it is put.
@@ -105,7 +91,7 @@ fn same8(s: &[u8], a: usize, b: usize) -> bool
     requires { (a + 8 ≤ length s.now) × (b + 8 ≤ length s.now) }
     ensures { result ≡ alike s.now a b 8 }
 {
-    little64(s, a) == little64(s, b)
+    word(s, a) == word(s, b)
 }
 
 // Whether the 16 bytes from a on are those from b on.
@@ -113,10 +99,7 @@ pub fn same16(s: &[u8], a: usize, b: usize) -> bool
     requires { (a + 16 ≤ length s.now) × (b + 16 ≤ length s.now) }
     ensures { result ≡ alike s.now a b 16 }
 {
-    if !same8(s, a, b) {
-        return false;
-    }
-    same8(s, a + 8, b + 8)
+    same8(s, a, b) && same8(s, a + 8, b + 8)
 }
 
 // The number in the 4 bytes from at on.
@@ -124,17 +107,15 @@ pub fn load32(s: &[u8], at: usize) -> u32
     requires { at + 4 ≤ length s.now }
     ensures { result ≡ of_be 4 (part at 4 s.now) }
 {
-    ((wide(s[at]) * 256 + wide(s[at + 1])) * 256 + wide(s[at + 2])) * 256 + wide(s[at + 3])
+    u32::from_be_bytes([s[at], s[at + 1], s[at + 2], s[at + 3]])
 }
 
-// Writes n in 2 bytes from at on. Turned round first, as load16 does, so that a run of numbers is turned and written as one.
+// Writes n in 2 bytes from at on.
 pub fn store16(image: &mut [u8], at: usize, n: u16)
     requires { at + 2 ≤ length image.old }
     ensures { image.new ≡ put at (be 2 n) image.old }
 {
-    let x = n % 256 * 256 + n / 256;
-    let b = [(x % 256) as u8, (x / 256 % 256) as u8];
-    write(image, at, &b);
+    write(image, at, &u16::to_be_bytes(n));
 }
 
 // Writes n in 4 bytes from at on.
@@ -142,11 +123,5 @@ pub fn store32(image: &mut [u8], at: usize, n: u32)
     requires { at + 4 ≤ length image.old }
     ensures { image.new ≡ put at (be 4 n) image.old }
 {
-    let b = [
-        (n / 256 / 256 / 256 % 256) as u8,
-        (n / 256 / 256 % 256) as u8,
-        (n / 256 % 256) as u8,
-        (n % 256) as u8,
-    ];
-    write(image, at, &b);
+    write(image, at, &u32::to_be_bytes(n));
 }
