@@ -1,21 +1,22 @@
 -- The loops over a map's n entries: what holds after i turns.
 use Prim.Native.Nat.{ℕ, suc, ◌+◌, ◌-◌, ◌≤◌, ◌<◌}
-use mathlib.Core.Bool.{Bool, true, false, not}
+use mathlib.Core.Bool.{Bool, true, false}
 use mathlib.Core.Path.{◌≡◌, refl, sym, ap, ◌∙◌, subst}
 use mathlib.Core.List.{List}
 use mathlib.Core.Option.{Option, none, some}
-use mathlib.Core.Logic.{⊎_elim}
+use mathlib.Core.Logic.{⊎_elim, ◌↔◌}
+use Rattle.std.specs.Prelude.{EachIndex}
 use native.Mathlib.Numerals.{add-one}
 use native.Mathlib.Omega.{arith}
 use lib.ListN.{length, set, get_or, length-set}
 use lib.Seq.{get_or-set_same, get_or-set_other}
 use Rattle.octets.specs.Bytes.{pick, tabulate}
 use Rattle.octets.proofs.Chunks.{sides, length-tabulate, get_d_tabulate}
-use Rattle.octets.proofs.Zero.{every-none, every_more, every-off}
+use Rattle.octets.proofs.Tests.{same_test}
 use Rattle.marks.specs.declared.History.{History}
 use Rattle.maps.specs.declared.DependenceMap.{DependenceMap}
 use Rattle.maps.specs.Map.{held_at, history_at, is_empty, chooses_right, joined_held_at, joined_history_at, join_of, superseded_at, first_from, first_superseded, Sized}
-use Rattle.maps.proofs.Map.{outside, Entry, same_map, chooses_right_at, held-picked, history-picked, held-join, history-join, held-join-off, history-join-off}
+use Rattle.maps.proofs.Map.{outside, Entry, is_empty-test, same_map, chooses_right_at, held-picked, history-picked, held-join, history-join, held-join-off, history-join-off}
 
 -- ---- a list changed entry by entry: the first i are those of f, the others still those of g
 
@@ -113,23 +114,12 @@ module _ {n : ℕ} (a b : DependenceMap) where
   joining-all i k off = changing-all (joined_held_at a b) (joined_history_at a b) a i k
       (λ j p h. (sym (held-join-off n a b j h (off j p h)) ∙ held-join n a b j h, sym (history-join-off n a b j h (off j p h)) ∙ history-join n a b j h))
 
--- ---- no entry
+-- ---- no entry: r says that no place is held
 
-module _ (m : DependenceMap) where
-  pub is_empty-none : is_empty 0 m ≡ true
-  unfolding is_empty
-  is_empty-none = every-none (λ i. not (held_at m i))
-
-  pub is_empty-more : (i : ℕ) → is_empty i m ≡ true → held_at m i ≡ false → is_empty (i + 1) m ≡ true
-  unfolding is_empty
-  is_empty-more i e f = every_more (λ i. not (held_at m i)) i e (ap not f)
-
-  pub is_empty-off : (n i : ℕ) → i < n → held_at m i ≡ true → is_empty n m ≡ false
-  unfolding is_empty
-  is_empty-off n i h e = every-off (λ i. not (held_at m i)) n i h (ap not e)
-
-  pub is_empty-all : (n i : ℕ) → is_empty i m ≡ true → i ≡ n → is_empty n m ≡ true
-  is_empty-all n i e h = rw h at e
+pub is_empty-each : {n : ℕ} (m : DependenceMap) → length m.held ≡ n → (r : Bool) → (r ≡ true) ↔ EachIndex m.held (λ k. held_at m k ≡ false) → r ≡ is_empty n m
+is_empty-each {n} m long r each = same_test r (is_empty n m)
+    (λ e. (is_empty-test n m).1 (λ i h. each.0 e i (omega arith)))
+    (λ e. each.1 (λ i h. (is_empty-test n m).0 e i (omega arith)))
 
 -- ---- the first entry that is superseded: the answer is that for the entries from i on
 

@@ -8,9 +8,9 @@ use native.Mathlib.Nat.{add-zero}
 use native.Mathlib.Omega.{arith}
 use lib.Dec.{ltb}
 use lib.ListN.{length}
-use Rattle.octets.specs.Bytes.{put, part, zeros, all_zero}
+use Rattle.octets.specs.Bytes.{put, part, zeros, all_zero, every}
 use Rattle.octets.proofs.Put.{part-part, put_whole, length_part}
-use Rattle.octets.proofs.Zero.{zeros-is, every-none, every_more, every-off}
+use Rattle.octets.proofs.Zero.{zeros-is, every-none, every-same}
 use Rattle.octets.proofs.Chunks.{step, put-none, put-more, put-chunk}
 use Rattle.marks.specs.declared.History.{History}
 use Rattle.marks.specs.History.{initial_history}
@@ -109,23 +109,9 @@ module _ (w l n at : ℕ) (s : List ℕ) (i : ℕ) (below : i < n) where
   pub history-in : history_at (map_in w l n s at) i ≡ unpack_history w l (part (at + history_size w l * i) (history_size w l) s)
   history-in = history-unpack w l n (part at (map_size w l n) s) i below ∙ ap (unpack_history w l) entry_here
 
-  module _ (c opened : ℕ) (t : Bool) (e : t ≡ formed_entry w c (ltb i opened) (part (at + history_size w l * i) (history_size w l) s)) where
-    formed-here : formed_entry_at w l c opened (part at (map_size w l n) s) i ≡ t
-    unfolding formed_entry_at
-    formed-here = ap (formed_entry w c (ltb i opened)) entry_here ∙ sym e
-
-    pub formed-more : formed_map w l i c opened (part at (map_size w l n) s) ≡ true → t ≡ true → formed_map w l (i + 1) c opened (part at (map_size w l n) s) ≡ true
-    unfolding formed_map
-    formed-more f z = every_more (formed_entry_at w l c opened (part at (map_size w l n) s)) i f (formed-here ∙ z)
-
-    pub formed-off : t ≡ false → formed_map w l n c opened (part at (map_size w l n) s) ≡ false
-    unfolding formed_map
-    formed-off z = every-off (formed_entry_at w l c opened (part at (map_size w l n) s)) n i below (formed-here ∙ z)
-
-module _ (w l c opened : ℕ) (b : List ℕ) where
-  pub formed-none : formed_map w l 0 c opened b ≡ true
-  unfolding formed_map
-  formed-none = every-none (formed_entry_at w l c opened b)
+  pub formed-here : (c opened : ℕ) → formed_entry_at w l c opened (part at (map_size w l n) s) i ≡ formed_entry w c (ltb i opened) (part (at + history_size w l * i) (history_size w l) s)
+  unfolding formed_entry_at
+  formed-here c opened = ap (formed_entry w c (ltb i opened)) entry_here
 
 -- ---- of a packed map whose bytes are all zero no entry is looked at
 
@@ -175,10 +161,19 @@ module _ (w l n : ℕ) (s : List ℕ) (at : ℕ) (fits : at + map_size w l n ≤
       pub unlooked-history : history_at (map_in w l n s at) j ≡ initial_history l
       unlooked-history = ap (λ (m : DependenceMap). history_at m j) (unlooked j h k) ∙ history-empty l n j k
 
-    -- well-formed if those that are looked at are
-    pub formed-all : (c opened i : ℕ) → formed_map w l i c opened b ≡ true → i ≡ e → formed_map w l n c opened b ≡ true
-    formed-all c opened i f h = go (all_zero b) refl
+    -- well-formed exactly if those that are looked at are
+    pub formed-looked : (c opened : ℕ) → every e (λ i. formed_entry w c (ltb i opened) (part (at + history_size w l * i) (history_size w l) s)) ≡ formed_map w l n c opened b
+    unfolding formed_map
+    formed-looked c opened = go (all_zero b) refl
       where
-        go : (t : Bool) → all_zero b ≡ t → formed_map w l n c opened b ≡ true
-        go true z = subst (λ (x : List ℕ). formed_map w l n c opened x ≡ true) (sym (bytes-zero z)) (formed-zero_map w l n c opened)
-        go false z = subst (λ (k : ℕ). formed_map w l k c opened b ≡ true) (h ∙ end ∙ looked-all n b z) f
+        g : ℕ → Bool
+        g i = formed_entry w c (ltb i opened) (part (at + history_size w l * i) (history_size w l) s)
+
+        go : (t : Bool) → all_zero b ≡ t → every e g ≡ every n (formed_entry_at w l c opened b)
+        go true z =
+            let none : e ≡ 0 = end ∙ looked-none n b z in
+            ap (λ (k : ℕ). every k g) none ∙ every-none g
+            ∙ sym (subst (λ (x : List ℕ). formed_map w l n c opened x ≡ true) (sym (bytes-zero z)) (formed-zero_map w l n c opened))
+        go false z =
+            ap (λ (k : ℕ). every k g) (end ∙ looked-all n b z)
+            ∙ every-same g (formed_entry_at w l c opened b) n (λ i h. sym (formed-here w l n at s i h c opened))

@@ -1,5 +1,5 @@
 -- Document 01, "Lives and marks": dependence maps (maps), over the number n of entries and the length l of a history's list.
-use Rattle.std.specs.Prelude.{ℕ, zero, suc, ◌<◌, Bool, true, false, not, List, [], ◌≡◌, get_or, set, replicate, length}
+use Rattle.std.specs.Prelude.{ℕ, zero, suc, ◌<◌, Bool, true, false, not, List, [], ◌≡◌, get_or, set, replicate, length, Some, None, Option as RustOption}
 use Rattle.std.proofs.Math.Option.{Option, none, some}
 use Rattle.octets.specs.Bytes.{pick, ◌and◌, ◌or◌, tabulate, every, any}
 use Rattle.marks.specs.declared.History.{History}
@@ -7,8 +7,6 @@ use Rattle.marks.specs.History.{incarnation_of, initial_history, is_older, Roomy
 use Rattle.marks.specs.Incarnation.{superseded_by}
 use Rattle.marks.specs.Relation.{relation_of, is_unrelated}
 use Rattle.maps.specs.declared.DependenceMap.{DependenceMap}
-use Rattle.maps.specs.declared.Comparison.{Comparison}
-use Rattle.maps.specs.declared.Comparison.TheVariants.{Superseded, Current}
 
 -- whether m has a mark of take i
 abbrev pub held_at : DependenceMap → ℕ → Bool
@@ -75,9 +73,9 @@ unfoldable pub first_superseded : ℕ → DependenceMap → DependenceMap → Op
 first_superseded n a b = first_from (superseded_at a b) 0 n
 
 -- what the comparison's answer says: the number of the first such take, or none
-abbrev pub answer_of : Comparison → Option ℕ
-answer_of (Superseded i) = some i
-answer_of Current = none
+abbrev pub answer_of : RustOption ℕ → Option ℕ
+answer_of (Some i) = some i
+answer_of None = none
 
 -- ---- Document 02, W3: "some take has unrelated marks in the parcel and in the receiver's joined state and creation maps"
 

@@ -14,33 +14,27 @@ pub const ENTRIES: usize = 16;
 pub const SIZE: usize = marks::SIZE * ENTRIES;
 
 // Document 01: a map. A history whose place is not held is the initial one.
+// Two lists, and no list of options: the documents' definitions and theorems stand on them (with_entry, held_at, history_at).
 #[derive(Clone, Copy)]
 pub struct DependenceMap {
-    pub held: [bool; 16],
-    pub histories: [History; 16],
-}
-
-// A comparison's answer: the first transactor whose history is superseded, or none.
-#[derive(Clone, Copy)]
-pub enum Comparison {
-    Superseded(usize),
-    Current,
+    pub held: [bool; ENTRIES],
+    pub histories: [History; ENTRIES],
 }
 
 // A packed map and a map, compared both ways: whether some transactor has unrelated histories in the two, the first whose history
-// in the packed one is superseded, and the first whose own is.
+// in the packed one is superseded, if there is one, and the first whose own is.
 #[derive(Clone, Copy)]
 pub struct Comparisons {
     pub unrelated: bool,
-    pub packed: Comparison,
-    pub own: Comparison,
+    pub packed: Option<usize>,
+    pub own: Option<usize>,
 }
 
 impl DependenceMap {
     // No entry.
     pub const EMPTY: DependenceMap = DependenceMap {
-        held: [false; 16],
-        histories: [History::INITIAL; 16],
+        held: [false; ENTRIES],
+        histories: [History::INITIAL; ENTRIES],
     };
 
     // The empty map.
@@ -72,22 +66,14 @@ impl DependenceMap {
     pub fn is_empty(self) -> bool
         ensures { result ≡ is_empty entries self }
     {
-        let mut i: usize = 0;
-        while i < ENTRIES {
-            if self.held[i] {
-                return false;
-            }
-            i += 1;
-        }
-        true
+        self.held.iter().all(|held| !*held)
     }
 
     // Entry by entry the newer of the two; on a tie that of self.
     pub fn join(mut self, other: DependenceMap) -> DependenceMap
         ensures { result ≡ join_of entries self other }
     {
-        let mut i: usize = 0;
-        while i < ENTRIES {
+        for i in 0..ENTRIES {
             let p = self.held[i];
             let x = self.histories[i];
             let q = other.held[i];
@@ -96,7 +82,6 @@ impl DependenceMap {
                 self.held[i] = q;
                 self.histories[i] = y;
             }
-            i += 1;
         }
         self
     }
@@ -120,11 +105,5 @@ impl DependenceMap {
 pub fn chooses_right(p: bool, x: History, q: bool, y: History) -> bool
     ensures { result ≡ chooses_right p x q y }
 {
-    if q {
-        if p {
-            return x.older(y);
-        }
-        return true;
-    }
-    false
+    q && (!p || x.older(y))
 }

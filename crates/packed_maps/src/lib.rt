@@ -4,12 +4,12 @@
 ghost use Rattle.std.specs.Prelude.{◌≡◌, ◌+◌, ◌≤◌, length};
 ghost use Rattle.octets.specs.Bytes.{part};
 ghost use Rattle.marks.specs.Packed.{width, places, history_size, rest_size, ramp_of, history_in, present_in};
-ghost use Rattle.maps.specs.Map.{join_of, first_superseded, answer_of, any_unrelated};
+ghost use Rattle.maps.specs.Map.{empty_map, join_of, first_superseded, answer_of, any_unrelated};
 ghost use Rattle.maps.specs.Internal.Comparing.{relation_entry};
 ghost use Rattle.maps.specs.Packed.{entries, map_size, unpack_map, map_in, formed_entry, formed_map};
 ghost use Rattle.maps.specs.Internal.Fitting.{Bounded, looked};
 
-use maps::{Comparison, Comparisons, DependenceMap, ENTRIES, SIZE};
+use maps::{Comparisons, DependenceMap, ENTRIES, SIZE};
 use marks::{History, Relation};
 
 // How many entries of the map packed from at on are looked at: none of one without entries, whose bytes take one test. It is not made
@@ -18,14 +18,24 @@ pub fn looked_at(s: &[u8], at: usize) -> usize
     requires { at + map_size width places entries ≤ length s.now }
     ensures { (result ≡ looked entries (part at (map_size width places entries) s.now)) × (result ≤ entries) }
 {
-    if packed_histories::present(s, at) {
-        return ENTRIES;
-    }
-    let none = octets::all_zero(s, at, SIZE);
-    if none {
+    if !packed_histories::present(s, at) && octets::all_zero(s, at, SIZE) {
         return 0;
     }
     ENTRIES
+}
+
+// Reads what the packed form from at on holds into a map without entries. It is lent and not passed on: as measured, a map that is
+// passed on is copied.
+pub fn load_into(r: &mut DependenceMap, s: &[u8], at: usize)
+    requires room { at + map_size width places entries ≤ length s.now }
+    requires empty { r.old ≡ empty_map places entries }
+    ensures { r.new ≡ map_in width places entries s.now at }
+{
+    for i in 0..looked_at(s, at) {
+        let from = at + marks::SIZE * i;
+        r.held[i] = packed_histories::present(s, from);
+        r.histories[i] = packed_histories::load(s, from);
+    }
 }
 
 // What the packed form from at on holds.
@@ -33,46 +43,28 @@ pub fn load(s: &[u8], at: usize) -> DependenceMap
     requires { at + map_size width places entries ≤ length s.now }
     ensures { result ≡ unpack_map width places entries (part at (map_size width places entries) s.now) }
 {
-    let end = looked_at(s, at);
     let mut r = DependenceMap::EMPTY;
-    let mut i: usize = 0;
-    while i < end {
-        let from = at + marks::SIZE * i;
-        r.held[i] = packed_histories::present(s, from);
-        r.histories[i] = packed_histories::load(s, from);
-        i += 1;
-    }
+    load_into(&mut r, s, at);
     r
 }
 
-// The map packed at left, by value, joined with the one packed at right, whose entries are read one by one. Two loops in one
-// function, as measured: a map that is passed on is copied.
+// The map packed at left, by value, joined with the one packed at right, whose entries are read one by one.
 pub fn joined(s: &[u8], left: usize, right: usize) -> DependenceMap
     requires { (left + map_size width places entries ≤ length s.now) × (right + map_size width places entries ≤ length s.now) }
     ensures { result ≡ join_of entries (map_in width places entries s.now left) (map_in width places entries s.now right) }
 {
     let mut r = DependenceMap::EMPTY;
-    let end = looked_at(s, left);
-    let mut i: usize = 0;
-    while i < end {
-        let at = left + marks::SIZE * i;
-        r.held[i] = packed_histories::present(s, at);
-        r.histories[i] = packed_histories::load(s, at);
-        i += 1;
-    }
-    let more = looked_at(s, right);
-    let mut k: usize = 0;
-    while k < more {
-        let at = right + marks::SIZE * k;
-        let p = r.held[k];
-        let x = r.histories[k];
+    load_into(&mut r, s, left);
+    for i in 0..looked_at(s, right) {
+        let at = right + marks::SIZE * i;
+        let p = r.held[i];
+        let x = r.histories[i];
         let q = packed_histories::present(s, at);
         let y = packed_histories::load(s, at);
         if maps::chooses_right(p, x, q, y) {
-            r.held[k] = q;
-            r.histories[k] = y;
+            r.held[i] = q;
+            r.histories[i] = y;
         }
-        k += 1;
     }
     r
 }
@@ -83,10 +75,7 @@ fn relation_at(s: &[u8], at: usize, p: bool, x: History) -> Relation
     requires { (at + history_size width places ≤ length s.now) × (x.count ≤ places) }
     ensures { result ≡ relation_entry (present_in (part at (history_size width places) s.now)) (history_in width places s.now at) p x }
 {
-    if !packed_histories::present(s, at) {
-        return Relation::Same;
-    }
-    if !p {
+    if !packed_histories::present(s, at) || !p {
         return Relation::Same;
     }
     let y = packed_histories::load(s, at);
@@ -101,18 +90,13 @@ pub fn compare(m: DependenceMap, s: &[u8], at: usize) -> Comparisons
         × (answer_of result.own ≡ first_superseded entries m (map_in width places entries s.now at)) }
 {
     let mut unrelated = false;
-    let mut packed = Comparison::Current;
-    let mut own = Comparison::Current;
-    let mut i: usize = ENTRIES;
-    while 0 < i {
-        i -= 1;
+    let mut packed = None;
+    let mut own = None;
+    for i in (0..ENTRIES).rev() {
         let from = at + marks::SIZE * i;
-        let p = m.held[i];
-        let x = m.histories[i];
-        let r = relation_at(s, from, p, x);
-        match r {
-            Relation::LeftSuperseded => packed = Comparison::Superseded(i),
-            Relation::RightSuperseded => own = Comparison::Superseded(i),
+        match relation_at(s, from, m.held[i], m.histories[i]) {
+            Relation::LeftSuperseded => packed = Some(i),
+            Relation::RightSuperseded => own = Some(i),
             Relation::Unrelated => unrelated = true,
             Relation::Same | Relation::LeftCheckpointed | Relation::RightCheckpointed => {}
         }
@@ -129,9 +113,10 @@ fn formed_entry(s: &[u8], at: usize, known: bool, limit: u8, ramp: &[u8]) -> boo
     ensures { result ≡ formed_entry width limit known (part at (history_size width places) s.now) }
 {
     if known {
-        return packed_histories::formed(s, at, limit, ramp);
+        packed_histories::formed(s, at, limit, ramp)
+    } else {
+        octets::all_zero(s, at, marks::SIZE)
     }
-    octets::all_zero(s, at, marks::SIZE)
 }
 
 // Whether the bytes of a packed map from at on are well-formed, the first opened transactors being opened, where a list may have
@@ -142,12 +127,5 @@ pub fn formed(s: &[u8], at: usize, opened: usize, limit: u8) -> bool
 {
     let end = looked_at(s, at);
     let ramp = packed_histories::ramp();
-    let mut i: usize = 0;
-    while i < end {
-        if !formed_entry(s, at + marks::SIZE * i, i < opened, limit, &ramp) {
-            return false;
-        }
-        i += 1;
-    }
-    true
+    (0..end).all(|i| formed_entry(s, at + marks::SIZE * i, i < opened, limit, &ramp))
 }
