@@ -4,9 +4,11 @@ ghost use Rattle.rules.specs.Layout.{base, image_bytes};
 ghost use Rattle.rules.specs.State.{transactor_at};
 ghost use Rattle.rules.specs.Pack.{unpack};
 ghost use Rattle.rules.specs.Internal.Guards.{acting_refusal};
+ghost use Rattle.rules.specs.Numbers.{status_number, refusal_in};
 
 use crate::layout::{FIRST_TRANSACTOR, NEXT, OPENED, TRANSACTOR};
-use rules::numbers;
+use rules::refusals::Refusal;
+use rules::statuses::Status;
 
 pub fn opened(image: &[u8]) -> u8
     requires { length image.now ≡ image_bytes base }
@@ -23,23 +25,23 @@ pub fn next(image: &[u8]) -> u16
 }
 
 // The status of transactor t.
-pub fn status(image: &[u8], t: usize) -> u8
+pub fn status(image: &[u8], t: usize) -> Status
     requires { (length image.now ≡ image_bytes base) × (t < base.transactors) }
-    ensures { result ≡ (transactor_at (unpack base image.now) t).status }
+    ensures { status_number result ≡ (transactor_at (unpack base image.now) t).status }
 {
-    image[FIRST_TRANSACTOR + TRANSACTOR * t] / 64
+    Status::of(image[FIRST_TRANSACTOR + TRANSACTOR * t])
 }
 
-// Why transactor t cannot act, 21 or 22, or 0.
-pub fn refusal(image: &[u8], t: usize) -> u8
+// Whether transactor t can act: refused as 21 or 22 if not.
+pub fn check(image: &[u8], t: usize) -> Result<(), Refusal>
     requires { (length image.now ≡ image_bytes base) × ((unpack base image.now).opened ≤ base.transactors) }
-    ensures { result ≡ acting_refusal (unpack base image.now) t }
+    ensures { refusal_in result ≡ acting_refusal (unpack base image.now) t }
 {
-    if (opened(image) as usize) <= t {
-        return numbers::UNOPENED;
+    if usize::from(opened(image)) <= t {
+        return Err(Refusal::Unopened);
     }
-    if status(image, t) == numbers::ANNIHILATED {
-        return numbers::GONE;
+    match status(image, t) {
+        Status::Annihilated => Err(Refusal::Gone),
+        Status::Unused | Status::Idle | Status::Busy => Ok(()),
     }
-    0
 }
