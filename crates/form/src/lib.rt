@@ -8,6 +8,7 @@ ghost use Rattle.rules.specs.Pack.{waiting_in, unpack};
 ghost use Rattle.rules.specs.Form.{well_formed};
 ghost use Rattle.rules.specs.Calls.{query_refusal};
 ghost use Rattle.rules.specs.Internal.Guards.{image_refusal};
+ghost use Rattle.rules.specs.Numbers.{status_number, refusal_in};
 ghost use Rattle.form.specs.Internal.Tests.{Headed, formed_own_at, formed_live_at, formed_transactor_at, least_at, formed_message_at, formed_front};
 
 use image::layout::{
@@ -15,7 +16,8 @@ use image::layout::{
     MESSAGE, MESSAGES, NUMBER, SAVED, STATE, TRANSACTOR, TRANSACTORS, own_at,
 };
 use image::{head, limits, messages};
-use rules::numbers;
+use rules::refusals::Refusal;
+use rules::statuses::Status;
 
 // Its own history, and no saved value before a checkpoint.
 fn own_formed(s: &[u8], t: usize) -> bool
@@ -34,8 +36,8 @@ fn own_formed(s: &[u8], t: usize) -> bool
 }
 
 // A transactor, idle or at work.
-fn live_formed(s: &[u8], t: usize, status: u8, opened: usize, limit: u8) -> bool
-    requires { Headed s.now opened limit × (t < base.transactors) × (status ≡ get_or s.now (transactor_address base t) 0 / 64) }
+fn live_formed(s: &[u8], t: usize, status: Status, opened: usize, limit: u8) -> bool
+    requires { Headed s.now opened limit × (t < base.transactors) × (status_number status ≡ get_or s.now (transactor_address base t) 0 / 64) }
     ensures { result ≡ formed_live_at base s.now t }
 {
     let at = FIRST_TRANSACTOR + TRANSACTOR * t;
@@ -48,10 +50,10 @@ fn live_formed(s: &[u8], t: usize, status: u8, opened: usize, limit: u8) -> bool
     if !own_formed(s, t) {
         return false;
     }
-    if status == numbers::IDLE {
-        return octets::all_zero(s, at + BEHAVIOUR, maps::SIZE);
+    match status {
+        Status::Idle => octets::all_zero(s, at + BEHAVIOUR, maps::SIZE),
+        _ => packed_maps::formed(s, at + BEHAVIOUR, opened, limit),
     }
-    packed_maps::formed(s, at + BEHAVIOUR, opened, limit)
 }
 
 // One transactor, where opened are opened and a list may have limit entries.
@@ -67,14 +69,12 @@ fn transactor_formed(s: &[u8], t: usize, opened: usize, limit: u8) -> bool
     if head % 64 != 0 {
         return false;
     }
-    let status = head / 64;
-    if status == numbers::UNUSED {
-        return false;
+    let status = Status::of(head);
+    match status {
+        Status::Unused => false,
+        Status::Annihilated => octets::all_zero(s, at + 1, TRANSACTOR - 1),
+        Status::Idle | Status::Busy => live_formed(s, t, status, opened, limit),
     }
-    if status == numbers::ANNIHILATED {
-        return octets::all_zero(s, at + 1, TRANSACTOR - 1);
-    }
-    live_formed(s, t, status, opened, limit)
 }
 
 // One more than the number in the place before k; 0 for the first.
@@ -120,28 +120,14 @@ fn transactors_formed(s: &[u8], opened: usize, limit: u8) -> bool
     requires { Headed s.now opened limit }
     ensures { result ≡ every base.transactors (formed_transactor_at base s.now) }
 {
-    let mut t: usize = 0;
-    while t < TRANSACTORS {
-        if !transactor_formed(s, t, opened, limit) {
-            return false;
-        }
-        t += 1;
-    }
-    true
+    (0..TRANSACTORS).all(|t| transactor_formed(s, t, opened, limit))
 }
 
 fn messages_formed(s: &[u8], n: usize, opened: usize, next: u16, limit: u8) -> bool
     requires { Headed s.now opened limit × (n ≡ waiting_in base s.now) × (next ≡ (unpack base s.now).next) }
     ensures { result ≡ every base.messages (formed_message_at base s.now) }
 {
-    let mut k: usize = 0;
-    while k < MESSAGES {
-        if !message_formed(s, k, n, opened, next, limit) {
-            return false;
-        }
-        k += 1;
-    }
-    true
+    (0..MESSAGES).all(|k| message_formed(s, k, n, opened, next, limit))
 }
 
 // The head and the limits, of which n messages that wait are within theirs.
@@ -186,26 +172,23 @@ pub fn formed(s: &[u8]) -> bool
     messages_formed(s, n, opened, head::next(s), limit)
 }
 
-// What a call refuses any image for: 16, 19; or 0.
-pub fn image_refusal(s: &[u8]) -> u8
-    ensures { result ≡ image_refusal base s.now }
+// Whether a call takes an image: refused as 16 or 19 if not.
+pub fn check_image(s: &[u8]) -> Result<(), Refusal>
+    ensures { refusal_in result ≡ image_refusal base s.now }
 {
     if s.len() != IMAGE {
-        return numbers::WRONG_LENGTH;
+        return Err(Refusal::WrongLength);
     }
     if !formed(s) {
-        return numbers::ILL_FORMED;
+        return Err(Refusal::IllFormed);
     }
-    0
+    Ok(())
 }
 
-// The refusals of a query about one transactor, 16, 19, 21 and 22, or 0.
-pub fn query_refusal(image: &[u8], transactor: usize) -> u8
-    ensures { result ≡ query_refusal base image.now transactor }
+// The same of a query about one transactor, which is also refused as 21 or 22.
+pub fn check_query(image: &[u8], transactor: usize) -> Result<(), Refusal>
+    ensures { refusal_in result ≡ query_refusal base image.now transactor }
 {
-    let r = image_refusal(image);
-    if r != 0 {
-        return r;
-    }
-    head::refusal(image, transactor)
+    check_image(image)?;
+    head::check(image, transactor)
 }

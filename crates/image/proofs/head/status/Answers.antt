@@ -1,5 +1,5 @@
 -- The first two bits of the transactor.
-use Rattle.std.proofs.Common.{sym, ◌∙◌, rules}
+use Rattle.std.proofs.Common.{sym, ◌∙◌}
 use Rattle.rules.proofs.Pack.Loads.{read-status}
 use Rattle.image.proofs.head.status.Goals as goal
 

@@ -1,0 +1,29 @@
+-- Those of the image, and then as an acting transactor is refused.
+use Rattle.std.proofs.Common.{◌≡◌, ℕ, ◌∙◌, refl, arith}
+use Rattle.std.proofs.lemmas.Result.{err_from_is_err_and}
+use Rattle.rules.specs.declared.refusals.Refusal.{Refusal}
+use Rattle.rules.specs.Numbers.{refusal_number}
+use Rattle.rules.specs.Layout.{base}
+use Rattle.rules.specs.Calls.{query_refusal}
+use Rattle.rules.proofs.Calls.Query.{few-opened, query-16, query-19, query-acting}
+use Rattle.form.proofs.Unsound.{image-refused, sound-long, sound-not}
+use Rattle.form.proofs.check_query.Goals as goal
+
+refused : (r : Refusal) → refusal_number r ≡ 0 → ⊥
+refused r e = grind arith
+
+pub returns-in_err-check_image : goal.returns-in_err-check_image
+returns-in_err-check_image c =
+    let p = err_from_is_err_and c.from_residual.result c.from_residual.ensures.1 in
+    rw (p.1, p.2)
+    (image-refused base _ _ c.in_err-check_image.ensures (λ (n : ℕ). n ≡ query_refusal base c.args.image.now c.args.transactor) (query-16 base _ _) (query-19 base _ _) (refused c.in_err-check_image.field-0.0))
+
+pub check-requires : goal.check-requires
+check-requires c =
+    let e = c.in_ok-check_image.ensures in
+    (sound-long base _ _ e refl, few-opened base _ (sound-not base _ _ e refl))
+
+pub returns : goal.returns
+returns c =
+    let e = c.in_ok-check_image.ensures in
+    c.check.ensures ∙ query-acting base _ _ (sound-long base _ _ e refl) (sound-not base _ _ e refl)
