@@ -1,28 +1,28 @@
--- The refusals, case by case.
-use Prim.Native.Nat.{ℕ, ◌+◌, ◌≤◌, ◌<◌}
+-- The refusals: what they leave.
+use Prim.Native.Nat.{ℕ, ◌<◌}
 use mathlib.Core.Bool.{Bool, true, false, not}
-use mathlib.Core.Path.{◌≡◌, refl, sym, ◌∙◌, subst}
+use mathlib.Core.Path.{◌≡◌, refl, sym, ◌∙◌}
 use mathlib.Core.List.{List}
+use Rattle.std.specs.List.{list_any, range_with_len}
 use native.Mathlib.Omega.{arith}
 use lib.Dec.{eqb, leb}
-use borrow.Author.Tests.{le-leb, lt-leb}
-use Rattle.octets.specs.Bytes.{pick, ◌and◌, any}
+use Rattle.octets.specs.Bytes.{pick, ◌and◌}
 use Rattle.octets.specs.Numbers.{bound}
 use Rattle.octets.proofs.Tests.{pick-zero}
-use Rattle.octets.proofs.Zero.{any_none, any-more, any-on}
+use Rattle.octets.proofs.Ranges.{any-ranged}
 use Rattle.rules.specs.Status.{busy, annihilated}
 use Rattle.rules.specs.Step.{fall}
-use Rattle.rules.specs.Refusals.{group_bits, named, any_named}
-use Rattle.rules.specs.Internal.Guards.{first, receiver_refusal, local_refusal}
+use Rattle.rules.specs.Refusals.{named, any_named}
+use Rattle.rules.specs.Internal.Guards.{first, local_refusal, named_refusal}
 use Rattle.rules.proofs.ByKind.Guards as guards
 use Rattle.rules.proofs.ByKind.Guards.{first_taken, first-left, local-first}
 use Rattle.engine_tables.specs.declared.table.Row.{Row}
 use Rattle.engine_tables.specs.declared.table.Slot.{Slot}
 use Rattle.engine_tables.specs.declared.register.Register.{Register}
 use Rattle.engine_tables.specs.Internal.Register.{row_at, Fits, Room}
-use Rattle.engine_tables.specs.Internal.Guards.{last_row, local_guard, receipt_guard, any_unstable, group_guard}
+use Rattle.engine_tables.specs.Internal.Guards.{last_row, local_guard, receipt_guard, any_unstable, named_guard, group_guard}
 
--- ---- kinds 5 to 10: r is the refusal that the status decides
+-- ---- kinds 5 to 10
 
 module _ (k : ℕ) (x : Row) where
   -- 28
@@ -32,28 +32,6 @@ module _ (k : ℕ) (x : Row) where
   local-is : local_guard k x ≡ first (local_refusal k x.status) last
   unfolding local_guard
   local-is = refl
-
-  module _ (r : ℕ) (asked : r ≡ local_refusal k x.status) where
-    pub local-refused : (r ≡ 0 → ⊥) → r ≡ local_guard k x
-    local-refused n = sym (local-is ∙ first_taken (local_refusal k x.status) last r asked n)
-
-    module _ (passes : r ≡ 0) where
-      left : local_guard k x ≡ last
-      left = local-is ∙ first-left (local_refusal k x.status) last r asked passes
-
-      pub local-early : k < fall → 0 ≡ local_guard k x
-      local-early h = sym (left ∙ rw (lt-leb fall k h))
-
-      module _ (late : fall ≤ k) where
-        pub local-stable : x.stable ≡ true → 0 ≡ local_guard k x
-        local-stable s = sym (left ∙ rw (le-leb fall k late, s))
-
-        module _ (unstable : x.stable ≡ false) (l : Bool) (tested : l ≡ last_row x) where
-          pub local-last : l ≡ true → 28 ≡ local_guard k x
-          local-last e = sym (left ∙ rw (le-leb fall k late, ← tested, e, unstable))
-
-          pub local_free : l ≡ false → 0 ≡ local_guard k x
-          local_free e = sym (left ∙ rw (le-leb fall k late, ← tested, e, unstable))
 
   -- no refusal
   pub local-rolls : local_guard k x ≡ 0 → leb fall k and not x.stable and last_row x ≡ false
@@ -65,56 +43,43 @@ module _ (k : ℕ) (x : Row) where
 -- ---- a receipt
 
 module _ (m : Slot) (x : Row) where
-  pub receipt-missing : m.missing ≡ true → 24 ≡ receipt_guard m x
-  unfolding receipt_guard
-  receipt-missing e = rw e
-
-  pub receipt-found : m.missing ≡ false → (r : ℕ) → r ≡ receiver_refusal x.status → r ≡ receipt_guard m x
-  unfolding receipt_guard
-  receipt-found e r k = rw e k
-
   -- no refusal
   pub receipt-waits : receipt_guard m x ≡ 0 → m.missing ≡ false
   unfolding receipt_guard
   receipt-waits z = (pick-zero m.missing 24 _ (omega arith) z).0
 
--- 28
-module _ (x : Row) (d f : Bool) where
-  pub rolls-not : d ≡ false → f ≡ false → false ≡ not d and f and last_row x
-  rolls-not e q = rw (e, q)
-
-  pub rolls-is : d ≡ false → f ≡ true → (l : Bool) → l ≡ last_row x → l ≡ not d and f and last_row x
-  rolls-is e q l h = rw (e, q) h
-
 -- ---- a signing
 
--- after t turns every named take is frozen
-pub record Tight (R : ℕ → Row) (g t : ℕ) : Type 0 where
-  pub within : t ≤ group_bits
-  pub none : any t (λ u. named g u and not (R u).stable) ≡ false
+module _ (rows : List Row) (g : ℕ) where
+  -- a named take is not frozen; it is vanished; it has as many signings as the session allows
+  abbrev pub not-stable : ℕ → Bool
+  not-stable t = named g t and not (row_at rows t).stable
 
-pub tight-first : (R : ℕ → Row) (g : ℕ) → Tight R g 0
-tight-first R g = record { within = omega arith; none = any_none _ }
+  abbrev pub is-gone : ℕ → Bool
+  is-gone t = named g t and eqb (row_at rows t).status annihilated
 
-module _ {R : ℕ → Row} {g t : ℕ} (u : Tight R g t) where
-  pub tight-end : group_bits ≤ t → false ≡ any_unstable R g
+  abbrev pub has-all : ℕ → ℕ → Bool
+  has-all most t = named g t and leb most (row_at rows t).checkpoints
+
+  pub unstable-ranged : list_any not-stable (range_with_len 0 16) ≡ any_unstable (row_at rows) g
   unfolding any_unstable any_named
-  tight-end h =
-      let w = u.within in
-      let e : t ≡ group_bits = omega arith in
-      sym (subst (λ (i : ℕ). any i (λ u. named g u and not (R u).stable) ≡ false) e u.none)
+  unstable-ranged = any-ranged not-stable 16
 
-  module _ (below : t < group_bits) where
-    pub tight-unnamed : named g t ≡ false → Tight R g (t + 1)
-    tight-unnamed o = record { within = omega arith; none = any-more (λ u. named g u and not (R u).stable) t u.none (rw o) }
+  module _ (most : ℕ) where
+    named-ranged : pick (list_any is-gone (range_with_len 0 16)) 22 (pick (list_any (has-all most) (range_with_len 0 16)) 30 0) ≡ named_guard most (row_at rows) g
+    unfolding named_refusal any_named
+    named-ranged = λ i. pick (any-ranged is-gone 16 i) 22 (pick (any-ranged (has-all most) 16 i) 30 0)
 
-    module _ (name : named g t ≡ true) where
-      pub tight-found : not (R t).stable ≡ true → true ≡ any_unstable R g
-      unfolding any_unstable any_named
-      tight-found e = sym (any-on (λ u. named g u and not (R u).stable) group_bits t below (rw name e))
+    module _ (c : Bool) (gone : c ≡ list_any is-gone (range_with_len 0 16)) where
+      pub gone-ranged : c ≡ true → 22 ≡ named_guard most (row_at rows) g
+      gone-ranged e = rw (← named-ranged, ← gone, e)
 
-      pub tight-more : not (R t).stable ≡ false → Tight R g (t + 1)
-      tight-more e = record { within = omega arith; none = any-more (λ u. named g u and not (R u).stable) t u.none (rw name e) }
+      module _ (none : c ≡ false) (d : Bool) (full : d ≡ list_any (has-all most) (range_with_len 0 16)) where
+        pub full-ranged : d ≡ true → 30 ≡ named_guard most (row_at rows) g
+        full-ranged e = rw (← named-ranged, ← gone, none, ← full, e)
+
+        pub free-ranged : d ≡ false → 0 ≡ named_guard most (row_at rows) g
+        free-ranged e = rw (← named-ranged, ← gone, none, ← full, e)
 
 -- no refusal: every named take can be signed once more
 pub group-room : (x : Register) (rows : List Row) (g : ℕ) → g < bound 2 → x.checkpoints < 256 → group_guard x (row_at rows) g ≡ 0 → Room g rows

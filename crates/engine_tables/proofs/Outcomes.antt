@@ -245,25 +245,25 @@ module _ {x : Operands} {p : Step} where
 
   -- ---- kinds 5 to 10
 
-  module _ (a : Asked p.kind x p) (low : read ≤ p.kind) (high : p.kind ≤ fail) where
+  module _ {k : ℕ} (a : Asked k x p) (low : read ≤ p.kind) (high : p.kind ≤ fail) where
     local-transactor : x.at ≡ p.transactor
     local-transactor = own-transactor x p a.subject (ne_eqb p.kind receive (omega arith))
 
     pub local-unopened : x.register.opened ≤ p.transactor → (u : Turn) → u ≡ answers x 21 → Turns x p u
     local-unopened h u e = answers-all 21 (omega arith) (λ R F d f l. (refuses x.register R F p d f a.formed).local low high ∙ rw (le-leb x.register.opened p.transactor h)) u e
 
-    module _ (opened : p.transactor < x.register.opened) (r : ℕ) (refused : r ≡ local_guard p.kind x.row) where
+    module _ (opened : p.transactor < x.register.opened) (r : ℕ) (refused : r ≡ local_guard k x.row) where
       local-left : (R : ℕ → Row) (F : ℕ → Slot) (d f : Bool) → Holds x p R F → play_refusal base (view_of x.register R F) p d f ≡ r
       local-left R F d f l = (refuses x.register R F p d f a.formed).local low high ∙ rw (lt-leb x.register.opened p.transactor opened)
-          (ap (local_guard p.kind) (sym (seen x p R F l p.transactor local-transactor)) ∙ sym refused)
+          (ap (local_guard p.kind) (sym (seen x p R F l p.transactor local-transactor)) ∙ ap (λ (k : ℕ). local_guard k x.row) a.kind ∙ sym refused)
 
       pub local-refused : (r ≡ 0 → ⊥) → (u : Turn) → u ≡ answers x r → Turns x p u
       local-refused z u e = answers-all r z local-left u e
 
-      pub local-done : r ≡ 0 → (e : RowEffect) → e ≡ local_row p.kind p.value x.row
+      pub local-done : r ≡ 0 → (e : RowEffect) → e ≡ local_row k p.value x.row
           → Turns x p (record { reply = answer e.outcome p.transactor 0 e.value; operands = record { register = x.register; at = x.at; row = e.row; slot = x.slot } })
-      local-done zero e k = record {
-        by = λ d f g. applied_by d f g (λ R F l. local-left R F d f l ∙ zero) _ (λ R F l. local_by x p R F l local-transactor e k ∙ sym ((applies (view_of x.register R F) p d f g).local low high)) (λ k. k);
+      local-done zero e q = record {
+        by = λ d f g. applied_by d f g (λ R F l. local-left R F d f l ∙ zero) _ (λ R F l. local_by x p R F l local-transactor e (q ∙ ap (λ (k : ℕ). local_row k p.value x.row) (sym a.kind)) ∙ sym ((applies (view_of x.register R F) p d f g).local low high)) (λ k. k);
       }
 
   -- ---- lose

@@ -1,5 +1,5 @@
 -- What is kept, changed, is the tables changed.
-use Prim.Native.Nat.{ℕ, ◌-◌}
+use Prim.Native.Nat.{ℕ}
 use mathlib.Core.Bool.{Bool}
 use mathlib.Core.Path.{◌≡◌, refl, ap, sym, ◌∙◌}
 use mathlib.Core.List.{List}
@@ -10,10 +10,6 @@ use Rattle.engine_tables.specs.Internal.Tables.{opened_row, filled_slot, empty_s
 use Rattle.octets.proofs.Tables.{updated-self}
 use Rattle.engine_tables.specs.declared.register.Register.{Register}
 use Rattle.engine_tables.specs.Internal.Register.{row_at, view_of, with_opened, with_number, without_number, checkpointed_row, CheckpointedRows}
-
--- one parcel less, if there is one
-pub without-none : (x : Register) → x.waiting ≡ 0 → x ≡ without_number x
-without-none x z = λ i. record { transactors = x.transactors; messages = x.messages; checkpoints = x.checkpoints; opened = x.opened; next = x.next; waiting = (z ∙ ap (λ k. k - 1) (sym z)) i }
 
 -- a place that has what it had
 pub same_at : {A : Type 0} (F : ℕ → A) (n : ℕ) (m : A) → F n ≡ m → updated F n m ≡ F

@@ -1,6 +1,7 @@
 // What steps do to one transactor, and a signing to those of a group.
 ghost use Rattle.std.specs.Prelude.{◌≡◌, false, not, ◌<◌, ◌≤◌, leb};
 ghost use Rattle.octets.specs.Bytes.{◌and◌};
+ghost use Rattle.rules.specs.Numbers.{kind_number, outcome_number};
 ghost use Rattle.rules.specs.Step.{read, fall};
 ghost use Rattle.engine_tables.specs.Internal.Tables.{row_stays, opened_row, rollback_row, local_row, receive_row};
 ghost use Rattle.engine_tables.specs.Internal.Register.{checkpointed_row, CheckpointedRows, Fits, Room};
@@ -9,12 +10,13 @@ ghost use Rattle.engine_tables.specs.Internal.Guards.{last_row};
 use crate::table::{Row, RowEffect};
 use lists::groups::is_named;
 use lists::limits;
-use lists::limits::TRANSACTORS;
-use rules::numbers;
+use rules::kinds::Kind;
+use rules::outcomes::Outcome;
+use rules::statuses::Status;
 
 // A transactor not opened; one that is gone differs in the status.
 pub const UNUSED: Row = Row {
-    status: numbers::UNUSED,
+    status: Status::Unused as u8,
     stable: false,
     checkpoints: 0,
     incarnation: 0,
@@ -27,7 +29,7 @@ pub fn opened(value: u32) -> Row
     ensures { result ≡ opened_row value }
 {
     Row {
-        status: numbers::IDLE,
+        status: Status::Idle.number(),
         stable: false,
         checkpoints: 0,
         incarnation: 0,
@@ -37,39 +39,42 @@ pub fn opened(value: u32) -> Row
 }
 
 // 28: whether it has been checkpointed and is at the largest incarnation number.
+#[tactic(auto, unfolding(crate::specs::Internal::Guards::last_row))]
 pub fn is_last(x: Row) -> bool
     ensures { result ≡ last_row x }
 {
-    if x.checkpoints == 0 {
-        return false;
-    }
-    limits::LAST <= x.incarnation
+    x.checkpoints != 0 && limits::LAST <= x.incarnation
 }
 
-fn stays(outcome: u8, row: Row) -> RowEffect
-    ensures { result ≡ row_stays outcome row }
+fn stays(outcome: Outcome, row: Row) -> RowEffect
+    ensures { result ≡ row_stays (outcome_number outcome) row }
 {
     RowEffect {
-        outcome,
+        outcome: outcome.number(),
         value: 0,
         row,
     }
 }
 
 // Never checkpointed, it is gone; else the next incarnation with the saved value.
+#[tactic(auto, unfolding(crate::specs::Internal::Tables::rollback_row))]
 fn rollback(x: Row) -> RowEffect
     requires { last_row x ≡ false }
     ensures { result ≡ rollback_row x }
 {
     if x.checkpoints == 0 {
-        let mut gone = UNUSED;
-        gone.status = numbers::ANNIHILATED;
-        return stays(numbers::VANISHED, gone);
+        return stays(
+            Outcome::Vanished,
+            Row {
+                status: Status::Annihilated.number(),
+                ..UNUSED
+            },
+        );
     }
     stays(
-        numbers::FALLEN_BACK,
+        Outcome::FallenBack,
         Row {
-            status: numbers::IDLE,
+            status: Status::Idle.number(),
             stable: false,
             checkpoints: x.checkpoints,
             incarnation: x.incarnation + 1,
@@ -79,71 +84,62 @@ fn rollback(x: Row) -> RowEffect
     )
 }
 
-// Kinds 5 to 8.
-fn work(mut x: Row, kind: u8, value: u32) -> RowEffect
-    requires { (read ≤ kind) × (kind < fall) }
-    ensures { result ≡ local_row kind value x }
+// Kinds 5 to 10.
+#[tactic(auto, unfolding(crate::specs::Internal::Tables::local_row, crate::specs::Internal::Tables::write_row, crate::specs::Internal::Tables::freeze_row))]
+pub fn local(mut x: Row, kind: Kind, value: u32) -> RowEffect
+    requires { (read ≤ kind_number kind) × (leb fall (kind_number kind) and not x.stable and last_row x ≡ false) }
+    ensures { result ≡ local_row (kind_number kind) value x }
 {
-    if kind == numbers::READ {
-        return RowEffect {
-            outcome: numbers::DONE,
+    match kind {
+        Kind::Read => RowEffect {
+            outcome: Outcome::Done.number(),
             value: x.value,
             row: x,
-        };
-    }
-    if kind == numbers::WRITE {
-        if x.stable {
-            return stays(numbers::HELD, x);
+        },
+        Kind::Write if x.stable => stays(Outcome::Held, x),
+        Kind::Write => {
+            x.value = value;
+            stays(Outcome::Done, x)
         }
-        x.value = value;
-        return stays(numbers::DONE, x);
+        Kind::Freeze => {
+            x.stable = true;
+            stays(Outcome::Done, x)
+        }
+        Kind::Finish => {
+            x.status = Status::Idle.number();
+            stays(Outcome::Done, x)
+        }
+        Kind::Fall if x.stable => {
+            x.status = Status::Idle.number();
+            stays(Outcome::Held, x)
+        }
+        _ if x.stable => stays(Outcome::Held, x),
+        _ => rollback(x),
     }
-    if kind == numbers::FREEZE {
-        x.stable = true;
-        return stays(numbers::DONE, x);
-    }
-    x.status = numbers::IDLE;
-    stays(numbers::DONE, x)
-}
-
-// Kinds 5 to 10.
-pub fn local(mut x: Row, kind: u8, value: u32) -> RowEffect
-    requires { (read ≤ kind) × (leb fall kind and not x.stable and last_row x ≡ false) }
-    ensures { result ≡ local_row kind value x }
-{
-    if kind < numbers::FALL {
-        return work(x, kind, value);
-    }
-    if !x.stable {
-        return rollback(x);
-    }
-    if kind != numbers::FALL {
-        return stays(numbers::HELD, x);
-    }
-    x.status = numbers::IDLE;
-    stays(numbers::HELD, x)
 }
 
 // The receipt of a message.
+#[tactic(auto, unfolding(crate::specs::Internal::Tables::receive_row))]
 pub fn receive(mut x: Row, dropped: bool, rolls: bool, content: u32) -> RowEffect
     requires { not dropped and rolls and last_row x ≡ false }
     ensures { result ≡ receive_row dropped rolls content x }
 {
     if dropped {
-        return stays(numbers::DROPPED, x);
+        return stays(Outcome::Dropped, x);
     }
     if rolls {
         return rollback(x);
     }
-    x.status = numbers::BUSY;
+    x.status = Status::Busy.number();
     RowEffect {
-        outcome: numbers::DONE,
+        outcome: Outcome::Done.number(),
         value: content,
         row: x,
     }
 }
 
 // Checkpointed, if it is named.
+#[tactic(auto, unfolding(crate::specs::Internal::Register::checkpointed_row, crate::specs::Internal::Register::Fits))]
 pub fn checkpointed(x: Row, named: bool) -> Row
     requires { Fits named x }
     ensures { result ≡ checkpointed_row named x }
@@ -152,7 +148,7 @@ pub fn checkpointed(x: Row, named: bool) -> Row
         return x;
     }
     Row {
-        status: numbers::IDLE,
+        status: Status::Idle.number(),
         stable: false,
         checkpoints: x.checkpoints + 1,
         incarnation: 0,
@@ -166,11 +162,8 @@ pub fn checkpointed_group(mut rows: [Row; 16], group: u16) -> [Row; 16]
     requires { Room group rows }
     ensures { CheckpointedRows group rows result }
 {
-    let mut t: usize = 0;
-    while t < TRANSACTORS {
-        let row = rows[t];
-        rows[t] = checkpointed(row, is_named(group, t));
-        t += 1;
+    for (t, row) in rows.iter_mut().enumerate() {
+        *row = checkpointed(*row, is_named(group, t));
     }
     rows
 }

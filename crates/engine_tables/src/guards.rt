@@ -1,6 +1,7 @@
 // The refusals of a step that look at a whole row or slot, in the table's order; those over plain numbers stand in crate lists.
 ghost use Rattle.std.specs.Prelude.{◌≡◌, not};
 ghost use Rattle.octets.specs.Bytes.{◌and◌};
+ghost use Rattle.rules.specs.Numbers.{kind_number, refusal_in};
 ghost use Rattle.engine_tables.specs.Internal.Register.{row_at};
 ghost use Rattle.engine_tables.specs.Internal.Guards.{last_row, local_guard, receipt_guard, any_unstable, named_guard, group_guard};
 
@@ -10,34 +11,29 @@ use crate::table::{Row, Slot};
 use lists::groups::is_named;
 use lists::limits::TRANSACTORS;
 use lists::refusals;
-use rules::numbers;
+use rules::kinds::Kind;
+use rules::refusals::Refusal;
+use rules::statuses::Status;
 
 // 22, 23, 28 of a kind from 5 to 10.
-pub fn local(x: Row, kind: u8) -> u8
-    ensures { result ≡ local_guard kind x }
+#[tactic(auto, unfolding(crate::specs::Internal::Guards::local_guard))]
+pub fn local(x: Row, kind: Kind) -> Result<(), Refusal>
+    ensures { refusal_in result ≡ local_guard (kind_number kind) x }
 {
-    let r = refusals::local(kind, x.status);
-    if r != 0 {
-        return r;
+    refusals::local(kind.number(), x.status)?;
+    if Kind::Fall.number() <= kind.number() && !x.stable && effects::is_last(x) {
+        return Err(Refusal::LastIncarnation);
     }
-    if kind < numbers::FALL {
-        return 0;
-    }
-    if x.stable {
-        return 0;
-    }
-    if effects::is_last(x) {
-        return numbers::LAST_INCARNATION;
-    }
-    0
+    Ok(())
 }
 
 // 24, 22, 23 of a receipt.
-pub fn receipt(slot: Slot, row: Row) -> u8
-    ensures { result ≡ receipt_guard slot row }
+#[tactic(auto, unfolding(crate::specs::Internal::Guards::receipt_guard))]
+pub fn receipt(slot: Slot, row: Row) -> Result<(), Refusal>
+    ensures { refusal_in result ≡ receipt_guard slot row }
 {
     if slot.missing {
-        return numbers::NOT_WAITING;
+        return Err(Refusal::NotWaiting);
     }
     refusals::receiver(row.status)
 }
@@ -46,61 +42,36 @@ pub fn receipt(slot: Slot, row: Row) -> u8
 pub fn last_receipt(x: Row, dropped: bool, rolls: bool) -> bool
     ensures { result ≡ not dropped and rolls and last_row x }
 {
-    if dropped {
-        return false;
-    }
-    if !rolls {
-        return false;
-    }
-    effects::is_last(x)
+    !dropped && rolls && effects::is_last(x)
 }
 
 // Whether some named transactor is not stable.
+#[tactic(auto, unfolding(crate::specs::Internal::Guards::any_unstable))]
 pub fn unstable(rows: [Row; 16], group: u16) -> bool
     ensures { result ≡ any_unstable (row_at rows) group }
 {
-    let mut t: usize = 0;
-    while t < TRANSACTORS {
-        if is_named(group, t) {
-            let row = rows[t];
-            if !row.stable {
-                return true;
-            }
-        }
-        t += 1;
-    }
-    false
+    (0..TRANSACTORS).any(|t| is_named(group, t) && !rows[t].stable)
 }
 
-// 22, or else 30, of the named transactors; or 0.
-fn blocked(rows: [Row; 16], most: u8, group: u16) -> u8
-    ensures { result ≡ named_guard most (row_at rows) group }
+// 22, or else 30, of the named transactors.
+fn blocked(rows: [Row; 16], most: u8, group: u16) -> Result<(), Refusal>
+    ensures { refusal_in result ≡ named_guard most (row_at rows) group }
 {
-    let mut number: u8 = 0;
-    let mut t: usize = 0;
-    while t < TRANSACTORS {
-        if is_named(group, t) {
-            let row = rows[t];
-            let r = refusals::member(most, row.status, row.checkpoints);
-            if r == numbers::GONE {
-                return r;
-            }
-            if r != 0 {
-                number = r;
-            }
-        }
-        t += 1;
+    if (0..TRANSACTORS).any(|t| is_named(group, t)
+        && rows[t].status == Status::Annihilated.number())
+    {
+        return Err(Refusal::Gone);
     }
-    number
+    if (0..TRANSACTORS).any(|t| is_named(group, t) && most <= rows[t].checkpoints) {
+        return Err(Refusal::AllCheckpointed);
+    }
+    Ok(())
 }
 
 // 29, 21, 22, 30 of a signing.
-pub fn group(x: Register, rows: [Row; 16], group: u16) -> u8
-    ensures { result ≡ group_guard x (row_at rows) group }
+pub fn group(x: Register, rows: [Row; 16], group: u16) -> Result<(), Refusal>
+    ensures { refusal_in result ≡ group_guard x (row_at rows) group }
 {
-    let r = refusals::group(x.opened, group);
-    if r != 0 {
-        return r;
-    }
+    refusals::group(x.opened, group)?;
     blocked(rows, x.checkpoints, group)
 }

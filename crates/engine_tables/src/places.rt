@@ -7,7 +7,9 @@ ghost use Rattle.engine_tables.specs.Internal.Turns.{subject_of};
 
 use crate::table::Slot;
 use lists::NUMBERS;
-use rules::{Step, numbers};
+use rules::Step;
+use rules::kinds::Kind;
+use std::cmp::min;
 
 // A place for each message number, and one, where no message ever waits, for all numbers that no message can have.
 pub const PLACES: usize = NUMBERS + 1;
@@ -16,32 +18,26 @@ pub const PLACES: usize = NUMBERS + 1;
 pub fn place(next: u16, p: Step) -> usize
     ensures { result ≡ placed (pick (sends p.kind) next p.message) }
 {
-    let kind = p.kind;
-    if kind == numbers::LETTER {
-        return within(next);
-    }
-    if kind == numbers::SEND {
+    if p.kind == Kind::Letter.number() || p.kind == Kind::Send.number() {
         return within(next);
     }
     within(p.message)
 }
 
 // The place of message number n.
+#[tactic(auto, unfolding(crate::specs::Internal::Places::placed))]
 fn within(n: u16) -> usize
     ensures { result ≡ placed n }
 {
-    let at = n as usize;
-    if NUMBERS <= at {
-        return NUMBERS;
-    }
-    at
+    min(n as usize, NUMBERS)
 }
 
 // Whose row a step looks at, by the slot that it looks at.
+#[tactic(auto, unfolding(crate::specs::Internal::Turns::subject_of))]
 pub fn subject(p: Step, slot: Slot) -> usize
     ensures { result ≡ subject_of p slot }
 {
-    if p.kind == numbers::RECEIVE {
+    if p.kind == Kind::Receive.number() {
         return slot.addressee as usize;
     }
     p.transactor as usize

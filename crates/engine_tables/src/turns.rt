@@ -1,17 +1,22 @@
 // The steps on the engine's tables, kind by kind: no map, and no walk (document 02, W11). Each refuses in the table's order, or replies
 // and changes what it looks at; of a receipt and of a signing the caller has asked all refusals that need no walk.
 ghost use Rattle.std.specs.Prelude.{◌≡◌, false, ◌≤◌, ◌<◌};
+ghost use Rattle.rules.specs.Numbers.{kind_number};
+ghost use Rattle.rules.specs.Rules.{answer};
 ghost use Rattle.rules.specs.Step.{root, letter, receive, new, send, read, fail, lose, sign};
 ghost use Rattle.rules.specs.Refusals.{group_bits, malformed};
 ghost use Rattle.engine_tables.specs.Internal.Register.{row_at};
 ghost use Rattle.engine_tables.specs.Internal.Guards.{receipt_guard, group_guard};
-ghost use Rattle.engine_tables.specs.Internal.Turns.{Turns, Receives, Signs, Asked, operands_of, answers, answers_group, opens, sends_to};
+ghost use Rattle.engine_tables.specs.Internal.Turns.{Turns, Receives, Signs, Asked, operands_of, turn_in, group_turn_in, opens, sends_to};
 
 use crate::register::Register;
 use crate::table::{Row, Slot};
 use crate::{effects, guards};
 use lists::refusals;
-use rules::{Reply, Step, numbers};
+use rules::kinds::Kind;
+use rules::outcomes::Outcome;
+use rules::refusals::Refusal;
+use rules::{Reply, Step};
 
 // What a step but a signing looks at, and what it leaves: the register, a transactor, and the slot of a message number.
 #[derive(Clone, Copy)]
@@ -59,33 +64,40 @@ impl Operands {
     }
 }
 
-// A reply that is an outcome or a refusal alone; nothing changes.
-pub fn answered(x: Operands, number: u8) -> Turn
-    ensures { result ≡ answers x number }
+fn reply(outcome: u8, transactor: u8, message: u16, value: u32) -> Reply
+    ensures { result ≡ answer outcome transactor message value }
 {
-    Turn {
-        reply: Reply {
-            outcome: number,
-            transactor: 0,
-            message: 0,
-            value: 0,
-        },
-        operands: x,
+    Reply {
+        outcome,
+        transactor,
+        message,
+        value,
     }
 }
 
-// A signing's reply, which is a number alone, with the rows that it leaves.
-pub fn group_answered(rows: [Row; 16], number: u8) -> GroupTurn
-    ensures { result ≡ answers_group rows number }
+// The turn; or, refused, a reply that is the refusal alone, and nothing changes.
+pub fn answered(x: Operands, turn: Result<Turn, Refusal>) -> Turn
+    ensures { result ≡ turn_in x turn }
 {
-    GroupTurn {
-        reply: Reply {
-            outcome: number,
-            transactor: 0,
-            message: 0,
-            value: 0,
+    match turn {
+        Ok(u) => u,
+        Err(r) => Turn {
+            reply: reply(r.number(), 0, 0, 0),
+            operands: x,
         },
-        rows,
+    }
+}
+
+// The same of a signing.
+pub fn group_answered(rows: [Row; 16], turn: Result<GroupTurn, Refusal>) -> GroupTurn
+    ensures { result ≡ group_turn_in rows turn }
+{
+    match turn {
+        Ok(u) => u,
+        Err(r) => GroupTurn {
+            reply: reply(r.number(), 0, 0, 0),
+            rows,
+        },
     }
 }
 
@@ -94,23 +106,14 @@ fn opening(x: Operands, value: u32) -> Turn
     requires { x.register.opened < group_bits }
     ensures { result ≡ opens x value }
 {
-    let before = x.register;
-    let slot = x.slot;
-    let t = before.opened;
-    let register = before.with_opened();
-    let row = effects::opened(value);
+    let register = x.register;
     Turn {
-        reply: Reply {
-            outcome: numbers::DONE,
-            transactor: t,
-            message: 0,
-            value: 0,
-        },
+        reply: reply(Outcome::Done.number(), register.opened, 0, 0),
         operands: Operands {
-            register,
-            at: t as usize,
-            row,
-            slot,
+            register: register.with_opened(),
+            at: register.opened as usize,
+            row: effects::opened(value),
+            slot: x.slot,
         },
     }
 }
@@ -120,190 +123,131 @@ fn sending(x: Operands, letter: bool, t: u8, to: u8, content: u32) -> Turn
     requires { (x.register.next < 65535) × (x.register.waiting < 255) }
     ensures { result ≡ sends_to x letter t to content }
 {
-    let before = x.register;
-    let row = x.row;
-    let number = before.next;
-    let register = before.with_number();
+    let register = x.register;
     Turn {
-        reply: Reply {
-            outcome: numbers::DONE,
-            transactor: t,
-            message: number,
-            value: 0,
-        },
+        reply: reply(Outcome::Done.number(), t, register.next, 0),
         operands: Operands {
-            register,
-            at: x.at,
-            row,
+            register: register.with_number(),
             slot: Slot {
                 missing: false,
                 letter,
                 addressee: to,
                 content,
             },
+            ..x
         },
     }
 }
 
-pub fn root(x: Operands, p: Step) -> Turn
+pub fn root(x: Operands, p: Step) -> Result<Turn, Refusal>
     requires { Asked root x p }
-    ensures { Turns x p result }
+    ensures { Turns x p (turn_in x result) }
 {
     let register = x.register;
     if register.transactors <= register.opened {
-        return answered(x, numbers::ALL_OPENED);
+        return Err(Refusal::AllOpened);
     }
-    opening(x, p.value)
+    Ok(opening(x, p.value))
 }
 
-pub fn letter(x: Operands, p: Step) -> Turn
+pub fn letter(x: Operands, p: Step) -> Result<Turn, Refusal>
     requires { Asked letter x p }
-    ensures { Turns x p result }
+    ensures { Turns x p (turn_in x result) }
 {
-    let to = p.transactor;
     let register = x.register;
+    let to = p.transactor;
     if register.opened <= to {
-        return answered(x, numbers::UNOPENED);
+        return Err(Refusal::Unopened);
     }
-    let r = refusals::room(
+    refusals::room(
         register.messages as usize,
         register.waiting as usize,
         register.next,
-    );
-    if r != 0 {
-        return answered(x, r);
-    }
-    sending(x, true, to, to, p.value)
+    )?;
+    Ok(sending(x, true, to, to, p.value))
 }
 
-pub fn new(x: Operands, p: Step) -> Turn
+pub fn new(x: Operands, p: Step) -> Result<Turn, Refusal>
     requires { Asked new x p }
-    ensures { Turns x p result }
+    ensures { Turns x p (turn_in x result) }
 {
     let register = x.register;
-    let row = x.row;
-    let r = refusals::busy(register.opened, p.transactor, row.status);
-    if r != 0 {
-        return answered(x, r);
-    }
+    refusals::busy(register.opened, p.transactor, x.row.status)?;
     if register.transactors <= register.opened {
-        return answered(x, numbers::ALL_OPENED);
+        return Err(Refusal::AllOpened);
     }
-    opening(x, p.value)
+    Ok(opening(x, p.value))
 }
 
-pub fn send(x: Operands, p: Step) -> Turn
+pub fn send(x: Operands, p: Step) -> Result<Turn, Refusal>
     requires { Asked send x p }
-    ensures { Turns x p result }
+    ensures { Turns x p (turn_in x result) }
 {
     let register = x.register;
     if register.opened <= p.other {
-        return answered(x, numbers::UNOPENED);
+        return Err(Refusal::Unopened);
     }
-    let row = x.row;
-    let w = refusals::busy(register.opened, p.transactor, row.status);
-    if w != 0 {
-        return answered(x, w);
-    }
-    let r = refusals::room(
+    refusals::busy(register.opened, p.transactor, x.row.status)?;
+    refusals::room(
         register.messages as usize,
         register.waiting as usize,
         register.next,
-    );
-    if r != 0 {
-        return answered(x, r);
-    }
-    sending(x, false, p.transactor, p.other, p.value)
+    )?;
+    Ok(sending(x, false, p.transactor, p.other, p.value))
 }
 
 // Kinds 5 to 10.
-pub fn local(x: Operands, p: Step) -> Turn
-    requires { Asked p.kind x p × (read ≤ p.kind) × (p.kind ≤ fail) }
-    ensures { Turns x p result }
+pub fn local(x: Operands, p: Step, kind: Kind) -> Result<Turn, Refusal>
+    requires { Asked (kind_number kind) x p × (read ≤ p.kind) × (p.kind ≤ fail) }
+    ensures { Turns x p (turn_in x result) }
 {
-    let register = x.register;
-    if register.opened <= p.transactor {
-        return answered(x, numbers::UNOPENED);
+    if x.register.opened <= p.transactor {
+        return Err(Refusal::Unopened);
     }
-    let row = x.row;
-    let r = guards::local(row, p.kind);
-    if r != 0 {
-        return answered(x, r);
-    }
-    let e = effects::local(row, p.kind, p.value);
-    let after = e.row;
-    let slot = x.slot;
-    Turn {
-        reply: Reply {
-            outcome: e.outcome,
-            transactor: p.transactor,
-            message: 0,
-            value: e.value,
-        },
-        operands: Operands {
-            register,
-            at: x.at,
-            row: after,
-            slot,
-        },
-    }
+    guards::local(x.row, kind)?;
+    let e = effects::local(x.row, kind, p.value);
+    Ok(Turn {
+        reply: reply(e.outcome, p.transactor, 0, e.value),
+        operands: Operands { row: e.row, ..x },
+    })
 }
 
-pub fn lose(x: Operands, p: Step) -> Turn
+pub fn lose(x: Operands, p: Step) -> Result<Turn, Refusal>
     requires { Asked lose x p }
-    ensures { Turns x p result }
+    ensures { Turns x p (turn_in x result) }
 {
-    let slot = x.slot;
-    if slot.missing {
-        return answered(x, numbers::NOT_WAITING);
+    if x.slot.missing {
+        return Err(Refusal::NotWaiting);
     }
-    let before = x.register;
-    let row = x.row;
-    let register = before.without_number();
-    Turn {
-        reply: Reply {
-            outcome: numbers::DONE,
-            transactor: 0,
-            message: p.message,
-            value: 0,
-        },
+    Ok(Turn {
+        reply: reply(Outcome::Done.number(), 0, p.message, 0),
         operands: Operands {
-            register,
-            at: x.at,
-            row,
+            register: x.register.without_number(),
             slot: EMPTY,
+            ..x
         },
-    }
+    })
 }
 
 // A receipt that the table refuses for 28 at most.
-pub fn receive(x: Operands, p: Step, dropped: bool, rolls: bool) -> Turn
+pub fn receive(x: Operands, p: Step, dropped: bool, rolls: bool) -> Result<Turn, Refusal>
     requires { Asked receive x p × (receipt_guard x.slot x.row ≡ 0) }
-    ensures { Receives dropped rolls x p result }
+    ensures { Receives dropped rolls x p (turn_in x result) }
 {
-    let row = x.row;
-    if guards::last_receipt(row, dropped, rolls) {
-        return answered(x, numbers::LAST_INCARNATION);
+    if guards::last_receipt(x.row, dropped, rolls) {
+        return Err(Refusal::LastIncarnation);
     }
     let slot = x.slot;
-    let e = effects::receive(row, dropped, rolls, slot.content);
-    let after = e.row;
-    let before = x.register;
-    let register = before.without_number();
-    Turn {
-        reply: Reply {
-            outcome: e.outcome,
-            transactor: slot.addressee,
-            message: p.message,
-            value: e.value,
-        },
+    let e = effects::receive(x.row, dropped, rolls, slot.content);
+    Ok(Turn {
+        reply: reply(e.outcome, slot.addressee, p.message, e.value),
         operands: Operands {
-            register,
-            at: x.at,
-            row: after,
+            register: x.register.without_number(),
+            row: e.row,
             slot: EMPTY,
+            ..x
         },
-    }
+    })
 }
 
 // A signing that the table does not refuse.
@@ -312,8 +256,13 @@ pub fn sign(x: Register, rows: [Row; 16], p: Step, ready: bool) -> GroupTurn
     ensures { Signs ready x rows p result }
 {
     if !ready {
-        return group_answered(rows, numbers::NOT_READY);
+        return GroupTurn {
+            reply: reply(Outcome::NotReady.number(), 0, 0, 0),
+            rows,
+        };
     }
-    let after = effects::checkpointed_group(rows, p.message);
-    group_answered(after, numbers::DONE)
+    GroupTurn {
+        reply: reply(Outcome::Done.number(), 0, 0, 0),
+        rows: effects::checkpointed_group(rows, p.message),
+    }
 }

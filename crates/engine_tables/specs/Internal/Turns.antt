@@ -1,5 +1,5 @@
 -- A step on what is kept: what the kinds ask and give.
-use Rattle.std.specs.Prelude.{ℕ, ◌≤◌, ◌<◌, Bool, false, ◌≡◌, List, eqb, length}
+use Rattle.std.specs.Prelude.{ℕ, ◌≤◌, ◌<◌, Bool, false, ◌≡◌, List, eqb, length, Result, Ok, Err}
 use Rattle.octets.specs.Bytes.{pick}
 use Rattle.octets.specs.Table.{updated}
 use Rattle.rules.specs.Layout.{base}
@@ -7,6 +7,8 @@ use Rattle.rules.specs.declared.Step.{Step}
 use Rattle.rules.specs.Step.{done, receive}
 use Rattle.rules.specs.Refusals.{group_bits, sends, malformed}
 use Rattle.rules.specs.Rules.{answer}
+use Rattle.rules.specs.declared.refusals.Refusal.{Refusal}
+use Rattle.rules.specs.Numbers.{refusal_number}
 use Rattle.engine_tables.specs.declared.table.Row.{Row}
 use Rattle.engine_tables.specs.declared.table.Slot.{Slot}
 use Rattle.engine_tables.specs.Internal.Tables.{opened_row, filled_slot, Played, play}
@@ -35,6 +37,15 @@ answers x number = record { reply = answer number 0 0 0; operands = x }
 
 abbrev pub answers_group : List Row → ℕ → GroupTurn
 answers_group rows number = record { reply = answer number 0 0 0; rows = rows }
+
+-- a turn, or the number of the refusal in place of it
+abbrev pub turn_in : Operands → Result Turn Refusal → Turn
+turn_in x (Ok u) = u
+turn_in x (Err r) = answers x (refusal_number r)
+
+abbrev pub group_turn_in : List Row → Result GroupTurn Refusal → GroupTurn
+group_turn_in rows (Ok u) = u
+group_turn_in rows (Err r) = answers_group rows (refusal_number r)
 
 -- one more take, with text v
 abbrev pub opens : Operands → ℕ → Turn
