@@ -3,7 +3,6 @@ ghost use Rattle.std.specs.Prelude.{◌<◌};
 
 use crate::print::{BAD, PRINTED, SILENT};
 use crate::{bytes, numbers, print};
-use maps::Comparison;
 use std::io;
 
 // J: the map at a joined with that at b, from at on.
@@ -42,8 +41,8 @@ fn compare(to: &impl Print, image: &[u8], at: usize, a: usize, b: usize) -> io::
     let known = packed_maps::joined(image, a, b);
     let found = packed_maps::compare(known, image, at).packed;
     match found {
-        Comparison::Superseded(t) => print::number(to, t),
-        Comparison::Current => print::truth(to, false),
+        Some(t) => print::number(to, t),
+        None => print::truth(to, false),
     }?;
     Ok(PRINTED)
 }

@@ -1,14 +1,14 @@
 -- All heard frozen: what the test says of a map, entry by entry, and of a map as a table.
-use Prim.Native.Nat.{ℕ, ◌+◌, ◌*◌, ◌<◌}
+use Prim.Native.Nat.{ℕ, ◌+◌, ◌*◌}
 use mathlib.Core.Bool.{Bool, true, false, not, false≢true}
-use mathlib.Core.Path.{◌≡◌, refl, sym, ◌∙◌, subst}
+use mathlib.Core.Path.{◌≡◌, refl, sym, subst}
 use mathlib.Core.List.{List}
 use mathlib.Core.Logic.{◌↔◌, ◌≢◌}
 use mathlib.Core.Option.{some}
 use lib.Dec.{eqb}
 use borrow.Author.Tests.{eqb-false, ne_eqb}
-use Rattle.octets.specs.Bytes.{◌or◌, part}
-use Rattle.octets.proofs.Zero.{every-all, every-at, every-none, every_more, every-off}
+use Rattle.octets.specs.Bytes.{◌or◌, part, every}
+use Rattle.octets.proofs.Zero.{every-all, every-at, every-same}
 use Rattle.marks.specs.declared.History.{History}
 use Rattle.marks.specs.History.{HistoryView, view_of}
 use Rattle.marks.specs.Packed.{history_size, present_in, unpack_history}
@@ -61,25 +61,12 @@ module _ (own p : Bool) (h : History) where
   unfolding stable_entry
   stable-flag e f = rw (e, f)
 
--- the answer r for entry i
-module _ (w l n at : ℕ) (s : List ℕ) (t i : ℕ) (below : i < n) (r : Bool)
-    (e : r ≡ stable_entry (eqb i t) (present_in (part (at + history_size w l * i) (history_size w l) s)) (unpack_history w l (part (at + history_size w l * i) (history_size w l) s))) where
-  stable-here : stable_at t (map_in w l n s at) i ≡ r
-  unfolding stable_at
-  stable-here = rw (held_in w l n at s i below, history-in w l n at s i below) (sym e)
-
-  pub others-more : others_stable i t (map_in w l n s at) ≡ true → r ≡ true → others_stable (i + 1) t (map_in w l n s at) ≡ true
-  unfolding others_stable
-  others-more f z = every_more (stable_at t (map_in w l n s at)) i f (stable-here ∙ z)
-
-  pub others-off : r ≡ false → others_stable n t (map_in w l n s at) ≡ false
-  unfolding others_stable
-  others-off z = every-off (stable_at t (map_in w l n s at)) n i below (stable-here ∙ z)
-
-module _ (t : ℕ) (m : DependenceMap) where
-  pub others-none : others_stable 0 t m ≡ true
-  unfolding others_stable
-  others-none = every-none (stable_at t m)
-
-  pub others-all : (i n : ℕ) → others_stable i t m ≡ true → i ≡ n → others_stable n t m ≡ true
-  others-all i n e h = rw h at e
+pub others-packed : (w l n at : ℕ) (s : List ℕ) (t : ℕ)
+    → every n (λ i. stable_entry (eqb i t) (present_in (part (at + history_size w l * i) (history_size w l) s)) (unpack_history w l (part (at + history_size w l * i) (history_size w l) s)))
+    ≡ others_stable n t (map_in w l n s at)
+unfolding others_stable stable_at
+others-packed w l n at s t =
+    every-same
+    (λ i. stable_entry (eqb i t) (present_in (part (at + history_size w l * i) (history_size w l) s)) (unpack_history w l (part (at + history_size w l * i) (history_size w l) s)))
+    (stable_at t (map_in w l n s at)) n
+    (λ i below. sym (rw (held_in w l n at s i below, history-in w l n at s i below) refl))

@@ -43,7 +43,7 @@ pub fn load(s: &[u8], at: usize) -> DependenceMap
     requires { at + map_size width places entries ≤ length s.now }
     ensures { result ≡ unpack_map width places entries (part at (map_size width places entries) s.now) }
 {
-    let mut r = DependenceMap::EMPTY;
+    let mut r = DependenceMap::empty();
     load_into(&mut r, s, at);
     r
 }
@@ -53,7 +53,7 @@ pub fn joined(s: &[u8], left: usize, right: usize) -> DependenceMap
     requires { (left + map_size width places entries ≤ length s.now) × (right + map_size width places entries ≤ length s.now) }
     ensures { result ≡ join_of entries (map_in width places entries s.now left) (map_in width places entries s.now right) }
 {
-    let mut r = DependenceMap::EMPTY;
+    let mut r = DependenceMap::empty();
     load_into(&mut r, s, left);
     for i in 0..looked_at(s, right) {
         let at = right + marks::SIZE * i;

@@ -19,15 +19,9 @@ fn shows(s: &[u8], from: usize, at: usize) -> bool
         (present_in (part at (history_size width places) s.now)) (unpack_history width places (part at (history_size width places) s.now))
         (present_in (part from (history_size width places) s.now)) (unpack_history width places (part from (history_size width places) s.now)) }
 {
-    if !packed_histories::may_show(s, from, at) {
-        return false;
-    }
-    if !packed_histories::present(s, from) {
-        return false;
-    }
-    let x = packed_histories::load(s, at);
-    let y = packed_histories::load(s, from);
-    x.shown_stable(y)
+    packed_histories::may_show(s, from, at)
+        && packed_histories::present(s, from)
+        && packed_histories::load(s, at).shown_stable(packed_histories::load(s, from))
 }
 
 // The entry packed at at after the message's, at from; the receiver's own stays.
@@ -36,14 +30,10 @@ fn inform_at(image: &mut [u8], from: usize, at: usize, own: bool)
     ensures { image.new ≡ informed_at width places image.old at own
         (present_in (part from (history_size width places) image.old)) (unpack_history width places (part from (history_size width places) image.old)) }
 {
-    if !shows(image, from, at) {
-        return;
+    if !own && shows(image, from, at) {
+        let h = packed_histories::load(image, at).stabilize();
+        packed_histories::store(h, image, at);
     }
-    if own {
-        return;
-    }
-    let h = packed_histories::load(image, at).stabilize();
-    packed_histories::store(h, image, at);
 }
 
 // Transactor t's map at at after the news of a message's, at from; only entries that change are stored.
@@ -53,11 +43,9 @@ pub fn inform(image: &mut [u8], from: usize, at: usize, t: usize)
     ensures { image.new ≡ put at (pack_map width places entries
         (informed_of entries t (map_in width places entries image.old at) (map_in width places entries image.old from))) image.old }
 {
-    let mut i: usize = 0;
-    while i < ENTRIES {
+    for i in 0..ENTRIES {
         let step = marks::SIZE * i;
         inform_at(image, from + step, at + step, i == t);
-        i += 1;
     }
 }
 
@@ -66,14 +54,7 @@ pub fn others_stable(s: &[u8], at: usize, t: usize) -> bool
     requires { at + map_size width places entries ≤ length s.now }
     ensures { result ≡ others_stable entries t (map_in width places entries s.now at) }
 {
-    let mut i: usize = 0;
-    while i < ENTRIES {
-        if !stable_entry(s, at + marks::SIZE * i, i == t) {
-            return false;
-        }
-        i += 1;
-    }
-    true
+    (0..ENTRIES).all(|i| stable_entry(s, at + marks::SIZE * i, i == t))
 }
 
 // Whether the entry at at is the transactor's own, or absent, or stable.
@@ -81,12 +62,5 @@ fn stable_entry(s: &[u8], at: usize, own: bool) -> bool
     requires { at + history_size width places ≤ length s.now }
     ensures { result ≡ stable_entry own (present_in (part at (history_size width places) s.now)) (unpack_history width places (part at (history_size width places) s.now)) }
 {
-    if own {
-        return true;
-    }
-    if !packed_histories::present(s, at) {
-        return true;
-    }
-    let h = packed_histories::load(s, at);
-    h.stable
+    own || !packed_histories::present(s, at) || packed_histories::load(s, at).stable
 }

@@ -17,9 +17,9 @@ fn store_entry(image: &mut [u8], at: usize, p: bool, h: History)
 {
     if p {
         packed_histories::store(h, image, at);
-        return;
+    } else {
+        octets::clear(image, at, marks::SIZE);
     }
-    octets::clear(image, at, marks::SIZE);
 }
 
 // Writes the packed form from at on.
@@ -32,12 +32,8 @@ pub fn store(m: DependenceMap, image: &mut [u8], at: usize)
         octets::clear(image, at, SIZE);
         return;
     }
-    let mut i: usize = 0;
-    while i < ENTRIES {
-        let p = m.held[i];
-        let h = m.histories[i];
-        store_entry(image, at + marks::SIZE * i, p, h);
-        i += 1;
+    for i in 0..ENTRIES {
+        store_entry(image, at + marks::SIZE * i, m.held[i], m.histories[i]);
     }
 }
 
@@ -46,10 +42,8 @@ pub fn store_empty(image: &mut [u8], at: usize)
     requires { at + map_size width places entries ≤ length image.old }
     ensures { image.new ≡ put at (pack_map width places entries (empty_map places entries)) image.old }
 {
-    let mut i: usize = 0;
-    while i < ENTRIES {
+    for i in 0..ENTRIES {
         packed_histories::store_as(false, History::INITIAL, image, at + marks::SIZE * i);
-        i += 1;
     }
 }
 
@@ -70,27 +64,16 @@ fn join_at(image: &mut [u8], at: usize, p: bool, h: History)
 }
 
 // The map packed at left, by value, joined as the left one into the map packed at right, in which only entries that change are
-// stored. Two loops, as in joined.
+// stored.
 pub fn join_into(image: &mut [u8], left: usize, right: usize)
     requires { (left + map_size width places entries ≤ length image.old) × (right + map_size width places entries ≤ length image.old) × Exact width places entries image.old right }
     ensures { image.new ≡ put right (pack_map width places entries
         (join_of entries (map_in width places entries image.old left) (map_in width places entries image.old right))) image.old }
 {
-    let mut r = DependenceMap::EMPTY;
-    let end = packed_maps::looked_at(image, left);
-    let mut i: usize = 0;
-    while i < end {
-        let at = left + marks::SIZE * i;
-        r.held[i] = packed_histories::present(image, at);
-        r.histories[i] = packed_histories::load(image, at);
-        i += 1;
-    }
-    let mut k: usize = 0;
-    while k < ENTRIES {
-        let p = r.held[k];
-        let h = r.histories[k];
-        join_at(image, right + marks::SIZE * k, p, h);
-        k += 1;
+    let mut r = DependenceMap::empty();
+    packed_maps::load_into(&mut r, image, left);
+    for i in 0..ENTRIES {
+        join_at(image, right + marks::SIZE * i, r.held[i], r.histories[i]);
     }
 }
 

@@ -1,7 +1,5 @@
-use Rattle.std.proofs.Common.{rules, arith, sym, subst, ◌∙◌, ◌+◌}
+use Rattle.std.proofs.Common.{arith, sym, subst, ◌∙◌, ◌+◌}
 use Rattle.marks.specs.Packed.{width, places}
-use Rattle.octets.specs.Bytes.{zeros}
-use Rattle.maps.specs.Map.{empty_map}
 use Rattle.maps.specs.Packed.{entries}
 use Rattle.maps.proofs.Packed.{sized-unpack}
 use Rattle.maps.proofs.Loops.{Joining, joining-none, joining-right, joining-left, joining-all}
@@ -27,7 +25,3 @@ pub returns : goal.returns
 returns c =
     let b = c.loop-i in
     joining-all _ _ b.i b.invariant (λ j q h. unlooked-held width places entries _ _ c.requires.1 _ c.looked_at-i-end.ensures.0 j (omega arith) h)
-
-pub load_into-requires-clause-empty : goal.load_into-requires-clause-empty
-unfolding empty_map zeros
-load_into-requires-clause-empty c = search rules
