@@ -8,7 +8,9 @@ use native.Mathlib.Omega.{arith}
 use lib.Dec.{ltb}
 use lib.ListN.{length, length-set}
 use lib.Seq.{take_all, length-take-le, take-suc-set, get_or-set_other}
-use borrow.Author.Tests.{ltb-true, ltb-false, lt-ltb, le-ltb}
+use borrow.Author.Tests.{ltb-true, ltb-false, lt-ltb, le-ltb, eq-eqb, ne_eqb}
+use Rattle.std.proofs.Common.{Some, Less, Equal, Greater}
+use Rattle.std.specs.Ordering.{nat_cmp, bool_cmp, is_lt, is_some_and, partial_ordering_then}
 use Rattle.octets.specs.Bytes.{pick}
 use Rattle.octets.proofs.Tests.{pick-view}
 use Rattle.octets.proofs.Chunks.{sides}
@@ -83,32 +85,36 @@ newer-is (left-stable e n p) = simp (level _ _ e, level _ _ (sym e), level _ _ n
 newer-is (right-stable e n p q) = simp (level _ _ e, level _ _ (sym e), level _ _ n, level _ _ (sym n), p, q)
 newer-is (left-same e n p q) = simp (level _ _ e, level _ _ (sym e), level _ _ n, level _ _ (sym n), p, q)
 
--- what the code compares
-module _ (a b : History) where
-  pub older-count : (a.count ≡ b.count → ⊥) → ltb a.count b.count ≡ is_older a b
-  unfolding is_older
-  older-count h = ⊎_elim
-      (λ (k : a.count < b.count). rw (lt-ltb a.count b.count k))
-      (λ (k : b.count ≤ a.count). let m : b.count < a.count = omega arith in rw (le-ltb a.count b.count k, lt-ltb b.count a.count m))
-      (sides a.count b.count)
+-- what the code compares: the counts, the numbers and the flags, in this order
+less-cmp : (n m : ℕ) → n < m → nat_cmp n m ≡ Less
+less-cmp n m h = rw (lt-ltb n m h)
 
-  module _ (e : a.count ≡ b.count) where
-    pub older-number : (a.incarnation ≡ b.incarnation → ⊥) → ltb a.incarnation b.incarnation ≡ is_older a b
-    unfolding is_older
-    older-number h = rw (level a.count b.count e, level b.count a.count (sym e)) (⊎_elim
-        (λ (k : a.incarnation < b.incarnation). rw (lt-ltb a.incarnation b.incarnation k))
-        (λ (k : b.incarnation ≤ a.incarnation). let m : b.incarnation < a.incarnation = omega arith in rw (le-ltb a.incarnation b.incarnation k, lt-ltb b.incarnation a.incarnation m))
-        (sides a.incarnation b.incarnation))
+even-cmp : (n m : ℕ) → n ≡ m → nat_cmp n m ≡ Equal
+even-cmp n m h = rw (le-ltb n m (omega arith), eq-eqb n m h)
 
-    pub older-stable : a.incarnation ≡ b.incarnation → (s : Bool) → a.stable ≡ s → pick s false b.stable ≡ is_older a b
-    unfolding is_older
-    older-stable f s g = rw (
-      level a.count b.count e,
-      level b.count a.count (sym e),
-      level a.incarnation b.incarnation f,
-      level b.incarnation a.incarnation (sym f),
-      g,
-    )
+more-cmp : (n m : ℕ) → m < n → nat_cmp n m ≡ Greater
+more-cmp n m h = let p : n ≡ m → ⊥ = λ e. omega arith in rw (le-ltb n m (omega arith), ne_eqb n m p)
+
+flags-cmp : (s t : Bool) → is_lt (bool_cmp s t) ≡ pick s false t
+flags-cmp true true = refl
+flags-cmp true false = refl
+flags-cmp false true = refl
+flags-cmp false false = refl
+
+either : (P : Type 0) (n m : ℕ) → (n < m → P) → (n ≡ m → P) → (m < n → P) → P
+either P n m f g h = ⊎_elim f (λ (k : m ≤ n). ⊎_elim h (λ (l : n ≤ m). g (omega arith)) (sides m n)) (sides n m)
+
+pub older-tuple : (a b : History)
+    → is_some_and is_lt (partial_ordering_then (partial_ordering_then (Some (nat_cmp a.count b.count)) (Some (nat_cmp a.incarnation b.incarnation))) (Some (bool_cmp a.stable b.stable)))
+    ≡ is_older a b
+unfolding is_older
+older-tuple a b =
+    either _ a.count b.count (λ k. rw (less-cmp _ _ k, lt-ltb _ _ k))
+    (λ e. rw (even-cmp _ _ e, level _ _ e, level _ _ (sym e))
+    (either _ a.incarnation b.incarnation (λ k. rw (less-cmp _ _ k, lt-ltb _ _ k))
+    (λ f. rw (even-cmp _ _ f, level _ _ f, level _ _ (sym f)) (flags-cmp a.stable b.stable))
+    (λ k. rw (more-cmp _ _ k, le-ltb a.incarnation b.incarnation (omega arith), lt-ltb _ _ k))))
+    (λ k. rw (more-cmp _ _ k, le-ltb a.count b.count (omega arith), lt-ltb _ _ k))
 
 pub newer-which : {a b m : History} → Newer a b m → (m ≡ a) ⊎ (m ≡ b)
 newer-which (right-longer l) = inr refl

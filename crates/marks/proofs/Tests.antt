@@ -1,12 +1,13 @@
 -- The tests of specs reflect the relations, so the relations are decidable.
 use Prim.Native.Nat.{ℕ, suc, ◌+◌, ◌<◌}
-use mathlib.Core.Bool.{Bool, true, false, false≢true}
+use mathlib.Core.Bool.{Bool, true, false, false≢true, ◌&&◌}
 use mathlib.Core.Path.{◌≡◌, refl, ap, sym, ◌∙◌, subst}
 use mathlib.Core.List.{List, [], ◌∷◌, ◌++◌}
 use mathlib.Core.Logic.{◌⊎◌, inl, inr, ◌↔◌}
 use native.Mathlib.Numerals.{add-one}
 use native.Mathlib.Omega.{arith}
 use lib.Dec.{eqb, ltb}
+use lib.Pointwise.{pointwise}
 use lib.ListN.{length, take, drop, get_or, length-append, take-append-drop}
 use lib.Seq.{take-suc, take-append_seam, get_or-append_seam, get_or-take, split_at, append_snoc}
 use borrow.Author.Tests.{ltb-true, lt-ltb, eqb-true, eq-eqb}
@@ -48,6 +49,18 @@ same-to (x ∷ xs) (y ∷ ys) e =
 
 pub same_list-test : (xs ys : List ℕ) → (same_list xs ys ≡ true) ↔ (xs ≡ ys)
 same_list-test xs ys = (same-to xs ys, λ e. rw e (same_refl ys))
+
+-- `==` of two slices is the test
+pub pointwise_same : (xs ys : List ℕ) → pointwise eqb xs ys ≡ same_list xs ys
+unfolding same_list
+pointwise_same [] [] = refl
+pointwise_same [] (y ∷ ys) = refl
+pointwise_same (x ∷ xs) [] = refl
+pointwise_same (x ∷ xs) (y ∷ ys) = go (eqb x y) (pointwise_same xs ys)
+  where
+    go : (t : Bool) → pointwise eqb xs ys ≡ same_list xs ys → t && pointwise eqb xs ys ≡ t and same_list xs ys
+    go true e = e
+    go false e = refl
 
 pub same_length : (xs ys : List ℕ) → (length xs ≡ length ys → ⊥) → same_list xs ys ≡ false
 same_length xs ys k = (not_test (same_list xs ys) (same_list-test xs ys)).1 (λ e. k (ap length e))

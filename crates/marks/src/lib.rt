@@ -8,6 +8,8 @@ ghost use Rattle.marks.specs.History.{incarnation_of, view_of, stabilized, rolle
 ghost use Rattle.marks.specs.News.{shows_stable};
 ghost use Rattle.marks.specs.Packed.{places, largest};
 
+use std::cmp::Ordering;
+
 // Bytes of a life number, places of the list, bytes of a packed history.
 pub const WIDTH: usize = 2;
 
@@ -16,7 +18,7 @@ pub const PLACES: usize = 15;
 pub const SIZE: usize = 1 + WIDTH + WIDTH * PLACES;
 
 // Document 01: a mark.
-#[derive(Clone, Copy)]
+#[derive(Clone, Copy, Debug, PartialEq, Eq)]
 pub struct History {
     // frozen
     pub stable: bool,
@@ -29,18 +31,18 @@ pub struct History {
 }
 
 // Document 02, W3: what the comparison of two histories says; of the middle four the named one is the earlier.
-#[derive(Clone, Copy)]
+#[derive(Clone, Copy, Debug, PartialEq, Eq)]
 pub enum Relation {
     // the same life
-    Same,
+    Same = 0,
     // the earlier one signed
-    LeftCheckpointed,
-    RightCheckpointed,
+    LeftCheckpointed = 1,
+    RightCheckpointed = 2,
     // the earlier one withdrawn
-    LeftSuperseded,
-    RightSuperseded,
+    LeftSuperseded = 3,
+    RightSuperseded = 4,
     // marks from two different books
-    Unrelated,
+    Unrelated = 5,
 }
 
 impl Relation {
@@ -48,14 +50,7 @@ impl Relation {
     pub fn number(self) -> u8
         ensures { result ≡ relation_number self }
     {
-        match self {
-            Relation::Same => 0,
-            Relation::LeftCheckpointed => 1,
-            Relation::RightCheckpointed => 2,
-            Relation::LeftSuperseded => 3,
-            Relation::RightSuperseded => 4,
-            Relation::Unrelated => 5,
-        }
+        self as u8
     }
 
     // What the comparison the other way round says.
@@ -118,16 +113,7 @@ impl History {
     pub fn older(self, other: History) -> bool
         ensures { result ≡ is_older self other }
     {
-        if self.count != other.count {
-            return self.count < other.count;
-        }
-        if self.incarnation != other.incarnation {
-            return self.incarnation < other.incarnation;
-        }
-        if self.stable {
-            return false;
-        }
-        other.stable
+        (self.count, self.incarnation, self.stable) < (other.count, other.incarnation, other.stable)
     }
 
     // Whether the first n places of the two lists are the same.
@@ -135,14 +121,7 @@ impl History {
         requires { n ≤ places }
         ensures { result ≡ same_list (take n self.checkpoints) (take n other.checkpoints) }
     {
-        let mut i: usize = 0;
-        while i < n {
-            if self.checkpoints[i] != other.checkpoints[i] {
-                return false;
-            }
-            i += 1;
-        }
-        true
+        self.checkpoints[..n] == other.checkpoints[..n]
     }
 
     // Document 01: signed, where other is the present mark of the same take.
@@ -152,13 +131,7 @@ impl History {
     {
         let n = self.count as usize;
         let m = other.count as usize;
-        if m <= n {
-            return false;
-        }
-        if self.incarnation != other.checkpoints[n] {
-            return false;
-        }
-        self.agrees(other, n)
+        n < m && self.incarnation == other.checkpoints[n] && self.agrees(other, n)
     }
 
     // Whether the two are of one life.
@@ -166,13 +139,9 @@ impl History {
         requires { (self.count ≤ places) × (other.count ≤ places) }
         ensures { result ≡ same_incarnation (incarnation_of self) (incarnation_of other) }
     {
-        if self.count != other.count {
-            return false;
-        }
-        if self.incarnation != other.incarnation {
-            return false;
-        }
-        self.agrees(other, self.count as usize)
+        self.count == other.count
+            && self.incarnation == other.incarnation
+            && self.agrees(other, self.count as usize)
     }
 
     // Document 02, W4: whether the other one, of the same transactor, shows that this incarnation was stable. Each test fails at the
@@ -181,13 +150,8 @@ impl History {
         requires { (self.count ≤ places) × (other.count ≤ places) }
         ensures { result ≡ shows_stable (incarnation_of self) (view_of other) }
     {
-        if self.checkpointed_in(other) {
-            return true;
-        }
-        if !other.stable {
-            return false;
-        }
-        self.same_incarnation(other)
+        let stable = other.stable;
+        self.checkpointed_in(other) || stable && self.same_incarnation(other)
     }
 
     // Document 02, W3: the comparison of two marks; the promise is about the answer's number.
@@ -195,22 +159,19 @@ impl History {
         requires { (self.count ≤ places) × (other.count ≤ places) }
         ensures { relation_number result ≡ relation_number (relation_of (incarnation_of self) (incarnation_of other)) }
     {
-        if other.count < self.count {
-            return other.compare_longer(self).turned();
-        }
-        if self.count != other.count {
-            return self.compare_longer(other);
+        match self.count.cmp(&other.count) {
+            Ordering::Less => return self.compare_longer(other),
+            Ordering::Greater => return other.compare_longer(self).turned(),
+            Ordering::Equal => {}
         }
         if !self.agrees(other, self.count as usize) {
             return Relation::Unrelated;
         }
-        if self.incarnation < other.incarnation {
-            return Relation::LeftSuperseded;
+        match self.incarnation.cmp(&other.incarnation) {
+            Ordering::Less => Relation::LeftSuperseded,
+            Ordering::Greater => Relation::RightSuperseded,
+            Ordering::Equal => Relation::Same,
         }
-        if other.incarnation < self.incarnation {
-            return Relation::RightSuperseded;
-        }
-        Relation::Same
     }
 
     // The same where the other one's list is the longer.
@@ -220,16 +181,12 @@ impl History {
     {
         let n = self.count as usize;
         let next = other.checkpoints[n];
-        // the lists last: that is the longer test
-        if next < self.incarnation {
-            return Relation::Unrelated;
+        match next.cmp(&self.incarnation) {
+            Ordering::Less => Relation::Unrelated,
+            // the lists last: that is the longer test
+            _ if !self.agrees(other, n) => Relation::Unrelated,
+            Ordering::Equal => Relation::LeftCheckpointed,
+            Ordering::Greater => Relation::LeftSuperseded,
         }
-        if !self.agrees(other, n) {
-            return Relation::Unrelated;
-        }
-        if self.incarnation == next {
-            return Relation::LeftCheckpointed;
-        }
-        Relation::LeftSuperseded
     }
 }
