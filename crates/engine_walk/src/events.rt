@@ -1,129 +1,104 @@
 // What a step that was not refused did, from the step and the reply to it.
 ghost use Rattle.std.specs.Prelude.{◌≡◌};
-ghost use Rattle.engine_chains.specs.Internal.Words.{bit_of, rollback_words, receipt_words, local_words, event_words, changes_nothing, rolled_back_word, checkpointed_word};
+ghost use Rattle.engine_chains.specs.Internal.Words.{bit_of, rollback_words, receipt_words, event_words, changes_nothing, rolled_back_word, checkpointed_word};
 
 use engine_chains::words::Event;
 use lists::refusals::is_refusal;
-use rules::{Step, Told, numbers};
+use rules::kinds::Kind;
+use rules::outcomes::Outcome;
+use rules::{Step, Told};
 
 // The word of transactor t, or of none.
+#[tactic(auto, unfolding(engine_chains::specs::Internal::Words::bit_of))]
 fn bit(t: u8) -> u16
     ensures { result ≡ bit_of t }
 {
-    if t >= 16 {
-        return 0;
-    }
-    1u16 << t
+    if t < 16 { 1 << t } else { 0 }
 }
 
 // t fell back or vanished.
+#[tactic(auto, unfolding(engine_chains::specs::Internal::Words::rollback_words))]
 fn rollback(outcome: u8, t: u16) -> Event
     ensures { result ≡ rollback_words outcome t }
 {
-    if outcome == numbers::VANISHED {
+    if outcome == Outcome::Vanished.number() {
         return Event::Annihilated(t);
     }
     Event::Renewed(t)
 }
 
+#[tactic(auto, unfolding(engine_chains::specs::Internal::Words::receipt_words))]
 fn receipt(w: Told) -> Event
     ensures { result ≡ receipt_words w }
 {
     let n = w.message;
     let t = bit(w.transactor);
-    let outcome = w.outcome;
-    match outcome {
-        numbers::DROPPED => Event::Cleared(n),
-        numbers::DONE => Event::Taken(n, t),
-        numbers::VANISHED => Event::ClearedAnnihilated(n, t),
-        _ => Event::ClearedRenewed(n, t),
+    if w.outcome == Outcome::Dropped.number() {
+        Event::Cleared(n)
+    } else if w.outcome == Outcome::Done.number() {
+        Event::Taken(n, t)
+    } else if w.outcome == Outcome::Vanished.number() {
+        Event::ClearedAnnihilated(n, t)
+    } else {
+        Event::ClearedRenewed(n, t)
     }
 }
 
-// Kinds 5 to 10, by t.
-fn local(kind: u8, outcome: u8, t: u16) -> Event
-    ensures { result ≡ local_words kind outcome t }
-{
-    if kind == numbers::READ {
-        return Event::Reads(t);
-    }
-    if kind == numbers::WRITE {
-        if outcome == numbers::HELD {
-            return Event::Nothing;
-        }
-        return Event::Writes(t);
-    }
-    if kind == numbers::FREEZE {
-        return Event::Nothing;
-    }
-    if kind == numbers::FINISH {
-        return Event::Finishes(t);
-    }
-    if outcome != numbers::HELD {
-        return rollback(outcome, t);
-    }
-    if kind == numbers::FALL {
-        return Event::Finishes(t);
-    }
-    Event::Nothing
-}
-
+#[tactic(auto, unfolding(engine_chains::specs::Internal::Words::event_words, engine_chains::specs::Internal::Words::local_words))]
 pub fn event(p: Step, w: Told) -> Event
     ensures { result ≡ event_words p w }
 {
     let n = w.message;
     let t = bit(p.transactor);
     let other = bit(w.transactor);
-    let kind = p.kind;
-    match kind {
-        numbers::ROOT => Event::Renewed(other),
-        numbers::LETTER => Event::Cleared(n),
-        numbers::RECEIVE => receipt(w),
-        numbers::NEW => Event::Opens(t, other),
-        numbers::SEND => Event::Sent(n, t),
-        numbers::LOSE => Event::Cleared(n),
-        numbers::SIGN => {
-            if w.outcome == numbers::DONE {
-                return Event::Renewed(p.message);
-            }
-            Event::Nothing
-        }
-        _ => local(kind, w.outcome, t),
+    let held = w.outcome == Outcome::Held.number();
+    match Kind::try_from(p.kind) {
+        Ok(Kind::Root) => Event::Renewed(other),
+        Ok(Kind::Letter | Kind::Lose) => Event::Cleared(n),
+        Ok(Kind::Receive) => receipt(w),
+        Ok(Kind::New) => Event::Opens(t, other),
+        Ok(Kind::Send) => Event::Sent(n, t),
+        Ok(Kind::Sign) if w.outcome == Outcome::Done.number() => Event::Renewed(p.message),
+        Ok(Kind::Sign | Kind::Freeze) => Event::Nothing,
+        Ok(Kind::Read) => Event::Reads(t),
+        Ok(Kind::Write) if held => Event::Nothing,
+        Ok(Kind::Write) => Event::Writes(t),
+        Ok(Kind::Finish) => Event::Finishes(t),
+        Ok(Kind::Fall) if held => Event::Finishes(t),
+        _ if held => Event::Nothing,
+        _ => rollback(w.outcome, t),
     }
 }
 
 // Whether a step changed nothing: it was refused, or a signing that was not ready. It saves the walk the look at an event.
+#[tactic(auto, unfolding(engine_chains::specs::Internal::Words::changes_nothing))]
 pub fn unchanged(p: Step, w: Told) -> bool
     ensures { result ≡ changes_nothing p w }
 {
-    if is_refusal(w.outcome) {
-        return true;
-    }
-    if w.outcome != numbers::NOT_READY {
-        return false;
-    }
-    p.kind == numbers::SIGN
+    is_refusal(w.outcome)
+        || w.outcome == Outcome::NotReady.number() && p.kind == Kind::Sign.number()
 }
 
 // The transactors that were rolled back and live on.
+#[tactic(auto, unfolding(engine_chains::specs::Internal::Words::rolled_back_word))]
 pub fn rolled_back(w: Told) -> u16
     ensures { result ≡ rolled_back_word w }
 {
-    if w.outcome != numbers::FALLEN_BACK {
-        return 0;
+    if w.outcome == Outcome::FallenBack.number() {
+        bit(w.transactor)
+    } else {
+        0
     }
-    bit(w.transactor)
 }
 
 // The transactors that were checkpointed.
+#[tactic(auto, unfolding(engine_chains::specs::Internal::Words::checkpointed_word))]
 pub fn checkpointed(p: Step, w: Told) -> u16
     ensures { result ≡ checkpointed_word p w }
 {
-    if p.kind != numbers::SIGN {
-        return 0;
+    if p.kind == Kind::Sign.number() && w.outcome == Outcome::Done.number() {
+        p.message
+    } else {
+        0
     }
-    if w.outcome != numbers::DONE {
-        return 0;
-    }
-    p.message
 }

@@ -6,6 +6,7 @@ use engine_chains::words::{Side, Trail, Walker};
 
 pub const WORDS: usize = 15;
 
+#[tactic(auto, unfolding(engine_chains::specs::Internal::Words::words_of))]
 pub fn words(x: Walker) -> [u16; WORDS]
     ensures { result ≡ words_of x }
 {
@@ -32,6 +33,7 @@ pub fn words(x: Walker) -> [u16; WORDS]
     ]
 }
 
+#[tactic(auto, unfolding(engine_chains::specs::Internal::Words::walker_in))]
 pub fn walker(w: [u16; WORDS]) -> Walker
     ensures { result ≡ walker_in w }
 {

@@ -19,6 +19,7 @@ use lists::{NUMBERS, STEP, packed};
 const ALL: u16 = 65535;
 
 // What a receipt finds: a history of the message is superseded (stale); one that the receiver holds is.
+// Two flags and no enum: the engine's table looks at each by itself, and a receipt can find both.
 #[derive(Clone, Copy)]
 pub struct Compared {
     pub dropped: bool,
@@ -26,6 +27,7 @@ pub struct Compared {
 }
 
 // Back over what a step did, with the transactors rolled back there and those checkpointed.
+#[tactic(auto, unfolding(engine_chains::specs::Internal::Words::follower_over))]
 fn over(e: Event, rolled: u16, checkpointed: u16, x: Walker, messages: &mut [u16]) -> Walker
     ensures { following result messages.new ≡ follower_over e rolled checkpointed (following x messages.old) }
 {
@@ -86,6 +88,7 @@ fn walked(list: &[u8], replies: &[u8], i: usize, x: Walker, messages: &mut [u16;
 }
 
 // Nothing met yet: state and creation of the transactors ground are followed on the right.
+#[tactic(auto, unfolding(engine_chains::specs::Internal::Words::walker_from))]
 fn start(support: u16, found: u16, allowed: u16) -> Walker
     ensures { result ≡ walker_from support found allowed }
 {

@@ -14,14 +14,10 @@ const RIGHT: u16 = 2;
 fn followed(l: &[u16], n: u16) -> u16
     ensures { result ≡ get_or l.now n 0 }
 {
-    let at = n as usize;
-    if at < l.len() {
-        return l[at];
-    }
-    0
+    l.get(n as usize).copied().unwrap_or(0)
 }
 
-// Message n is followed on the sides v from here on.
+// Message n is followed on the sides v from here on. By the index: of a slice's `get_mut` a proof learns no element.
 fn follow(l: &mut [u16], n: u16, v: u16)
     ensures { l.new ≡ set l.old n v }
 {
@@ -35,10 +31,7 @@ fn follow(l: &mut [u16], n: u16, v: u16)
 pub fn word_if(c: bool, w: u16) -> u16
     ensures { result ≡ word_if c w }
 {
-    if c {
-        return w;
-    }
-    0
+    if c { w } else { 0 }
 }
 
 fn read(s: Side, t: u16) -> Side
@@ -46,8 +39,7 @@ fn read(s: Side, t: u16) -> Side
 {
     Side {
         state: s.state | (s.behaviour & t),
-        creation: s.creation,
-        behaviour: s.behaviour,
+        ..s
     }
 }
 
@@ -55,9 +47,8 @@ fn write(s: Side, t: u16) -> Side
     ensures { result ≡ side_writes s t }
 {
     Side {
-        state: s.state,
-        creation: s.creation,
         behaviour: s.behaviour | (s.state & t),
+        ..s
     }
 }
 
@@ -65,9 +56,8 @@ fn finish(s: Side, t: u16) -> Side
     ensures { result ≡ side_finishes s t }
 {
     Side {
-        state: s.state,
-        creation: s.creation,
         behaviour: s.behaviour ^ (s.behaviour & t),
+        ..s
     }
 }
 
@@ -86,19 +76,21 @@ fn carry(s: Side, w: u16) -> Side
     ensures { result ≡ side_carries s w }
 {
     Side {
-        state: s.state,
         creation: s.creation | w,
         behaviour: s.behaviour | w,
+        ..s
     }
 }
 
 // t opened c.
+#[tactic(auto, unfolding(engine_chains::specs::Internal::Words::side_opens))]
 fn opening(s: Side, t: u16, c: u16) -> Side
     ensures { result ≡ side_opens s t c }
 {
     carry(without(s, c), word_if(s.creation & c != 0, t))
 }
 
+#[tactic(auto, unfolding(engine_chains::specs::Internal::Words::opening_meets))]
 fn opening_meets(s: Side, t: u16, c: u16) -> u16
     ensures { result ≡ opening_meets s t c }
 {
@@ -134,6 +126,7 @@ fn sent(a: Side, b: Side, v: u16, t: u16) -> Passed
     }
 }
 
+#[tactic(auto, unfolding(engine_chains::specs::Internal::Words::side_opens, engine_chains::specs::Internal::Words::opening_meets))]
 fn opened(a: Side, b: Side, t: u16, c: u16) -> Passed
     ensures { result ≡ passed (side_opens a t c) (side_opens b t c) (opening_meets a t c) (opening_meets b t c) }
 {
@@ -176,6 +169,7 @@ fn sides_of(a: Side, b: Side, t: u16) -> u16
 }
 
 // a, b: the left side and the right one; l: the messages followed. One look at the event for all of them.
+#[tactic(auto, unfolding(engine_chains::specs::Internal::Words::passed_over, engine_chains::specs::Internal::Words::messages_over, engine_chains::specs::Internal::Words::side_over, engine_chains::specs::Internal::Words::met_over))]
 pub fn both_over(e: Event, a: Side, b: Side, l: &mut [u16]) -> Passed
     ensures { (result ≡ passed_over e a b l.old) × (l.new ≡ messages_over e a b l.old) }
 {
@@ -241,6 +235,7 @@ pub fn trail(support: u16, found: u16) -> Trail
 // x after a step that was passed so, with the transactors rolled back there and those checkpointed.
 // Of two incarnations of a transactor the earlier is superseded (stale) exactly if it ended in a rollback. Going back, the earlier one is
 // the one met now; the later one was met before, on the other side (past), and how the earlier one ended is known (ended).
+#[tactic(auto, unfolding(engine_chains::specs::Internal::Words::walker_with))]
 pub fn joined(x: Walker, q: Passed, rolled: u16, checkpointed: u16) -> Walker
     ensures { result ≡ walker_with x q rolled checkpointed }
 {
