@@ -6,9 +6,10 @@ ghost use Rattle.rules.specs.Layout.{base, history_bytes, image_bytes};
 ghost use Rattle.rules.specs.State.{live, own_history, transactor_at};
 ghost use Rattle.rules.specs.Rules.{group_ready, checkpoint_group};
 ghost use Rattle.rules.specs.Pack.{pack, unpack};
+ghost use Rattle.rules.specs.Numbers.{refusal_in};
 ghost use Rattle.rules.specs.Internal.Good.{Good};
 ghost use Rattle.rules.specs.Internal.Guards.{is_full, named_in, group_in, Room};
-ghost use Rattle.rules.specs.Internal.Closure.{pair_ready, Presents, Kept, in_group_at, checkpointed_at};
+ghost use Rattle.rules.specs.Internal.Closure.{stored_ready, pair_ready, Presents, Kept, in_group_at, checkpointed_at};
 
 use image::layout::{CREATION, FIRST_TRANSACTOR, STATE, TRANSACTOR, TRANSACTORS, own_at};
 use image::{head, limits};
@@ -16,7 +17,8 @@ use lists::groups::is_named;
 use lists::refusals;
 use marks::History;
 use packed_histories::in_place;
-use rules::numbers;
+use rules::refusals::Refusal;
+use rules::statuses::Status;
 
 // The own history of transactor t.
 pub fn own(image: &[u8], t: usize) -> History
@@ -45,39 +47,34 @@ pub fn is_full(image: &[u8], t: usize) -> bool
     limits::checkpoints(image) <= count(image, t)
 }
 
-// Whether a named transactor is gone, 22, or else one has no room, 30; or 0.
-fn blocked(image: &[u8], group: u16) -> u8
+// Whether every named transactor can be checkpointed: refused as 22 if one is gone, or else as 30 if one has no room.
+fn check_members(image: &[u8], group: u16) -> Result<(), Refusal>
     requires { Good image.now }
-    ensures { result ≡ named_in (unpack base image.now) group }
+    ensures { refusal_in result ≡ named_in (unpack base image.now) group }
 {
     let most = limits::checkpoints(image);
-    let mut number: u8 = 0;
-    let mut t: usize = 0;
-    while t < TRANSACTORS {
+    let mut full = Ok(());
+    for t in 0..TRANSACTORS {
         if is_named(group, t) {
-            let r = refusals::member(most, head::status(image, t), count(image, t));
-            if r == numbers::GONE {
-                return r;
-            }
-            if r != 0 {
-                number = r;
+            let status = head::status(image, t).number();
+            if let Err(r) = refusals::member(most, status, count(image, t)) {
+                if r == Refusal::Gone {
+                    return Err(r);
+                }
+                full = Err(r);
             }
         }
-        t += 1;
     }
-    number
+    full
 }
 
-// The refusals of a signing, 29, 21, 22 and 30, or 0.
-pub fn refusal(image: &[u8], group: u16) -> u8
+// Whether a group can be signed, ready or not: refused as 29, 21, 22 or 30 if not.
+pub fn check(image: &[u8], group: u16) -> Result<(), Refusal>
     requires { Good image.now }
-    ensures { result ≡ group_in (unpack base image.now) group }
+    ensures { refusal_in result ≡ group_in (unpack base image.now) group }
 {
-    let r = refusals::group(head::opened(image), group);
-    if r != 0 {
-        return r;
-    }
-    blocked(image, group)
+    refusals::group(head::opened(image), group)?;
+    check_members(image, group)
 }
 
 // Whether transactor u is idle or busy.
@@ -85,8 +82,7 @@ pub fn is_live(image: &[u8], u: usize) -> bool
     requires { Good image.now × (u < base.transactors) }
     ensures { result ≡ live (transactor_at (unpack base image.now) u) }
 {
-    let status = head::status(image, u);
-    status == numbers::IDLE || status == numbers::BUSY
+    matches!(head::status(image, u), Status::Idle | Status::Busy)
 }
 
 // ---- the test of a group, with what is kept of its members
@@ -105,8 +101,7 @@ pub fn presents(image: &[u8], group: u16) -> Present
 {
     let mut present = [History::INITIAL; 16];
     let mut stable: u16 = 0;
-    let mut t: usize = 0;
-    while t < TRANSACTORS {
+    for t in 0..TRANSACTORS {
         if is_named(group, t) {
             let h = own(image, t);
             present[t] = h;
@@ -114,7 +109,6 @@ pub fn presents(image: &[u8], group: u16) -> Present
                 stable += 1u16 << t;
             }
         }
-        t += 1;
     }
     Present {
         own: present,
@@ -150,6 +144,14 @@ pub fn checkpointed(image: &[u8], group: u16, at: usize, u: usize, h: History) -
     in_place::checkpointed_in(image, at, own_at(u))
 }
 
+// Whether the entry at at, of transactor u, is ready: in the group, or checkpointed.
+fn entry_ready(image: &[u8], group: u16, at: usize, u: usize, h: History) -> bool
+    requires { Good image.now × (at + history_bytes base ≤ image_bytes base) × (u < base.transactors) × Kept (unpack base image.now) group u h }
+    ensures { result ≡ stored_ready base image.now group at u }
+{
+    in_group(image, group, at, u, h) || checkpointed(image, group, at, u, h)
+}
+
 // The entries u of the state and creation maps of transactor t, with what is kept of u.
 fn kept_ready(image: &[u8], group: u16, t: usize, u: usize, h: History) -> bool
     requires { Good image.now × (t < base.transactors) × (u < base.transactors) × Kept (unpack base image.now) group u h }
@@ -157,16 +159,8 @@ fn kept_ready(image: &[u8], group: u16, t: usize, u: usize, h: History) -> bool
 {
     let at = FIRST_TRANSACTOR + TRANSACTOR * t;
     let state = at + STATE + marks::SIZE * u;
-    if !in_group(image, group, state, u, h) {
-        if !checkpointed(image, group, state, u, h) {
-            return false;
-        }
-    }
     let creation = at + CREATION + marks::SIZE * u;
-    if !in_group(image, group, creation, u, h) {
-        return checkpointed(image, group, creation, u, h);
-    }
-    true
+    entry_ready(image, group, state, u, h) && entry_ready(image, group, creation, u, h)
 }
 
 // Whether every named transactor is stable, and every entry of its state and creation maps is ready: left at the first that
@@ -180,22 +174,16 @@ pub fn ready(image: &[u8], group: u16) -> bool
         return false;
     }
     let mut ok = true;
-    let mut t: usize = 0;
-    'named: while t < TRANSACTORS {
+    'named: for t in 0..TRANSACTORS {
         if !is_named(group, t) {
-            t += 1;
-            continue 'named;
+            continue;
         }
-        let mut u: usize = 0;
-        while u < TRANSACTORS {
-            let h = kept.own[u];
-            if !kept_ready(image, group, t, u, h) {
+        for u in 0..TRANSACTORS {
+            if !kept_ready(image, group, t, u, kept.own[u]) {
                 ok = false;
                 break 'named;
             }
-            u += 1;
         }
-        t += 1;
     }
     ok
 }
@@ -205,13 +193,11 @@ pub fn checkpoint(image: &mut [u8], group: u16)
     requires { Good image.old × Room (unpack base image.old) group }
     ensures { image.new ≡ pack base (checkpoint_group base (unpack base image.old) group) }
 {
-    let mut t: usize = 0;
-    while t < TRANSACTORS {
+    for t in 0..TRANSACTORS {
         if is_named(group, t) {
             let at = FIRST_TRANSACTOR + TRANSACTOR * t;
             let end = at + TRANSACTOR;
             transactor::checkpoint(&mut image[at..end], t);
         }
-        t += 1;
     }
 }
