@@ -1,5 +1,5 @@
 -- The tests of specs reflect the relations, so the relations are decidable.
-use Prim.Native.Nat.{ℕ, suc, ◌+◌, ◌<◌}
+use Prim.Native.Nat.{ℕ, suc, ◌+◌, ◌<◌, ◌≤◌}
 use mathlib.Core.Bool.{Bool, true, false, false≢true, ◌&&◌}
 use mathlib.Core.Path.{◌≡◌, refl, ap, sym, ◌∙◌, subst}
 use mathlib.Core.List.{List, [], ◌∷◌, ◌++◌}
@@ -9,12 +9,13 @@ use native.Mathlib.Omega.{arith}
 use lib.Dec.{eqb, ltb}
 use lib.Pointwise.{pointwise}
 use lib.ListN.{length, take, drop, get_or, length-append, take-append-drop}
-use lib.Seq.{take-suc, take-append_seam, get_or-append_seam, get_or-take, split_at, append_snoc}
+use lib.Seq.{length-take-le, take-suc, take-append_seam, get_or-append_seam, get_or-take, split_at, append_snoc}
 use borrow.Author.Tests.{ltb-true, lt-ltb, eqb-true, eq-eqb}
 use Rattle.marks.proofs.Order.{checkpointed-ne}
-use Rattle.octets.specs.Bytes.{◌and◌}
-use Rattle.octets.proofs.Zero.{both}
-use Rattle.octets.proofs.Tests.{and-of, or-to, or-of}
+use Rattle.std.proofs.lemmas.Grind.{same_number_lists}
+use Rattle.octets.specs.Bytes.{◌and◌, every}
+use Rattle.octets.proofs.Zero.{both, every-at, every-all}
+use Rattle.octets.proofs.Tests.{same_test as tests_same, and-of, or-to, or-of}
 use Rattle.marks.specs.Incarnation.{Incarnation, same_list, begins_with, strict_prefix, superseded_by, checkpointed_in, same_incarnation, Superseded, lower, passed, Checkpointed, begins}
 
 -- ---- tests and what they stand for
@@ -81,6 +82,22 @@ module _ (xs ys : List ℕ) where
 
   pub same-all : (i n : ℕ) → same_list (take i xs) (take i ys) ≡ true → i ≡ n → same_list (take n xs) (take n ys) ≡ true
   same-all i n e h = subst (λ (k : ℕ). same_list (take k xs) (take k ys) ≡ true) h e
+
+  -- the first n entries, each compared
+  pub entries_same : (n : ℕ) → n ≤ length xs → n ≤ length ys → every n (λ i. eqb (get_or xs i 0) (get_or ys i 0)) ≡ same_list (take n xs) (take n ys)
+  entries_same n h k = tests_same (every n (λ i. eqb (get_or xs i 0) (get_or ys i 0))) (same_list (take n xs) (take n ys)) to of
+    where
+      to : every n (λ i. eqb (get_or xs i 0) (get_or ys i 0)) ≡ true → same_list (take n xs) (take n ys) ≡ true
+      to e =
+          let long : length (take n xs) ≡ n = length-take-le n xs h in
+          let l : take n xs ≡ take n ys = same_number_lists (take n xs) (take n ys) (long ∙ sym (length-take-le n ys k))
+              (λ i p. let q : i < n = omega arith in
+                  get_or-take n xs i 0 q ∙ eqb-true _ _ (every-at (λ i. eqb (get_or xs i 0) (get_or ys i 0)) n i e q) ∙ sym (get_or-take n ys i 0 q)) in
+          (same_list-test (take n xs) (take n ys)).1 l
+
+      of : same_list (take n xs) (take n ys) ≡ true → every n (λ i. eqb (get_or xs i 0) (get_or ys i 0)) ≡ true
+      of e = every-all (λ i. eqb (get_or xs i 0) (get_or ys i 0)) n (λ i p. eq-eqb _ _
+          (sym (get_or-take n xs i 0 p) ∙ ap (λ (l : List ℕ). get_or l i 0) (same-to (take n xs) (take n ys) e) ∙ get_or-take n ys i 0 p))
 
 -- ---- prefixes
 

@@ -5,13 +5,14 @@ use mathlib.Core.Path.{◌≡◌, refl, ap, sym, ◌∙◌}
 use mathlib.Core.List.{List, ◌++◌}
 use native.Mathlib.Omega.{arith}
 use lib.ListN.{length, length-append, set}
+use Rattle.std.specs.Int.{from_bool}
 use Rattle.octets.specs.Bytes.{put, chunks, zeros}
 use Rattle.octets.specs.Numbers.{be}
 use Rattle.octets.proofs.Put.{put_then}
 use Rattle.octets.proofs.Numbers.{length-be, put-be-one}
 use Rattle.marks.specs.declared.History.{History}
 use Rattle.marks.specs.History.{initial_history}
-use Rattle.marks.specs.Packed.{width, places, count_bound, history_size, bit, pack_number_at}
+use Rattle.marks.specs.Packed.{width, places, count_bound, history_size, bit, pack_number_at, pack_history}
 use Rattle.marks.proofs.Packed.{numbers, length-numbers}
 use Rattle.packed_histories.specs.Internal.Absent.{pack_as}
 
@@ -22,6 +23,15 @@ absent-initial = refl
 
 pub put-initial : (at : ℕ) (b b' : List ℕ) → b' ≡ put at (pack_as width places false (initial_history places)) b → b' ≡ put at (zeros (history_size width places)) b
 put-initial at b b' e = e ∙ ap (λ (z : List ℕ). put at z b) absent-initial
+
+pub put-present : (w l at : ℕ) (h : History) (b b' : List ℕ) → b' ≡ put at (pack_as w l true h) b → b' ≡ put at (pack_history w l h) b
+unfolding pack_as pack_history
+put-present w l at h b b' e = e
+
+-- a flag as a bit
+pub bit-from : (t : Bool) → from_bool t ≡ bit t
+bit-from true = refl
+bit-from false = refl
 
 head-fits : (p t : Bool) (n : ℕ) → n < count_bound → 128 * bit p + 64 * bit t + n < 256
 head-fits true true n h = omega arith

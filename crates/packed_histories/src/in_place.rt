@@ -11,7 +11,7 @@ pub fn count(s: &[u8], at: usize) -> usize
     requires { at + history_size width places ≤ length s.now }
     ensures { (result ≡ (history_in width places s.now at).count) × (result ≤ places) }
 {
-    (s[at] % 16) as usize
+    usize::from(s[at] % 16)
 }
 
 // Its life number.
@@ -35,16 +35,7 @@ fn agree_few(s: &[u8], a: usize, b: usize, n: usize) -> bool
     requires { (a + history_size width places ≤ length s.now) × (b + history_size width places ≤ length s.now) × (n ≤ places) }
     ensures { result ≡ same_list (take n (history_in width places s.now a).checkpoints) (take n (history_in width places s.now b).checkpoints) }
 {
-    let mut i: usize = 0;
-    while i < n {
-        let x = place(s, a, i);
-        let y = place(s, b, i);
-        if x != y {
-            return false;
-        }
-        i += 1;
-    }
-    true
+    (0..n).all(|i| place(s, a, i) == place(s, b, i))
 }
 
 // The same, eight places at once: the first eight and the last eight of n, which meet.
@@ -57,11 +48,8 @@ fn agree(s: &[u8], a: usize, b: usize, n: usize) -> bool
     }
     let x = a + 1 + WIDTH;
     let y = b + 1 + WIDTH;
-    if !octets::same16(s, x, y) {
-        return false;
-    }
     let last = WIDTH * (n - 8);
-    octets::same16(s, x + last, y + last)
+    octets::same16(s, x, y) && octets::same16(s, x + last, y + last)
 }
 
 // Document 01: signed, where the one at b is the present mark of the same take.
@@ -70,16 +58,7 @@ pub fn checkpointed_in(s: &[u8], a: usize, b: usize) -> bool
     ensures { result ≡ checkpointed_in (incarnation_of (history_in width places s.now a)) (incarnation_of (history_in width places s.now b)) }
 {
     let n = count(s, a);
-    let m = count(s, b);
-    if m <= n {
-        return false;
-    }
-    let x = number(s, a);
-    let next = place(s, b, n);
-    if x != next {
-        return false;
-    }
-    agree(s, a, b, n)
+    n < count(s, b) && number(s, a) == place(s, b, n) && agree(s, a, b, n)
 }
 
 // Whether the two are of one life, where the unused places are zero: but for the first byte, all their bytes are the same.
@@ -88,17 +67,9 @@ pub fn same_in(s: &[u8], a: usize, b: usize) -> bool
         × Roomy places (history_in width places s.now a) × Roomy places (history_in width places s.now b) }
     ensures { result ≡ same_incarnation (incarnation_of (history_in width places s.now a)) (incarnation_of (history_in width places s.now b)) }
 {
-    let n = count(s, a);
-    let m = count(s, b);
-    if n != m {
-        return false;
-    }
-    let x = a + 1;
-    let y = b + 1;
-    if !octets::same16(s, x, y) {
-        return false;
-    }
-    octets::same16(s, x + 16, y + 16)
+    count(s, a) == count(s, b)
+        && octets::same16(s, a + 1, b + 1)
+        && octets::same16(s, a + 1 + 16, b + 1 + 16)
 }
 
 // ---- one packed, the other by value
@@ -108,15 +79,7 @@ fn agree_with(s: &[u8], at: usize, h: History, n: usize) -> bool
     requires { (at + history_size width places ≤ length s.now) × (n ≤ places) }
     ensures { result ≡ same_list (take n (history_in width places s.now at).checkpoints) (take n h.checkpoints) }
 {
-    let mut i: usize = 0;
-    while i < n {
-        let x = place(s, at, i);
-        if x != h.checkpoints[i] {
-            return false;
-        }
-        i += 1;
-    }
-    true
+    (0..n).all(|i| place(s, at, i) == h.checkpoints[i])
 }
 
 // Whether the packed one is of the life of h.
@@ -125,15 +88,7 @@ pub fn same_as(s: &[u8], at: usize, h: History) -> bool
     ensures { result ≡ same_incarnation (incarnation_of (history_in width places s.now at)) (incarnation_of h) }
 {
     let n = count(s, at);
-    let m = h.count as usize;
-    if n != m {
-        return false;
-    }
-    let x = number(s, at);
-    if x != h.incarnation {
-        return false;
-    }
-    agree_with(s, at, h, n)
+    n == usize::from(h.count) && number(s, at) == h.incarnation && agree_with(s, at, h, n)
 }
 
 // Document 01: signed, where h is the present mark of the same take.
@@ -142,13 +97,5 @@ pub fn checkpointed_by(s: &[u8], at: usize, h: History) -> bool
     ensures { result ≡ checkpointed_in (incarnation_of (history_in width places s.now at)) (incarnation_of h) }
 {
     let n = count(s, at);
-    let m = h.count as usize;
-    if m <= n {
-        return false;
-    }
-    let x = number(s, at);
-    if x != h.checkpoints[n] {
-        return false;
-    }
-    agree_with(s, at, h, n)
+    n < usize::from(h.count) && number(s, at) == h.checkpoints[n] && agree_with(s, at, h, n)
 }

@@ -10,17 +10,14 @@ ghost use Rattle.marks.specs.Internal.News.{may_show};
 ghost use Rattle.marks.specs.Packed.{width, places, history_size, rest_size, ramp_of, bit, pack_number_at, pack_history, unpack_history, load_number_at, present_in, formed_history};
 ghost use Rattle.packed_histories.specs.Internal.Absent.{pack_as};
 
-use marks::{History, PLACES, SIZE, WIDTH};
+use marks::{History, SIZE, WIDTH};
 
 // Writes the packed form from at on.
 pub fn store(h: History, image: &mut [u8], at: usize)
     requires { (at + history_size width places ≤ length image.old) × (h.count ≤ places) }
     ensures { image.new ≡ put at (pack_history width places h) image.old }
 {
-    image[at] = 128 + 64 * flag(h.stable) + h.count;
-    store_number(image, at + 1, h.incarnation);
-    let list = h.checkpoints;
-    store_numbers(image, at + 1 + WIDTH, list);
+    store_as(true, h, image, at);
 }
 
 // Writes the same form with or without its presence bit; of the initial history, without it, only zeros.
@@ -28,10 +25,9 @@ pub fn store_as(present: bool, h: History, image: &mut [u8], at: usize)
     requires { (at + history_size width places ≤ length image.old) × (h.count ≤ places) }
     ensures { image.new ≡ put at (pack_as width places present h) image.old }
 {
-    image[at] = 128 * flag(present) + 64 * flag(h.stable) + h.count;
-    store_number(image, at + 1, h.incarnation);
-    let list = h.checkpoints;
-    store_numbers(image, at + 1 + WIDTH, list);
+    image[at] = 128 * u8::from(present) + 64 * u8::from(h.stable) + h.count;
+    octets::store16(image, at + 1, h.incarnation);
+    store_numbers(image, at + 1 + WIDTH, h.checkpoints);
 }
 
 // What the packed form from at on holds; of zeros, the initial history.
@@ -40,13 +36,11 @@ pub fn load(s: &[u8], at: usize) -> History
     ensures { result ≡ unpack_history width places (part at (history_size width places) s.now) }
 {
     let head = s[at];
-    let n = load_number(s, at + 1);
-    let list = load_numbers(s, at + 1 + WIDTH);
     History {
         stable: 64 <= head % 128,
         count: head % 16,
-        incarnation: n,
-        checkpoints: list,
+        incarnation: octets::load16(s, at + 1),
+        checkpoints: load_numbers(s, at + 1 + WIDTH),
     }
 }
 
@@ -67,14 +61,8 @@ pub fn may_show(s: &[u8], from: usize, at: usize) -> bool
         (present_in (part from (history_size width places) s.now)) (unpack_history width places (part from (history_size width places) s.now)) }
 {
     let recorded = s[at];
-    if recorded / 64 != 2 {
-        return false;
-    }
     let shown = s[from];
-    if 192 <= shown {
-        return true;
-    }
-    recorded % 16 < shown % 16
+    recorded / 64 == 2 && (192 <= shown || recorded % 16 < shown % 16)
 }
 
 // Whether the bytes of a packed form from at on are well-formed, where a list may have limit entries; ramp is what ramp() gives.
@@ -83,17 +71,11 @@ pub fn formed(s: &[u8], at: usize, limit: u8, ramp: &[u8]) -> bool
     ensures { result ≡ formed_history width limit (part at (history_size width places) s.now) }
 {
     let head = s[at];
-    let mut used: usize = 0;
-    if 128 <= head {
-        // The zero bits stand above the count, and the limit is below them.
-        if limit < head % 64 {
-            return false;
-        }
-        used = WIDTH + WIDTH * ((head % 16) as usize);
-    } else if head != 0 {
-        return false;
+    if head < 128 {
+        return head == 0 && rest_zero(s, at + 1, 0, ramp);
     }
-    rest_zero(s, at + 1, used, ramp)
+    // The zero bits stand above the count, and the limit is below them.
+    head % 64 <= limit && rest_zero(s, at + 1, WIDTH + WIDTH * (head % 16) as usize, ramp)
 }
 
 // The bytes of a packed form but the first.
@@ -115,26 +97,10 @@ fn rest_zero(s: &[u8], at: usize, used: usize, ramp: &[u8]) -> bool
 {
     let from = REST - used;
     let mut any: u8 = 0;
-    let mut i: usize = 0;
-    while i < REST {
-        any = any | (s[at + i] & ramp[from + i]);
-        i += 1;
+    for i in 0..REST {
+        any |= s[at + i] & ramp[from + i];
     }
     any == 0
-}
-
-fn flag(b: bool) -> u8
-    ensures { (result ≡ bit b) × (result ≤ 1) }
-{
-    if b { 1 } else { 0 }
-}
-
-// Writes a life number from at on.
-fn store_number(image: &mut [u8], at: usize, n: u16)
-    requires { at + width ≤ length image.old }
-    ensures { image.new ≡ put at (be width n) image.old }
-{
-    octets::store16(image, at, n);
 }
 
 // Writes the places of a list from at on.
@@ -142,20 +108,9 @@ fn store_numbers(image: &mut [u8], at: usize, list: [u16; 15])
     requires { at + width * places ≤ length image.old }
     ensures { image.new ≡ put at (chunks places (pack_number_at width list)) image.old }
 {
-    let mut i: usize = 0;
-    while i < PLACES {
-        let n = list[i];
-        store_number(image, at + WIDTH * i, n);
-        i += 1;
+    for (i, n) in list.iter().enumerate() {
+        octets::store16(image, at + WIDTH * i, *n);
     }
-}
-
-// The life number from at on.
-fn load_number(s: &[u8], at: usize) -> u16
-    requires { at + width ≤ length s.now }
-    ensures { result ≡ of_be width (part at width s.now) }
-{
-    octets::load16(s, at)
 }
 
 // The places of a list from at on.
@@ -163,12 +118,9 @@ fn load_numbers(s: &[u8], at: usize) -> [u16; 15]
     requires { at + width * places ≤ length s.now }
     ensures { result ≡ tabulate places (load_number_at width s.now at) }
 {
-    let mut list = [0u16; 15];
-    let mut i: usize = 0;
-    while i < PLACES {
-        let n = load_number(s, at + WIDTH * i);
-        list[i] = n;
-        i += 1;
+    let mut list = [0; 15];
+    for (i, n) in list.iter_mut().enumerate() {
+        *n = octets::load16(s, at + WIDTH * i);
     }
     list
 }
