@@ -19,6 +19,23 @@ use image::{head, limits, messages};
 use rules::refusals::Refusal;
 use rules::statuses::Status;
 
+// An image of the right length, and what its first bytes say, which every part of it is tested by.
+#[derive(Clone, Copy)]
+pub struct Front<'a> {
+    pub bytes: &'a [u8],
+    // how many messages wait
+    pub waiting: usize,
+    // how many transactors are opened
+    pub opened: usize,
+    // the next message number
+    pub next: u16,
+    // how many checkpoints a transactor may have
+    pub limit: u8,
+    ghost headed: { Headed bytes.now opened limit },
+    ghost waits: { waiting ≡ waiting_in base bytes.now },
+    ghost numbered: { next ≡ (unpack base bytes.now).next },
+}
+
 // Its own history, and no saved value before a checkpoint.
 fn own_formed(s: &[u8], t: usize) -> bool
     requires { (length s.now ≡ image_bytes base) × (t < base.transactors) }
@@ -35,48 +52,6 @@ fn own_formed(s: &[u8], t: usize) -> bool
     octets::load32(s, FIRST_TRANSACTOR + TRANSACTOR * t + SAVED) == 0
 }
 
-// A transactor, idle or at work.
-fn live_formed(s: &[u8], t: usize, status: Status, opened: usize, limit: u8) -> bool
-    requires { Headed s.now opened limit × (t < base.transactors) × (status_number status ≡ get_or s.now (transactor_address base t) 0 / 64) }
-    ensures { result ≡ formed_live_at base s.now t }
-{
-    let at = FIRST_TRANSACTOR + TRANSACTOR * t;
-    if !packed_maps::formed(s, at + STATE, opened, limit) {
-        return false;
-    }
-    if !packed_maps::formed(s, at + CREATION, opened, limit) {
-        return false;
-    }
-    if !own_formed(s, t) {
-        return false;
-    }
-    match status {
-        Status::Idle => octets::all_zero(s, at + BEHAVIOUR, maps::SIZE),
-        _ => packed_maps::formed(s, at + BEHAVIOUR, opened, limit),
-    }
-}
-
-// One transactor, where opened are opened and a list may have limit entries.
-fn transactor_formed(s: &[u8], t: usize, opened: usize, limit: u8) -> bool
-    requires { Headed s.now opened limit × (t < base.transactors) }
-    ensures { result ≡ formed_transactor_at base s.now t }
-{
-    let at = FIRST_TRANSACTOR + TRANSACTOR * t;
-    if opened <= t {
-        return octets::all_zero(s, at, TRANSACTOR);
-    }
-    let head = s[at];
-    if head % 64 != 0 {
-        return false;
-    }
-    let status = Status::of(head);
-    match status {
-        Status::Unused => false,
-        Status::Annihilated => octets::all_zero(s, at + 1, TRANSACTOR - 1),
-        Status::Idle | Status::Busy => live_formed(s, t, status, opened, limit),
-    }
-}
-
 // One more than the number in the place before k; 0 for the first.
 fn least(s: &[u8], k: usize) -> usize
     requires { (length s.now ≡ image_bytes base) × (k < base.messages) }
@@ -89,45 +64,91 @@ fn least(s: &[u8], k: usize) -> usize
     octets::load16(s, FIRST_MESSAGE + MESSAGE * before + NUMBER) as usize + 1
 }
 
-// Place k, of which the first n wait.
-fn message_formed(s: &[u8], k: usize, n: usize, opened: usize, next: u16, limit: u8) -> bool
-    requires { Headed s.now opened limit × (k < base.messages) × (n ≡ waiting_in base s.now) × (next ≡ (unpack base s.now).next) }
-    ensures { result ≡ formed_message_at base s.now k }
-{
-    let at = FIRST_MESSAGE + MESSAGE * k;
-    if n <= k {
-        return octets::all_zero(s, at, MESSAGE);
+impl Front<'_> {
+    // A transactor, idle or at work.
+    fn live_formed(&self, t: usize, status: Status) -> bool
+        requires below { t < base.transactors }
+        requires stored { status_number status ≡ get_or self.now.bytes.now (transactor_address base t) 0 / 64 }
+        ensures { result ≡ formed_live_at base self.now.bytes.now t }
+    {
+        let s = self.bytes;
+        let at = FIRST_TRANSACTOR + TRANSACTOR * t;
+        if !packed_maps::formed(s, at + STATE, self.opened, self.limit) {
+            return false;
+        }
+        if !packed_maps::formed(s, at + CREATION, self.opened, self.limit) {
+            return false;
+        }
+        if !own_formed(s, t) {
+            return false;
+        }
+        match status {
+            Status::Idle => octets::all_zero(s, at + BEHAVIOUR, maps::SIZE),
+            _ => packed_maps::formed(s, at + BEHAVIOUR, self.opened, self.limit),
+        }
     }
-    let head = s[at];
-    if head / 16 != 8 {
-        return false;
-    }
-    let to = (head % 16) as usize;
-    if opened <= to {
-        return false;
-    }
-    let number = octets::load16(s, at + NUMBER);
-    if next <= number {
-        return false;
-    }
-    if (number as usize) < least(s, k) {
-        return false;
-    }
-    packed_maps::formed(s, at + DEPENDENCES, opened, limit)
-}
 
-fn transactors_formed(s: &[u8], opened: usize, limit: u8) -> bool
-    requires { Headed s.now opened limit }
-    ensures { result ≡ every base.transactors (formed_transactor_at base s.now) }
-{
-    (0..TRANSACTORS).all(|t| transactor_formed(s, t, opened, limit))
-}
+    // One transactor.
+    fn transactor_formed(&self, t: usize) -> bool
+        requires { t < base.transactors }
+        ensures { result ≡ formed_transactor_at base self.now.bytes.now t }
+    {
+        let s = self.bytes;
+        let at = FIRST_TRANSACTOR + TRANSACTOR * t;
+        if self.opened <= t {
+            return octets::all_zero(s, at, TRANSACTOR);
+        }
+        let head = s[at];
+        if head % 64 != 0 {
+            return false;
+        }
+        let status = Status::of(head);
+        match status {
+            Status::Unused => false,
+            Status::Annihilated => octets::all_zero(s, at + 1, TRANSACTOR - 1),
+            Status::Idle | Status::Busy => self.live_formed(t, status),
+        }
+    }
 
-fn messages_formed(s: &[u8], n: usize, opened: usize, next: u16, limit: u8) -> bool
-    requires { Headed s.now opened limit × (n ≡ waiting_in base s.now) × (next ≡ (unpack base s.now).next) }
-    ensures { result ≡ every base.messages (formed_message_at base s.now) }
-{
-    (0..MESSAGES).all(|k| message_formed(s, k, n, opened, next, limit))
+    // Place k of the messages, of which the first wait.
+    fn message_formed(&self, k: usize) -> bool
+        requires { k < base.messages }
+        ensures { result ≡ formed_message_at base self.now.bytes.now k }
+    {
+        let s = self.bytes;
+        let at = FIRST_MESSAGE + MESSAGE * k;
+        if self.waiting <= k {
+            return octets::all_zero(s, at, MESSAGE);
+        }
+        let head = s[at];
+        if head / 16 != 8 {
+            return false;
+        }
+        let to = (head % 16) as usize;
+        if self.opened <= to {
+            return false;
+        }
+        let number = octets::load16(s, at + NUMBER);
+        if self.next <= number {
+            return false;
+        }
+        if (number as usize) < least(s, k) {
+            return false;
+        }
+        packed_maps::formed(s, at + DEPENDENCES, self.opened, self.limit)
+    }
+
+    fn transactors_formed(&self) -> bool
+        ensures { result ≡ every base.transactors (formed_transactor_at base self.now.bytes.now) }
+    {
+        (0..TRANSACTORS).all(|t| self.transactor_formed(t))
+    }
+
+    fn messages_formed(&self) -> bool
+        ensures { result ≡ every base.messages (formed_message_at base self.now.bytes.now) }
+    {
+        (0..MESSAGES).all(|k| self.message_formed(k))
+    }
 }
 
 // The head and the limits, of which n messages that wait are within theirs.
@@ -160,16 +181,18 @@ pub fn formed(s: &[u8]) -> bool
     requires { length s.now ≡ image_bytes base }
     ensures { result ≡ well_formed base s.now }
 {
-    let n = messages::waiting(s);
-    if !front_formed(s, n) {
+    let waiting = messages::waiting(s);
+    if !front_formed(s, waiting) {
         return false;
     }
-    let opened = head::opened(s) as usize;
-    let limit = limits::checkpoints(s);
-    if !transactors_formed(s, opened, limit) {
-        return false;
-    }
-    messages_formed(s, n, opened, head::next(s), limit)
+    let front = Front {
+        bytes: s,
+        waiting,
+        opened: head::opened(s) as usize,
+        next: head::next(s),
+        limit: limits::checkpoints(s),
+    };
+    front.transactors_formed() && front.messages_formed()
 }
 
 // Whether a call takes an image: refused as 16 or 19 if not.
