@@ -1,9 +1,11 @@
 -- One step of a list: the tests that the walks answer.
 use Prim.Native.Nat.{ℕ, zero, suc, ◌<◌}
 use mathlib.Core.Bool.{Bool, true, false, not}
-use mathlib.Core.Path.{◌≡◌, refl, ap, sym, ◌∙◌}
+use mathlib.Core.Path.{◌≡◌, refl, ap, sym, ◌∙◌, subst}
 use mathlib.Core.List.{List}
 use native.Mathlib.Omega.{arith}
+use Rattle.std.specs.Prelude.{Result}
+use Rattle.rules.specs.declared.refusals.Refusal.{Refusal}
 use Rattle.octets.specs.Bytes.{pick, ◌and◌, ◌or◌, every, any}
 use Rattle.rules.specs.Layout.{base}
 use Rattle.rules.specs.declared.Step.{Step}
@@ -21,7 +23,7 @@ use Rattle.engine_tables.specs.declared.turns.Turn.{Turn}
 use Rattle.engine_tables.specs.declared.turns.GroupTurn.{GroupTurn}
 use Rattle.engine_tables.specs.Internal.Register.{row_at, view_of}
 use Rattle.engine_tables.specs.Internal.Guards.{any_unstable}
-use Rattle.engine_tables.specs.Internal.Turns.{place_of, Holds, Turns, Receives, Signs, Asked}
+use Rattle.engine_tables.specs.Internal.Turns.{place_of, turn_in, group_turn_in, Holds, Turns, Receives, Signs, Asked}
 use Rattle.engine_tables.proofs.Outcomes.{receiver}
 use Rattle.engine.specs.Internal.Advance.{Advances, AdvancesGroup, Ahead}
 
@@ -58,6 +60,14 @@ module _ (steps replies : List ℕ) (i : ℕ) (x : Operands) (p : Step) (u : Tur
         (r.by g).plays R F l ∙ (λ j. play base T p ((left ∙ ap (λ (z : Walk). z.left_is_superseded) (sym w)) j) ((right ∙ ap (λ (z : Walk). z.right_is_superseded) (sym w)) j) g);
     within = (r.by false).within h;
   }
+
+-- refused or not
+pub settled : {steps replies : List ℕ} {i : ℕ} {p : Step} (o z : Operands) (r : Result Turn Refusal) (u : Turn) → u ≡ turn_in o r → o ≡ z → Advances steps replies i o p (turn_in o r) → Advances steps replies i z p u
+settled {steps} {replies} {i} {p} o z r u e q a = subst (λ (x : Operands). Advances steps replies i x p u) q (subst (λ (u : Turn). Advances steps replies i o p u) (sym e) a)
+
+pub group-settled : {steps replies : List ℕ} {i : ℕ} {x : Register} {p : Step} (rows : List Row) (r : Result GroupTurn Refusal) (u : GroupTurn) → u ≡ group_turn_in rows r
+    → AdvancesGroup steps replies i x rows p (group_turn_in rows r) → AdvancesGroup steps replies i x rows p u
+group-settled {steps} {replies} {i} {x} {p} rows r u e a = subst (λ (u : GroupTurn). AdvancesGroup steps replies i x rows p u) (sym e) a
 
 -- ---- a signing
 

@@ -1,5 +1,4 @@
 mod Advancing
-mod Answers
 pub mod Ledger
 mod Playing
 mod Ranges

@@ -4,33 +4,33 @@
 
 ghost use Rattle.std.specs.Prelude.{◌≡◌, false};
 ghost use Rattle.rules.specs.Layout.{base, limits_of};
+ghost use Rattle.rules.specs.Numbers.{refusal_in};
 ghost use Rattle.rules.specs.Step as kinds;
 ghost use Rattle.rules.specs.Refusals.{malformed};
 ghost use Rattle.rules.specs.Calls.{fresh_image, ran_replies};
 ghost use Rattle.engine_chains.specs.Internal.Walk.{Walkable};
+ghost use Rattle.engine_tables.specs.Internal.Turns.{turn_in, group_turn_in};
 ghost use Rattle.engine.specs.Play.{play_answer, play_replies};
 ghost use Rattle.engine.specs.Internal.Advance.{Advances, AdvancesGroup, Ahead, Playable};
 
 use engine_tables::register::Register;
 use engine_tables::table::Row;
 use engine_tables::turns::{GroupTurn, Operands, Turn};
-use engine_tables::{effects, guards, places};
+use engine_tables::{effects, guards, places, turns};
 use lists::{STEP, fields, limits, packed};
-use rules::{Step, numbers};
+use rules::Step;
+use rules::kinds::Kind;
+use rules::refusals::Refusal;
 
 // A receipt: the walk is done only where the table would not refuse it otherwise, and for no letter, which rests on nothing.
-fn receive(list: &[u8], replies: &[u8], i: usize, x: Operands, p: Step) -> Turn
+fn receive(list: &[u8], replies: &[u8], i: usize, x: Operands, p: Step) -> Result<Turn, Refusal>
     requires { Ahead list.now replies.now i x p × (malformed p ≡ false) × (p.kind ≡ kinds.receive) }
-    ensures { Advances list.now replies.now i x p result }
+    ensures { Advances list.now replies.now i x p (turn_in x result) }
 {
     let slot = x.slot;
-    let row = x.row;
-    let r = guards::receipt(slot, row);
-    if r != 0 {
-        return engine_tables::turns::answered(x, r);
-    }
+    guards::receipt(slot, x.row)?;
     if slot.letter {
-        return engine_tables::turns::receive(x, p, false, false);
+        return turns::receive(x, p, false, false);
     }
     let c = engine_walk::receipt(
         list,
@@ -39,46 +39,50 @@ fn receive(list: &[u8], replies: &[u8], i: usize, x: Operands, p: Step) -> Turn
         p.message as usize,
         slot.addressee as usize,
     );
-    engine_tables::turns::receive(x, p, c.dropped, c.rolls)
+    turns::receive(x, p, c.dropped, c.rolls)
 }
 
 // One step, of any kind but a signing.
-fn advance(list: &[u8], replies: &[u8], i: usize, x: Operands, p: Step) -> Turn
+fn advance(list: &[u8], replies: &[u8], i: usize, x: Operands, p: Step) -> Result<Turn, Refusal>
     requires { Ahead list.now replies.now i x p × (p.kind ≡ kinds.sign → ⊥) }
-    ensures { Advances list.now replies.now i x p result }
+    ensures { Advances list.now replies.now i x p (turn_in x result) }
 {
     if fields::malformed(p) {
-        return engine_tables::turns::answered(x, numbers::MALFORMED);
+        return Err(Refusal::Malformed);
     }
-    let kind = p.kind;
-    match kind {
-        numbers::ROOT => engine_tables::turns::root(x, p),
-        numbers::LETTER => engine_tables::turns::letter(x, p),
-        numbers::RECEIVE => receive(list, replies, i, x, p),
-        numbers::NEW => engine_tables::turns::new(x, p),
-        numbers::SEND => engine_tables::turns::send(x, p),
-        numbers::LOSE => engine_tables::turns::lose(x, p),
-        _ => engine_tables::turns::local(x, p),
+    match Kind::try_from(p.kind) {
+        Ok(Kind::Root) => turns::root(x, p),
+        Ok(Kind::Letter) => turns::letter(x, p),
+        Ok(Kind::Receive) => receive(list, replies, i, x, p),
+        Ok(Kind::New) => turns::new(x, p),
+        Ok(Kind::Send) => turns::send(x, p),
+        Ok(Kind::Lose) => turns::lose(x, p),
+        Ok(kind) => turns::local(x, p, kind),
+        Err(_) => Err(Refusal::Malformed),
     }
 }
 
 // A signing: the walk is done only where the table does not refuse it, and every named transactor is stable.
-fn sign(list: &[u8], replies: &[u8], i: usize, x: Register, rows: [Row; 16], p: Step) -> GroupTurn
+fn sign(
+    list: &[u8],
+    replies: &[u8],
+    i: usize,
+    x: Register,
+    rows: [Row; 16],
+    p: Step,
+) -> Result<GroupTurn, Refusal>
     requires { Walkable list.now replies.now i × (p.kind ≡ kinds.sign) }
-    ensures { AdvancesGroup list.now replies.now i x rows p result }
+    ensures { AdvancesGroup list.now replies.now i x rows p (group_turn_in rows result) }
 {
     if fields::malformed(p) {
-        return engine_tables::turns::group_answered(rows, numbers::MALFORMED);
+        return Err(Refusal::Malformed);
     }
     let group = p.message;
-    let r = guards::group(x, rows, group);
-    if r != 0 {
-        return engine_tables::turns::group_answered(rows, r);
-    }
+    guards::group(x, rows, group)?;
     if guards::unstable(rows, group) {
-        return engine_tables::turns::sign(x, rows, p, false);
+        return Ok(turns::sign(x, rows, p, false));
     }
-    engine_tables::turns::sign(x, rows, p, engine_walk::grounded(list, replies, i, group))
+    Ok(turns::sign(x, rows, p, engine_walk::grounded(list, replies, i, group)))
 }
 
 // Plays a list of whole steps: the register by value, the rows and the slots in arrays of which a step looks at one place, but for a
@@ -90,60 +94,51 @@ fn play_steps(list: &[u8], transactors: u8, messages: u8, checkpoints: u8, repli
     let n = list.len() / STEP;
     let mut x = Register::fresh(transactors, messages, checkpoints);
     let mut rows = [effects::UNUSED; 16];
-    let mut slots = [engine_tables::turns::EMPTY; places::PLACES];
-    let mut i: usize = 0;
-    while i < n {
+    let mut slots = [turns::EMPTY; places::PLACES];
+    for i in 0..n {
         let from = STEP * i;
         let p = packed::decode(list, from);
-        if p.kind == numbers::SIGN {
-            let u = sign(list, replies, i, x, rows, p);
-            let after = u.rows;
-            rows = after;
-            let reply = u.reply;
-            packed::encode(replies, from, reply);
+        if p.kind == Kind::Sign.number() {
+            let u = turns::group_answered(rows, sign(list, replies, i, x, rows, p));
+            rows = u.rows;
+            packed::encode(replies, from, u.reply);
         } else {
             let k = places::place(x.next, p);
             let slot = slots[k];
             let t = places::subject(p, slot);
-            let row = rows[t];
-            let o = Operands::of(x, t, row, slot);
-            let u = advance(list, replies, i, o, p);
+            let o = Operands::of(x, t, rows[t], slot);
+            let u = turns::answered(o, advance(list, replies, i, o, p));
             let left = u.operands;
-            let register = left.register;
-            x = register;
-            let at = left.at;
-            let changed = left.row;
-            rows[at] = changed;
-            let put = left.slot;
-            slots[k] = put;
-            let reply = u.reply;
-            packed::encode(replies, from, reply);
+            x = left.register;
+            rows[left.at] = left.row;
+            slots[k] = left.slot;
+            packed::encode(replies, from, u.reply);
         }
-        i += 1;
     }
 }
 
 // The replies to the steps of the list, from a fresh session that opens so many transactors, keeps so many messages waiting and
-// checkpoints a transactor so often: 0, or 17, 18, 33 with no byte changed.
+// checkpoints a transactor so often; or 17, 18, 33 with no byte changed.
+#[tactic(auto, unfolding(crate::specs::Play::play_answer, crate::specs::Play::play_replies))]
 pub fn play(
     list: &[u8],
     replies: &mut [u8],
     transactors: usize,
     messages: usize,
     checkpoints: usize,
-) -> u8
-    ensures { (result ≡ play_answer base (limits_of transactors messages checkpoints) list.now replies.old)
+) -> Result<(), Refusal>
+    ensures { (refusal_in result ≡ play_answer base (limits_of transactors messages checkpoints) list.now replies.old)
         × (replies.new ≡ play_replies base (limits_of transactors messages checkpoints) list.now replies.old) }
 {
     let n = list.len();
     if lists::wrong_part(list, 0, n) {
-        return numbers::WRONG_PART;
+        return Err(Refusal::WrongPart);
     }
     if replies.len() != n {
-        return numbers::WRONG_ROOM;
+        return Err(Refusal::WrongRoom);
     }
     if !limits::in_range(transactors, messages, checkpoints) {
-        return numbers::OUT_OF_RANGE;
+        return Err(Refusal::OutOfRange);
     }
     play_steps(
         list,
@@ -152,5 +147,5 @@ pub fn play(
         checkpoints as u8,
         replies,
     );
-    0
+    Ok(())
 }

@@ -19,5 +19,8 @@ pub extern "C" fn engine_play(
     ensures { (result ≡ play_answer base (limits_of transactors messages checkpoints) list.now replies.old)
         × (replies.new ≡ play_replies base (limits_of transactors messages checkpoints) list.now replies.old) }
 {
-    engine::play(list, replies, transactors, messages, checkpoints)
+    match engine::play(list, replies, transactors, messages, checkpoints) {
+        Ok(()) => 0,
+        Err(r) => r.number(),
+    }
 }
