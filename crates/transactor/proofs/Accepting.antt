@@ -12,8 +12,7 @@ use Rattle.octets.proofs.Put.{part-put-after}
 use Rattle.octets.proofs.Numbers.{length-be, put-be-one}
 use Rattle.octets.proofs.Chunks.{step}
 use Rattle.maps.specs.declared.DependenceMap.{DependenceMap}
-use Rattle.maps.specs.declared.Comparison.{Comparison}
-use Rattle.maps.specs.declared.Comparison.TheVariants.{Superseded, Current}
+use Rattle.std.specs.Prelude.{Some, None, Option}
 use Rattle.maps.specs.Map.{first_superseded, answer_of, any_unrelated}
 use Rattle.maps.proofs.Packed.{length-pack_map}
 use Rattle.rules.specs.Layout.{Layout, base, map_bytes, state_at, creation_at, behaviour_at, transactor_bytes, dependences_at, message_bytes, transactor_address, message_address, image_bytes}
@@ -23,6 +22,9 @@ use Rattle.rules.specs.Step.{done, dropped}
 use Rattle.rules.specs.Rules.{Effect, join, known, informed_by, unchanged}
 use Rattle.rules.specs.Pack.{pack_dependences, pack_transactor, pack_message, unpack_dependences, unpack_transactor, message_part, waiting_in, pack, unpack}
 use Rattle.rules.specs.Internal.Good.{Good}
+use Rattle.rules.specs.declared.outcomes.Outcome.{Outcome}
+use Rattle.rules.specs.Numbers.{outcome_number}
+use Rattle.transactor.specs.declared.Acted.{Acted}
 use Rattle.transactor.specs.Internal.Effects.{Acts, ActsAt, rollback_or28, taken_in, settle_by, accept_by}
 use Rattle.rules.proofs.Pack.Sizes.{length-pack_message, length-pack}
 use Rattle.rules.proofs.Pack.Stores.{put-status, put-behaviour, with_transactor-many, with_transactor-here, with_transactor-same, with_transactor-again, pack-in_transactor, at-waiting}
@@ -117,15 +119,15 @@ module _ (y : Layout) (img : List ℕ) (t : ℕ) (below : t < y.transactors) (k 
     unfolding accept_by
     accepts-unrelated o = rw (some-unrelated, o)
 
-    module _ (o : u ≡ false) (f : Comparison) (e : answer_of f ≡ first_superseded y.transactors packed_deps packed_known) where
+    module _ (o : u ≡ false) (f : Option ℕ) (e : answer_of f ≡ first_superseded y.transactors packed_deps packed_known) where
       message-superseded : first_superseded y.transactors deps (known y x) ≡ answer_of f
       message-superseded = rw (read-dependences y img k waits, read-state y img t below, read-creation y img t below) (sym e)
 
-      pub accepts-dropped : {i : ℕ} → f ≡ Superseded i → accept_by y t x deps ≡ unchanged dropped x
+      pub accepts-dropped : {i : ℕ} → f ≡ Some i → accept_by y t x deps ≡ unchanged dropped x
       unfolding accept_by
       accepts-dropped p = rw (some-unrelated, o, message-superseded, p)
 
-      module _ (p : f ≡ Current) (g : Comparison) (q : answer_of g ≡ first_superseded y.transactors packed_known packed_deps) where
+      module _ (p : f ≡ None) (g : Option ℕ) (q : answer_of g ≡ first_superseded y.transactors packed_known packed_deps) where
         receiver-superseded : first_superseded y.transactors (known y x) deps ≡ answer_of g
         receiver-superseded = rw (read-dependences y img k waits, read-state y img t below, read-creation y img t below) (sym q)
 
@@ -133,12 +135,12 @@ module _ (y : Layout) (img : List ℕ) (t : ℕ) (below : t < y.transactors) (k 
         unfolding accept_by
         accepts-settled = rw (some-unrelated, o, message-superseded, p, receiver-superseded)
 
-module _ (y : Layout) (t : ℕ) (x : Transactor) (deps : DependenceMap) (g : Comparison) where
-  pub settles-rollback : {i : ℕ} → g ≡ Superseded i → settle_by y t x deps (answer_of g) ≡ rollback_or28 y t x
+module _ (y : Layout) (t : ℕ) (x : Transactor) (deps : DependenceMap) (g : Option ℕ) where
+  pub settles-rollback : {i : ℕ} → g ≡ Some i → settle_by y t x deps (answer_of g) ≡ rollback_or28 y t x
   unfolding settle_by
   settles-rollback r = rw r
 
-  pub settles-done : g ≡ Current → settle_by y t x deps (answer_of g) ≡ unchanged done (taken_in (informed_by y t x deps) deps)
+  pub settles-done : g ≡ None → settle_by y t x deps (answer_of g) ≡ unchanged done (taken_in (informed_by y t x deps) deps)
   unfolding settle_by
   settles-done r = rw r
 
@@ -151,6 +153,11 @@ acts-as img t q a = rw q a
 pub acted-at : (img : List ℕ) (t : ℕ) {e e' : Effect} {o v : ℕ} {after : List ℕ} → e ≡ e' → (o ≡ e'.outcome) × (v ≡ e'.value)
     → after ≡ pack base (with_transactor (unpack base img) t e'.transactor) → ActsAt img t e o v after
 acted-at img t q r i = rw q (record { outcome = r.0; value = r.1; image = i })
+
+-- by an outcome alone
+pub acted-alone-at : (img : List ℕ) (t : ℕ) {e e' : Effect} {a : Acted} {o : Outcome} {after : List ℕ} → e ≡ e' → (a.outcome ≡ o) × (a.value ≡ 0) → e'.outcome ≡ outcome_number o → e'.value ≡ 0
+    → after ≡ pack base (with_transactor (unpack base img) t e'.transactor) → ActsAt img t e (outcome_number a.outcome) a.value after
+acted-alone-at img t q r n v i = acted-at img t q (ap outcome_number r.0 ∙ sym n, r.1 ∙ sym v) i
 
 module _ (img : List ℕ) (good : Good img) (t : ℕ) where
   -- nothing changed

@@ -2,10 +2,11 @@
 use Prim.Native.Nat.{ℕ, ◌+◌, ◌*◌, ◌≤◌, ◌<◌}
 use mathlib.Core.Bool.{Bool, true, false, not}
 use mathlib.Core.Path.{◌≡◌, refl, sym, ap, ◌∙◌}
+use mathlib.Core.Logic.{◌⊎◌, inl, inr, ⊎_elim}
 use mathlib.Core.List.{List, ◌++◌}
 use native.Mathlib.Nat.{zero-add}
 use native.Mathlib.Omega.{arith}
-use borrow.Author.Tests.{lt-ltb, le-leb, lt-leb, eq-eqb, ne_eqb, eqb-false}
+use borrow.Author.Tests.{lt-ltb, le-leb, lt-leb, eq-eqb, ne_eqb}
 use lib.Dec.{eqb, ltb, leb}
 use lib.ListN.{length, set, length-append, length-set}
 use Rattle.octets.specs.Bytes.{pick, ◌and◌, ◌or◌, put, part, zeros}
@@ -22,18 +23,24 @@ use Rattle.maps.specs.Packed.{unpack_map}
 use Rattle.maps.specs.Internal.Fitting.{Exact}
 use Rattle.maps.proofs.Packed.{length-pack_map, pack-empty_map, bounded_at, bounded-unpack}
 use Rattle.rules.specs.Layout.{Layout, largest, base, history_bytes, map_bytes, value_at, saved_at, state_at, creation_at, behaviour_at, transactor_bytes}
+use Rattle.rules.specs.declared.outcomes.Outcome.{Outcome}
+use Rattle.rules.specs.declared.kinds.Kind.{Kind}
+use Rattle.rules.specs.declared.kinds.Kind.TheVariants.{Root, Letter, Receive, New, Send, Read, Write, Freeze, Finish, Fall, Fail, Lose, Sign}
+use Rattle.rules.specs.declared.refusals.Refusal.{Refusal}
+use Rattle.rules.specs.Numbers.{kind_number, outcome_number, refusal_number}
 use Rattle.rules.specs.Step.{done, held, fallen_back, vanished, read, write, freeze, finish, fall, fail}
 use Rattle.rules.specs.Status.{unused, annihilated}
 use Rattle.rules.specs.State.{Transactor, bare, own_history, with_status, with_value, with_state, with_behaviour}
 use Rattle.rules.specs.Rules.{Effect, no_dependences, join, unchanged, renewed, rollback, write_by, made_idle, finish_by, fall_by, fail_by, local_by}
 use Rattle.rules.specs.Pack.{pack_dependences, pack_transactor, unpack_dependences, unpack_transactor}
+use Rattle.transactor.specs.declared.Acted.{Acted}
 use Rattle.transactor.specs.Internal.Effects.{Acts, rollback_or28, rollback_unless_stable, act_by}
 use Rattle.rules.specs.Internal.Guards.{is_last_incarnation, local_refusal}
 use Rattle.rules.proofs.Pack.Sizes.{length-pack_transactor}
 use Rattle.rules.proofs.Pack.Stores.{put-status, put-own, put-behaviour}
 use Rattle.rules.proofs.Pack.Fresh.{pack-unused}
 use Rattle.rules.proofs.Pack.RoundTrip.{map-part}
-use Rattle.octets.proofs.Tests.{pick-view}
+use Rattle.octets.proofs.Tests.{or-of}
 
 -- ---- stores
 
@@ -136,6 +143,11 @@ acts-as q a = rw q a
 pub acted : {e e' : Effect} {o v : ℕ} {b : List ℕ} → e ≡ e' → (o ≡ e'.outcome) × (v ≡ e'.value) → b ≡ pack_transactor base e'.transactor → Acts e o v b
 acted q r s = acts-as q (record { outcome = r.0; value = r.1; bytes = s })
 
+-- by an outcome alone
+pub acted-alone : {e e' : Effect} {a : Acted} {o : Outcome} {b : List ℕ} → e ≡ e' → (a.outcome ≡ o) × (a.value ≡ 0) → e'.outcome ≡ outcome_number o → e'.value ≡ 0
+    → b ≡ pack_transactor base e'.transactor → Acts e (outcome_number a.outcome) a.value b
+acted-alone q r n v s = acted q (ap outcome_number r.0 ∙ sym n, r.1 ∙ sym v) s
+
 -- ---- the rules by case, h being the own mark
 
 module _ (y : Layout) (t : ℕ) (x : Transactor) {h : History} (own : h ≡ own_history t x) where
@@ -196,35 +208,49 @@ module _ (y : Layout) (t : ℕ) (x : Transactor) {h : History} (own : h ≡ own_
 
 -- ---- kinds 5 to 10
 
+-- the last two
+pub late : (k : Kind) → read ≤ kind_number k → kind_number k ≤ fail → (k ≡ Read → ⊥) → (k ≡ Write → ⊥) → (k ≡ Freeze → ⊥) → (k ≡ Finish → ⊥)
+    → (kind_number k ≡ fall) ⊎ (kind_number k ≡ fail)
+late Root low high r w z d = absurd (omega arith)
+late Letter low high r w z d = absurd (omega arith)
+late Receive low high r w z d = absurd (omega arith)
+late New low high r w z d = absurd (omega arith)
+late Send low high r w z d = absurd (omega arith)
+late Read low high r w z d = absurd (r refl)
+late Write low high r w z d = absurd (w refl)
+late Freeze low high r w z d = absurd (z refl)
+late Finish low high r w z d = absurd (d refl)
+late Fall low high r w z d = inl refl
+late Fail low high r w z d = inr refl
+late Lose low high r w z d = absurd (omega arith)
+late Sign low high r w z d = absurd (omega arith)
+
 -- the test of the last life may stand before the test of the frozen flag
 swap : {A : Type 0} (s l : Bool) (a b c : A) → pick (not s and l) b (pick s a c) ≡ pick s a (pick l b c)
 swap true l a b c = refl
 swap false l a b c = refl
 
--- r is the refusal that the status decides
-module _ (y : Layout) (k t v : ℕ) (x : Transactor) (r : ℕ) (asked : r ≡ local_refusal k x.status) where
-  pub act-refused : (r ≡ 0 → ⊥) → act_by y k t v x ≡ unchanged r x
+module _ (y : Layout) (k t v : ℕ) (x : Transactor) where
+  -- r is the refusal that the status decides
+  pub act-refused : (r : Refusal) → refusal_number r ≡ local_refusal k x.status → act_by y k t v x ≡ unchanged (refusal_number r) x
   unfolding act_by
-  act-refused n = rw (← asked, ne_eqb r 0 n)
+  act-refused r asked = rw (← asked, ne_eqb (refusal_number r) 0 (λ e. grind arith))
 
-  module _ (passes : r ≡ 0) where
-    none : local_refusal k x.status ≡ 0
-    none = sym asked ∙ passes
-
+  module _ (none : 0 ≡ local_refusal k x.status) where
     -- kind 5 to 8
     pub act-early : {n : ℕ} {e : Effect} → k ≡ n → n < fall → local_by y n t v x ≡ e → act_by y k t v x ≡ e
     unfolding act_by
     act-early p h q =
-        let a : act_by y k t v x ≡ local_by y k t v x = rw (none, ne_eqb k fall (omega arith), ne_eqb k fail (omega arith)) in
+        let a : act_by y k t v x ≡ local_by y k t v x = rw (← none, ne_eqb k fall (omega arith), ne_eqb k fail (omega arith)) in
         a ∙ ap (λ (i : ℕ). local_by y i t v x) p ∙ q
 
-    -- any other
-    pub act-late : read ≤ k → k ≤ fail → (k ≡ read → ⊥) → (k ≡ write → ⊥) → (k ≡ freeze → ⊥) → (k ≡ finish → ⊥) → act_by y k t v x ≡ rollback_unless_stable y k t x
+    -- the last two
+    pub act-late : (k ≡ fall) ⊎ (k ≡ fail) → act_by y k t v x ≡ rollback_unless_stable y k t x
     unfolding act_by local_by fall_by fail_by rollback_unless_stable rollback_or28
-    act-late low high n5 n6 n7 n8 =
-        let late : eqb k fall or eqb k fail ≡ true =
-        pick-view (λ (z : Bool). z ≡ true) (eqb k fall) true (eqb k fail) (λ e. refl) (λ e. let n : k ≡ fall → ⊥ = eqb-false k fall e in eq-eqb k fail (omega arith)) in
-        rw (none, late, ne_eqb k read n5, ne_eqb k write n6, ne_eqb k freeze n7, ne_eqb k finish n8) (go (eqb k fall))
+    act-late last =
+        let test : eqb k fall or eqb k fail ≡ true = or-of (eqb k fall) (eqb k fail) (⊎_elim (λ e. inl (eq-eqb k fall e)) (λ e. inr (eq-eqb k fail e)) last) in
+        let low : fall ≤ k = ⊎_elim (λ e. omega arith) (λ e. omega arith) last in
+        rw (← none, test, ne_eqb k read (omega arith), ne_eqb k write (omega arith), ne_eqb k freeze (omega arith), ne_eqb k finish (omega arith)) (go (eqb k fall))
       where
         go : (z : Bool) → pick (not (own_history t x).stable and is_last_incarnation y t x) (unchanged 28 x) (pick z (fall_by y t x) (fail_by y t x))
             ≡ pick (own_history t x).stable (unchanged held (pick z (made_idle y x) x)) (pick (is_last_incarnation y t x) (unchanged 28 x) (rollback y t x))

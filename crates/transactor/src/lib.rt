@@ -11,23 +11,27 @@ ghost use Rattle.rules.specs.State.{bare, own_history};
 ghost use Rattle.rules.specs.Rules.{renewed, opening, carried, read_by, write_by, freeze_by, finish_by, checkpoint_by};
 ghost use Rattle.rules.specs.Pack.{pack_transactor, unpack_transactor};
 ghost use Rattle.rules.specs.Internal.Good.{GoodPart};
-ghost use Rattle.transactor.specs.Internal.Effects.{Acts, adopts, rollback_or28, rollback_unless_stable, act_by};
+ghost use Rattle.rules.specs.Numbers.{kind_number, status_number, outcome_number};
+ghost use Rattle.transactor.specs.Internal.Effects.{Acts, outcome_in, value_in, adopts, rollback_or28, rollback_unless_stable, act_by};
 
 use image::layout::{BEHAVIOUR, CREATION, SAVED, STATE, TRANSACTOR, VALUE};
 use lists::{limits, refusals};
 use maps::DependenceMap;
 use marks::History;
-use rules::numbers;
+use rules::kinds::Kind;
+use rules::outcomes::Outcome;
+use rules::refusals::Refusal;
+use rules::statuses::Status;
 
-// An outcome or a refusal, and the value read.
-#[derive(Clone, Copy)]
+// An outcome, and the value read.
+#[derive(Clone, Copy, Debug, PartialEq, Eq)]
 pub struct Acted {
-    pub outcome: u8,
+    pub outcome: Outcome,
     pub value: u32,
 }
 
-// An outcome or a refusal alone.
-pub fn outcome_of(outcome: u8) -> Acted
+// An outcome alone.
+pub fn outcome_of(outcome: Outcome) -> Acted
     ensures { (result.outcome ≡ outcome) × (result.value ≡ 0) }
 {
     Acted { outcome, value: 0 }
@@ -42,11 +46,11 @@ pub fn own(part: &[u8], t: usize) -> History
 }
 
 // Only a status, all else zero.
-pub fn strip(part: &mut [u8], status: u8)
-    requires { (length part.old ≡ transactor_bytes base) × (status < 4) }
-    ensures { part.new ≡ pack_transactor base (bare base status) }
+pub fn strip(part: &mut [u8], status: Status)
+    requires { length part.old ≡ transactor_bytes base }
+    ensures { part.new ≡ pack_transactor base (bare base (status_number status)) }
 {
-    part[0] = 64 * status;
+    part[0] = 64 * status.number();
     octets::store32(part, VALUE, 0);
     octets::store32(part, SAVED, 0);
     stored_maps::store_empty(part, STATE);
@@ -60,7 +64,7 @@ pub fn renew(part: &mut [u8], t: usize, h: History, value: u32, saved: u32)
     ensures { part.new ≡ pack_transactor base (renewed base t h value saved) }
 {
     octets::clear(part, 0, TRANSACTOR);
-    part[0] = 64 * numbers::IDLE;
+    part[0] = 64 * Status::Idle as u8;
     octets::store32(part, VALUE, value);
     octets::store32(part, SAVED, saved);
     packed_histories::store(h, part, STATE + marks::SIZE * t);
@@ -81,8 +85,7 @@ pub fn adopt(part: &mut [u8], c: usize)
     ensures { part.new ≡ pack_transactor base (adopts base c (unpack_transactor base part.old)) }
 {
     let one = DependenceMap::one(c, History::INITIAL);
-    let behaviour = packed_maps::load(part, BEHAVIOUR);
-    let joined = one.join(behaviour);
+    let joined = one.join(packed_maps::load(part, BEHAVIOUR));
     stored_maps::store(joined, part, BEHAVIOUR);
 }
 
@@ -96,21 +99,21 @@ pub fn carry(part: &[u8], t: usize) -> DependenceMap
 }
 
 // Falls: annihilated if never checkpointed, else the next incarnation; 28 at the last one.
-pub fn rollback(part: &mut [u8], t: usize) -> Acted
+pub fn rollback(part: &mut [u8], t: usize) -> Result<Acted, Refusal>
     requires { GoodPart part.old × (t < base.transactors) }
-    ensures { Acts (rollback_or28 base t (unpack_transactor base part.old)) result.outcome result.value part.new }
+    ensures { Acts (rollback_or28 base t (unpack_transactor base part.old)) (outcome_in result) (value_in result) part.new }
 {
     let h = own(part, t);
     if h.count == 0 {
-        strip(part, numbers::ANNIHILATED);
-        return outcome_of(numbers::VANISHED);
+        strip(part, Status::Annihilated);
+        return Ok(outcome_of(Outcome::Vanished));
     }
     if h.incarnation == limits::LAST {
-        return outcome_of(numbers::LAST_INCARNATION);
+        return Err(Refusal::LastIncarnation);
     }
     let saved = octets::load32(part, SAVED);
     renew(part, t, h.rollback(), saved, saved);
-    outcome_of(numbers::FALLEN_BACK)
+    Ok(outcome_of(Outcome::FallenBack))
 }
 
 // Idle, behaviour map emptied.
@@ -118,75 +121,70 @@ fn become_idle(part: &mut [u8])
     requires { GoodPart part.old }
     ensures { part.new ≡ pack_transactor base (finish_by base (unpack_transactor base part.old)).transactor }
 {
-    part[0] = 64 * numbers::IDLE;
+    part[0] = 64 * Status::Idle as u8;
     octets::clear(part, BEHAVIOUR, maps::SIZE);
 }
 
 fn read(part: &mut [u8]) -> Acted
     requires { GoodPart part.old }
-    ensures { Acts (read_by base (unpack_transactor base part.old)) result.outcome result.value part.new }
+    ensures { Acts (read_by base (unpack_transactor base part.old)) (outcome_number result.outcome) result.value part.new }
 {
     stored_maps::join_into(part, STATE, BEHAVIOUR);
     let value = octets::load32(part, VALUE);
     Acted {
-        outcome: numbers::DONE,
+        outcome: Outcome::Done,
         value,
     }
 }
 
 fn write(part: &mut [u8], t: usize, value: u32) -> Acted
     requires { GoodPart part.old × (t < base.transactors) }
-    ensures { Acts (write_by base t value (unpack_transactor base part.old)) result.outcome result.value part.new }
+    ensures { Acts (write_by base t value (unpack_transactor base part.old)) (outcome_number result.outcome) result.value part.new }
 {
-    let h = own(part, t);
-    if h.stable {
-        return outcome_of(numbers::HELD);
+    if own(part, t).stable {
+        return outcome_of(Outcome::Held);
     }
     octets::store32(part, VALUE, value);
     stored_maps::join_into(part, BEHAVIOUR, STATE);
-    outcome_of(numbers::DONE)
+    outcome_of(Outcome::Done)
 }
 
 fn freeze(part: &mut [u8], t: usize) -> Acted
     requires { GoodPart part.old × (t < base.transactors) }
-    ensures { Acts (freeze_by t (unpack_transactor base part.old)) result.outcome result.value part.new }
+    ensures { Acts (freeze_by t (unpack_transactor base part.old)) (outcome_number result.outcome) result.value part.new }
 {
     let h = own(part, t).stabilize();
     packed_histories::store(h, part, STATE + marks::SIZE * t);
-    outcome_of(numbers::DONE)
+    outcome_of(Outcome::Done)
 }
 
 // Fall and fail: a stable transactor is held, and a fall makes it idle; any other falls, or 28.
-fn rollback_unless_stable(part: &mut [u8], t: usize, kind: u8) -> Acted
-    requires { GoodPart part.old × (t < base.transactors) × (kind < 16) }
-    ensures { Acts (rollback_unless_stable base kind t (unpack_transactor base part.old)) result.outcome result.value part.new }
+fn rollback_unless_stable(part: &mut [u8], t: usize, kind: Kind) -> Result<Acted, Refusal>
+    requires { GoodPart part.old × (t < base.transactors) }
+    ensures { Acts (rollback_unless_stable base (kind_number kind) t (unpack_transactor base part.old)) (outcome_in result) (value_in result) part.new }
 {
-    let h = own(part, t);
-    if !h.stable {
+    if !own(part, t).stable {
         return rollback(part, t);
     }
-    if kind == numbers::FALL {
+    if kind == Kind::Fall {
         become_idle(part);
     }
-    outcome_of(numbers::HELD)
+    Ok(outcome_of(Outcome::Held))
 }
 
-// Kinds 5 to 10.
-pub fn act(part: &mut [u8], kind: u8, t: usize, value: u32) -> Acted
-    requires { GoodPart part.old × (t < base.transactors) × (5 ≤ kind) × (kind ≤ 10) }
-    ensures { Acts (act_by base kind t value (unpack_transactor base part.old)) result.outcome result.value part.new }
+// Kinds 5 to 10: the last two fall and fail.
+pub fn act(part: &mut [u8], kind: Kind, t: usize, value: u32) -> Result<Acted, Refusal>
+    requires { GoodPart part.old × (t < base.transactors) × (5 ≤ kind_number kind) × (kind_number kind ≤ 10) }
+    ensures { Acts (act_by base (kind_number kind) t value (unpack_transactor base part.old)) (outcome_in result) (value_in result) part.new }
 {
-    let r = refusals::local(kind, part[0] / 64);
-    if r != 0 {
-        return outcome_of(r);
-    }
+    refusals::local(kind.number(), part[0] / 64)?;
     match kind {
-        numbers::READ => read(part),
-        numbers::WRITE => write(part, t, value),
-        numbers::FREEZE => freeze(part, t),
-        numbers::FINISH => {
+        Kind::Read => Ok(read(part)),
+        Kind::Write => Ok(write(part, t, value)),
+        Kind::Freeze => Ok(freeze(part, t)),
+        Kind::Finish => {
             become_idle(part);
-            outcome_of(numbers::DONE)
+            Ok(outcome_of(Outcome::Done))
         }
         _ => rollback_unless_stable(part, t, kind),
     }

@@ -1,5 +1,5 @@
 -- The rules on one take's bytes, with the refusals that these bytes decide.
-use Rattle.std.specs.Prelude.{ℕ, ◌+◌, not, ◌≡◌, List, eqb}
+use Rattle.std.specs.Prelude.{ℕ, ◌+◌, not, ◌≡◌, List, eqb, Result, Ok, Err}
 use Rattle.std.proofs.Math.Option.{Option}
 use Rattle.octets.specs.Bytes.{pick, ◌and◌, ◌or◌, put}
 use Rattle.octets.specs.Numbers.{be}
@@ -9,10 +9,23 @@ use Rattle.maps.specs.Map.{first_superseded, any_unrelated}
 use Rattle.rules.specs.Layout.{Layout, base, transactor_address}
 use Rattle.rules.specs.Status.{busy}
 use Rattle.rules.specs.State.{Transactor, own_history, with_transactor, with_behaviour}
+use Rattle.rules.specs.declared.refusals.Refusal.{Refusal}
+use Rattle.rules.specs.Numbers.{refusal_number, outcome_number}
 use Rattle.rules.specs.Step.{done, held, dropped, fall, fail}
 use Rattle.rules.specs.Rules.{Effect, is_some, join, only, known, informed_by, unchanged, made_idle, rollback, local_by, opening}
 use Rattle.rules.specs.Pack.{pack_transactor, pack, unpack}
+use Rattle.transactor.specs.declared.Acted.{Acted}
 use Rattle.rules.specs.Internal.Guards.{local_refusal, is_last_incarnation}
+
+-- what is answered, an outcome or a refusal, in one number
+abbrev pub outcome_in : Result Acted Refusal → ℕ
+outcome_in (Ok a) = outcome_number a.outcome
+outcome_in (Err r) = refusal_number r
+
+-- the text read; 0 where it is refused
+abbrev pub value_in : Result Acted Refusal → ℕ
+value_in (Ok a) = a.value
+value_in (Err r) = 0
 
 -- what a function on a take's bytes says: the outcome, or the refusal with nothing changed; the text read; the bytes
 pub record Acts (e : Effect) (o v : ℕ) (b : List ℕ) : Type 0 where

@@ -7,19 +7,18 @@ use Rattle.rules.specs.Rules.{read_by}
 use Rattle.rules.specs.Pack.{unpack_transactor}
 use Rattle.rules.proofs.Pack.Stores.{put-behaviour}
 use Rattle.transactor.proofs.Bytes.{stored, map-exact, value-behind}
-use Rattle.transactor.proofs.read.Statement.{statement}
-use Rattle.transactor.proofs.read.Tie as tie
+use Rattle.transactor.proofs.read.Goals as goal
 
-join-into-requires : tie.Need-join_into-requires
+pub join_into-requires : goal.join_into-requires
 unfolding unpack_transactor
-join-into-requires c κs =
+join_into-requires c =
     let p = c.requires in (
       search rules,
       search rules,
       map-exact base _ (behaviour_at base) _ (omega arith) (put-behaviour base _ _) (sym p.back) refl,
     )
 
-returns : tie.Need-returns
+pub returns : goal.returns
 unfolding read_by unpack_transactor
 returns c =
     record {
@@ -27,6 +26,3 @@ returns c =
       value = value-behind base _ _ (search rules) c.join_into.ensures c.load32-value.ensures;
       bytes = stored base _ _ _ _ (put-behaviour base _ _) (sym c.requires.back) c.join_into.ensures;
     }
-
-pub read_spec : {M : Type 1} → statement M
-read_spec = tie.close (tie.spec join-into-requires (λ c κs. search rules) (λ c. search rules) returns)
