@@ -1,30 +1,34 @@
 -- The first clause that fails: each return of the code.
-use Prim.Native.Nat.{ℕ, suc, ◌+◌, ◌-◌, ◌≤◌, ◌<◌}
+use Prim.Native.Nat.{ℕ, zero, suc, ◌+◌, ◌≤◌, ◌<◌}
 use mathlib.Core.Bool.{true, false, not}
-use mathlib.Core.Path.{◌≡◌, sym, ap, ◌∙◌, subst}
+use mathlib.Core.Path.{◌≡◌, refl, ap, ◌∙◌}
 use mathlib.Core.List.{List}
+use mathlib.Core.Logic.{⊎_elim}
 use native.Mathlib.Numerals.{add-one}
 use native.Mathlib.Omega.{arith}
 use lib.ListN.{length, get_or}
 use borrow.Author.Tests.{eq-eqb, ne_eqb, le-leb, lt-leb, not-true, not-false}
-use Rattle.octets.specs.Bytes.{part}
+use Rattle.octets.specs.Bytes.{pick, part}
+use Rattle.octets.proofs.Chunks.{sides}
 use Rattle.octets.specs.Numbers.{of_be}
 use Rattle.rules.specs.Layout.{base, limits_of, in_range, image_bytes, message_address}
 use Rattle.rules.specs.Pack.{waiting_in, unpack}
 use Rattle.rules.specs.Form.{limits_zero}
 use Rattle.rules.proofs.Calls.Begin.{wrong-length, right-length}
+use Rattle.std.specs.Prelude.{Option, Some, None, Ok}
 use Rattle.defects.specs.declared.Defect.{Defect}
-use Rattle.defects.specs.Defect.{sound, or_else, first_of, front_defect, transactor_defect, least_number, message_defect, defect_of, defect_refusal, defect_answer, DefectPromise}
+use Rattle.defects.specs.declared.Clause.TheVariants.{FrontZeros, WrongLimits, OverLimit}
+use Rattle.defects.specs.Defect.{is_sound, told_refusal, or_else, first_of, front_defect, transactor_defect, least_number, message_defect, defect_of, defect_refusal, defect_found, DefectPromise}
 
 -- ---- the head and the limits, test by test
 
 module _ (img : List ℕ) where
-  pub front-blank : (get_or img 3 0 ≡ 0 → ⊥) → record { at = 3; clause = 1 } ≡ front_defect base img
+  pub front-blank : (get_or img 3 0 ≡ 0 → ⊥) → Some (record { at = 3; clause = FrontZeros }) ≡ front_defect base img
   unfolding front_defect
   front-blank n = rw (ne_eqb (get_or img 3 0) 0 n)
 
   module _ (blank : get_or img 3 0 ≡ 0) where
-    pub front-fourth : (get_or img 7 0 ≡ 0 → ⊥) → record { at = 7; clause = 1 } ≡ front_defect base img
+    pub front-fourth : (get_or img 7 0 ≡ 0 → ⊥) → Some (record { at = 7; clause = FrontZeros }) ≡ front_defect base img
     unfolding front_defect limits_zero
     front-fourth n = rw (eq-eqb (get_or img 3 0) 0 blank, ne_eqb (get_or img 7 0) 0 n)
 
@@ -32,21 +36,21 @@ module _ (img : List ℕ) where
       same : in_range base (limits_of a b c) ≡ in_range base (unpack base img).limits
       same = ap (in_range base) (λ i. limits_of (transactors i) (messages i) (checkpoints i))
 
-      pub front-limits : not (in_range base (limits_of a b c)) ≡ true → record { at = 4; clause = 2 } ≡ front_defect base img
+      pub front-limits : not (in_range base (limits_of a b c)) ≡ true → Some (record { at = 4; clause = WrongLimits }) ≡ front_defect base img
       unfolding front_defect limits_zero
       front-limits n = rw (eq-eqb (get_or img 3 0) 0 blank, eq-eqb (get_or img 7 0) 0 fourth, ← same, not-true (in_range base (limits_of a b c)) n)
 
       module _ (range : not (in_range base (limits_of a b c)) ≡ false) where
-        pub front-opened : a < (unpack base img).opened → record { at = 0; clause = 6 } ≡ front_defect base img
+        pub front-opened : a < (unpack base img).opened → Some (record { at = 0; clause = OverLimit }) ≡ front_defect base img
         unfolding front_defect limits_zero
         front-opened h = rw (eq-eqb (get_or img 3 0) 0 blank, eq-eqb (get_or img 7 0) 0 fourth, ← same, not-false (in_range base (limits_of a b c)) range, lt-leb (unpack base img).opened (unpack base img).limits.transactors (omega arith))
 
         module _ (few : (unpack base img).opened ≤ a) where
-          pub front-waiting : b < waiting_in base img → record { at = 5; clause = 6 } ≡ front_defect base img
+          pub front-waiting : b < waiting_in base img → Some (record { at = 5; clause = OverLimit }) ≡ front_defect base img
           unfolding front_defect limits_zero
           front-waiting h = rw (eq-eqb (get_or img 3 0) 0 blank, eq-eqb (get_or img 7 0) 0 fourth, ← same, not-false (in_range base (limits_of a b c)) range, le-leb (unpack base img).opened (unpack base img).limits.transactors (omega arith), lt-leb (waiting_in base img) (unpack base img).limits.messages (omega arith))
 
-          pub front-sound : waiting_in base img ≤ b → sound ≡ front_defect base img
+          pub front-sound : waiting_in base img ≤ b → None ≡ front_defect base img
           unfolding front_defect limits_zero
           front-sound h = rw (eq-eqb (get_or img 3 0) 0 blank, eq-eqb (get_or img 7 0) 0 fourth, ← same, not-false (in_range base (limits_of a b c)) range, le-leb (unpack base img).opened (unpack base img).limits.transactors (omega arith), le-leb (waiting_in base img) (unpack base img).limits.messages (omega arith))
 
@@ -58,71 +62,55 @@ least-after img k j e = rw (← e, add-one)
 
 -- ---- the first of many
 
-pub else-first : (d e : Defect) → (d.clause ≡ 0 → ⊥) → d ≡ or_else d e
-else-first d e n = rw (ne_eqb d.clause 0 n)
-
-pub else-next : (d e : Defect) → d.clause ≡ 0 → e ≡ or_else d e
-else-next d e z = rw (eq-eqb d.clause 0 z)
-
--- none before place i
-pub record Sought (f : ℕ → Defect) (n i : ℕ) : Type 0 where
-  pub low : i ≤ n
-  pub is : first_of f 0 n ≡ first_of f i (n - i)
-
-pub sought-none : (f : ℕ → Defect) (n : ℕ) → Sought f n 0
-sought-none f n = record { low = omega arith; is = ap (first_of f 0) {x = n} {y = n - 0} (omega arith) }
-
-module _ {f : ℕ → Defect} {n i : ℕ} (k : Sought f n i) where
-  rest : i < n → first_of f i (n - i) ≡ or_else (f i) (first_of f (suc i) (n - suc i))
+module _ (f : ℕ → Option Defect) where
+  pub none-from : (a n : ℕ) → ((k : ℕ) → a ≤ k → k < a + n → f k ≡ None) → first_of f a n ≡ None
   unfolding first_of
-  rest h = ap (first_of f i) {x = n - i} {y = suc (n - suc i)} (omega arith)
+  none-from a zero h = refl
+  none-from a (suc n) h = rw (h a (omega arith) (omega arith)) (none-from (suc a) n (λ k g e. h k (omega arith) (omega arith)))
 
-  pub sought-found : i < n → (d : Defect) → d ≡ f i → (d.clause ≡ 0 → ⊥) → d ≡ first_of f 0 n
-  sought-found h d e q = else-first d (first_of f (suc i) (n - suc i)) q ∙ ap (λ (x : Defect). or_else x (first_of f (suc i) (n - suc i))) e ∙ sym (rest h) ∙ sym k.is
-
-  pub sought-more : i < n → (d : Defect) → d ≡ f i → d.clause ≡ 0 → Sought f n (i + 1)
-  sought-more h d e q = subst (Sought f n) {x = suc i} {y = i + 1} (omega arith) (record { low = omega arith; is = k.is ∙ rest h ∙ sym (else-next (f i) (first_of f (suc i) (n - suc i)) (ap (λ (x : Defect). x.clause) (sym e) ∙ q)) })
-
-  pub sought-all : n ≤ i → sound ≡ first_of f 0 n
+  pub some-from : (a n k : ℕ) (d : Defect) → a ≤ k → k < a + n → f k ≡ Some d → ((i : ℕ) → a ≤ i → i < k → f i ≡ None) → first_of f a n ≡ Some d
   unfolding first_of
-  sought-all h = ap (first_of f i) {x = 0} {y = n - i} (omega arith) ∙ sym k.is
+  some-from a zero k d g h e b = absurd (omega arith)
+  some-from a (suc n) k d g h e b = ⊎_elim
+      (λ (l : a < k). rw (b a (omega arith) l) (some-from (suc a) n k d (omega arith) (omega arith) e (λ i p q. b i (omega arith) q)))
+      (λ (l : k ≤ a). let s : a ≡ k = omega arith in rw (ap f s ∙ e) refl)
+      (sides a k)
 
 -- ---- part by part
 
 module _ (img : List ℕ) where
-  pub in-front : (d : Defect) → d ≡ front_defect base img → (d.clause ≡ 0 → ⊥) → d ≡ defect_of base img
+  abbrev transactors : Option Defect
+  transactors = first_of (transactor_defect base img) 0 16
+
+  abbrev messages : Option Defect
+  messages = first_of (message_defect base img) 0 32
+
+  pub in-front : (d : Defect) → Some d ≡ front_defect base img → Some d ≡ defect_of base img
   unfolding defect_of
-  in-front d e n = else-first d _ n ∙ ap (λ (x : Defect). or_else x (or_else (first_of (transactor_defect base img) 0 16) (first_of (message_defect base img) 0 32))) e
+  in-front d e = ap (λ (x : Option Defect). or_else x (or_else transactors messages)) e
 
-  module _ (front : Defect) (is : front ≡ front_defect base img) (none : front.clause ≡ 0) where
-    past-front : or_else (first_of (transactor_defect base img) 0 16) (first_of (message_defect base img) 0 32) ≡ defect_of base img
+  module _ (front : None ≡ front_defect base img) where
+    past-front : or_else transactors messages ≡ defect_of base img
     unfolding defect_of
-    past-front = else-next (front_defect base img) _ (ap (λ (x : Defect). x.clause) (sym is) ∙ none)
+    past-front = ap (λ (x : Option Defect). or_else x (or_else transactors messages)) front
 
-    pub in-transactors : (d : Defect) → d ≡ first_of (transactor_defect base img) 0 16 → (d.clause ≡ 0 → ⊥) → d ≡ defect_of base img
-    in-transactors d e n = else-first d _ n ∙ ap (λ (x : Defect). or_else x (first_of (message_defect base img) 0 32)) e ∙ past-front
+    pub in-transactors : (d : Defect) → Some d ≡ transactors → Some d ≡ defect_of base img
+    in-transactors d e = ap (λ (x : Option Defect). or_else x messages) e ∙ past-front
 
-    pub in-messages : (d : Defect) → d ≡ first_of (transactor_defect base img) 0 16 → d.clause ≡ 0 → (r : Defect) → r ≡ first_of (message_defect base img) 0 32 → r ≡ defect_of base img
-    in-messages d e z r f = f ∙ else-next (first_of (transactor_defect base img) 0 16) _ (ap (λ (x : Defect). x.clause) (sym e) ∙ z) ∙ past-front
+    pub in-messages : None ≡ transactors → (r : Option Defect) → r ≡ messages → r ≡ defect_of base img
+    in-messages e r f = f ∙ ap (λ (x : Option Defect). or_else x messages) e ∙ past-front
 
 -- ---- the call
 
 module _ (img : List ℕ) where
-  pub defect-16 : (length img ≡ image_bytes base → ⊥) → DefectPromise base img 16 sound
-  unfolding defect_refusal defect_answer
+  pub defect-16 : (length img ≡ image_bytes base → ⊥) → DefectPromise base img 16 None
+  unfolding defect_refusal defect_found
   defect-16 h = let w = wrong-length base img h in (rw w, rw w)
 
-  module _ (long : length img ≡ image_bytes base) (d : Defect) (is : d ≡ defect_of base img) where
-    pub defect-0 : d.clause ≡ 0 → DefectPromise base img 0 d
-    unfolding defect_refusal defect_answer
-    defect-0 z =
-        let w = right-length base img long in
-        let e = eq-eqb (defect_of base img).clause 0 (ap (λ (x : Defect). x.clause) (sym is) ∙ z) in
-        (rw (w, e), rw w is)
+  told-is : (d : Option Defect) → told_refusal (Ok d) ≡ pick (is_sound d) 0 19
+  told-is (Some d) = refl
+  told-is None = refl
 
-    pub defect-19 : (d.clause ≡ 0 → ⊥) → DefectPromise base img 19 d
-    unfolding defect_refusal defect_answer
-    defect-19 n =
-        let w = right-length base img long in
-        let e = ne_eqb (defect_of base img).clause 0 (λ (z : (defect_of base img).clause ≡ 0). n (ap (λ (x : Defect). x.clause) is ∙ z)) in
-        (rw (w, e), rw w is)
+  pub defect-right : length img ≡ image_bytes base → (d : Option Defect) → d ≡ defect_of base img → DefectPromise base img (told_refusal (Ok d)) d
+  unfolding defect_refusal defect_found
+  defect-right long d is = let w = right-length base img long in (rw w (told-is d ∙ ap (λ (x : Option Defect). pick (is_sound x) 0 19) is), rw w is)

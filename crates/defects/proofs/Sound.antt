@@ -7,7 +7,6 @@ use mathlib.Core.Logic.{⊎_elim}
 use native.Mathlib.Omega.{arith}
 use lib.ListN.{length, get_or}
 use lib.Dec.{eqb, ltb, leb}
-use borrow.Author.Tests.{eq-eqb}
 use Rattle.octets.specs.Bytes.{pick, ◌and◌, part, every, all_zero, Octets}
 use Rattle.octets.specs.Numbers.{of_be}
 use Rattle.marks.specs.Packed.{present_in}
@@ -23,16 +22,14 @@ use Rattle.rules.specs.Internal.Guards.{image_refusal}
 use Rattle.rules.specs.Calls.{wrong_length}
 use Rattle.form.specs.Internal.Tests.{formed_own_at, formed_live_at, formed_transactor_at, least_at, formed_message_at, formed_front, formed_image}
 use Rattle.form.proofs.FormTest.{formed_image-is, front-few}
+use Rattle.std.specs.Prelude.{Option, Some, None}
 use Rattle.defects.specs.declared.Defect.{Defect}
-use Rattle.defects.specs.Defect.{sound, check, or_else, first_of, front_defect, behaviour_defect, saved_right_at, live_defect, transactor_defect, least_number, waiting_defect, message_defect, defect_of, defect_refusal}
-
--- no clause fails
-abbrev none : Defect → Bool
-none d = eqb d.clause 0
+use Rattle.defects.specs.declared.Clause.TheVariants.{FrontZeros, WrongLimits, TransactorZeros, PlaceZeros, WrongMap, OverLimit, WrongStatus, NoOwnHistory, SavedValue, IdleBehaviour, OverStatus, Gap, OutOfOrder, OverNext, ToUnopened}
+use Rattle.defects.specs.Defect.{is_sound, check, or_else, first_of, front_defect, behaviour_defect, saved_right_at, live_defect, transactor_defect, least_number, waiting_defect, message_defect, defect_of, defect_refusal}
 
 -- ---- tests one after the other
 
-of-front : (a b c d e : Bool) → none (check a 3 1 (check b 7 1 (check c 4 2 (check d 0 6 (check e 5 6 sound))))) ≡ a and b and c and d and e
+of-front : (a b c d e : Bool) → is_sound (check a 3 FrontZeros (check b 7 FrontZeros (check c 4 WrongLimits (check d 0 OverLimit (check e 5 OverLimit None))))) ≡ a and b and c and d and e
 of-front false b c d e = refl
 of-front true false c d e = refl
 of-front true true false d e = refl
@@ -40,7 +37,7 @@ of-front true true true false e = refl
 of-front true true true true false = refl
 of-front true true true true true = refl
 
-of-waiting : (a b c d e : Bool) (i j : ℕ) (k : ℕ) → none (check a i 4 (check b i 15 (check c j 14 (check d j 13 (check e k 5 sound))))) ≡ a and b and c and d and e
+of-waiting : (a b c d e : Bool) (i j : ℕ) (k : ℕ) → is_sound (check a i PlaceZeros (check b i ToUnopened (check c j OverNext (check d j OutOfOrder (check e k WrongMap None))))) ≡ a and b and c and d and e
 of-waiting false b c d e i j k = refl
 of-waiting true false c d e i j k = refl
 of-waiting true true false d e i j k = refl
@@ -48,21 +45,21 @@ of-waiting true true true false e i j k = refl
 of-waiting true true true true false i j k = refl
 of-waiting true true true true true i j k = refl
 
-idle-or-not : (i z m : Bool) (a : ℕ) → none (pick i (check z a 10 sound) (check m a 5 sound)) ≡ pick i z m
+idle-or-not : (i z m : Bool) (a : ℕ) → is_sound (pick i (check z a IdleBehaviour None) (check m a WrongMap None)) ≡ pick i z m
 idle-or-not true true m a = refl
 idle-or-not true false m a = refl
 idle-or-not false z true a = refl
 idle-or-not false z false a = refl
 
-living : (s c p w b : Bool) (i j k l : ℕ) (d : Defect) → none d ≡ b → none (check s i 5 (check c j 5 (check p k 8 (check w l 9 d)))) ≡ s and c and (p and w) and b
+living : (s c p w b : Bool) (i j k l : ℕ) (d : Option Defect) → is_sound d ≡ b → is_sound (check s i WrongMap (check c j WrongMap (check p k NoOwnHistory (check w l SavedValue d)))) ≡ s and c and (p and w) and b
 living false c p w b i j k l d e = refl
 living true false p w b i j k l d e = refl
 living true true false w b i j k l d e = refl
 living true true true false b i j k l d e = refl
 living true true true true b i j k l d e = e
 
-of-transactor : (o z h u v r b : Bool) (i j : ℕ) (d : Defect) → none d ≡ b
-    → none (pick o (check z i 3 sound) (check h i 3 (check u i 7 (pick v (check r j 11 sound) d)))) ≡ pick o z (h and u and pick v r b)
+of-transactor : (o z h u v r b : Bool) (i j : ℕ) (d : Option Defect) → is_sound d ≡ b
+    → is_sound (pick o (check z i TransactorZeros None) (check h i TransactorZeros (check u i WrongStatus (pick v (check r j OverStatus None) d)))) ≡ pick o z (h and u and pick v r b)
 of-transactor true true h u v r b i j d e = refl
 of-transactor true false h u v r b i j d e = refl
 of-transactor false z false u v r b i j d e = refl
@@ -71,7 +68,7 @@ of-transactor false z true true true true b i j d e = refl
 of-transactor false z true true true false b i j d e = refl
 of-transactor false z true true false r b i j d e = e
 
-of-message : (o z g b : Bool) (i : ℕ) (d : Defect) → none d ≡ b → none (pick o (check z i (pick g 4 12) sound) d) ≡ pick o z b
+of-message : (o z g b : Bool) (i : ℕ) (d : Option Defect) → is_sound d ≡ b → is_sound (pick o (check z i (pick g PlaceZeros Gap) None) d) ≡ pick o z b
 of-message true true g b i d e = refl
 of-message true false true b i d e = refl
 of-message true false false b i d e = refl
@@ -80,7 +77,7 @@ of-message false z g b i d e = e
 -- ---- part by part, as `form` tests it
 
 module _ (y : Layout) (img : List ℕ) where
-  front-is : none (front_defect y img) ≡ formed_front y img
+  front-is : is_sound (front_defect y img) ≡ formed_front y img
   unfolding front_defect formed_front
   front-is = of-front (eqb (get_or img 3 0) 0) (limits_zero y img) (in_range y (unpack y img).limits) (leb (unpack y img).opened (unpack y img).limits.transactors) (leb (waiting_in y img) (unpack y img).limits.messages)
 
@@ -97,16 +94,16 @@ module _ (y : Layout) (img : List ℕ) where
     abbrev zero_behaviour : Bool
     zero_behaviour = all_zero (part (at + behaviour_at y) (map_bytes y) img)
 
-    behaviour-is : none (behaviour_defect y img t) ≡ pick is_idle zero_behaviour (formed_at (behaviour_at y))
+    behaviour-is : is_sound (behaviour_defect y img t) ≡ pick is_idle zero_behaviour (formed_at (behaviour_at y))
     unfolding behaviour_defect
     behaviour-is = idle-or-not is_idle zero_behaviour (formed_at (behaviour_at y)) (at + behaviour_at y)
 
-    live-is : none (live_defect y img t) ≡ formed_live_at y img t
+    live-is : is_sound (live_defect y img t) ≡ formed_live_at y img t
     unfolding live_defect saved_right_at formed_live_at formed_own_at
     live-is = living (formed_at state_at) (formed_at (creation_at y)) (present_in (part (own_at y t) (history_bytes y) img)) (saved_right_at y img t)
         (pick is_idle zero_behaviour (formed_at (behaviour_at y))) (at + state_at) (at + creation_at y) (own_at y t) (at + saved_at) (behaviour_defect y img t) behaviour-is
 
-    transactor-is : none (transactor_defect y img t) ≡ formed_transactor_at y img t
+    transactor-is : is_sound (transactor_defect y img t) ≡ formed_transactor_at y img t
     unfolding transactor_defect formed_transactor_at
     transactor-is = of-transactor (leb (unpack y img).opened t) (all_zero (part at (transactor_bytes y) img)) (eqb (get_or img at 0 % 64) 0)
         (not (eqb (get_or img at 0 / 64) unused)) (eqb (get_or img at 0 / 64) annihilated) (all_zero (part (at + 1) (transactor_bytes y - 1) img))
@@ -119,7 +116,7 @@ module _ (y : Layout) (img : List ℕ) where
     abbrev number : ℕ
     number = of_be 2 (part (place + 1) 2 img)
 
-    waiting-is : none (waiting_defect y img k) ≡ eqb (get_or img place 0 / 16) 8 and ltb (get_or img place 0 % 16) (unpack y img).opened
+    waiting-is : is_sound (waiting_defect y img k) ≡ eqb (get_or img place 0 / 16) 8 and ltb (get_or img place 0 % 16) (unpack y img).opened
         and ltb number (unpack y img).next and leb (least_number y img k) number and map_formed y (unpack y img) (map_at y k) img
     unfolding waiting_defect
     waiting-is = of-waiting (eqb (get_or img place 0 / 16) 8) (ltb (get_or img place 0 % 16) (unpack y img).opened)
@@ -130,7 +127,7 @@ module _ (y : Layout) (img : List ℕ) where
   least-same zero = refl
   least-same (suc k) = refl
 
-  message-is : (k : ℕ) → none (message_defect y img k) ≡ formed_message_at y img k
+  message-is : (k : ℕ) → is_sound (message_defect y img k) ≡ formed_message_at y img k
   unfolding message_defect formed_message_at
   message-is k = of-message (leb (waiting_in y img) k) (all_zero (part (message_address y k) (message_bytes y) img)) (ltb (get_or img (message_address y k) 0) 128)
       _ (message_address y k) (waiting_defect y img k)
@@ -139,38 +136,35 @@ module _ (y : Layout) (img : List ℕ) where
 
 -- ---- the first of many
 
-or_else-is : (d e : Defect) → none (or_else d e) ≡ none d and none e
-or_else-is d e = go (none d) refl
-  where
-    go : (b : Bool) → none d ≡ b → none (pick b e d) ≡ b and none e
-    go true z = refl
-    go false z = z
+or_else-is : (d e : Option Defect) → is_sound (or_else d e) ≡ is_sound d and is_sound e
+or_else-is (Some d) e = refl
+or_else-is None e = refl
 
-module _ (f : ℕ → Defect) where
-  first-each : (k n : ℕ) → none (first_of f k n) ≡ true → (i : ℕ) → k ≤ i → i < k + n → none (f i) ≡ true
+module _ (f : ℕ → Option Defect) where
+  first-each : (k n : ℕ) → is_sound (first_of f k n) ≡ true → (i : ℕ) → k ≤ i → i < k + n → is_sound (f i) ≡ true
   unfolding first_of
   first-each k zero e i h g = absurd (omega arith)
   first-each k (suc n) e i h g =
-      let b = both (none (f k)) (none (first_of f (suc k) n)) (sym (or_else-is (f k) (first_of f (suc k) n)) ∙ e) in
+      let b = both (is_sound (f k)) (is_sound (first_of f (suc k) n)) (sym (or_else-is (f k) (first_of f (suc k) n)) ∙ e) in
       ⊎_elim (λ (j : k < i). first-each (suc k) n b.1 i (omega arith) (omega arith)) (λ (j : i ≤ k). rw (same i k h j) b.0) (sides k i)
     where
       same : (i k : ℕ) → k ≤ i → i ≤ k → i ≡ k
       same i k a c = omega arith
 
-  first-none : (k n : ℕ) → ((i : ℕ) → k ≤ i → i < k + n → none (f i) ≡ true) → none (first_of f k n) ≡ true
+  first-none : (k n : ℕ) → ((i : ℕ) → k ≤ i → i < k + n → is_sound (f i) ≡ true) → is_sound (first_of f k n) ≡ true
   unfolding first_of
   first-none k zero h = refl
   first-none k (suc n) h = or_else-is (f k) (first_of f (suc k) n) ∙ rw (h k (omega arith) (omega arith)) (first-none (suc k) n (λ i a c. h i (omega arith) (omega arith)))
 
-  first-is : (g : ℕ → Bool) → ((i : ℕ) → none (f i) ≡ g i) → (n : ℕ) → none (first_of f 0 n) ≡ every n g
-  first-is g e n = same_test (none (first_of f 0 n)) (every n g)
+  first-is : (g : ℕ → Bool) → ((i : ℕ) → is_sound (f i) ≡ g i) → (n : ℕ) → is_sound (first_of f 0 n) ≡ every n g
+  first-is g e n = same_test (is_sound (first_of f 0 n)) (every n g)
       (λ z. every-all g n (λ i h. sym (e i) ∙ first-each 0 n z i (omega arith) (omega arith)))
       (λ z. first-none 0 n (λ i a h. e i ∙ every-at g n i z (omega arith)))
 
 -- ---- the image
 
 module _ (y : Layout) (img : List ℕ) where
-  image-is : none (defect_of y img) ≡ formed_image y img
+  image-is : is_sound (defect_of y img) ≡ formed_image y img
   unfolding defect_of formed_image
   image-is =
       or_else-is (front_defect y img) (or_else (first_of (transactor_defect y img) 0 y.transactors) (first_of (message_defect y img) 0 y.messages))
@@ -182,7 +176,7 @@ module _ (y : Layout) (img : List ℕ) where
       )
 
   module _ (long : length img ≡ image_bytes y) (octets : Octets img) where
-    pub no-defect : eqb (defect_of y img).clause 0 ≡ well_formed y img
+    pub no-defect : is_sound (defect_of y img) ≡ well_formed y img
     no-defect = image-is ∙ formed_image-is y img long octets
 
     pub refused-alike : defect_refusal y img ≡ image_refusal y img
@@ -194,5 +188,5 @@ module _ (y : Layout) (img : List ℕ) where
         flip false = refl
 
   -- the limits leave room in a list
-  pub front-room : (d : Defect) → d ≡ front_defect y img → d.clause ≡ 0 → (unpack y img).limits.checkpoints ≤ y.places
-  front-room d e z = front-few y img (ap not (sym (front-is y img) ∙ eq-eqb (front_defect y img).clause 0 (ap (λ (x : Defect). x.clause) (sym e) ∙ z)))
+  pub front-room : None ≡ front_defect y img → (unpack y img).limits.checkpoints ≤ y.places
+  front-room e = front-few y img (ap not (sym (front-is y img) ∙ ap is_sound (sym e)))

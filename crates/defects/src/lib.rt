@@ -1,12 +1,13 @@
 // Where an image fails the form first, and by which clause: the tests of `form`, which answer with the place of the first that fails.
 #![tactic(auto)]
 
-ghost use Rattle.std.specs.Prelude.{◌≡◌, ◌/◌, ◌<◌, length, get_or};
+ghost use Rattle.std.specs.Prelude.{◌≡◌, ℕ, ◌/◌, ◌<◌, length, get_or};
 ghost use Rattle.rules.specs.Layout.{base, transactor_address, image_bytes};
 ghost use Rattle.rules.specs.Pack.{waiting_in, unpack};
 ghost use Rattle.image.specs.Internal.Addresses.{own_at};
 ghost use Rattle.form.specs.Internal.Tests.{Headed};
-ghost use Rattle.defects.specs.Defect.{front_defect, behaviour_defect, saved_right_at, live_defect, transactor_defect, least_number, waiting_defect, message_defect, first_of, defect_of, DefectPromise};
+ghost use Rattle.rules.specs.Numbers.{status_number};
+ghost use Rattle.defects.specs.Defect.{clause_number, told_refusal, told_defect, front_defect, behaviour_defect, saved_right_at, live_defect, transactor_defect, least_number, waiting_defect, message_defect, first_of, Finds, defect_of, DefectPromise};
 
 use image::layout::{
     BEHAVIOUR, BLANK, CREATION, DEPENDENCES, FIRST_MESSAGE, FIRST_TRANSACTOR, IMAGE, LIMITS_BLANK,
@@ -14,65 +15,63 @@ use image::layout::{
     TRANSACTORS, own_at,
 };
 use image::{head, limits, messages};
-use rules::numbers;
-
-// A clause that fails, by its number, and the byte where it does; clause 0: none.
-#[derive(Clone, Copy)]
-pub struct Defect {
-    pub at: usize,
-    pub clause: u8,
-}
-
-const SOUND: Defect = Defect { at: 0, clause: 0 };
+use rules::refusals::Refusal;
+use rules::statuses::Status;
 
 // The clauses by their numbers in docs/RULES.md, section 8.
-const FRONT_ZEROS: u8 = 1;
+#[derive(Clone, Copy, Debug, PartialEq, Eq)]
+pub enum Clause {
+    FrontZeros = 1,
+    WrongLimits = 2,
+    TransactorZeros = 3,
+    PlaceZeros = 4,
+    WrongMap = 5,
+    OverLimit = 6,
+    WrongStatus = 7,
+    NoOwnHistory = 8,
+    SavedValue = 9,
+    IdleBehaviour = 10,
+    OverStatus = 11,
+    Gap = 12,
+    OutOfOrder = 13,
+    OverNext = 14,
+    ToUnopened = 15,
+}
 
-const WRONG_LIMITS: u8 = 2;
+impl Clause {
+    // Its number, from 1 on.
+    pub fn number(self) -> u8
+        ensures { result ≡ clause_number self }
+    {
+        self as u8
+    }
+}
 
-const TRANSACTOR_ZEROS: u8 = 3;
+// A clause that fails, and the byte where it does.
+#[derive(Clone, Copy, Debug, PartialEq, Eq)]
+pub struct Defect {
+    pub at: usize,
+    pub clause: Clause,
+}
 
-const PLACE_ZEROS: u8 = 4;
-
-const WRONG_MAP: u8 = 5;
-
-const OVER_LIMIT: u8 = 6;
-
-const WRONG_STATUS: u8 = 7;
-
-const NO_OWN_HISTORY: u8 = 8;
-
-const SAVED_VALUE: u8 = 9;
-
-const IDLE_BEHAVIOUR: u8 = 10;
-
-const OVER_STATUS: u8 = 11;
-
-const GAP: u8 = 12;
-
-const OUT_OF_ORDER: u8 = 13;
-
-const OVER_NEXT: u8 = 14;
-
-const TO_UNOPENED: u8 = 15;
-
-// Clause c fails at byte at.
-fn fails(at: usize, clause: u8) -> Defect
-    ensures { result ≡ record { at = at; clause = clause } }
+// The clause fails at byte at.
+fn fails(at: usize, clause: Clause) -> Option<Defect>
+    ensures { result ≡ Some (record { at = at; clause = clause }) }
 {
-    Defect { at, clause }
+    Some(Defect { at, clause })
 }
 
 // The head and the limits, of which n messages that wait are within theirs.
-fn front(s: &[u8], n: usize) -> Defect
+#[tactic(auto, unfolding(crate::specs::Defect::front_defect, rules::specs::Form::limits_zero))]
+fn front(s: &[u8], n: usize) -> Option<Defect>
     requires { (length s.now ≡ image_bytes base) × (n ≡ waiting_in base s.now) }
     ensures { result ≡ front_defect base s.now }
 {
     if s[BLANK] != 0 {
-        return fails(BLANK, FRONT_ZEROS);
+        return fails(BLANK, Clause::FrontZeros);
     }
     if s[LIMITS_BLANK] != 0 {
-        return fails(LIMITS_BLANK, FRONT_ZEROS);
+        return fails(LIMITS_BLANK, Clause::FrontZeros);
     }
     let most = limits::transactors(s);
     let most_messages = limits::messages(s) as usize;
@@ -81,99 +80,93 @@ fn front(s: &[u8], n: usize) -> Defect
         most_messages,
         limits::checkpoints(s) as usize,
     ) {
-        return fails(MOST_TRANSACTORS, WRONG_LIMITS);
+        return fails(MOST_TRANSACTORS, Clause::WrongLimits);
     }
     if most < head::opened(s) {
-        return fails(OPENED, OVER_LIMIT);
+        return fails(OPENED, Clause::OverLimit);
     }
     if most_messages < n {
-        return fails(MOST_MESSAGES, OVER_LIMIT);
+        return fails(MOST_MESSAGES, Clause::OverLimit);
     }
-    SOUND
+    None
 }
 
 // The behaviour map of transactor t, idle or at work.
-fn behaviour(s: &[u8], t: usize, status: u8, opened: usize, limit: u8) -> Defect
-    requires { Headed s.now opened limit × (t < base.transactors) × (status ≡ get_or s.now (transactor_address base t) 0 / 64) }
+#[tactic(auto, unfolding(crate::specs::Defect::behaviour_defect, rules::specs::Form::map_formed))]
+fn behaviour(s: &[u8], t: usize, status: Status, opened: usize, limit: u8) -> Option<Defect>
+    requires { Headed s.now opened limit × (t < base.transactors) × (status_number status ≡ get_or s.now (transactor_address base t) 0 / 64) }
     ensures { result ≡ behaviour_defect base s.now t }
 {
     let at = FIRST_TRANSACTOR + TRANSACTOR * t + BEHAVIOUR;
-    if status == numbers::IDLE {
-        if !octets::all_zero(s, at, maps::SIZE) {
-            return fails(at, IDLE_BEHAVIOUR);
-        }
-        return SOUND;
+    match status {
+        Status::Idle if octets::all_zero(s, at, maps::SIZE) => None,
+        Status::Idle => fails(at, Clause::IdleBehaviour),
+        _ if packed_maps::formed(s, at, opened, limit) => None,
+        _ => fails(at, Clause::WrongMap),
     }
-    if !packed_maps::formed(s, at, opened, limit) {
-        return fails(at, WRONG_MAP);
-    }
-    SOUND
 }
 
 // Whether transactor t was checkpointed, or has no saved value.
+#[tactic(auto, unfolding(crate::specs::Defect::saved_right_at))]
 fn saved_right(s: &[u8], t: usize, own: usize) -> bool
     requires { (length s.now ≡ image_bytes base) × (t < base.transactors) × (own ≡ own_at base t) }
     ensures { result ≡ saved_right_at base s.now t }
 {
-    let h = packed_histories::load(s, own);
-    if h.count != 0 {
-        return true;
-    }
-    octets::load32(s, FIRST_TRANSACTOR + TRANSACTOR * t + SAVED) == 0
+    packed_histories::load(s, own).count != 0
+        || octets::load32(s, FIRST_TRANSACTOR + TRANSACTOR * t + SAVED) == 0
 }
 
 // A transactor, idle or at work.
-fn live(s: &[u8], t: usize, status: u8, opened: usize, limit: u8) -> Defect
-    requires { Headed s.now opened limit × (t < base.transactors) × (status ≡ get_or s.now (transactor_address base t) 0 / 64) }
+#[tactic(auto, unfolding(crate::specs::Defect::live_defect, rules::specs::Form::map_formed))]
+fn live(s: &[u8], t: usize, status: Status, opened: usize, limit: u8) -> Option<Defect>
+    requires { Headed s.now opened limit × (t < base.transactors) × (status_number status ≡ get_or s.now (transactor_address base t) 0 / 64) }
     ensures { result ≡ live_defect base s.now t }
 {
     let at = FIRST_TRANSACTOR + TRANSACTOR * t;
     if !packed_maps::formed(s, at + STATE, opened, limit) {
-        return fails(at + STATE, WRONG_MAP);
+        return fails(at + STATE, Clause::WrongMap);
     }
     if !packed_maps::formed(s, at + CREATION, opened, limit) {
-        return fails(at + CREATION, WRONG_MAP);
+        return fails(at + CREATION, Clause::WrongMap);
     }
     let own = own_at(t);
     if !packed_histories::present(s, own) {
-        return fails(own, NO_OWN_HISTORY);
+        return fails(own, Clause::NoOwnHistory);
     }
     if !saved_right(s, t, own) {
-        return fails(at + SAVED, SAVED_VALUE);
+        return fails(at + SAVED, Clause::SavedValue);
     }
     behaviour(s, t, status, opened, limit)
 }
 
 // One transactor, where opened are opened and a list may have limit entries.
-fn transactor(s: &[u8], t: usize, opened: usize, limit: u8) -> Defect
+#[tactic(auto, unfolding(crate::specs::Defect::transactor_defect))]
+fn transactor(s: &[u8], t: usize, opened: usize, limit: u8) -> Option<Defect>
     requires { Headed s.now opened limit × (t < base.transactors) }
     ensures { result ≡ transactor_defect base s.now t }
 {
     let at = FIRST_TRANSACTOR + TRANSACTOR * t;
     if opened <= t {
         if !octets::all_zero(s, at, TRANSACTOR) {
-            return fails(at, TRANSACTOR_ZEROS);
+            return fails(at, Clause::TransactorZeros);
         }
-        return SOUND;
+        return None;
     }
     let first = s[at];
     if first % 64 != 0 {
-        return fails(at, TRANSACTOR_ZEROS);
+        return fails(at, Clause::TransactorZeros);
     }
-    let status = first / 64;
-    if status == numbers::UNUSED {
-        return fails(at, WRONG_STATUS);
+    let status = Status::of(first);
+    match status {
+        Status::Unused => fails(at, Clause::WrongStatus),
+        Status::Annihilated if octets::all_zero(s, at + 1, TRANSACTOR - 1) => None,
+        Status::Annihilated => fails(at + 1, Clause::OverStatus),
+        Status::Idle | Status::Busy => live(s, t, status, opened, limit),
     }
-    if status == numbers::ANNIHILATED {
-        if !octets::all_zero(s, at + 1, TRANSACTOR - 1) {
-            return fails(at + 1, OVER_STATUS);
-        }
-        return SOUND;
-    }
-    live(s, t, status, opened, limit)
 }
 
 // One more than the number in the place before k; 0 for the first.
+#[tactic(auto, unfolding(crate::specs::Defect::least_number))]
 fn least(s: &[u8], k: usize) -> usize
     requires { (length s.now ≡ image_bytes base) × (k < base.messages) }
     ensures { result ≡ least_number base s.now k }
@@ -186,34 +179,36 @@ fn least(s: &[u8], k: usize) -> usize
 }
 
 // Place k, in which a message waits.
-fn waits(s: &[u8], k: usize, opened: usize, next: u16, limit: u8) -> Defect
+#[tactic(auto, unfolding(crate::specs::Defect::waiting_defect, rules::specs::Form::map_formed))]
+fn waits(s: &[u8], k: usize, opened: usize, next: u16, limit: u8) -> Option<Defect>
     requires { Headed s.now opened limit × (k < base.messages) × (next ≡ (unpack base s.now).next) }
     ensures { result ≡ waiting_defect base s.now k }
 {
     let at = FIRST_MESSAGE + MESSAGE * k;
     let first = s[at];
     if first / 16 != 8 {
-        return fails(at, PLACE_ZEROS);
+        return fails(at, Clause::PlaceZeros);
     }
     let to = (first % 16) as usize;
     if opened <= to {
-        return fails(at, TO_UNOPENED);
+        return fails(at, Clause::ToUnopened);
     }
     let number = octets::load16(s, at + NUMBER);
     if next <= number {
-        return fails(at + NUMBER, OVER_NEXT);
+        return fails(at + NUMBER, Clause::OverNext);
     }
     if (number as usize) < least(s, k) {
-        return fails(at + NUMBER, OUT_OF_ORDER);
+        return fails(at + NUMBER, Clause::OutOfOrder);
     }
     if !packed_maps::formed(s, at + DEPENDENCES, opened, limit) {
-        return fails(at + DEPENDENCES, WRONG_MAP);
+        return fails(at + DEPENDENCES, Clause::WrongMap);
     }
-    SOUND
+    None
 }
 
 // Place k, of which the first n wait.
-fn message(s: &[u8], k: usize, n: usize, opened: usize, next: u16, limit: u8) -> Defect
+#[tactic(auto, unfolding(crate::specs::Defect::message_defect))]
+fn message(s: &[u8], k: usize, n: usize, opened: usize, next: u16, limit: u8) -> Option<Defect>
     requires { Headed s.now opened limit × (k < base.messages) × (n ≡ waiting_in base s.now) × (next ≡ (unpack base s.now).next) }
     ensures { result ≡ message_defect base s.now k }
 {
@@ -222,75 +217,64 @@ fn message(s: &[u8], k: usize, n: usize, opened: usize, next: u16, limit: u8) ->
         return waits(s, k, opened, next, limit);
     }
     if octets::all_zero(s, at, MESSAGE) {
-        return SOUND;
+        return None;
     }
     if s[at] < 128 {
-        return fails(at, PLACE_ZEROS);
+        return fails(at, Clause::PlaceZeros);
     }
-    fails(at, GAP)
+    fails(at, Clause::Gap)
 }
 
-fn transactors(s: &[u8], opened: usize, limit: u8) -> Defect
+// The first defect that part answers with at 0, 1, .., n numbers.
+fn first_of<F: Fn(usize) -> Option<Defect>>(n: usize, part: F) -> Option<Defect>
+    requires { (k : ℕ) → k < n → F.pre part k }
+    ensures { Finds (F.post part) n result }
+{
+    // tried: the check does not find what (0..n).find_map(part) answers
+    for k in 0..n {
+        if let Some(d) = part(k) {
+            return Some(d);
+        }
+    }
+    None
+}
+
+fn transactors(s: &[u8], opened: usize, limit: u8) -> Option<Defect>
     requires { Headed s.now opened limit }
     ensures { result ≡ first_of (transactor_defect base s.now) 0 base.transactors }
 {
-    let mut t: usize = 0;
-    while t < TRANSACTORS {
-        let d = transactor(s, t, opened, limit);
-        if d.clause != 0 {
-            return d;
-        }
-        t += 1;
-    }
-    SOUND
+    first_of(TRANSACTORS, |t| transactor(s, t, opened, limit))
 }
 
-fn all_messages(s: &[u8], n: usize, opened: usize, next: u16, limit: u8) -> Defect
+fn all_messages(s: &[u8], n: usize, opened: usize, next: u16, limit: u8) -> Option<Defect>
     requires { Headed s.now opened limit × (n ≡ waiting_in base s.now) × (next ≡ (unpack base s.now).next) }
     ensures { result ≡ first_of (message_defect base s.now) 0 base.messages }
 {
-    let mut k: usize = 0;
-    while k < MESSAGES {
-        let d = message(s, k, n, opened, next, limit);
-        if d.clause != 0 {
-            return d;
-        }
-        k += 1;
-    }
-    SOUND
+    first_of(MESSAGES, |k| message(s, k, n, opened, next, limit))
 }
 
-fn defect_of(s: &[u8]) -> Defect
+fn defect_of(s: &[u8]) -> Option<Defect>
     requires { length s.now ≡ image_bytes base }
     ensures { result ≡ defect_of base s.now }
 {
     let n = messages::waiting(s);
-    let d = front(s, n);
-    if d.clause != 0 {
-        return d;
+    if let Some(d) = front(s, n) {
+        return Some(d);
     }
-    let opened = head::opened(s) as usize;
+    let opened = usize::from(head::opened(s));
     let limit = limits::checkpoints(s);
-    let e = transactors(s, opened, limit);
-    if e.clause != 0 {
-        return e;
+    if let Some(d) = transactors(s, opened, limit) {
+        return Some(d);
     }
     all_messages(s, n, opened, head::next(s), limit)
 }
 
-// The first clause of the form that fails, and where. The lent number takes 16, 19 if one does, or 0; with 16 and 0 none.
-pub fn first_defect(image: &[u8], refusal: &mut u8) -> Defect
-    ensures { DefectPromise base image.now refusal.new result }
+// The first clause of the form that fails, and where, or nothing where the image is well-formed. Refused as 16.
+pub fn first_defect(image: &[u8]) -> Result<Option<Defect>, Refusal>
+    ensures { DefectPromise base image.now (told_refusal result) (told_defect result) }
 {
     if image.len() != IMAGE {
-        *refusal = numbers::WRONG_LENGTH;
-        return SOUND;
+        return Err(Refusal::WrongLength);
     }
-    let d = defect_of(image);
-    if d.clause == 0 {
-        *refusal = 0;
-        return d;
-    }
-    *refusal = numbers::ILL_FORMED;
-    d
+    Ok(defect_of(image))
 }

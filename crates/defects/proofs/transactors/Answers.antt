@@ -1,0 +1,9 @@
+-- Each transactor is told by its test.
+use Rattle.std.proofs.Common.{rules}
+use borrow.Author.Tests.{tests}
+use Rattle.rules.specs.Layout.{base}
+use Rattle.defects.specs.Defect.{transactor_defect}
+use Rattle.defects.proofs.transactors.Goals as goal
+
+pub returns : goal.returns
+returns c = c.first_of.ensures (transactor_defect base c.args.s.now) (λ k d h p. search (rules, tests))
