@@ -16,14 +16,15 @@ use Rattle.rules.specs.Refusals.{named, acts, malformed}
 use Rattle.rules.specs.Pack.{unpack}
 use Rattle.rules.proofs.Pack.Loads.{read-addressee, unpack-waiting}
 use Rattle.actors.specs.declared.Actor.{Actor}
-use Rattle.actors.specs.declared.Actor.TheVariants.{Nobody, House, One, Group}
+use Rattle.std.specs.Prelude.{Option, Some, None}
+use Rattle.actors.specs.declared.Actor.TheVariants.{House, One, Group}
 use Rattle.actors.specs.Actor.{receiver_of, actor_of, actor_refusal, actor_answer, ActsFor, alone, member}
 
-data Small : Actor → Type 0 where
-  nobody : Small Nobody
-  house : Small House
-  one : {t : ℕ} → t < 16 → Small (One t)
-  group : {v : ℕ} → Small (Group v)
+data Small : Option Actor → Type 0 where
+  nobody : Small None
+  house : Small (Some House)
+  one : {t : ℕ} → t < 16 → Small (Some (One t))
+  group : {v : ℕ} → Small (Some (Group v))
 
 module _ (img : List ℕ) where
   small-receiver : (n : ℕ) → Small (receiver_of (unpack base img) n)
@@ -47,16 +48,16 @@ module _ (img : List ℕ) where
   unfolding actor_answer step_at unpack_step
   small-answer step = pick-view Small (eqb (actor_refusal base img step) 0) _ _ (λ e. small-step (step_at step 0) (omega arith)) (λ e. nobody)
 
-  pub one_below : (step : List ℕ) {t : ℕ} → actor_answer base img step ≡ One t → t < 16
+  pub one_below : (step : List ℕ) {t : ℕ} → actor_answer base img step ≡ Some (One t) → t < 16
   one_below step {t} e = go (subst Small e (small-answer step))
     where
-      go : Small (One t) → t < 16
+      go : Small (Some (One t)) → t < 16
       go (one h) = h
 
 -- A step acts for no other takes than those that its answer names: the one, or those of the group. So Others.others-kept speaks of all others.
 
-pub only_one : {t u : ℕ} → ActsFor (One t) u → t ≡ u
+pub only_one : {t u : ℕ} → ActsFor (Some (One t)) u → t ≡ u
 only_one (alone t) = refl
 
-pub only-members : {v t : ℕ} → ActsFor (Group v) t → named v t ≡ true
+pub only-members : {v t : ℕ} → ActsFor (Some (Group v)) t → named v t ≡ true
 only-members (member v t e) = e

@@ -4,18 +4,19 @@
 ghost use Rattle.std.specs.Prelude.{◌≡◌, length};
 ghost use Rattle.rules.specs.Layout.{base, image_bytes};
 ghost use Rattle.rules.specs.Pack.{unpack};
-ghost use Rattle.actors.specs.Actor.{receiver_of, actor_of, ActorPromise};
+ghost use Rattle.rules.specs.Numbers.{refusal_in};
+ghost use Rattle.actors.specs.Actor.{receiver_of, actor_of, actor_in, ActorPromise};
 
 use image::layout::IMAGE;
 use image::messages;
 use lists::{STEP, fields, packed};
-use rules::{Step, numbers};
+use rules::Step;
+use rules::kinds::Kind;
+use rules::refusals::Refusal;
 
 // For whom a step acts.
-#[derive(Clone, Copy)]
+#[derive(Clone, Copy, Debug, PartialEq, Eq)]
 pub enum Actor {
-    // No one: no step does it, or the message that it receives does not wait.
-    Nobody,
     // The house, from outside: root, letter and lose are no transactor's.
     House,
     // One transactor (document 01: take).
@@ -25,58 +26,51 @@ pub enum Actor {
 }
 
 // The addressee of the message with this number, if it waits.
-fn receiver(image: &[u8], number: u16) -> Actor
+fn receiver(image: &[u8], number: u16) -> Option<Actor>
     requires { length image.now ≡ image_bytes base }
     ensures { result ≡ receiver_of (unpack base image.now) number }
 {
-    let n = messages::waiting(image);
-    let k = messages::place_of(image, n, number);
-    if n <= k {
-        return Actor::Nobody;
-    }
-    let t = messages::addressee(image, k);
-    Actor::One(t as u8)
+    let k = messages::place_of(image, messages::waiting(image), number)?;
+    Some(Actor::One(messages::addressee(image, k) as u8))
 }
 
-fn actor_of(image: &[u8], p: Step) -> Actor
+// No one if no step does it, or if the message that it receives does not wait.
+#[tactic(auto, unfolding(crate::specs::Actor::actor_of, rules::specs::Refusals::malformed))]
+fn actor_of(image: &[u8], p: Step) -> Option<Actor>
     requires { length image.now ≡ image_bytes base }
     ensures { result ≡ actor_of (unpack base image.now) p }
 {
+    let kind = Kind::try_from(p.kind).ok()?;
     if fields::malformed(p) {
-        return Actor::Nobody;
+        return None;
     }
-    let kind = p.kind;
-    if kind == numbers::RECEIVE {
-        return receiver(image, p.message);
+    match kind {
+        Kind::Receive => receiver(image, p.message),
+        Kind::Sign => Some(Actor::Group(p.message)),
+        Kind::Root | Kind::Letter | Kind::Lose => Some(Actor::House),
+        Kind::New
+        | Kind::Send
+        | Kind::Read
+        | Kind::Write
+        | Kind::Freeze
+        | Kind::Finish
+        | Kind::Fall
+        | Kind::Fail => Some(Actor::One(p.transactor)),
     }
-    if kind == numbers::SIGN {
-        return Actor::Group(p.message);
-    }
-    if kind < numbers::NEW {
-        return Actor::House;
-    }
-    if numbers::FAIL < kind {
-        return Actor::House;
-    }
-    Actor::One(p.transactor)
 }
 
-// For whom the step acts on this image. The lent number takes the refusal, 16, 17 unless the step has eight bytes, 19, or 0; refused, nobody.
-pub fn for_whom(image: &[u8], step: &[u8], refusal: &mut u8) -> Actor
-    ensures { ActorPromise base image.now step.now refusal.new result }
+// For whom the step acts on this image, if for someone. Refused as 16, 17 unless the step has eight bytes, or 19.
+pub fn for_whom(image: &[u8], step: &[u8]) -> Result<Option<Actor>, Refusal>
+    ensures { ActorPromise base image.now step.now (refusal_in result) (actor_in result) }
 {
     if image.len() != IMAGE {
-        *refusal = numbers::WRONG_LENGTH;
-        return Actor::Nobody;
+        return Err(Refusal::WrongLength);
     }
     if step.len() != STEP {
-        *refusal = numbers::WRONG_PART;
-        return Actor::Nobody;
+        return Err(Refusal::WrongPart);
     }
     if !form::formed(image) {
-        *refusal = numbers::ILL_FORMED;
-        return Actor::Nobody;
+        return Err(Refusal::IllFormed);
     }
-    *refusal = 0;
-    actor_of(image, packed::decode(step, 0))
+    Ok(actor_of(image, packed::decode(step, 0)))
 }
