@@ -4,6 +4,5 @@ pub mod Placing
 mod Rows
 pub mod Views
 mod Applied
-pub mod Numbers
 pub mod Outcomes
 mod Refused

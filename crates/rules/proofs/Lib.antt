@@ -12,5 +12,6 @@ pub mod Keep
 pub mod Pack
 pub mod Places
 pub mod Ranges
+pub mod Refused
 pub mod Replies
 pub mod Tries

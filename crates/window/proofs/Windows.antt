@@ -13,7 +13,10 @@ use Rattle.octets.specs.Bytes.{pick}
 use Rattle.octets.proofs.Chunks.{sides, cases}
 use Rattle.octets.proofs.Tests.{pick-zero}
 use Rattle.rules.specs.Calls.{steps_in, longest, wrong_part}
+use Rattle.rules.proofs.Refused.{refused}
 use Rattle.lists.proofs.Parts.{right-part}
+use Rattle.rules.specs.declared.refusals.Refusal.{Refusal}
+use Rattle.rules.specs.Numbers.{refusal_number}
 use Rattle.window.specs.Window.{Worst, outcome_at, is_rollback, rollback_at, rollbacks, window_length, last_place, window_count, worse_of, worst_up_to, worst, wrong_width, window_refusal, worst_window}
 
 -- ---- windows
@@ -179,33 +182,22 @@ up_to-more b n k c x z e f g = g ∙ rw (e, f, add-one)
 
 -- ---- the call
 
--- r is the refusal
-module _ (b : List ℕ) (w r : ℕ) (is : r ≡ window_refusal b w) where
-  pub worst-refused : (r ≡ 0 → ⊥) → record { count = 0; place = 0 } ≡ worst_window b w
+module _ (b : List ℕ) (w : ℕ) where
+  pub worst-refused : (r : Refusal) → refusal_number r ≡ window_refusal b w → record { count = 0; place = 0 } ≡ worst_window b w
   unfolding worst_window
-  worst-refused n = rw (ne_eqb (window_refusal b w) 0 (λ (e : window_refusal b w ≡ 0). n (is ∙ e)))
+  worst-refused r e = rw (ne_eqb (window_refusal b w) 0 (λ (z : window_refusal b w ≡ 0). refused r (e ∙ z)))
 
-  module _ (zero : r ≡ 0) where
-    accepted : window_refusal b w ≡ 0
-    accepted = sym is ∙ zero
-
+  module _ (accepted : 0 ≡ window_refusal b w) where
     -- an accepted list is no longer than it may be
     pub accepted-short : length b ≤ longest
     unfolding window_refusal
     accepted-short =
-        let a = (pick-zero (wrong_part b 0 (length b)) 17 (pick (wrong_width w) 35 0) (omega arith) accepted).0 in
+        let a = (pick-zero (wrong_part b 0 (length b)) 17 (pick (wrong_width w) 35 0) (omega arith) (sym accepted)).0 in
         omega (arith, (right-part b 0 (length b) a).short)
 
-    module _ (x : Worst) where
-      pub worst-narrow : steps_in b < w → x ≡ worst_up_to b (steps_in b) (steps_in b - steps_in b) → x ≡ worst_window b w
-      unfolding worst_window worst
-      worst-narrow h e =
-          let z : steps_in b - steps_in b ≡ 0 = omega arith in
-          rw (eq-eqb (window_refusal b w) 0 accepted, length-short w (steps_in b) h, last-short w (steps_in b) h) (e ∙ rw z)
-
-      pub worst-wide : w ≤ steps_in b → x ≡ worst_up_to b w (steps_in b - w) → x ≡ worst_window b w
-      unfolding worst_window worst
-      worst-wide h e = rw (eq-eqb (window_refusal b w) 0 accepted, length-long w (steps_in b) h, last-long w (steps_in b) h) e
+    pub worst-windows : (m : ℕ) → m ≡ window_length w (steps_in b) → (x : Worst) → x ≡ worst_up_to b m (steps_in b - m) → x ≡ worst_window b w
+    unfolding worst_window worst last_place
+    worst-windows m h x e = rw (eq-eqb (window_refusal b w) 0 (sym accepted), ← h) e
 
 -- "An empty list gives count 0 at place 0."
 empty-length : (w : ℕ) → window_length w 0 ≡ 0

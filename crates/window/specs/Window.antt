@@ -1,5 +1,6 @@
 -- Document 02, W13, "A bad hour in a long hearing": the stretch of a list of replies with most trouble.
-use Rattle.std.specs.Prelude.{ℕ, zero, suc, ◌+◌, ◌-◌, ◌*◌, Bool, List, eqb, ltb, length, get_or}
+use Rattle.std.specs.Prelude.{ℕ, zero, suc, ◌+◌, ◌-◌, ◌*◌, Bool, List, eqb, ltb, length, get_or, Result, Ok, Err}
+use Rattle.rules.specs.declared.refusals.Refusal.{Refusal}
 use Rattle.octets.specs.Bytes.{pick, ◌or◌}
 use Rattle.rules.specs.Step.{step_bytes, fallen_back, vanished}
 use Rattle.rules.specs.Calls.{steps_in, wrong_part}
@@ -70,3 +71,8 @@ window_refusal b w = pick (wrong_part b 0 (length b)) 17 (pick (wrong_width w) 3
 -- Refused: both numbers 0.
 unfoldable pub worst_window : List ℕ → ℕ → Worst
 worst_window b w = pick (eqb (window_refusal b w) 0) (worst b w) (record { count = 0; place = 0 })
+
+-- what is answered of it
+abbrev pub worst_in : Result Worst Refusal → Worst
+worst_in (Ok w) = w
+worst_in (Err r) = record { count = 0; place = 0 }

@@ -4,10 +4,13 @@
 ghost use Rattle.std.specs.Prelude.{◌≡◌, ◌-◌, ◌*◌, ◌≤◌, ◌<◌, length};
 ghost use Rattle.rules.specs.Step.{step_bytes};
 ghost use Rattle.rules.specs.Calls.{steps_in, longest};
-ghost use Rattle.window.specs.Window.{rollback_at, rollbacks, worse_of, worst_up_to, window_refusal, worst_window};
+ghost use Rattle.rules.specs.Numbers.{refusal_in};
+ghost use Rattle.window.specs.Window.{rollback_at, rollbacks, worse_of, worst_up_to, window_refusal, worst_window, worst_in};
 
 use lists::STEP;
-use rules::numbers;
+use rules::outcomes::Outcome;
+use rules::refusals::Refusal;
+use std::cmp::min;
 
 // The greatest width.
 const WIDEST: usize = 256;
@@ -27,7 +30,7 @@ fn rollback(replies: &[u8], i: usize) -> usize
     ensures { result ≡ rollback_at replies.now i }
 {
     let outcome = replies[STEP * i];
-    usize::from(outcome == numbers::FALLEN_BACK || outcome == numbers::VANISHED)
+    usize::from(outcome == Outcome::FallenBack.number() || outcome == Outcome::Vanished.number())
 }
 
 // How many of the first n replies have outcome 3 or 4.
@@ -69,37 +72,27 @@ fn slide(replies: &[u8], width: usize) -> Worst
     best
 }
 
-// The refusal, 17 or 35, or 0.
+// The refusals, 17 or 35.
 #[tactic(auto, unfolding(crate::specs::Window::window_refusal, crate::specs::Window::wrong_width))]
-fn window_refusal(replies: &[u8], width: usize) -> u8
-    ensures { result ≡ window_refusal replies.now width }
+fn check(replies: &[u8], width: usize) -> Result<(), Refusal>
+    ensures { refusal_in result ≡ window_refusal replies.now width }
 {
-    let n = replies.len();
-    if lists::wrong_part(replies, 0, n) {
-        return numbers::WRONG_PART;
+    if lists::wrong_part(replies, 0, replies.len()) {
+        return Err(Refusal::WrongPart);
     }
-    if width < 1 {
-        return numbers::WRONG_WIDTH;
+    if width < 1 || WIDEST < width {
+        return Err(Refusal::WrongWidth);
     }
-    if WIDEST < width {
-        return numbers::WRONG_WIDTH;
-    }
-    0
+    Ok(())
 }
 
 // The greatest count of outcomes 3 and 4 over every window of width successive replies, and the place of the first window that has
-// it; a list shorter than the width is one window. The lent number takes the refusal, 17 or 35, or 0; refused, both numbers are 0.
-pub fn worst_window(replies: &[u8], width: usize, refusal: &mut u8) -> Worst
-    ensures { (refusal.new ≡ window_refusal replies.now width) × (result ≡ worst_window replies.now width) }
+// it; a list shorter than the width is one window. Refused for 17 or 35.
+pub fn worst_window(replies: &[u8], width: usize) -> Result<Worst, Refusal>
+    ensures refused { refusal_in result ≡ window_refusal replies.now width }
+    ensures worst { worst_in result ≡ worst_window replies.now width }
 {
-    let number = window_refusal(replies, width);
-    *refusal = number;
-    if number != 0 {
-        return Worst { count: 0, place: 0 };
-    }
+    check(replies, width)?;
     let n = replies.len() / STEP;
-    if n < width {
-        return slide(replies, n);
-    }
-    slide(replies, width)
+    Ok(slide(replies, min(n, width)))
 }

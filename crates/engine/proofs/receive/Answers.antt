@@ -3,7 +3,7 @@ use Rattle.std.proofs.Common.{refl, sym}
 use Rattle.std.proofs.lemmas.Result.{err_from_is_err_and}
 use Rattle.rules.specs.Step.{receive}
 use Rattle.engine_tables.proofs.Guarding.{receipt-waits}
-use Rattle.engine_tables.proofs.Numbers.{some}
+use Rattle.rules.proofs.Refused.{refused}
 use Rattle.engine_tables.proofs.Outcomes.{receive-refused}
 use Rattle.engine.proofs.Advancing.{asked, receiver-below, advance-any, advance-receive}
 use Rattle.engine.proofs.receive.Goals as goal
@@ -12,7 +12,7 @@ pub returns-in_err-receipt : goal.returns-in_err-receipt
 returns-in_err-receipt c =
     let r = c.requires in
     let k = err_from_is_err_and c.from_residual.result c.from_residual.ensures.1 in
-    rw (k.1, k.2) (advance-any _ _ _ _ _ _ r.0.within (receive-refused (asked r.0 r.1 receive r.2) _ c.in_err-receipt.ensures (some _) _ refl))
+    rw (k.1, k.2) (advance-any _ _ _ _ _ _ r.0.within (receive-refused (asked r.0 r.1 receive r.2) _ c.in_err-receipt.ensures (refused _) _ refl))
 
 pub returns-then-slot : goal.returns-then-slot
 returns-then-slot c =

@@ -1,23 +1,20 @@
--- Refused, both numbers are 0; else the one window of a short list, or those of the width.
-use Rattle.std.proofs.Common.{arith}
-use Rattle.window.proofs.Windows.{worst-refused, accepted-short, worst-narrow, worst-wide}
+-- Refused, both numbers are 0; else the windows are as long as the width, or as the list.
+use Rattle.std.proofs.Common.{◌≡◌, ◌≤◌, ◌/◌, rules, arith, length}
+use Rattle.std.proofs.lemmas.Result.{err_from_is_err_and}
+use Rattle.window.specs.Window.{window_length}
+use Rattle.window.proofs.Windows.{worst-refused, accepted-short, worst-windows}
 use Rattle.window.proofs.worst_window.Goals as goal
 
-pub returns-then-number-ne0 : goal.returns-then-number-ne0
-returns-then-number-ne0 c = (c.window_refusal-number.ensures, worst-refused _ _ _ c.window_refusal-number.ensures c.if-number-ne0.true)
+pub returns-in_err-check : goal.returns-in_err-check
+returns-in_err-check c =
+    let k = err_from_is_err_and c.from_residual.result c.from_residual.ensures.1 in
+    rw (k.1, k.2) (record { refused = c.in_err-check.ensures; worst = worst-refused _ _ _ c.in_err-check.ensures })
 
 pub slide-requires : goal.slide-requires
-slide-requires c = (omega arith, accepted-short _ _ _ c.window_refusal-number.ensures c.if-number-ne0.false)
-
-pub returns-then-n-width : goal.returns-then-n-width
-returns-then-n-width c =
-    let r = c.window_refusal-number.ensures in
-    (r, worst-narrow _ _ _ r c.if-number-ne0.false _ (omega arith) c.slide.ensures)
-
-pub slide-requires-2 : goal.slide-requires-2
-slide-requires-2 c = (omega arith, accepted-short _ _ _ c.window_refusal-number.ensures c.if-number-ne0.false)
+slide-requires c = let h : c.min.result ≤ length c.args.replies.now / 8 = search rules in (omega arith, accepted-short _ _ c.in_ok-check.ensures)
 
 pub returns : goal.returns
+unfolding window_length
 returns c =
-    let r = c.window_refusal-number.ensures in
-    (r, worst-wide _ _ _ r c.if-number-ne0.false _ (omega arith) c.slide-2.ensures)
+    let h : c.min.result ≡ window_length c.args.width (length c.args.replies.now / 8) = search rules in
+    record { refused = c.in_ok-check.ensures; worst = worst-windows _ _ c.in_ok-check.ensures _ h _ c.slide.ensures }

@@ -2,7 +2,7 @@
 use Rattle.std.proofs.Common.{rules, refl, sym}
 use Rattle.std.proofs.lemmas.Result.{err_from_is_err_and}
 use Rattle.engine_tables.proofs.Guarding.{local-rolls}
-use Rattle.engine_tables.proofs.Numbers.{some}
+use Rattle.rules.proofs.Refused.{refused}
 use Rattle.engine_tables.proofs.Outcomes.{local-unopened, local-refused, local-done}
 use Rattle.engine_tables.proofs.turns.local.Goals as goal
 
@@ -13,7 +13,7 @@ pub returns-in_err-local : goal.returns-in_err-local
 returns-in_err-local c =
     let a = c.requires in
     let p = err_from_is_err_and c.from_residual.result c.from_residual.ensures.1 in
-    rw (p.1, p.2) (local-refused a.0 a.1 a.2 (search rules) _ c.in_err-local.ensures (some _) _ refl)
+    rw (p.1, p.2) (local-refused a.0 a.1 a.2 (search rules) _ c.in_err-local.ensures (refused _) _ refl)
 
 pub local-e-requires : goal.local-e-requires
 local-e-requires c = let a = c.requires in (rw (← a.0.kind) a.1, local-rolls _ _ (sym c.in_ok-local.ensures))
