@@ -43,9 +43,6 @@ module _ (v w from n to : ℕ) (s l : List ℕ) (p : from + n ≤ length s) (m :
 pub byte-number : (v at : ℕ) (s : List ℕ) → v ≡ 1 → get_or s at 0 ≡ of_be v (part at v s)
 byte-number v at s e = subst (λ (k : ℕ). get_or s at 0 ≡ of_be k (part at k s)) (sym e) (of_be-first at 1 (get_or s at 0) s (omega arith) refl)
 
-pub pair-number : (v at n : ℕ) (s : List ℕ) → v ≡ 2 → n ≡ of_be 2 (part at 2 s) → n ≡ of_be v (part at v s)
-pair-number v at n s e f = subst (λ (k : ℕ). n ≡ of_be k (part at k s)) (sym e) f
-
 be-last : (n : ℕ) → be 1 (n % 256) ≡ be 1 n
 unfolding be
 be-last n = let a : n % 256 % 256 ≡ n % 256 = omega arith in ap (λ (k : ℕ). k ∷ []) a
@@ -54,9 +51,6 @@ pub byte_put : (w at n : ℕ) (l : List ℕ) → w ≡ 1 → at < length l → s
 byte_put w at n l e h =
     subst (λ (k : ℕ). set l at (n % 256) ≡ put at (be k n) l) (sym e)
     (sym (put-be-one at (n % 256) l h (omega arith)) ∙ ap (λ (x : List ℕ). put at x l) (be-last n))
-
-pub pair_put : (w at n : ℕ) (l l' : List ℕ) → w ≡ 2 → l' ≡ put at (be 2 n) l → l' ≡ put at (be w n) l
-pair_put w at n l l' e f = subst (λ (k : ℕ). l' ≡ put at (be k n) l) (sym e) f
 
 -- ---- all of them
 
@@ -81,24 +75,9 @@ module _ (v w from to : ℕ) (s l : List ℕ) (fits : from + history_size v 15 �
       let all : chunks 16 (pack_number_at w list) ≡ chunks 16 (renumbered_at v w bytes) = ap (λ (x : List ℕ). chunks 16 (pack_number_at w x)) q ∙ renumbered in
       history-put v w from (history_size v 15) to s l fits (omega arith) 16 15 l' (e ∙ ap (λ (x : List ℕ). put (to + 1) x (set l to (get_or s from 0))) all) refl (omega arith)
 
--- with the widths that the code names
-pub history-as : (v w a b from to : ℕ) (s l l' : List ℕ) → v ≡ a → w ≡ b → l' ≡ put to (recast_history a b 15 (part from (history_size a 15) s)) l → l' ≡ put to (recast_history v w 15 (part from (history_size v 15) s)) l
-history-as v w a b from to s l l' e f q =
-    subst (λ (k : ℕ). l' ≡ put to (recast_history k w 15 (part from (history_size k 15) s)) l) (sym e)
-    (subst (λ (k : ℕ). l' ≡ put to (recast_history a k 15 (part from (history_size a 15) s)) l) (sym f) q)
-
 -- ---- either way
 
--- one width gives the other
-pub both-widths : {v w : ℕ} → Widths v w → (v + w ≡ 3) × (1 ≤ v) × (v ≤ 2)
-both-widths widening = (refl, omega arith, omega arith)
-both-widths narrowing = (refl, omega arith, omega arith)
-
--- the sizes are small
-pub sizes : {v w : ℕ} → Widths v w → (history_size v 15 ≤ 33) × (history_size w 15 ≤ 33)
-sizes widening = (omega arith, omega arith)
-sizes narrowing = (omega arith, omega arith)
-
+-- the bytes are few
 pub few_bytes : {v w : ℕ} → Widths v w → (n : ℕ) → n ≤ 48 → (history_size v 15 * n ≤ 1584) × (history_size w 15 * n ≤ 1584)
 few_bytes widening n h = (omega arith, omega arith)
 few_bytes narrowing n h = (omega arith, omega arith)

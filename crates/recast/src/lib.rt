@@ -1,4 +1,4 @@
-// An image in the other form, well-formed or not: each number with its last byte in w bytes where it has v, all other bytes as they stand.
+// An image in the other form, well-formed or not: each number with its last byte in W bytes where it has V, all other bytes as they stand.
 // One of the two widths is 1, the other 2, so a number's other byte is a zero or is left out.
 #![tactic(auto)]
 
@@ -21,112 +21,102 @@ use image::limits;
 // The histories (document 01: marks) of a transactor's three maps.
 const HISTORIES: usize = 3 * maps::ENTRIES;
 
-// A number of v bytes.
-fn number(s: &[u8], at: usize, v: usize) -> u16
-    requires { (1 ≤ v) × (v ≤ 2) × (at + v ≤ length s.now) }
-    ensures { result ≡ of_be v (part at v s.now) }
+// A number of V bytes.
+fn number<const V: usize>(s: &[u8], at: usize) -> u16
+    requires { (1 ≤ V) × (V ≤ 2) × (at + V ≤ length s.now) }
+    ensures { result ≡ of_be V (part at V s.now) }
 {
-    if v == 1 {
-        return s[at] as u16;
+    if V == 1 {
+        u16::from(s[at])
+    } else {
+        octets::load16(s, at)
     }
-    octets::load16(s, at)
 }
 
 // The numbers of a history, one after the other.
-fn numbers(s: &[u8], at: usize, v: usize) -> [u16; 16]
-    requires { (1 ≤ v) × (v ≤ 2) × (at + v * 16 ≤ length s.now) }
-    ensures { result ≡ tabulate 16 (load_number_at v s.now at) }
+fn numbers<const V: usize>(s: &[u8], at: usize) -> [u16; 16]
+    requires { (1 ≤ V) × (V ≤ 2) × (at + V * 16 ≤ length s.now) }
+    ensures { result ≡ tabulate 16 (load_number_at V s.now at) }
 {
-    let mut list = [0u16; 16];
-    let mut i: usize = 0;
-    while i < 1 + marks::PLACES {
-        let n = number(s, at + v * i, v);
-        list[i] = n;
-        i += 1;
+    let mut list = [0; 16];
+    for (i, n) in list.iter_mut().enumerate() {
+        *n = number::<V>(s, at + V * i);
     }
     list
 }
 
-// The last w bytes of a number.
-fn put_number(target: &mut [u8], at: usize, w: usize, n: u16)
-    requires { (1 ≤ w) × (w ≤ 2) × (at + w ≤ length target.old) }
-    ensures { target.new ≡ put at (be w n) target.old }
+// The last W bytes of a number.
+fn put_number<const W: usize>(target: &mut [u8], at: usize, n: u16)
+    requires { (1 ≤ W) × (W ≤ 2) × (at + W ≤ length target.old) }
+    ensures { target.new ≡ put at (be W n) target.old }
 {
-    if w == 1 {
+    if W == 1 {
         target[at] = (n % 256) as u8;
-        return;
+    } else {
+        octets::store16(target, at, n);
     }
-    octets::store16(target, at, n);
 }
 
 // The numbers of a history.
-fn put_numbers(target: &mut [u8], at: usize, w: usize, list: [u16; 16])
-    requires { (1 ≤ w) × (w ≤ 2) × (at + w * 16 ≤ length target.old) }
-    ensures { target.new ≡ put at (chunks 16 (pack_number_at w list)) target.old }
+fn put_numbers<const W: usize>(target: &mut [u8], at: usize, list: [u16; 16])
+    requires { (1 ≤ W) × (W ≤ 2) × (at + W * 16 ≤ length target.old) }
+    ensures { target.new ≡ put at (chunks 16 (pack_number_at W list)) target.old }
 {
-    let mut i: usize = 0;
-    while i < 1 + marks::PLACES {
-        let n = list[i];
-        put_number(target, at + w * i, w, n);
-        i += 1;
+    for (i, n) in list.iter().enumerate() {
+        put_number::<W>(target, at + W * i, *n);
     }
 }
 
-// A history: its flags and count, its incarnation number and its checkpoints. The widths stand as numbers and the history by value, so that
-// the compiler turns all numbers at once.
-fn history(source: &[u8], from: usize, v: usize, target: &mut [u8], to: usize, w: usize)
-    requires { Widths v w × (from + history_size v 15 ≤ length source.now) × (to + history_size w 15 ≤ length target.old) }
-    ensures { target.new ≡ put to (recast_history v w 15 (part from (history_size v 15) source.now)) target.old }
+// A history: its flags and count, its incarnation number and its checkpoints. The numbers go by value, so that the compiler turns them all
+// at once.
+fn history<const V: usize, const W: usize>(source: &[u8], from: usize, target: &mut [u8], to: usize)
+    requires { Widths V W × (from + history_size V 15 ≤ length source.now) × (to + history_size W 15 ≤ length target.old) }
+    ensures { target.new ≡ put to (recast_history V W 15 (part from (history_size V 15) source.now)) target.old }
 {
     target[to] = source[from];
-    if v == 1 {
-        let list = numbers(source, from + 1, 1);
-        put_numbers(target, to + 1, 2, list);
-        return;
-    }
-    let list = numbers(source, from + 1, 2);
-    put_numbers(target, to + 1, 1, list);
+    let list = numbers::<V>(source, from + 1);
+    put_numbers::<W>(target, to + 1, list);
 }
 
 // n histories, one after the other.
-fn histories(source: &[u8], from: usize, v: usize, target: &mut [u8], to: usize, w: usize, n: usize)
-    requires { Widths v w × (from + history_size v 15 * n ≤ length source.now) × (to + history_size w 15 * n ≤ length target.old) }
-    ensures { target.new ≡ put to (recast_map v w 15 n (part from (history_size v 15 * n) source.now)) target.old }
+fn histories<const V: usize, const W: usize>(
+    source: &[u8],
+    from: usize,
+    target: &mut [u8],
+    to: usize,
+    n: usize,
+)
+    requires { Widths V W × (from + history_size V 15 * n ≤ length source.now) × (to + history_size W 15 * n ≤ length target.old) }
+    ensures { target.new ≡ put to (recast_map V W 15 n (part from (history_size V 15 * n) source.now)) target.old }
 {
-    let a = 1 + v + v * marks::PLACES;
-    let b = 1 + w + w * marks::PLACES;
-    let mut i: usize = 0;
-    while i < n {
-        history(source, from + a * i, v, target, to + b * i, w);
-        i += 1;
+    let a = 1 + V + V * marks::PLACES;
+    let b = 1 + W + W * marks::PLACES;
+    for i in 0..n {
+        history::<V, W>(source, from + a * i, target, to + b * i);
     }
 }
 
 // n records, each of a front of some bytes, which stay as they are, and of some histories.
-fn records(
+fn records<const V: usize, const W: usize>(
     source: &[u8],
     from: usize,
-    v: usize,
     target: &mut [u8],
     to: usize,
-    w: usize,
     front: usize,
     many: usize,
     n: usize,
 )
-    requires { Widths v w × (front ≤ 9) × (many ≤ 48) × (from + record_size v 15 front many * n ≤ length source.now) × (to + record_size w 15 front many * n ≤ length target.old) }
-    ensures { target.new ≡ put to (chunks n (record_at v w 15 front many from source.now)) target.old }
+    requires { Widths V W × (front ≤ 9) × (many ≤ 48) × (from + record_size V 15 front many * n ≤ length source.now) × (to + record_size W 15 front many * n ≤ length target.old) }
+    ensures { target.new ≡ put to (chunks n (record_at V W 15 front many from source.now)) target.old }
 {
-    let a = front + (1 + v + v * marks::PLACES) * many;
-    let b = front + (1 + w + w * marks::PLACES) * many;
-    let mut k: usize = 0;
-    while k < n {
+    let a = front + (1 + V + V * marks::PLACES) * many;
+    let b = front + (1 + W + W * marks::PLACES) * many;
+    for k in 0..n {
         let at = from + a * k;
         let end = at + front;
         let here = to + b * k;
         octets::write(target, here, &source[at..end]);
-        histories(source, end, v, target, here + front, w, many);
-        k += 1;
+        histories::<V, W>(source, end, target, here + front, many);
     }
 }
 
@@ -142,24 +132,20 @@ pub fn wider(source: &[u8], target: &mut [u8])
         MESSAGES as u8,
         marks::PLACES as u8,
     );
-    records(
+    records::<1, 2>(
         source,
         HEAD,
-        1,
         target,
         FIRST_TRANSACTOR,
-        2,
         STATE,
         HISTORIES,
         TRANSACTORS,
     );
-    records(
+    records::<1, 2>(
         source,
         old::FIRST_MESSAGE,
-        1,
         target,
         FIRST_MESSAGE,
-        2,
         DEPENDENCES,
         maps::ENTRIES,
         MESSAGES,
@@ -172,24 +158,20 @@ pub fn narrower(source: &[u8], target: &mut [u8])
     ensures { target.new ≡ recast base narrow source.now }
 {
     octets::write(target, 0, &source[..HEAD]);
-    records(
+    records::<2, 1>(
         source,
         FIRST_TRANSACTOR,
-        2,
         target,
         HEAD,
-        1,
         STATE,
         HISTORIES,
         TRANSACTORS,
     );
-    records(
+    records::<2, 1>(
         source,
         FIRST_MESSAGE,
-        2,
         target,
         old::FIRST_MESSAGE,
-        1,
         DEPENDENCES,
         maps::ENTRIES,
         MESSAGES,
