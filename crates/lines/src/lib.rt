@@ -70,10 +70,8 @@ impl Line {
         ensures { written result ≡ plus (written self) w.now }
     {
         let mut r = self;
-        let mut i: usize = 0;
-        while i < w.len() {
-            r = r.byte(w[i]);
-            i += 1;
+        for b in w {
+            r = r.byte(*b);
         }
         r
     }
@@ -91,11 +89,8 @@ impl Line {
         ensures { written result ≡ plus (written self) (hex b.now) }
     {
         let mut r = self;
-        let mut i: usize = 0;
-        while i < b.len() {
-            let x = b[i];
-            r = r.byte(hex_digit(x / 16)).byte(hex_digit(x % 16));
-            i += 1;
+        for x in b {
+            r = r.byte(hex_digit(*x / 16)).byte(hex_digit(*x % 16));
         }
         r
     }
@@ -116,10 +111,8 @@ impl Line {
         ensures { written result ≡ plus (written self) (members group_bits 0 g) }
     {
         let mut r = self;
-        let mut t: usize = 0;
-        while t < 16 {
+        for t in 0..16 {
             r = r.member(g, t);
-            t += 1;
         }
         r
     }
