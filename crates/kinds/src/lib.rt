@@ -1,9 +1,11 @@
 // The table of the notation: the names of the kinds of step, and what stands after each. Reader and printer use it.
 #![tactic(auto)]
 
-ghost use Rattle.std.specs.Prelude.{◌≡◌, ◌<◌, ℕ, MatchOption};
-ghost use Rattle.notation.specs.Notation.{name_of, template_of};
+ghost use Rattle.std.specs.Prelude.{◌≡◌, ◌<◌, ℕ, MatchOption, map};
+ghost use Rattle.notation.specs.Notation.{name_of, template_of, item_number};
 ghost use Rattle.notation.specs.Reading.{row_named};
+
+use notation::{Field, Item};
 
 // The names of the 13 kinds, then raw.
 const NAMES: [&[u8]; 14] = [
@@ -11,22 +13,30 @@ const NAMES: [&[u8]; 14] = [
     b"fall", b"fail", b"lose", b"sign", b"raw",
 ];
 
-// The items that stand after each.
-const TEMPLATES: [&[u8]; 14] = [
-    &[7, 4],
-    &[6, 1, 7, 4],
-    &[3],
-    &[1, 7, 4],
-    &[1, 6, 2, 7, 4],
-    &[1],
-    &[1, 7, 4],
-    &[1],
-    &[1],
-    &[1],
-    &[1],
-    &[3],
-    &[5],
-    &[8],
+const TAKE: Item = Item::Number(Field::Transactor);
+
+const OTHER: Item = Item::Number(Field::Other);
+
+const MESSAGE: Item = Item::Number(Field::Message);
+
+const VALUE: Item = Item::Number(Field::Value);
+
+// What stands behind each.
+const TEMPLATES: [&[Item]; 14] = [
+    &[Item::Text, VALUE],
+    &[Item::To, TAKE, Item::Text, VALUE],
+    &[MESSAGE],
+    &[TAKE, Item::Text, VALUE],
+    &[TAKE, Item::To, OTHER, Item::Text, VALUE],
+    &[TAKE],
+    &[TAKE, Item::Text, VALUE],
+    &[TAKE],
+    &[TAKE],
+    &[TAKE],
+    &[TAKE],
+    &[MESSAGE],
+    &[Item::Members],
+    &[Item::Digits],
 ];
 
 // The name of a row.
@@ -38,9 +48,9 @@ pub fn name_of(row: usize) -> &'static [u8]
 }
 
 // The template of a row.
-pub fn template_of(row: usize) -> &'static [u8]
+pub fn template_of(row: usize) -> &'static [Item]
     requires { row < 14 }
-    ensures { result.now ≡ template_of row }
+    ensures { map item_number result.now ≡ template_of row }
 {
     TEMPLATES[row]
 }

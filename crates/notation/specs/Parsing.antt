@@ -1,11 +1,13 @@
 -- What parse answers, and what it writes.
-use Rattle.std.specs.Prelude.{ℕ, List, [], ◌∷◌, leb, get_or}
+use Rattle.std.specs.Prelude.{ℕ, ◌≡◌, ◌<◌, Result, Ok, Err, MatchResult, List, [], ◌∷◌, leb, get_or}
 use Rattle.octets.specs.Bytes.{pick, ◌and◌, put}
 use Rattle.rules.specs.Calls.{steps_in}
 use Rattle.notation.specs.Notation.{bytes, transactor_field, other_field, message_field, value_field, group_field, word_to, word_text, whole_step}
-use Rattle.notation.specs.Reading.{a_kind, comma_or_brace, line_end, room, Read, steps, fault}
-pub use Rattle.notation.specs.declared.Parsed.{Parsed}
-pub use Rattle.notation.specs.declared.Parsed.TheVariants.{Steps, Fault}
+use Rattle.notation.specs.Reading.{a_kind, comma_or_brace, line_end, room, Reader, reached, Read, steps, fault}
+pub use Rattle.notation.specs.declared.Fault.{Fault}
+pub use Rattle.notation.specs.declared.Place.{Place}
+pub use Rattle.notation.specs.declared.Lack.{Lack}
+pub use Rattle.notation.specs.declared.UnknownExpected.{UnknownExpected}
 pub use Rattle.notation.specs.declared.Expected.{Expected}
 pub use Rattle.notation.specs.declared.Expected.TheVariants.{Transactor, Addressee, Message, Value, Group, WordTo, WordText, SixteenDigits, Kind, CommaOrBrace, LineEnd, Room}
 
@@ -24,15 +26,24 @@ number_of CommaOrBrace = comma_or_brace
 number_of LineEnd = line_end
 number_of Room = room
 
+-- the result is what has this number, or the number, which nothing expected has
+abbrev pub IsExpected : ℕ → Result Expected UnknownExpected → Type 0
+IsExpected n r = MatchResult r (λ e. number_of e ≡ n) (λ u. (u.0 ≡ n) × (0 < n → 12 < n))
+
+-- what a line's reader answers: where it stands, or where it lacks something and what
+abbrev pub Answers : Result Place Lack → Reader → Type 0
+Answers (Ok q) r = r ≡ reached q.at q.step
+Answers (Err e) r = (r.at ≡ e.at) × (r.expected ≡ number_of e.expected)
+
 -- and back; no fault has a number of none
 unfoldable pub expected_of : ℕ → Expected
 expected_of n =
     get_or (Room ∷ Transactor ∷ Addressee ∷ Message ∷ Value ∷ Group ∷ WordTo ∷ WordText ∷ SixteenDigits ∷ Kind ∷ CommaOrBrace ∷ LineEnd ∷ []) n Room
 
 -- how many steps, or the fault
-abbrev pub answer_of : Read → Parsed
-answer_of (steps l) = Steps (steps_in l)
-answer_of (fault n c e) = Fault n c (expected_of e)
+abbrev pub answer_of : Read → Result ℕ Fault
+answer_of (steps l) = Ok (steps_in l)
+answer_of (fault n c e) = Err (record { line = n; column = c; expected = expected_of e })
 
 -- the lent bytes: the steps at their start, or untouched
 abbrev pub written_of : Read → List ℕ → List ℕ
@@ -49,9 +60,9 @@ pub record ParsedNumbers : Type 0 where
   pub column : ℕ
   pub expected : ℕ
 
-abbrev pub parsed_numbers : Parsed → ParsedNumbers
-parsed_numbers (Steps n) = record { count = n; line = 0; column = 0; expected = 0 }
-parsed_numbers (Fault n c e) = record { count = 0; line = n; column = c; expected = number_of e }
+abbrev pub parsed_numbers : Result ℕ Fault → ParsedNumbers
+parsed_numbers (Ok n) = record { count = n; line = 0; column = 0; expected = 0 }
+parsed_numbers (Err f) = record { count = 0; line = f.line; column = f.column; expected = number_of f.expected }
 
 -- ---- what was expected, in words
 

@@ -4,13 +4,12 @@ use mathlib.Core.Bool.{Bool, true, false}
 use mathlib.Core.Path.{◌≡◌, refl, sym, ap, ◌∙◌, subst}
 use mathlib.Core.Logic.{⊎_elim}
 use mathlib.Core.List.{List, [], ◌∷◌}
-use native.Mathlib.Nat.{mod-eq_of_lt, pow-succ'}
+use native.Mathlib.Nat.{pow-succ'}
 use native.Mathlib.Numerals.{add-one}
 use native.Mathlib.Omega.{arith}
-use borrow.Author.Tests.{le-leb, lt-leb, eq-eqb, ne_eqb, eqb-true, ltb-true, leb-true}
-use lib.Dec.{eqb, ltb, leb}
-use lib.ListN.{length, drop, get_or, drop_of_length-le}
-use lib.Seq.{drop-cons}
+use borrow.Author.Tests.{le-leb, lt-leb, eq-eqb, ne_eqb, eqb-true, leb-true}
+use lib.Dec.{eqb, leb}
+use lib.ListN.{length, get_or}
 use Rattle.octets.specs.Bytes.{pick, ◌and◌, part, every}
 use Rattle.octets.specs.Numbers.{of_be}
 use Rattle.octets.proofs.Put.{get_d_part}
@@ -21,56 +20,10 @@ use Rattle.rules.specs.declared.Step.{Step}
 use Rattle.rules.specs.Step.{unpack_step}
 use Rattle.rules.specs.Refusals.{named}
 use Rattle.rules.proofs.Bits.{add-fits, shifted}
-use Rattle.notation.specs.Reading.{most_of, with_field, with_member, all, is_digit, is_hex, of_hex_digit, of_hex}
+use Rattle.notation.specs.Reading.{with_member, all, is_digit, is_hex, of_hex_digit, of_hex}
 use Rattle.scan.specs.Internal.Words.{hex_value, is_whole}
-
--- ---- the largest numbers
-
-most_good : ℕ → Bool
-most_good c = ltb (most_of c) 4294967296
-
-mosts-good : every 5 most_good ≡ true
-unfolding most_good every most_of
-mosts-good = refl
-
-pub most-is : (c : ℕ) → c < 5 → (get_or (0 ∷ 15 ∷ 15 ∷ 65535 ∷ 4294967295 ∷ []) c 0 ≡ most_of c) × (get_or (0 ∷ 15 ∷ 15 ∷ 65535 ∷ 4294967295 ∷ []) c 0 < 4294967296)
-unfolding most_good most_of
-most-is c h = (refl, ltb-true (most_of c) 4294967296 (every-at most_good 5 c mosts-good h))
-
--- ---- fields
-
-module _ (c n : ℕ) (p : Step) (b : n ≤ most_of c) where
-  pub with-1 : c ≡ 1 → ◌≡◌ {A = Step} (record { kind = p.kind; transactor = n % 16; other = p.other; zero = p.zero; message = p.message; value = p.value }) (with_field c n p)
-  unfolding with_field most_of
-  with-1 e =
-      let d : n ≤ 15 = rw e at b in
-      let m : n % 16 ≡ n = mod-eq_of_lt (omega arith) in
-      rw (e, m)
-
-  pub with-2 : c ≡ 2 → ◌≡◌ {A = Step} (record { kind = p.kind; transactor = p.transactor; other = n % 16; zero = p.zero; message = p.message; value = p.value }) (with_field c n p)
-  unfolding with_field most_of
-  with-2 e =
-      let d : n ≤ 15 = rw e at b in
-      let m : n % 16 ≡ n = mod-eq_of_lt (omega arith) in
-      rw (e, m)
-
-  pub with-3 : c ≡ 3 → ◌≡◌ {A = Step} (record { kind = p.kind; transactor = p.transactor; other = p.other; zero = p.zero; message = n % 65536; value = p.value }) (with_field c n p)
-  unfolding with_field most_of
-  with-3 e =
-      let d : n ≤ 65535 = rw e at b in
-      let m : n % 65536 ≡ n = mod-eq_of_lt (omega arith) in
-      rw (e, m)
-
-  pub with-4 : c ≡ 4 → ◌≡◌ {A = Step} (record { kind = p.kind; transactor = p.transactor; other = p.other; zero = p.zero; message = p.message; value = n % 4294967296 }) (with_field c n p)
-  unfolding with_field most_of
-  with-4 e =
-      let d : n ≤ 4294967295 = rw e at b in
-      let m : n % 4294967296 ≡ n = mod-eq_of_lt (omega arith) in
-      rw (e, m)
-
-  pub with_none : (c ≡ 1 → ⊥) → (c ≡ 2 → ⊥) → (c ≡ 3 → ⊥) → (c ≡ 4 → ⊥) → p ≡ with_field c n p
-  unfolding with_field
-  with_none f g h i = rw (ne_eqb c 1 f, ne_eqb c 2 g, ne_eqb c 3 h, ne_eqb c 4 i)
+use Rattle.scan.proofs.Walking.{all-passed}
+use Rattle.std.specs.List.{list_all}
 
 -- ---- one take of a volume
 
@@ -93,45 +46,13 @@ module _ (g t : ℕ) where
 
 -- ---- hexadecimal digits
 
-module _ (c : ℕ) where
-  pub hex-low : c < 48 → false ≡ is_hex c
-  unfolding is_hex is_digit
-  hex-low h = rw (lt-leb 48 c h, lt-leb 97 c (omega arith))
+pub whole-short : (w : List ℕ) → (length w ≡ 16 → ⊥) → eqb (length w) 16 ≡ is_whole w
+unfolding is_whole
+whole-short w n = rw (ne_eqb (length w) 16 n)
 
-  pub hex-digit : 48 ≤ c → c ≤ 57 → true ≡ is_hex c
-  unfolding is_hex is_digit
-  hex-digit h b = rw (le-leb 48 c h, le-leb c 57 b)
-
-  pub hex-gap : 57 < c → c < 97 → false ≡ is_hex c
-  unfolding is_hex is_digit
-  hex-gap h b = rw (lt-leb c 57 h, and-false (leb 48 c), lt-leb 97 c b)
-
-  pub hex-last : 57 < c → 97 ≤ c → leb c 102 ≡ is_hex c
-  unfolding is_hex is_digit
-  hex-last h b = rw (lt-leb c 57 h, and-false (leb 48 c), le-leb 97 c b)
-
-module _ (w : List ℕ) where
-  pub digits-short : (length w ≡ 16 → ⊥) → false ≡ is_whole w
-  unfolding is_whole
-  digits-short n = rw (ne_eqb (length w) 16 n)
-
-  module _ (l : length w ≡ 16) (i : ℕ) (inv : all is_hex w ≡ all is_hex (drop i w)) where
-    pub digits-off : i < 16 → false ≡ is_hex (get_or w i 0) → false ≡ is_whole w
-    unfolding is_whole all
-    digits-off h e =
-        let f : all is_hex (drop i w) ≡ false = ap (all is_hex) (drop-cons w i 0 (omega arith)) ∙ ap (λ (t : Bool). t and all is_hex (drop (suc i) w)) (sym e) in
-        rw (eq-eqb (length w) 16 l, inv, f)
-
-    pub digits_more : i < 16 → true ≡ is_hex (get_or w i 0) → all is_hex w ≡ all is_hex (drop (i + 1) w)
-    unfolding all
-    digits_more h e =
-        inv ∙ ap (all is_hex) (drop-cons w i 0 (omega arith)) ∙ ap (λ (t : Bool). t and all is_hex (drop (suc i) w)) (sym e) ∙ ap (λ (k : ℕ). all is_hex (drop k w)) (sym (add-one i))
-
-    pub digits-all : 16 ≤ i → true ≡ is_whole w
-    unfolding is_whole all
-    digits-all h =
-        let f : all is_hex (drop i w) ≡ true = ap (all is_hex) (drop_of_length-le w {i = i} (omega arith)) in
-        rw (eq-eqb (length w) 16 l, inv, f)
+pub whole-long : (w : List ℕ) → length w ≡ 16 → (t : Bool) → t ≡ list_all is_hex w → t ≡ is_whole w
+unfolding is_whole
+whole-long w l t e = rw (eq-eqb (length w) 16 l) (e ∙ sym (all-passed is_hex w))
 
 -- ---- sixteen digits
 
@@ -147,11 +68,11 @@ digit-small c e = go (leb c 57) refl e
 
 hex-from : (c : ℕ) → is_hex c ≡ true → 48 ≤ c
 unfolding is_hex is_digit
-hex-from c e = ⊎_elim (λ (h : c < 48). never (sym (hex-low c h ∙ e))) (λ (h : 48 ≤ c). h) (sides c 48)
+hex-from c e = ⊎_elim (λ (h : c < 48). never (sym (rw (lt-leb 48 c h, lt-leb 97 c (omega arith)) at e))) (λ (h : 48 ≤ c). h) (sides c 48)
 
 hex-letter : (c : ℕ) → is_hex c ≡ true → 57 < c → 97 ≤ c
 unfolding is_hex is_digit
-hex-letter c e b = ⊎_elim (λ (h : c < 97). never (sym (hex-gap c b h ∙ e))) (λ (h : 97 ≤ c). h) (sides c 97)
+hex-letter c e b = ⊎_elim (λ (h : c < 97). never (sym (rw (lt-leb c 57 b, and-false (leb 48 c), lt-leb 97 c h) at e))) (λ (h : 97 ≤ c). h) (sides c 97)
 
 module _ (c : ℕ) (e : is_hex c ≡ true) where
   pub digit_low : c ≤ 57 → (c - 48 ≡ of_hex_digit c) × (c - 48 < 16)
@@ -161,13 +82,14 @@ module _ (c : ℕ) (e : is_hex c ≡ true) where
   pub digit-from : 48 ≤ c
   digit-from = hex-from c e
 
-  pub digit-letter : 57 < c → 87 ≤ c
-  digit-letter b = omega (arith, hex-letter c e b)
+  pub digit-letter : 57 < c → 97 ≤ c
+  digit-letter b = hex-letter c e b
 
-  pub digit-high : 57 < c → (c - 87 ≡ of_hex_digit c) × (c - 87 < 16)
+  pub digit-high : 57 < c → (c - 97 + 10 ≡ of_hex_digit c) × (c - 97 + 10 < 16)
   unfolding of_hex_digit
   digit-high b =
-      let f : c - 87 ≡ of_hex_digit c = rw (lt-leb c 57 b) in
+      let l = hex-letter c e b in
+      let f : c - 97 + 10 ≡ of_hex_digit c = rw (lt-leb c 57 b) (omega arith) in
       (f, omega (arith, digit-small c e))
 
 all-at : (f : ℕ → Bool) (w : List ℕ) → all f w ≡ true → (i : ℕ) → i < length w → f (get_or w i 0) ≡ true

@@ -1,44 +1,50 @@
 // What single words say: numbers of fields, members of a group, sixteen hexadecimal digits.
 ghost use Rattle.std.specs.Prelude.{◌≡◌, true, ◌+◌, ◌^◌, ◌≤◌, ◌<◌};
 ghost use Rattle.rules.specs.Step.{unpack_step};
+ghost use Rattle.notation.specs.Notation.{field_number};
 ghost use Rattle.notation.specs.Reading.{most_of, with_field, with_member, is_hex, of_hex_digit, of_hex};
 ghost use Rattle.scan.specs.Internal.Words.{hex_value, is_whole};
 
+use notation::Field;
 use rules::Step;
 
-const MOST: [u64; 5] = [0, 15, 15, 65535, 4294967295];
-
-// The largest number of field c.
-pub fn most_of(c: usize) -> u64
-    requires { c < 5 }
-    ensures { (result ≡ most_of c) × (result < 4294967296) }
+// The largest number of a field.
+#[tactic(auto, unfolding(notation::specs::Reading::most_of))]
+pub fn most_of(field: Field) -> u64
+    ensures most { result ≡ most_of (field_number field) }
+    ensures fits { result < 4294967296 }
 {
-    MOST[c]
+    match field {
+        Field::Transactor | Field::Other => 15,
+        Field::Message => 65535,
+        Field::Value => 4294967295,
+    }
 }
 
-// The step with field c set to n.
-pub fn with_field(c: u8, n: u64, p: Step) -> Step
-    requires { n ≤ most_of c }
-    ensures { result ≡ with_field c n p }
+// The step with a field set to n.
+#[tactic(auto, unfolding(notation::specs::Reading::with_field, notation::specs::Reading::most_of))]
+pub fn with_field(field: Field, n: u64, p: Step) -> Step
+    requires { n ≤ most_of (field_number field) }
+    ensures { result ≡ with_field (field_number field) n p }
 {
-    let mut q = p;
-    if c == 1 {
-        q.transactor = (n % 16) as u8;
-        return q;
+    match field {
+        Field::Transactor => Step {
+            transactor: n as u8,
+            ..p
+        },
+        Field::Other => Step {
+            other: n as u8,
+            ..p
+        },
+        Field::Message => Step {
+            message: n as u16,
+            ..p
+        },
+        Field::Value => Step {
+            value: n as u32,
+            ..p
+        },
     }
-    if c == 2 {
-        q.other = (n % 16) as u8;
-        return q;
-    }
-    if c == 3 {
-        q.message = (n % 65536) as u16;
-        return q;
-    }
-    if c == 4 {
-        q.value = (n % 4294967296) as u32;
-        return q;
-    }
-    q
 }
 
 // The group g (document 01: volume) with transactor t.
@@ -53,46 +59,28 @@ pub fn with_member(g: u16, t: u64) -> u16
     g + bit
 }
 
+#[tactic(auto, unfolding(notation::specs::Reading::is_hex, notation::specs::Reading::is_digit))]
 fn is_hex(c: u8) -> bool
     ensures { result ≡ is_hex c }
 {
-    if c < 48 {
-        return false;
-    }
-    if c <= 57 {
-        return true;
-    }
-    if c < 97 {
-        return false;
-    }
-    c <= 102
+    (b'0' <= c && c <= b'9') || (b'a' <= c && c <= b'f')
 }
 
 // Whether w has sixteen bytes, all of them hexadecimal digits.
 pub fn is_whole(w: &[u8]) -> bool
     ensures { result ≡ is_whole w.now }
 {
-    if w.len() != 16 {
-        return false;
-    }
-    let mut i: usize = 0;
-    while i < 16 {
-        if !is_hex(w[i]) {
-            return false;
-        }
-        i += 1;
-    }
-    true
+    w.len() == 16 && w.iter().all(|c| is_hex(*c))
 }
 
 fn digit(c: u8) -> u32
     requires { is_hex c ≡ true }
     ensures { (result ≡ of_hex_digit c) × (result < 16) }
 {
-    if c <= 57 {
-        return (c - 48) as u32;
+    if c <= b'9' {
+        return u32::from(c - b'0');
     }
-    (c - 87) as u32
+    u32::from(c - b'a' + 10)
 }
 
 // The number that the n digits of w from at on give.
@@ -101,11 +89,8 @@ fn hex_number(w: &[u8], at: usize, n: usize) -> u32
     ensures { (result ≡ hex_value w.now at n) × (result < 16 ^ n) }
 {
     let mut x: u32 = 0;
-    let mut i: usize = 0;
-    while i < n {
-        let d = digit(w[at + i]);
-        x = x * 16 + d;
-        i += 1;
+    for i in 0..n {
+        x = x * 16 + digit(w[at + i]);
     }
     x
 }

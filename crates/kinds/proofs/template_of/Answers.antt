@@ -1,8 +1,9 @@
-use Rattle.std.proofs.Common.{rules, List, ℕ, Bor}
-use Rattle.notation.specs.Notation.{template_of}
+use Rattle.std.proofs.Common.{rules, List, map, Bor}
+use Rattle.notation.specs.Notation.{template_of, item_number}
+use Rattle.notation.specs.declared.Item.{Item}
 use Rattle.kinds.proofs.Rows.{row-at}
 use Rattle.kinds.proofs.template_of.Goals as goal
 
 pub returns : goal.returns
 unfolding template_of
-returns c = search (rules, row-at {X = Bor (List ℕ)} (λ b. b.now))
+returns c = search (rules, row-at {X = Bor (List Item)} (λ b. map item_number b.now))
