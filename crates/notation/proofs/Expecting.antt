@@ -120,6 +120,20 @@ module _ (most : ℕ) where
 
 -- ---- numbers and cases
 
+pub number-some : (e : Expected) → 0 < number_of e
+number-some Transactor = omega arith
+number-some Addressee = omega arith
+number-some Message = omega arith
+number-some Value = omega arith
+number-some Group = omega arith
+number-some WordTo = omega arith
+number-some WordText = omega arith
+number-some SixteenDigits = omega arith
+number-some Kind = omega arith
+number-some CommaOrBrace = omega arith
+number-some LineEnd = omega arith
+number-some Room = omega arith
+
 pub case-of-number : (e : Expected) → expected_of (number_of e) ≡ e
 unfolding expected_of
 case-of-number Transactor = refl

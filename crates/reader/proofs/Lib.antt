@@ -1,1 +1,1 @@
-mod Picks
+pub mod Picks

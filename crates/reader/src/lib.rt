@@ -1,31 +1,18 @@
-// A line's reader: early returns in the order of the definitions' tests.
+// A line's reader: what a line lacks first, in the order of the definitions' tests.
 #![tactic(auto)]
 
-ghost use Rattle.std.specs.Prelude.{◌≡◌, true, ◌+◌, ◌≤◌, ◌<◌, length};
-ghost use Rattle.notation.specs.Notation.{template_of};
-ghost use Rattle.notation.specs.Reading.{word_item, member_at, comma_next, one_more, more_members, closed, members_at, group_at, item, items, ended, line_at};
+ghost use Rattle.std.specs.Prelude.{◌≡◌, ◌≤◌, ◌<◌, length, map};
+ghost use Rattle.notation.specs.Notation.{template_of, item_number};
+ghost use Rattle.notation.specs.Parsing.{Answers};
+ghost use Rattle.notation.specs.Reading.{member_at, more_members, closed, members_at, group_at, item, items, ended, line_at, reached};
+ghost use Rattle.reader.specs.Internal.Words.{SaidBy};
 
-use notation::Reader;
+use notation::{Expected, Field, Item, Lack, Place};
 use rules::Step;
 use scan::words;
 
-// What was expected, if not an item: the numbers of the definitions.
-const NOTHING: u8 = 0;
-
-const TRANSACTOR: u8 = 1;
-
-const GROUP: u8 = 5;
-
-const WHOLE: u8 = 8;
-
-const KIND: u8 = 9;
-
-const COMMA: u8 = 10;
-
-const END: u8 = 11;
-
 // A step of kind 0 with nothing said.
-pub const EMPTY: Step = Step {
+const EMPTY: Step = Step {
     kind: 0,
     transactor: 0,
     other: 0,
@@ -34,294 +21,167 @@ pub const EMPTY: Step = Step {
     value: 0,
 };
 
-// A number for field c.
-fn field_item(c: u8, s: &[u8], at: usize, p: Step) -> Reader
-    requires { (at ≤ length s.now) × (c ≤ 4) }
-    ensures { result ≡ word_item c s.now at p }
+// The step p with what the word w says for an item, which is no group; none if the word cannot stand there.
+fn with_word(item: Item, w: &[u8], p: Step) -> Option<Step>
+    requires { item_number item ≡ 5 → ⊥ }
+    ensures { SaidBy (item_number item) w.now p result }
 {
-    let most = words::most_of(c as usize);
-    let n = scan::number_at(s, at, most);
-    let value = n.value;
-    let end = n.end;
-    if most < value {
-        return Reader {
-            at,
-            step: p,
-            expected: c,
-        };
+    match item {
+        Item::Number(field) => {
+            let n = scan::number(w, words::most_of(field))?;
+            Some(words::with_field(field, n, p))
+        }
+        Item::To => (w == b"to".as_slice()).then_some(p),
+        Item::Text => (w == b"text".as_slice()).then_some(p),
+        Item::Digits => words::whole(w),
+        Item::Members => None,
     }
-    let q = words::with_field(c, value, p);
-    Reader {
-        at: end,
-        step: q,
-        expected: NOTHING,
-    }
-}
-
-// The word to or text.
-fn fixed_item(c: u8, s: &[u8], at: usize, p: Step) -> Reader
-    requires { (at ≤ length s.now) × (6 ≤ c) × (c ≤ 7) }
-    ensures { result ≡ word_item c s.now at p }
-{
-    let end = scan::word_end(s, at);
-    let k = c as usize + 8;
-    if kinds::is_row(&s[at..end], k) {
-        return Reader {
-            at: end,
-            step: p,
-            expected: NOTHING,
-        };
-    }
-    Reader {
-        at,
-        step: p,
-        expected: c,
-    }
-}
-
-// Sixteen digits, for all of the step.
-fn whole_item(c: u8, s: &[u8], at: usize, p: Step) -> Reader
-    requires { (at ≤ length s.now) × (4 < c) × (c ≡ 6 → ⊥) × (c ≡ 7 → ⊥) }
-    ensures { result ≡ word_item c s.now at p }
-{
-    let end = scan::word_end(s, at);
-    let w = &s[at..end];
-    if !words::is_whole(w) {
-        return Reader {
-            at,
-            step: p,
-            expected: c,
-        };
-    }
-    if c != WHOLE {
-        return Reader {
-            at: end,
-            step: p,
-            expected: NOTHING,
-        };
-    }
-    let q = words::whole(w);
-    Reader {
-        at: end,
-        step: q,
-        expected: NOTHING,
-    }
-}
-
-// Item c at at, if it is a word.
-fn word_item(c: u8, s: &[u8], at: usize, p: Step) -> Reader
-    requires { at ≤ length s.now }
-    ensures { result ≡ word_item c s.now at p }
-{
-    if c <= 4 {
-        return field_item(c, s, at, p);
-    }
-    if c == 6 {
-        return fixed_item(c, s, at, p);
-    }
-    if c == 7 {
-        return fixed_item(c, s, at, p);
-    }
-    whole_item(c, s, at, p)
 }
 
 // A transactor (document 01: take) that joins the group in the step's message field.
-fn member_at(s: &[u8], at: usize, p: Step) -> Reader
+fn member_at(s: &[u8], at: usize, p: Step) -> Result<Place, Lack>
     requires { at ≤ length s.now }
-    ensures { result ≡ member_at s.now at p }
+    ensures { Answers result (member_at s.now at p) }
 {
-    let n = scan::number_at(s, at, 15);
-    let t = n.value;
-    let end = n.end;
-    if 15 < t {
-        return Reader {
+    let end = scan::word_end(s, at);
+    let Some(t) = scan::number(&s[at..end], 15) else {
+        return Err(Lack {
             at,
-            step: p,
-            expected: TRANSACTOR,
-        };
-    }
-    let mut q = p;
-    q.message = words::with_member(p.message, t);
-    Reader {
+            expected: Expected::Transactor,
+        });
+    };
+    let message = words::with_member(p.message, t);
+    Ok(Place {
         at: end,
-        step: q,
-        expected: NOTHING,
-    }
+        step: Step { message, ..p },
+    })
 }
 
-fn comma_next(s: &[u8], r: Reader) -> bool
-    ensures { result ≡ comma_next s.now r }
-{
-    if r.expected != NOTHING {
-        return false;
-    }
-    scan::byte_at(s, scan::skip(s, r.at)) == 44
-}
-
-// The comma that is next, and a transactor.
-fn one_more(s: &[u8], r: Reader) -> Reader
-    requires { (r.at ≤ length s.now) × (comma_next s.now r ≡ true) }
-    ensures { result ≡ one_more s.now r }
-{
-    let step = r.step;
-    let comma = scan::skip(s, r.at);
-    let at = scan::skip(s, comma + 1);
-    member_at(s, at, step)
-}
-
-fn more_members(s: &[u8], first: Reader) -> Reader
+// The transactors that follow, each behind its comma.
+fn more_members(s: &[u8], first: Place) -> Result<Place, Lack>
     requires { first.at ≤ length s.now }
-    ensures { result ≡ more_members (length s.now) s.now first }
+    ensures { Answers result (more_members (length s.now) s.now (reached first.at first.step)) }
 {
     let mut r = first;
-    let mut i: usize = 0;
-    while i < s.len() {
-        if !comma_next(s, r) {
-            return r;
+    for _ in 0..s.len() {
+        let comma = scan::skip(s, r.at);
+        if scan::byte_at(s, comma) != b',' {
+            return Ok(r);
         }
-        r = one_more(s, r);
-        i += 1;
+        r = member_at(s, scan::skip(s, comma + 1), r.step)?;
     }
-    r
+    Ok(r)
 }
 
 // The brace that closes a group.
-fn closed_at(s: &[u8], r: Reader) -> Reader
+fn closed_at(s: &[u8], r: Place) -> Result<Place, Lack>
     requires { r.at ≤ length s.now }
-    ensures { result ≡ closed s.now r }
+    ensures { Answers result (closed s.now (reached r.at r.step)) }
 {
-    if r.expected != NOTHING {
-        return r;
-    }
-    let step = r.step;
     let at = scan::skip(s, r.at);
-    if scan::byte_at(s, at) == 125 {
-        return Reader {
-            at: at + 1,
-            step,
-            expected: NOTHING,
-        };
+    if scan::byte_at(s, at) != b'}' {
+        return Err(Lack {
+            at,
+            expected: Expected::CommaOrBrace,
+        });
     }
-    Reader {
-        at,
-        step,
-        expected: COMMA,
-    }
+    Ok(Place {
+        at: at + 1,
+        step: r.step,
+    })
 }
 
 // What follows the opening brace.
-fn members_at(s: &[u8], at: usize, p: Step) -> Reader
+fn members_at(s: &[u8], at: usize, p: Step) -> Result<Place, Lack>
     requires { at ≤ length s.now }
-    ensures { result ≡ members_at s.now at p }
+    ensures { Answers result (members_at s.now at p) }
 {
-    if scan::byte_at(s, at) == 125 {
-        return Reader {
+    if scan::byte_at(s, at) == b'}' {
+        return Ok(Place {
             at: at + 1,
             step: p,
-            expected: NOTHING,
-        };
+        });
     }
-    let first = member_at(s, at, p);
-    let all = more_members(s, first);
+    let first = member_at(s, at, p)?;
+    let all = more_members(s, first)?;
     closed_at(s, all)
 }
 
 // A group (document 01: volume) in braces.
-fn group_at(s: &[u8], at: usize, p: Step) -> Reader
+fn group_at(s: &[u8], at: usize, p: Step) -> Result<Place, Lack>
     requires { at ≤ length s.now }
-    ensures { result ≡ group_at s.now at p }
+    ensures { Answers result (group_at s.now at p) }
 {
-    if scan::byte_at(s, at) != 123 {
-        return Reader {
+    if scan::byte_at(s, at) != b'{' {
+        return Err(Lack {
             at,
-            step: p,
-            expected: GROUP,
-        };
+            expected: Expected::Group,
+        });
     }
-    let mut q = p;
-    q.message = 0;
-    let from = scan::skip(s, at + 1);
-    members_at(s, from, q)
+    members_at(s, scan::skip(s, at + 1), Step { message: 0, ..p })
 }
 
-// Item c, from where the reader stands.
-fn item_at(s: &[u8], r: Reader, c: u8) -> Reader
+// An item, from where the reader stands.
+fn item_at(s: &[u8], r: Place, wanted: Item) -> Result<Place, Lack>
     requires { r.at ≤ length s.now }
-    ensures { result ≡ item s.now r c }
+    ensures { Answers result (item s.now (reached r.at r.step) (item_number wanted)) }
 {
-    if r.expected != NOTHING {
-        return r;
-    }
-    let step = r.step;
     let at = scan::skip(s, r.at);
-    if c == GROUP {
-        return group_at(s, at, step);
+    if let Item::Members = wanted {
+        return group_at(s, at, r.step);
     }
-    word_item(c, s, at, step)
+    let end = scan::word_end(s, at);
+    let Some(step) = with_word(wanted, &s[at..end], r.step) else {
+        return Err(Lack {
+            at,
+            expected: Expected::from(wanted),
+        });
+    };
+    Ok(Place { at: end, step })
 }
 
 // All items of a row.
-fn items_at(s: &[u8], row: usize, first: Reader) -> Reader
+fn items_at(s: &[u8], row: usize, first: Place) -> Result<Place, Lack>
     requires { (first.at ≤ length s.now) × (row < 14) }
-    ensures { result ≡ items s.now (template_of row) first }
+    ensures { Answers result (items s.now (template_of row) (reached first.at first.step)) }
 {
-    let n = kinds::items_of(row);
     let mut r = first;
-    let mut i: usize = 0;
-    while i < n {
-        let c = kinds::item_of(row, i);
-        r = item_at(s, r, c);
-        i += 1;
+    for wanted in kinds::template_of(row) {
+        r = item_at(s, r, *wanted)?;
     }
-    r
+    Ok(r)
 }
 
 // Nothing but blanks after them.
-fn ended_at(s: &[u8], r: Reader) -> Reader
-    ensures { result ≡ ended s.now r }
+fn ended_at(s: &[u8], r: Place) -> Result<Place, Lack>
+    ensures { Answers result (ended s.now (reached r.at r.step)) }
 {
-    if r.expected != NOTHING {
-        return r;
-    }
-    let step = r.step;
     let at = scan::skip(s, r.at);
     if at < s.len() {
-        return Reader {
+        return Err(Lack {
             at,
-            step,
-            expected: END,
-        };
+            expected: Expected::LineEnd,
+        });
     }
-    r
+    Ok(r)
 }
 
 // The line from its first word on, at at.
-pub fn line_at(s: &[u8], at: usize) -> Reader
+pub fn line_at(s: &[u8], at: usize) -> Result<Place, Lack>
     requires { at ≤ length s.now }
-    ensures { result ≡ line_at s.now at }
+    ensures { Answers result (line_at s.now at) }
 {
     let end = scan::word_end(s, at);
-    let row = kinds::row_named(&s[at..end]);
-    if 14 <= row {
-        return Reader {
+    let Some(row) = kinds::row_named(&s[at..end]) else {
+        return Err(Lack {
             at,
-            step: EMPTY,
-            expected: KIND,
-        };
-    }
-    let empty = Step {
+            expected: Expected::Kind,
+        });
+    };
+    let step = Step {
         kind: row as u8,
-        transactor: 0,
-        other: 0,
-        zero: 0,
-        message: 0,
-        value: 0,
+        ..EMPTY
     };
-    let first = Reader {
-        at: end,
-        step: empty,
-        expected: NOTHING,
-    };
-    let all = items_at(s, row, first);
+    let all = items_at(s, row, Place { at: end, step })?;
     ended_at(s, all)
 }

@@ -1,5 +1,5 @@
 // What single words say: numbers of fields, members of a group, sixteen hexadecimal digits.
-ghost use Rattle.std.specs.Prelude.{◌≡◌, true, ◌+◌, ◌^◌, ◌≤◌, ◌<◌};
+ghost use Rattle.std.specs.Prelude.{◌≡◌, MatchOption, true, false, ◌+◌, ◌^◌, ◌≤◌, ◌<◌};
 ghost use Rattle.rules.specs.Step.{unpack_step};
 ghost use Rattle.notation.specs.Notation.{field_number};
 ghost use Rattle.notation.specs.Reading.{most_of, with_field, with_member, is_hex, of_hex_digit, of_hex};
@@ -67,7 +67,7 @@ fn is_hex(c: u8) -> bool
 }
 
 // Whether w has sixteen bytes, all of them hexadecimal digits.
-pub fn is_whole(w: &[u8]) -> bool
+fn is_whole(w: &[u8]) -> bool
     ensures { result ≡ is_whole w.now }
 {
     w.len() == 16 && w.iter().all(|c| is_hex(*c))
@@ -95,23 +95,25 @@ fn hex_number(w: &[u8], at: usize, n: usize) -> u32
     x
 }
 
-// The step that sixteen digits give.
-pub fn whole(w: &[u8]) -> Step
-    requires { is_whole w.now ≡ true }
-    ensures { result ≡ unpack_step (of_hex w.now) }
+// The step that w gives; none unless it is sixteen digits.
+pub fn whole(w: &[u8]) -> Option<Step>
+    ensures { MatchOption result (is_whole w.now ≡ false) (λ q. (is_whole w.now ≡ true) × (q ≡ unpack_step (of_hex w.now))) }
 {
+    if !is_whole(w) {
+        return None;
+    }
     let kind = hex_number(w, 0, 1);
     let transactor = hex_number(w, 1, 1);
     let other = hex_number(w, 2, 1);
     let zero = hex_number(w, 3, 1);
     let message = hex_number(w, 4, 4);
     let value = hex_number(w, 8, 8);
-    Step {
+    Some(Step {
         kind: kind as u8,
         transactor: transactor as u8,
         other: other as u8,
         zero: zero as u8,
         message: message as u16,
         value,
-    }
+    })
 }
