@@ -1,67 +1,50 @@
--- What was expected, in words: the code's rows are the definition's.
-use Prim.Native.Nat.{ℕ, suc, ◌-◌, ◌≤◌, ◌<◌}
-use mathlib.Core.Bool.{true}
-use mathlib.Core.Path.{◌≡◌, refl, sym, ap, ◌∙◌, subst}
-use mathlib.Core.List.{List, [], ◌∷◌, ◌++◌}
-use native.Mathlib.Omega.{arith}
-use borrow.Author.Tests.{leb-true, le-leb, lt-leb}
-use lib.Dec.{leb}
-use lib.ListN.{length, take, get_or, get_or-eq_default}
-use Rattle.octets.specs.Bytes.{◌and◌, every, part}
-use Rattle.octets.proofs.Tables.{read-within}
-use Rattle.octets.proofs.Zero.{both, every-at}
-use Rattle.marks.specs.Incarnation.{same_list}
-use Rattle.marks.proofs.Tests.{same_list-test}
+-- What was expected, in words: no more than 32 bytes each.
+use Rattle.std.proofs.Common.{ℕ, zero, suc, ◌≤◌, ◌<◌, ◌≡◌, List, [], length, arith}
+use borrow.Author.Tests.{le-leb, lt-leb}
 use Rattle.notation.specs.declared.Expected.{Expected}
 use Rattle.notation.specs.declared.Expected.TheVariants.{Transactor, Addressee, Message, Value, Group, WordTo, WordText, SixteenDigits, Kind, CommaOrBrace, LineEnd, Room}
-use Rattle.notation.specs.Parsing.{expected_of, expected_text, expected_words}
+use Rattle.notation.specs.Parsing.{number_of, expected_text, expected_words}
+use Rattle.notation.proofs.Expecting.{case-of-number, number-some}
 use Rattle.lines.specs.declared.Line.{Line}
-use Rattle.lines.specs.Lines.{line_room, written, plus, Says, letters, row_in}
-use Rattle.lines.proofs.Lining.{says-short, written-empty}
+use Rattle.lines.specs.Lines.{line_room, written, plus, Says}
+use Rattle.lines.proofs.Lining.{says-short}
 
--- a row: the words, and zeros up to 32 bytes
-abbrev row : Expected → List ℕ
-row e = take 32 (expected_text e ++ (0 ∷ 0 ∷ 0 ∷ 0 ∷ 0 ∷ 0 ∷ 0 ∷ 0 ∷ 0 ∷ 0 ∷ 0 ∷ 0 ∷ 0 ∷ 0 ∷ 0 ∷ 0 ∷ 0 ∷ 0 ∷ 0 ∷ 0 ∷ 0 ∷ []))
+text-short : (e : Expected) → length (expected_text e) ≤ 32
+text-short Transactor = omega arith
+text-short Addressee = omega arith
+text-short Message = omega arith
+text-short Value = omega arith
+text-short Group = omega arith
+text-short WordTo = omega arith
+text-short WordText = omega arith
+text-short SixteenDigits = omega arith
+text-short Kind = omega arith
+text-short CommaOrBrace = omega arith
+text-short LineEnd = omega arith
+text-short Room = omega arith
 
-abbrev pub rows : List ℕ
-rows =
-    row Transactor ++ row Addressee ++ row Message ++ row Value ++ row Group ++ row WordTo
-    ++ row WordText ++ row SixteenDigits ++ row Kind ++ row CommaOrBrace ++ row LineEnd ++ row Room
+number-most : (e : Expected) → number_of e ≤ 12
+number-most Transactor = omega arith
+number-most Addressee = omega arith
+number-most Message = omega arith
+number-most Value = omega arith
+number-most Group = omega arith
+number-most WordTo = omega arith
+number-most WordText = omega arith
+number-most SixteenDigits = omega arith
+number-most Kind = omega arith
+number-most CommaOrBrace = omega arith
+number-most LineEnd = omega arith
+number-most Room = omega arith
 
-rows_right : every 12 (λ k. same_list (row_in rows 32 k) (expected_text (expected_of (suc k))) and leb (length (expected_text (expected_of (suc k)))) 32) ≡ true
-unfolding every same_list row_in letters part expected_of
-rows_right = refl
+pub words-none : (n : ℕ) (l : Line) → (0 < n → 12 < n) → l.len ≡ 0 → written l ≡ [] → Says l (expected_words n)
+unfolding expected_words
+words-none zero l h e f = record { is = f; len = e }
+words-none (suc n) l h e f = let k : 12 < suc n = h (omega arith) in rw (lt-leb (suc n) 12 k, le-leb 1 (suc n) (omega arith)) (record { is = f; len = e })
 
-row_at : (k : ℕ) → k < 12 → (row_in rows 32 k ≡ expected_text (expected_of (suc k))) × (length (expected_text (expected_of (suc k))) ≤ 32)
-row_at k h =
-    let e = both _ _ (every-at (λ k. same_list (row_in rows 32 k) (expected_text (expected_of (suc k))) and leb (length (expected_text (expected_of (suc k)))) 32) 12 k rows_right h) in
-    ((same_list-test (row_in rows 32 k) (expected_text (expected_of (suc k)))).0 e.0, leb-true (length (expected_text (expected_of (suc k)))) 32 e.1)
-
--- ---- the words of a number
-
-module _ (n : ℕ) where
-  pub words-zero : (bs : List ℕ) → n ≡ 0 → Says (record { bytes = bs; len = 0 }) (expected_words n)
-  unfolding expected_words
-  words-zero bs h = rw h (record { is = written-empty bs; len = refl })
-
-  pub words-past : (bs : List ℕ) → 12 < n → Says (record { bytes = bs; len = 0 }) (expected_words n)
-  unfolding expected_words
-  words-past bs h = rw (le-leb 1 n (omega arith), lt-leb n 12 h) (record { is = written-empty bs; len = refl })
-
-  pub words-said : (l : Line) (z : List ℕ) → (n ≡ 0 → ⊥) → n ≤ 12 → length l.bytes ≡ line_room → z ≡ [] → written l ≡ plus z (row_in rows 32 (n - 1)) → Says l (expected_words n)
-  unfolding expected_words
-  words-said l z h g s e f =
-      let r = row_at (n - 1) (omega arith) in
-      let q : suc (n - 1) ≡ n = omega arith in
-      let x : List ℕ = expected_text (expected_of (suc (n - 1))) in
-      rw (le-leb 1 n (omega arith), le-leb n 12 g) (subst (λ (m : ℕ). Says l (expected_text (expected_of m))) q (says-short l z x e (f ∙ ap (plus z) r.0) (omega (arith, r.1)) s))
-
--- ---- by its number
-
-pub expected-past : (n : ℕ) → 12 ≤ n → Room ≡ expected_of n
-unfolding expected_of
-expected-past n h = sym (get_or-eq_default (Room ∷ Transactor ∷ Addressee ∷ Message ∷ Value ∷ Group ∷ WordTo ∷ WordText ∷ SixteenDigits ∷ Kind ∷ CommaOrBrace ∷ LineEnd ∷ []) Room {n = n} h)
-
-pub expected-at : (n : ℕ) → n < 12 → get_or (Room ∷ Transactor ∷ Addressee ∷ Message ∷ Value ∷ Group ∷ WordTo ∷ WordText ∷ SixteenDigits ∷ Kind ∷ CommaOrBrace ∷ LineEnd ∷ []) n Transactor ≡ expected_of n
-unfolding expected_of
-expected-at n h = read-within (Room ∷ Transactor ∷ Addressee ∷ Message ∷ Value ∷ Group ∷ WordTo ∷ WordText ∷ SixteenDigits ∷ Kind ∷ CommaOrBrace ∷ LineEnd ∷ []) n Transactor Room h
+pub words-said : (n : ℕ) (l : Line) (e : Expected) (z : List ℕ) → number_of e ≡ n → length l.bytes ≡ line_room → z ≡ [] → written l ≡ plus z (expected_text e) → Says l (expected_words n)
+unfolding expected_words
+words-said n l e z h s g f =
+    let a = number-some e in
+    let b = number-most e in
+    rw (← h, le-leb 1 (number_of e) a, le-leb (number_of e) 12 b, case-of-number e) (says-short l z (expected_text e) g f (omega (arith, text-short e)) s)
