@@ -1,2 +1,2 @@
 mod Cutting
-mod Loops
+pub mod Loops

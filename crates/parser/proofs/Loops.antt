@@ -9,7 +9,7 @@ use native.Mathlib.Nat.{add-zero, zero-add}
 use native.Mathlib.Omega.{arith}
 use borrow.Author.Tests.{le-leb, lt-leb, lt-ltb, le-ltb, eq-eqb, ne_eqb, leb-true}
 use lib.Dec.{eqb, ltb, leb}
-use lib.ListN.{length, take, drop, length-append, length-drop}
+use lib.ListN.{length, take, drop, length-append, length-drop, length-take}
 use Rattle.octets.specs.Bytes.{pick, put}
 use Rattle.octets.specs.Numbers.{be}
 use Rattle.octets.proofs.Chunks.{sides}
@@ -17,29 +17,30 @@ use Rattle.octets.proofs.Put.{put-nil, put-append}
 use Rattle.octets.proofs.Tests.{pick-view, never}
 use Rattle.rules.specs.declared.Step.{Step}
 use Rattle.rules.specs.Step.{step_bytes, pack_step}
-use Rattle.notation.specs.declared.Reader.{Reader}
-use Rattle.notation.specs.Reading.{not_lf, not_hash, run, next, good, nothing, room, line_at, empty_step, lines_of, said, Progress, with_step, line_read, lines_read, progress, outcome, read}
-use Rattle.notation.specs.declared.Parsed.{Parsed}
-use Rattle.notation.specs.declared.Expected.{Expected}
-use Rattle.notation.specs.declared.Parsed.TheVariants.{Steps, Fault}
-use Rattle.notation.specs.Parsing.{expected_of, answer_of, written_of, parsed_numbers}
-use Rattle.parser.specs.Internal.Parsing.{Line, Lines, other_than, line_of, bytes_of, Stored, Gone}
+use Rattle.notation.specs.Reading.{Reader, reached, not_lf, not_hash, run, next, good, nothing, room, line_at, empty_step, lines_of, said, Progress, with_step, line_read, lines_read, progress, outcome, read}
+use Rattle.std.proofs.Common.{Option, Some, None, Result, Ok, Err}
+use Rattle.std.specs.List.{take_while}
+use Rattle.scan.proofs.Walking.{run-taken}
+use Rattle.notation.specs.declared.Place.{Place}
+use Rattle.notation.specs.declared.Lack.{Lack}
+use Rattle.notation.specs.declared.Fault.{Fault}
+use Rattle.notation.specs.Parsing.{answer_of, written_of, parsed_numbers, Answers}
+use Rattle.notation.proofs.Expecting.{number-some, case-of-number}
+use Rattle.parser.specs.Internal.Parsing.{Line, other_than, line_of, Gives, bytes_of, bytes_said, Stored, Gone}
 use Rattle.rules.proofs.Pack.Steps.{length-pack_step}
-use Rattle.notation.proofs.Within.{run-most, line-within}
+use Rattle.notation.proofs.Within.{run-most, next-within, line-within}
 use Rattle.notation.proofs.Lines.{reading}
 use Rattle.parser.proofs.Cutting.{lines_cut, lines_none}
 use Rattle.notation.proofs.Faults.{stays, goes_on}
 
 -- ---- the end of a line, and of what it says
 
-module _ (b c : ℕ) where
-  pub other-on : not (eqb c b) ≡ true → other_than b c ≡ true
-  unfolding other_than
-  other-on e = e
+pub other-taken : (b : ℕ) (s : List ℕ) (at n : ℕ) → n ≡ length (take_while (other_than b) (drop at s)) → at + n ≡ at + run (other_than b) (drop at s)
+other-taken b s at n e = rw (e, run-taken (other_than b) (drop at s))
 
-  pub other-off : not (eqb c b) ≡ false → other_than b c ≡ false
-  unfolding other_than
-  other-off e = e
+pub other-test : (b c : ℕ) → not (eqb c b) ≡ other_than b c
+unfolding other_than
+other-test b c = refl
 
 to-LF : (l : List ℕ) → run (other_than 10) l ≡ run not_lf l
 unfolding other_than not_lf
@@ -53,36 +54,36 @@ module _ (l : List ℕ) (end : ℕ) (e : end ≡ 0 + run (other_than 35) (drop 0
   pub said-inside : end ≤ length l
   said-inside = omega (arith, run-most (other_than 35) l)
 
-  pub said-is : take (end - 0) (drop 0 l) ≡ said l
+  said-is : take end l ≡ said l
   unfolding said
-  said-is = let z : end - 0 ≡ run (other_than 35) l = omega arith in ap (λ (n : ℕ). take n l) (z ∙ to-hash l)
+  said-is = let z : end ≡ run (other_than 35) l = omega arith in ap (λ (n : ℕ). take n l) (z ∙ to-hash l)
 
-  pub line-said : (free : Bool) (y : Line) → y ≡ line_of free (take (end - 0) (drop 0 l)) → y ≡ line_of free (said l)
-  line-said free y f = f ∙ ap (line_of free) said-is
+  pub line-said : (free : Bool) (r : Result (Option Step) Lack) → Gives r (line_of free (take end l)) → Gives r (line_of free (said l))
+  line-said free r g = subst (λ (x : List ℕ). Gives r (line_of free x)) said-is g
 
 -- ---- one line
 
 module _ (s : List ℕ) (free : Bool) (k : ℕ) (e : k ≡ next s 0) where
-  pub bare-none : length s ≤ k → ◌≡◌ {A = Line} (record { said = false; step = empty_step 0; column = 0; expected = 0 }) (line_of free s)
+  pub bare-none : length s ≤ k → Gives (Ok None) (line_of free s)
   unfolding line_of
-  bare-none h = rw (← e, le-ltb k (length s) h)
+  bare-none h = rw (← e, le-ltb k (length s) h) (refl, refl)
 
-  module _ (h : k < length s) (r : Reader) (f : r ≡ line_at s k) where
-    pub bare-inside : r.at ≤ length s
-    bare-inside = subst (λ (x : Reader). x.at ≤ length s) (sym f) (line-within s k (omega arith))
-
-    pub bare-fault : (r.expected ≡ 0 → ⊥) → ◌≡◌ {A = Line} (record { said = false; step = r.step; column = r.at + 1; expected = r.expected }) (line_of free s)
+  module _ (h : k < length s) where
+    pub bare-fault : (l : Lack) → Answers (Err l) (line_at s k) → Gives (Err l) (line_of free s)
     unfolding line_of
-    bare-fault n = rw (← e, lt-ltb k (length s) h, ← f, ne_eqb r.expected 0 n, add-one)
+    bare-fault l f =
+        let n = number-some l.expected in
+        let z : good (line_at s k) ≡ false = ne_eqb (line_at s k).expected 0 (λ q. absurd (omega (arith, f.1))) in
+        rw (← e, lt-ltb k (length s) h, z) (ap suc f.0, f.1)
 
-    module _ (g : r.expected ≡ 0) where
-      pub bare-full : free ≡ false → ◌≡◌ {A = Line} (record { said = false; step = r.step; column = k + 1; expected = 12 }) (line_of free s)
+    module _ (r : Place) (f : line_at s k ≡ reached r.at r.step) where
+      pub bare-full : free ≡ false → ((line_of free s).column ≡ suc k) × ((line_of free s).expected ≡ 12)
       unfolding line_of
-      bare-full n = rw (← e, lt-ltb k (length s) h, ← f, eq-eqb r.expected 0 g, n, add-one)
+      bare-full n = rw (← e, lt-ltb k (length s) h, f, n) (refl, refl)
 
-      pub bare_step : free ≡ true → ◌≡◌ {A = Line} (record { said = true; step = r.step; column = 0; expected = 0 }) (line_of free s)
+      pub bare_step : free ≡ true → Gives (Ok (Some r.step)) (line_of free s)
       unfolding line_of
-      bare_step n = rw (← e, lt-ltb k (length s) h, ← f, eq-eqb r.expected 0 g, n)
+      bare_step n = rw (← e, lt-ltb k (length s) h, f, n) (refl, refl, refl)
 
 -- only where there is room
 said-free : (s : List ℕ) (free : Bool) → (line_of free s).said ≡ true → free ≡ true
@@ -109,36 +110,61 @@ length-bytes y = go y.said
     go true = length-pack_step y.step
     go false = refl
 
-module _ (w : Bool) (l : List ℕ) (at : ℕ) (y : Line) where
-  pub stored-none : y.said ≡ false → Stored w l l at (bytes_of y) at
-  unfolding bytes_of
-  stored-none e = record {
-    is = rw e (go w);
-    ends = rw e (sym (add-zero at));
-  }
+module _ (w : Bool) (l : List ℕ) (at : ℕ) (o : Option Step) where
+  pub stored-none : o ≡ None → Stored w l l at (bytes_said o) at
+  stored-none e = rw e (record { is = go w; ends = sym (add-zero at) })
     where
       go : (t : Bool) → l ≡ pick t (put at [] l) l
       go true = put-nil at l
       go false = refl
 
-  pub stored-kept : w ≡ false → y.said ≡ true → Stored w l l at (bytes_of y) (at + 8)
-  stored-kept f e = record { is = rw f; ends = rw (length-bytes y, e) }
+  module _ (p : Step) (e : o ≡ Some p) where
+    pub stored-kept : w ≡ false → Stored w l l at (bytes_said o) (at + 8)
+    stored-kept f = rw e (record { is = rw f; ends = rw (length-pack_step p) })
 
-  pub stored-put : w ≡ true → y.said ≡ true → (l' : List ℕ) → l' ≡ put at (pack_step y.step) l → Stored w l l' at (bytes_of y) (at + 8)
-  unfolding bytes_of
-  stored-put f e l' g = record { is = rw (f, e) g; ends = ap (λ (n : ℕ). at + n) (sym (length-pack_step y.step)) ∙ rw e }
+    pub stored-put : w ≡ true → (l' : List ℕ) → l' ≡ put at (pack_step p) l → Stored w l l' at (bytes_said o) (at + 8)
+    stored-put f l' g = rw e (record { is = rw f g; ends = rw (length-pack_step p) })
+
+    pub put-fits : (most : ℕ) → at + length (bytes_said o) ≤ most → at + 8 ≤ most
+    put-fits most h = let k = rw e at h in omega (arith, length-pack_step p)
+
+    pub put-room : (most : ℕ) → w ≡ true → (pick w most 0 ≤ length l) × (at + length (bytes_said o) ≤ most) → at + 8 ≤ length l
+    put-room most f h =
+        let a = rw f at h.0 in
+        omega (arith, put-fits most h.1)
+
+-- what the code gives is the line's
+gives-bytes : (o : Option Step) (y : Line) → Gives (Ok o) y → bytes_said o ≡ bytes_of y
+unfolding bytes_of
+gives-bytes None y g = rw g.0
+gives-bytes (Some p) y g = rw (g.0, g.1)
+
+gives-none : (o : Option Step) (y : Line) → Gives (Ok o) y → y.expected ≡ 0
+gives-none None y g = g.1
+gives-none (Some p) y g = g.2
+
+gives-some : (l : Lack) (y : Line) → Gives (Err l) y → 0 < y.expected
+gives-some l y g = omega (arith, number-some l.expected, g.1)
+
+-- a fault is in the line, or right behind it
+line-columns : (free : Bool) (s : List ℕ) → (line_of free s).column ≤ suc (length s)
+unfolding line_of
+line-columns free s =
+    let n = next-within s 0 (omega arith) in
+    let l = line-within s (next s 0) n in
+    pick-view (λ (y : Line). y.column ≤ suc (length s)) (ltb (next s 0) (length s)) _ _
+    (λ a. pick-view (λ (y : Line). y.column ≤ suc (length s)) (good (line_at s (next s 0))) _ _
+    (λ b. pick-view (λ (y : Line). y.column ≤ suc (length s)) free _ _ (λ f. omega arith) (λ f. omega arith))
+    (λ b. omega arith))
+    (λ a. omega arith)
+
+length-said : (l : List ℕ) → length (said l) ≤ length l
+unfolding said
+length-said l = omega (arith, length-take (run not_hash l) l)
 
 pub packed-put : (l l' : List ℕ) (at : ℕ) (p : Step) → l' ≡ put at ((16 * p.kind + p.transactor) % 256 ∷ (16 * p.other + p.zero) % 256 ∷ p.message / 256 % 256 ∷ p.message % 256
     ∷ p.value / 256 / 256 / 256 % 256 ∷ p.value / 256 / 256 % 256 ∷ p.value / 256 % 256 ∷ p.value % 256 ∷ []) l → l' ≡ put at (pack_step p) l
 packed-put l l' at p e = e ∙ ap (λ (b : List ℕ). put at b l) (packed p)
-
-pub put-fits : (y : Line) (at most : ℕ) → y.said ≡ true → pick y.said (at + 8) at ≤ most → at + 8 ≤ most
-put-fits y at most e h = subst (λ (t : Bool). pick t (at + 8) at ≤ most) e h
-
-pub put-room : (w : Bool) (y : Line) (l : List ℕ) (at most : ℕ) → w ≡ true → y.said ≡ true → (pick w most 0 ≤ length l) × (pick y.said (at + 8) at ≤ most) → at + 8 ≤ length l
-put-room w y l at most e f h =
-    let a : most ≤ length l = subst (λ (t : Bool). pick t most 0 ≤ length l) e h.0 in
-    omega (arith, put-fits y at most f h.1)
 
 -- ---- line by line
 
@@ -223,15 +249,16 @@ module _ (most : ℕ) (text before : List ℕ) (write : Bool) where
       (sides (most - n) 8)
 
   module _ (now : List ℕ) (from at line : ℕ) (u : Upto most text before now write from at line) where
-    pub upto-end : length text ≤ from → Gone write before now (progress most text) (record { length = at; line = line; column = 0; expected = 0 })
+    pub upto-end : length text ≤ from → Gone write before now (progress most text) (Ok at)
     unfolding lines_read
     upto-end h =
         let e : reading u.list line ≡ progress most text = ap (λ (ls : List (List ℕ)). lines_read most ls (reading u.list line)) (sym (lines_none text from h)) ∙ u.rest in
-        subst (λ (x : Progress). Gone write before now x (record { length = at; line = line; column = 0; expected = 0 })) e
-        (record { is = u.is; long = sym u.long; line = refl; column = refl; expected = refl })
+        subst (λ (x : Progress). Gone write before now x (Ok at)) e (record { is = u.is; told = (sym u.long, refl) })
 
-    module _ (h : from < length text) (end : ℕ) (e : end ≡ from + run (other_than 10) (drop from text)) (y : Line)
-        (f : y ≡ line_of (leb 8 (most - at)) (said (take (end - from) (drop from text)))) where
+    module _ (h : from < length text) (end : ℕ) (e : end ≡ from + run (other_than 10) (drop from text)) where
+      abbrev y : Line
+      y = line_of (leb 8 (most - at)) (said (take (end - from) (drop from text)))
+
       pub end-inside : end ≤ length text
       end-inside = omega (arith, run-most (other_than 10) (drop from text), length-drop from text)
 
@@ -245,27 +272,38 @@ module _ (most : ℕ) (text before : List ℕ) (write : Bool) where
           let a : end ≡ from + run not_lf (drop from text) = e ∙ ap (λ (n : ℕ). from + n) (to-LF (drop from text)) in
           let l : List ℕ = take (end - from) (drop from text) in
           let b : y ≡ line_of (leb (length u.list + step_bytes) most) (said l) =
-          f ∙ ap (λ (t : Bool). line_of t (said l)) (free-same at u.fits ∙ ap (λ (n : ℕ). leb (n + step_bytes) most) (sym u.long)) in
+          ap (λ (t : Bool). line_of t (said l)) (free-same at u.fits ∙ ap (λ (n : ℕ). leb (n + step_bytes) most) (sym u.long)) in
           ap (lines_read most (lines_of (drop (end + 1) text))) (ap (after x) b ∙ sym (line_after most (said l) x))
           ∙ sym (goes_on most l (lines_of (drop (end + 1) text)) x refl)
           ∙ ap (λ (ls : List (List ℕ)). lines_read most ls x) (sym (lines_cut text from end h a))
           ∙ u.rest
 
-      pub upto-fault : (y.expected ≡ 0 → ⊥) → Gone write before now (progress most text) (record { length = at; line = line; column = y.column; expected = y.expected })
+      pub upto-fault : (l : Lack) → Gives (Err l) y → Gone write before now (progress most text) (Err (record { line = line; column = l.at + 1; expected = l.expected }))
       unfolding x
-      upto-fault n =
+      upto-fault l g =
           let z : Progress = record { list = u.list; line = line; column = y.column; expected = y.expected } in
-          let a : after x y ≡ z = rw (ne_eqb y.expected 0 n) in
-          let b : z ≡ progress most text = sym (stays most (lines_of (drop (end + 1) text)) z (omega arith)) ∙ ap (lines_read most (lines_of (drop (end + 1) text))) (sym a) ∙ turned in
-          subst (λ (v : Progress). Gone write before now v (record { length = at; line = line; column = y.column; expected = y.expected })) b
-          (record { is = u.is; long = sym u.long; line = refl; column = refl; expected = refl })
+          let n = gives-some l y g in
+          let a : after x y ≡ z = rw (ne_eqb y.expected 0 (λ q. absurd (omega arith))) in
+          let b : z ≡ progress most text = sym (stays most (lines_of (drop (end + 1) text)) z n) ∙ ap (lines_read most (lines_of (drop (end + 1) text))) (sym a) ∙ turned in
+          let f : Fault = record { line = line; column = l.at + 1; expected = l.expected } in
+          subst (λ (v : Progress). Gone write before now v (Err f)) b
+          (record { is = u.is; told = (refl, add-one l.at ∙ sym g.0, g.1) })
 
-      pub turn-room : pick y.said (at + 8) at ≤ most
+      -- a fault is in the line, or right behind it
+      pub lack-inside : (l : Lack) → Gives (Err l) y → l.at ≤ length text
+      lack-inside l g =
+          let m : List ℕ = take (end - from) (drop from text) in
+          let c = line-columns (leb 8 (most - at)) (said m) in
+          let d = length-said m in
+          let k = length-take (end - from) (drop from text) in
+          omega (arith, c, d, k, length-drop from text, g.0)
+
+      turn-room : pick y.said (at + 8) at ≤ most
       turn-room = go y.said refl
         where
           go : (t : Bool) → y.said ≡ t → pick t (at + 8) at ≤ most
           go true g =
-              let k = said-free (said (take (end - from) (drop from text))) (leb 8 (most - at)) (ap (λ (v : Line). v.said) (sym f) ∙ g) in
+              let k = said-free (said (take (end - from) (drop from text))) (leb 8 (most - at)) g in
               omega (arith, leb-true 8 (most - at) k, u.fits)
           go false g = u.fits
 
@@ -279,10 +317,13 @@ module _ (most : ℕ) (text before : List ℕ) (write : Bool) where
           go true a b = omega arith
           go false a b = omega arith
 
-      pub upto-again : y.expected ≡ 0 → pick write most 0 ≤ length before → (now' : List ℕ) (at' : ℕ) → length now' ≡ length now → Stored write now now' at (bytes_of y) at'
+      pub said-fits : (o : Option Step) → Gives (Ok o) y → at + length (bytes_said o) ≤ most
+      said-fits o g = rw (gives-bytes o y g) bytes_fit
+
+      again : y.expected ≡ 0 → pick write most 0 ≤ length before → (now' : List ℕ) (at' : ℕ) → length now' ≡ length now → Stored write now now' at (bytes_of y) at'
           → Upto most text before now' write (end + 1) at' (line + 1)
       unfolding x
-      upto-again g w now' at' s c =
+      again g w now' at' s c =
           let b : reading (u.list ++ bytes_of y) (suc line) ≡ after x y = rw (eq-eqb y.expected 0 g) in
           record {
             list = u.list ++ bytes_of y;
@@ -301,34 +342,32 @@ module _ (most : ℕ) (text before : List ℕ) (write : Bool) where
               ∙ put-append 0 u.list (bytes_of y) before (omega (arith, bytes_fit, u.long))
           go false m i = i
 
+      pub upto-again : (o : Option Step) → Gives (Ok o) y → pick write most 0 ≤ length before → (now' : List ℕ) (at' : ℕ) → length now' ≡ length now → Stored write now now' at (bytes_said o) at'
+          → Upto most text before now' write (end + 1) at' (line + 1)
+      upto-again o g w now' at' s c = again (gives-none o y g) w now' at' s (subst (λ (b : List ℕ). Stored write now now' at b at') (gives-bytes o y g) c)
+
 pub cut_inside : (text : List ℕ) (from end : ℕ) → from < length text → end ≡ from + run (other_than 10) (drop from text) → end ≤ length text
 cut_inside text from end h e = omega (arith, run-most (other_than 10) (drop from text), length-drop from text)
 
 -- ---- the answer
 
 -- the text read into before, as parse answers and leaves it
-abbrev pub Parses : List ℕ → List ℕ → List ℕ → Parsed → Type 0
+abbrev pub Parses : List ℕ → List ℕ → List ℕ → Result ℕ Fault → Type 0
 Parses text before now r = (parsed_numbers r ≡ parsed_numbers (answer_of (read (length before) text))) × (now ≡ written_of (read (length before) text) before)
 
-module _ (most : ℕ) (text before now : List ℕ) (r : Lines) (g : Gone false before now (progress most text) r) where
-  faulted : (r.expected ≡ 0 → ⊥) → eqb (progress most text).expected nothing ≡ false
-  faulted n = ne_eqb (progress most text).expected 0 (λ (q : (progress most text).expected ≡ 0). n (g.expected ∙ q))
-
-  faultless : r.expected ≡ 0 → eqb (progress most text).expected nothing ≡ true
-  faultless n = eq-eqb (progress most text).expected 0 (sym g.expected ∙ n)
-
-  said-fault : (r.expected ≡ 0 → ⊥) → (e : Expected) → e ≡ expected_of r.expected → Fault r.line r.column e ≡ answer_of (read most text)
+module _ (text before now : List ℕ) where
+  pub parsed-fault : (f : Fault) → Gone false before now (progress (length before) text) (Err f) → Parses text before now (Err f)
   unfolding read outcome
-  said-fault n e f = rw (faulted n, f, ← g.line, ← g.column, ← g.expected)
+  parsed-fault f g =
+      let n = number-some f.expected in
+      let z : eqb (progress (length before) text).expected nothing ≡ false = ne_eqb (progress (length before) text).expected 0 (λ q. absurd (omega (arith, g.told.2))) in
+      rw (z, ← g.told.0, ← g.told.1, g.told.2, case-of-number f.expected) (refl, g.is)
 
-module _ (text before now : List ℕ) (r : Lines) (g : Gone false before now (progress (length before) text) r) where
-  pub parsed-fault : (r.expected ≡ 0 → ⊥) → (e : Expected) → e ≡ expected_of r.expected → Parses text before now (Fault r.line r.column e)
+  pub parsed-steps : (n : ℕ) → Gone false before now (progress (length before) text) (Ok n) → (now' : List ℕ) (m : ℕ) → Gone true now now' (progress (length before) text) (Ok m) → Parses text before now' (Ok (m / 8))
   unfolding read outcome
-  parsed-fault n e f = (ap parsed_numbers (said-fault (length before) text before now r g n e f), rw (faulted (length before) text before now r g n) g.is)
+  parsed-steps n g now' m h =
+      let b : eqb (progress (length before) text).expected nothing ≡ true = eq-eqb (progress (length before) text).expected 0 g.told.1 in
+      rw (b, h.told.0) (refl, h.is ∙ ap (put 0 (progress (length before) text).list) g.is)
 
-  pub parsed-steps : (now' : List ℕ) (r' : Lines) → r.expected ≡ 0 → Gone true now now' (progress (length before) text) r' → Parses text before now' (Steps (r'.length / 8))
-  unfolding read outcome
-  parsed-steps now' r' n h =
-      let b = faultless (length before) text before now r g n in
-      let a : Steps (r'.length / 8) ≡ answer_of (read (length before) text) = rw (b, h.long) in
-      (ap parsed_numbers a, rw b (h.is ∙ ap (put 0 (progress (length before) text).list) g.is))
+  pub parsed-never : (n : ℕ) → Gone false before now (progress (length before) text) (Ok n) → (now' : List ℕ) (f : Fault) → Gone true now now' (progress (length before) text) (Err f) → ⊥
+  parsed-never n g now' f h = absurd (omega (arith, number-some f.expected, g.told.1, h.told.2))

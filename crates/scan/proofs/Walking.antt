@@ -31,7 +31,7 @@ run-prefix f (c ∷ l) = go (f c) (run-prefix f l)
     go true e = omega arith
     go false e = refl
 
-run-taken : (f : ℕ → Bool) (l : List ℕ) → run f l ≡ length (take_while f l)
+pub run-taken : (f : ℕ → Bool) (l : List ℕ) → run f l ≡ length (take_while f l)
 run-taken f l = run-prefix f l ∙ sym (length-prefix_len f l)
 
 pub all-passed : (f : ℕ → Bool) (l : List ℕ) → all f l ≡ list_all f l
