@@ -5,7 +5,8 @@
 // as document 01 packs it.
 #![tactic(auto)]
 
-use notation::{Expected, Parsed};
+use lines::Line;
+use notation::Fault;
 use std::io;
 
 // The longest text.
@@ -26,22 +27,22 @@ fn pack(rt: &impl Print, list: &[u8], n: usize) -> io::Result<()> {
 }
 
 // Writes the line of a fault.
-fn tell(to: &impl Print, line: usize, column: usize, expected: Expected) -> io::Result<()> {
+fn tell(to: &impl Print, fault: Fault) -> io::Result<()> {
+    let Fault {
+        line,
+        column,
+        expected,
+    } = fault;
     print!(to; "{line}:{column}: expected ")?;
-    let words = faults::expected_line(faults::number_of(expected));
+    let words = Line::EMPTY.word(faults::words(expected));
     writing::show(to, words.byte(b'\n'))?;
     Ok(())
 }
 
 fn assemble(rt: HostRuntime, text: &[u8], list: &mut [u8]) -> io::Result<()> {
-    let answer = parser::parse(text, list);
-    match answer {
-        Parsed::Steps(n) => pack(&rt, list, n),
-        Parsed::Fault {
-            line,
-            column,
-            expected,
-        } => tell(&rt.stderr(), line, column, expected),
+    match parser::parse(text, list) {
+        Ok(n) => pack(&rt, list, n),
+        Err(fault) => tell(&rt.stderr(), fault),
     }
 }
 

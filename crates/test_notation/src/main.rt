@@ -7,7 +7,8 @@
 
 use cases::lines::line_end;
 use cases::{bytes, print};
-use notation::{Expected, Parsed};
+use lines::Line;
+use notation::Fault;
 use std::io;
 
 // The longest script, the longest case, the list, and what it holds before.
@@ -35,9 +36,14 @@ fn decode(text: &mut [u8], line: &[u8]) {
     }
 }
 
-fn tell(to: &impl Print, line: usize, column: usize, expected: Expected) -> io::Result<()> {
+fn tell(to: &impl Print, fault: Fault) -> io::Result<()> {
+    let Fault {
+        line,
+        column,
+        expected,
+    } = fault;
     print!(to; " line {line} column {column}, expected ")?;
-    let words = faults::expected_line(faults::number_of(expected));
+    let words = Line::EMPTY.word(faults::words(expected));
     writing::show(to, words)?;
     Ok(())
 }
@@ -52,15 +58,10 @@ fn compare(to: &impl Print, list: &[u8]) -> io::Result<()> {
 }
 
 fn play(to: &impl Print, text: &[u8], list: &mut [u8]) -> io::Result<()> {
-    let answer = parser::parse(text, list);
-    match answer {
-        Parsed::Steps(n) => print::row(to, list, 0, n % 11 * 8),
-        Parsed::Fault {
-            line,
-            column,
-            expected,
-        } => {
-            tell(to, line, column, expected)?;
+    match parser::parse(text, list) {
+        Ok(n) => print::row(to, list, 0, n % 11 * 8),
+        Err(fault) => {
+            tell(to, fault)?;
             compare(to, list)
         }
     }
