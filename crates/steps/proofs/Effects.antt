@@ -20,7 +20,7 @@ use Rattle.rules.proofs.ByKind.Refused.{local_in}
 
 -- what a fall answers
 record RolledBack (e : Effect) : Type 0 where
-  small : e.outcome < 20
+  small : e.outcome < 16
   some : e.outcome ≡ done → ⊥
   silent : e.value ≡ 0
 
@@ -34,15 +34,15 @@ rolled y t x = go (eqb (own_history t x).count 0)
 
 -- e is the refusal r of take x, or else the effect l
 pub data Judged (r : ℕ) (x : Transactor) (l e : Effect) : Type 0 where
-  refused : 20 ≤ e.outcome → r ≡ e.outcome → e.transactor ≡ x → Judged r x l e
-  applied : e.outcome < 20 → r ≡ 0 → e ≡ l → Judged r x l e
+  refused : 16 ≤ e.outcome → r ≡ e.outcome → e.transactor ≡ x → Judged r x l e
+  applied : e.outcome < 16 → r ≡ 0 → e ≡ l → Judged r x l e
 
 module _ {r : ℕ} {x : Transactor} {l e : Effect} where
-  pub judged-refused : Judged r x l e → 20 ≤ e.outcome → (r ≡ e.outcome) × (e.transactor ≡ x)
+  pub judged-refused : Judged r x l e → 16 ≤ e.outcome → (r ≡ e.outcome) × (e.transactor ≡ x)
   judged-refused (refused n a b) h = (a, b)
   judged-refused (applied n a b) h = absurd (omega arith)
 
-  pub judged-applied : Judged r x l e → e.outcome < 20 → (r ≡ 0) × (e ≡ l)
+  pub judged-applied : Judged r x l e → e.outcome < 16 → (r ≡ 0) × (e ≡ l)
   judged-applied (refused n a b) h = absurd (omega arith)
   judged-applied (applied n a b) h = (a, b)
 
@@ -51,7 +51,7 @@ unfolding act_by local_refusal
 act-judged y k t v x =
     go (eqb x.status annihilated) (leb k fall and not (eqb x.status busy)) ((eqb k fall or eqb k fail) and not (own_history t x).stable and is_last_incarnation y t x) (local_by y k t v x) (omega (arith, local-small y t x k v))
   where
-    go : (a b c : Bool) (l : Effect) → l.outcome < 20
+    go : (a b c : Bool) (l : Effect) → l.outcome < 16
         → Judged (pick a 22 (pick b 23 (pick c 28 0))) x l (pick (not (eqb (pick a 22 (pick b 23 0)) 0)) (unchanged (pick a 22 (pick b 23 0)) x) (pick c (unchanged 28 x) l))
     go true b c l h = refused (omega arith) refl refl
     go false true c l h = refused (omega arith) refl refl

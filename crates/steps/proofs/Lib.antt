@@ -4,3 +4,4 @@ mod Images
 mod Locals
 mod Receiving
 mod Stepped
+pub mod Refused

@@ -51,12 +51,12 @@ module _ (img : List ℕ) (p : Step) (good : Good img) (formed : malformed p ≡
     judged : Judged (local_in base p.kind t x) x (local_by base p.kind t p.value x) effect
     judged = act-judged base p.kind t p.value x
 
-    pub local-refused : (r : Reply) → 20 ≤ o → r ≡ answer o 0 0 0 → Stepped img p r (back base img t bs)
+    pub local-refused : (r : Reply) → 16 ≤ o → r ≡ answer o 0 0 0 → Stepped img p r (back base img t bs)
     local-refused r b q =
         let e = judged-refused judged (omega (arith, acted.outcome)) in
         rw (lent_same img good t within effect acted e.1) (stepped-refused img p r good o (left ∙ e.0 ∙ sym acted.outcome) (λ z. omega arith) q)
 
-    pub local-done : o < 20 → Stepped img p (answer o t 0 v) (back base img t bs)
+    pub local-done : o < 16 → Stepped img p (answer o t 0 v) (back base img t bs)
     unfolding apply_local
     local-done b =
         let e = judged-applied judged (omega (arith, acted.outcome)) in

@@ -74,6 +74,10 @@ pub record Found (img : List ℕ) (p : Step) (k t : ℕ) : Type 0 where
   pub to : t ≡ (message_at (unpack base img) k).addressee
   pub waits : k < waiting_in base img
 
+-- as the search for its place and its head byte say
+pub found-at : {img : List ℕ} {p : Step} {n k t : ℕ} → Asked receive img p → Counted n img → (k ≡ place_of (unpack base img) p.message) × (k < n) → t ≡ (message_at (unpack base img) k).addressee → Found img p k t
+found-at a c f e = record { asked = a; place = f.0; to = e; waits = omega (arith, c.is) }
+
 module _ {img : List ℕ} {p : Step} {k t : ℕ} (found : Found img p k t) where
   abbrev s : State
   s = unpack base img
@@ -117,7 +121,7 @@ module _ {img : List ℕ} {p : Step} {k t : ℕ} (found : Found img p k t) where
     judged = receipt-judged base t x message
 
     -- 31 or 28
-    module _ (stays : 20 ≤ o) where
+    module _ (stays : 16 ≤ o) where
       unchanged : after ≡ img
       unchanged = acts.image ∙ ap (λ (z : Transactor). pack base (with_transactor s t z)) (judged-refused judged (omega (arith, acts.outcome))).1 ∙ sym (kept_at img good t)
 
@@ -128,8 +132,8 @@ module _ {img : List ℕ} {p : Step} {k t : ℕ} (found : Found img p k t) where
       pub refused-counted : {n : ℕ} → Counted n img → Counted n after
       refused-counted {n} = subst (Counted n) (sym unchanged)
 
-    module _ (goes : o < 20) where
-      small : taken.outcome < 20
+    module _ (goes : o < 16) where
+      small : taken.outcome < 16
       small = omega (arith, acts.outcome)
 
       accepts : refusal base s p ≡ 0

@@ -10,7 +10,8 @@ ghost use Rattle.rules.specs.Rules.{answer};
 ghost use Rattle.rules.specs.Pack.{waiting_in, unpack};
 ghost use Rattle.rules.specs.Internal.Well.{StepOk};
 ghost use Rattle.rules.specs.Internal.Good.{Good};
-ghost use Rattle.steps.specs.Internal.Stepped.{Stepped, Asked, Counted};
+ghost use Rattle.rules.specs.Numbers.{kind_number, refusal_in};
+ghost use Rattle.steps.specs.Internal.Stepped.{Stepped, Asked, Counted, reply_of};
 ghost use Rattle.rules.specs.Internal.Guards.{busy_in, room_in};
 ghost use Rattle.transactor.specs.Internal.Effects.{open_bytes};
 
@@ -18,7 +19,10 @@ use image::layout::{FIRST_TRANSACTOR, OPENED, TRANSACTOR};
 use image::{head, limits, messages};
 use lists::{fields, refusals};
 use maps::DependenceMap;
-use rules::{Reply, Step, numbers};
+use rules::kinds::Kind;
+use rules::outcomes::Outcome;
+use rules::refusals::Refusal;
+use rules::{Reply, Step};
 use transactor::receipt;
 
 // A reply that is an outcome or a refusal alone.
@@ -33,18 +37,31 @@ fn answered(number: u8) -> Reply
     }
 }
 
-// ---- 21 to 23, 26, 27
-
-fn busy_refusal(image: &[u8], t: u8) -> u8
-    requires { (length image.now ≡ image_bytes base) × (t < base.transactors) }
-    ensures { result ≡ busy_in (unpack base image.now) t }
+// A reply that names what was acted on or made.
+fn done(transactor: u8, message: u16) -> Reply
+    ensures { result ≡ answer 0 transactor message 0 }
 {
-    refusals::busy(head::opened(image), t, head::status(image, t as usize))
+    Reply {
+        outcome: Outcome::Done.number(),
+        transactor,
+        message,
+        value: 0,
+    }
 }
 
-fn room_refusal(image: &[u8], n: usize) -> u8
+// ---- 21 to 23, 26, 27
+
+fn check_busy(image: &[u8], t: u8) -> Result<(), Refusal>
+    requires { (length image.now ≡ image_bytes base) × (t < base.transactors) }
+    ensures { refusal_in result ≡ busy_in (unpack base image.now) t }
+{
+    let status = head::status(image, t as usize).number();
+    refusals::busy(head::opened(image), t, status)
+}
+
+fn check_room(image: &[u8], n: usize) -> Result<(), Refusal>
     requires { (length image.now ≡ image_bytes base) × (n ≡ waiting_in base image.now) }
-    ensures { result ≡ room_in (unpack base image.now) }
+    ensures { refusal_in result ≡ room_in (unpack base image.now) }
 {
     refusals::room(limits::messages(image) as usize, n, head::next(image))
 }
@@ -63,210 +80,172 @@ fn open(image: &mut [u8], c: u8, value: u32, creation: DependenceMap)
     image[OPENED] = c + 1;
 }
 
-fn root(image: &mut [u8], p: Step) -> Reply
+fn root(image: &mut [u8], p: Step) -> Result<Reply, Refusal>
     requires { Asked root image.old p }
-    ensures { Stepped image.old p result image.new }
+    ensures { Stepped image.old p (reply_of result) image.new }
 {
     let c = head::opened(image);
     if limits::transactors(image) <= c {
-        return answered(numbers::ALL_OPENED);
+        return Err(Refusal::AllOpened);
     }
     open(image, c, p.value, DependenceMap::empty());
-    Reply {
-        outcome: numbers::DONE,
-        transactor: c,
-        message: 0,
-        value: 0,
-    }
+    Ok(done(c, 0))
 }
 
-fn letter(image: &mut [u8], waiting: &mut usize, p: Step) -> Reply
+fn letter(image: &mut [u8], waiting: &mut usize, p: Step) -> Result<Reply, Refusal>
     requires { Asked letter image.old p × Counted waiting.old image.old }
-    ensures { Stepped image.old p result image.new × Counted waiting.new image.new }
+    ensures { Stepped image.old p (reply_of result) image.new × Counted waiting.new image.new }
 {
     let to = p.transactor;
     if head::opened(image) <= to {
-        return answered(numbers::UNOPENED);
+        return Err(Refusal::Unopened);
     }
     let n = *waiting;
-    let r = room_refusal(image, n);
-    if r != 0 {
-        return answered(r);
-    }
+    check_room(image, n)?;
     let number = head::next(image);
     messages::append_empty(image, n, to, p.value);
     *waiting = n + 1;
-    Reply {
-        outcome: numbers::DONE,
-        transactor: to,
-        message: number,
-        value: 0,
-    }
+    Ok(done(to, number))
 }
 
-fn receive(image: &mut [u8], waiting: &mut usize, p: Step) -> Reply
+fn receive(image: &mut [u8], waiting: &mut usize, p: Step) -> Result<Reply, Refusal>
     requires { Asked receive image.old p × Counted waiting.old image.old }
-    ensures { Stepped image.old p result image.new × Counted waiting.new image.new }
+    ensures { Stepped image.old p (reply_of result) image.new × Counted waiting.new image.new }
 {
     let n = *waiting;
-    let k = messages::place_of(image, n, p.message);
-    if n <= k {
-        return answered(numbers::NOT_WAITING);
-    }
+    let Some(k) = messages::place_of(image, n, p.message) else {
+        return Err(Refusal::NotWaiting);
+    };
     let t = messages::addressee(image, k);
-    let r = refusals::receiver(head::status(image, t));
-    if r != 0 {
-        return answered(r);
-    }
+    refusals::receiver(head::status(image, t).number())?;
     let content = messages::content(image, k);
-    let a = receipt::accept(image, t, k);
-    let outcome = a.outcome;
-    // 28 or 31: the message stays
-    if refusals::is_refusal(outcome) {
-        return answered(outcome);
-    }
+    // refused as 28 or 31, the message stays
+    let outcome = receipt::accept(image, t, k)?.outcome;
     messages::remove(image, k, n);
     *waiting = n - 1;
-    let value = if outcome == numbers::DONE { content } else { 0 };
-    Reply {
-        outcome,
+    let value = if outcome == Outcome::Done { content } else { 0 };
+    Ok(Reply {
+        outcome: outcome.number(),
         transactor: t as u8,
         message: p.message,
         value,
-    }
+    })
 }
 
-fn new(image: &mut [u8], p: Step) -> Reply
+fn new(image: &mut [u8], p: Step) -> Result<Reply, Refusal>
     requires { Asked new image.old p }
-    ensures { Stepped image.old p result image.new }
+    ensures { Stepped image.old p (reply_of result) image.new }
 {
     let t = p.transactor as usize;
-    let r = busy_refusal(image, p.transactor);
-    if r != 0 {
-        return answered(r);
-    }
+    check_busy(image, p.transactor)?;
     let child = head::opened(image);
     if limits::transactors(image) <= child {
-        return answered(numbers::ALL_OPENED);
+        return Err(Refusal::AllOpened);
     }
     let at = FIRST_TRANSACTOR + TRANSACTOR * t;
     let end = at + TRANSACTOR;
     let creation = transactor::carry(&image[at..end], t);
     transactor::adopt(&mut image[at..end], child as usize);
     open(image, child, p.value, creation);
-    Reply {
-        outcome: numbers::DONE,
-        transactor: child,
-        message: 0,
-        value: 0,
-    }
+    Ok(done(child, 0))
 }
 
-fn send(image: &mut [u8], waiting: &mut usize, p: Step) -> Reply
+fn send(image: &mut [u8], waiting: &mut usize, p: Step) -> Result<Reply, Refusal>
     requires { Asked send image.old p × Counted waiting.old image.old }
-    ensures { Stepped image.old p result image.new × Counted waiting.new image.new }
+    ensures { Stepped image.old p (reply_of result) image.new × Counted waiting.new image.new }
 {
     let t = p.transactor as usize;
     let to = p.other;
     if head::opened(image) <= to {
-        return answered(numbers::UNOPENED);
+        return Err(Refusal::Unopened);
     }
-    let w = busy_refusal(image, p.transactor);
-    if w != 0 {
-        return answered(w);
-    }
+    check_busy(image, p.transactor)?;
     let n = *waiting;
-    let r = room_refusal(image, n);
-    if r != 0 {
-        return answered(r);
-    }
+    check_room(image, n)?;
     let number = head::next(image);
     messages::append(image, n, to, p.value, t);
     *waiting = n + 1;
-    Reply {
-        outcome: numbers::DONE,
-        transactor: p.transactor,
-        message: number,
-        value: 0,
-    }
+    Ok(done(p.transactor, number))
 }
 
 // Kinds 5 to 10.
-fn local(image: &mut [u8], p: Step) -> Reply
-    requires { Good image.old × StepOk p × (malformed p ≡ false) × (5 ≤ p.kind) × (p.kind ≤ 10) }
-    ensures { Stepped image.old p result image.new }
+fn local(image: &mut [u8], p: Step, kind: Kind) -> Result<Reply, Refusal>
+    requires { Good image.old × StepOk p × (malformed p ≡ false) × (kind_number kind ≡ p.kind) × (5 ≤ p.kind) × (p.kind ≤ 10) }
+    ensures { Stepped image.old p (reply_of result) image.new }
 {
     let t = p.transactor as usize;
     if (head::opened(image) as usize) <= t {
-        return answered(numbers::UNOPENED);
+        return Err(Refusal::Unopened);
     }
     let at = FIRST_TRANSACTOR + TRANSACTOR * t;
     let end = at + TRANSACTOR;
-    let a = transactor::act(&mut image[at..end], p.kind, t, p.value);
-    let outcome = a.outcome;
-    if refusals::is_refusal(outcome) {
-        return answered(outcome);
-    }
-    Reply {
-        outcome,
+    let acted = transactor::act(&mut image[at..end], kind, t, p.value)?;
+    Ok(Reply {
+        outcome: acted.outcome.number(),
         transactor: p.transactor,
         message: 0,
-        value: a.value,
-    }
+        value: acted.value,
+    })
 }
 
-fn lose(image: &mut [u8], waiting: &mut usize, p: Step) -> Reply
+fn lose(image: &mut [u8], waiting: &mut usize, p: Step) -> Result<Reply, Refusal>
     requires { Asked lose image.old p × Counted waiting.old image.old }
-    ensures { Stepped image.old p result image.new × Counted waiting.new image.new }
+    ensures { Stepped image.old p (reply_of result) image.new × Counted waiting.new image.new }
 {
     let n = *waiting;
-    let k = messages::place_of(image, n, p.message);
-    if n <= k {
-        return answered(numbers::NOT_WAITING);
-    }
+    let Some(k) = messages::place_of(image, n, p.message) else {
+        return Err(Refusal::NotWaiting);
+    };
     messages::remove(image, k, n);
     *waiting = n - 1;
-    Reply {
-        outcome: numbers::DONE,
-        transactor: 0,
-        message: p.message,
-        value: 0,
-    }
+    Ok(done(0, p.message))
 }
 
-fn sign(image: &mut [u8], p: Step) -> Reply
+fn sign(image: &mut [u8], p: Step) -> Result<Reply, Refusal>
     requires { Asked sign image.old p }
-    ensures { Stepped image.old p result image.new }
+    ensures { Stepped image.old p (reply_of result) image.new }
 {
     let group = p.message;
-    let r = group::refusal(image, group);
-    if r != 0 {
-        return answered(r);
-    }
+    group::check(image, group)?;
     if !group::ready(image, group) {
-        return answered(numbers::NOT_READY);
+        return Ok(answered(Outcome::NotReady.number()));
     }
     group::checkpoint(image, group);
-    answered(numbers::DONE)
+    Ok(answered(Outcome::Done.number()))
 }
 
-// One step, of any kind; the lent number is how many messages wait, before and after it.
+// A step that is well-formed, of any kind.
+fn tried(image: &mut [u8], waiting: &mut usize, p: Step) -> Result<Reply, Refusal>
+    requires { Good image.old × StepOk p × Counted waiting.old image.old }
+    ensures { Stepped image.old p (reply_of result) image.new × Counted waiting.new image.new }
+{
+    if fields::malformed(p) {
+        return Err(Refusal::Malformed);
+    }
+    let Ok(kind) = Kind::try_from(p.kind) else {
+        return Err(Refusal::Malformed);
+    };
+    match kind {
+        Kind::Root => root(image, p),
+        Kind::Letter => letter(image, waiting, p),
+        Kind::Receive => receive(image, waiting, p),
+        Kind::New => new(image, p),
+        Kind::Send => send(image, waiting, p),
+        Kind::Read | Kind::Write | Kind::Freeze | Kind::Finish | Kind::Fall | Kind::Fail => {
+            local(image, p, kind)
+        }
+        Kind::Lose => lose(image, waiting, p),
+        Kind::Sign => sign(image, p),
+    }
+}
+
+// One step, of any kind; the lent number is how many messages wait, before and after it. A refusal is told by its number alone.
 pub fn step(image: &mut [u8], waiting: &mut usize, p: Step) -> Reply
     requires { Good image.old × StepOk p × Counted waiting.old image.old }
     ensures { Stepped image.old p result image.new × Counted waiting.new image.new }
 {
-    if fields::malformed(p) {
-        return answered(numbers::MALFORMED);
-    }
-    let kind = p.kind;
-    match kind {
-        numbers::ROOT => root(image, p),
-        numbers::LETTER => letter(image, waiting, p),
-        numbers::RECEIVE => receive(image, waiting, p),
-        numbers::NEW => new(image, p),
-        numbers::SEND => send(image, waiting, p),
-        numbers::LOSE => lose(image, waiting, p),
-        numbers::SIGN => sign(image, p),
-        _ => local(image, p),
+    match tried(image, waiting, p) {
+        Ok(reply) => reply,
+        Err(refusal) => answered(refusal.number()),
     }
 }

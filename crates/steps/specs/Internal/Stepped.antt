@@ -1,10 +1,12 @@
 -- A step on an image: what the kinds ask and give.
-use Rattle.std.specs.Prelude.{ℕ, ◌≤◌, false, ◌≡◌, List}
+use Rattle.std.specs.Prelude.{ℕ, ◌≤◌, false, ◌≡◌, List, Result, Ok, Err}
 use Rattle.rules.specs.Layout.{base}
 use Rattle.rules.specs.declared.Step.{Step}
 use Rattle.rules.specs.declared.Reply.{Reply}
 use Rattle.rules.specs.Refusals.{malformed}
-use Rattle.rules.specs.Rules.{step_of}
+use Rattle.rules.specs.declared.refusals.Refusal.{Refusal}
+use Rattle.rules.specs.Numbers.{refusal_number}
+use Rattle.rules.specs.Rules.{answer, step_of}
 use Rattle.rules.specs.Pack.{waiting_in, pack, unpack}
 use Rattle.rules.specs.Internal.Well.{StepOk}
 use Rattle.rules.specs.Internal.Good.{Good}
@@ -25,3 +27,8 @@ pub record Asked (k : ℕ) (img : List ℕ) (p : Step) : Type 0 where
 pub record Counted (n : ℕ) (img : List ℕ) : Type 0 where
   pub is : n ≡ waiting_in base img
   pub few : n ≤ base.messages
+
+-- the reply to a step: a refusal is told by its number alone
+abbrev pub reply_of : Result Reply Refusal → Reply
+reply_of (Ok r) = r
+reply_of (Err e) = answer (refusal_number e) 0 0 0
