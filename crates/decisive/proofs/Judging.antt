@@ -13,8 +13,7 @@ use Rattle.octets.specs.Bytes.{pick, ◌and◌}
 use Rattle.octets.proofs.Chunks.{sides}
 use Rattle.marks.specs.declared.History.{History}
 use Rattle.maps.specs.declared.DependenceMap.{DependenceMap}
-use Rattle.maps.specs.declared.Comparison.{Comparison}
-use Rattle.maps.specs.declared.Comparison.TheVariants.{Superseded, Current}
+use Rattle.std.specs.Prelude.{Some, None, Option as RustOption}
 use Rattle.maps.specs.Map.{first_superseded, any_unrelated, answer_of}
 use Rattle.rules.specs.Layout.{Layout, base, state_at, creation_at, dependences_at, transactor_address, message_address}
 use Rattle.rules.specs.State.{Transactor, Message, State, transactor_at, message_at, own_history, place_of}
@@ -22,6 +21,8 @@ use Rattle.rules.specs.Step.{done, dropped}
 use Rattle.rules.specs.Refusals.{malformed}
 use Rattle.rules.specs.Rules.{is_some, join, known, message_unrelated, message_superseded, receiver_superseded, rollback, receipt_rolls_back, receipt_unrelated, refusal}
 use Rattle.rules.specs.Pack.{unpack_dependences, waiting_in, unpack}
+use Rattle.rules.specs.declared.refusals.Refusal.{Refusal}
+use Rattle.rules.specs.Numbers.{refusal_number}
 use Rattle.rules.specs.Internal.Guards.{first, receiver_refusal, is_last_incarnation, image_refusal}
 use Rattle.rules.proofs.ByKind.Guards.{first_taken, first-left, receiver-first}
 use Rattle.rules.proofs.ByKind.Refused.{refuses}
@@ -30,10 +31,12 @@ use Rattle.rules.proofs.Pack.Loads.{read-state, read-creation, read-dependences,
 use Rattle.rules.proofs.Pack.Sizes.{largest-base}
 use Rattle.form.proofs.Unsound.{image-refused, sound-long, sound-not}
 use Rattle.decisive.specs.declared.Decision.{Decision}
-use Rattle.decisive.specs.declared.Judged.{Judged}
 use Rattle.decisive.specs.Decision.{decider, decision_of, receiving, decision_refusal, undecided, decision_answer, DecisionPromise}
-use Rattle.decisive.specs.Internal.Judging.{refused_by, told_by, falls_by, settled_by, found_by, judged_by, judged_of}
+use Rattle.decisive.specs.Internal.Judging.{Judged, refused_by, told_by, falls_by, settled_by, found_by, judged_by, judged_of}
 use Rattle.decisive.proofs.Decisions.{outcome_by, decision-as}
+
+positive : (r : Refusal) → refusal_number r ≡ 0 → ⊥
+positive r e = grind arith
 
 -- ---- a fall
 
@@ -68,10 +71,10 @@ module _ (t : ℕ) (x : Transactor) (u : ℕ) {h : History} (e : h ≡ own_histo
 -- ---- by the two answers
 
 module _ (y : Layout) (t : ℕ) (x : Transactor) where
-  pub by-none : (q : Comparison) → q ≡ Current → {r : Judged} → r ≡ told_by done 0 → r ≡ settled_by y t x (answer_of q)
+  pub by-none : (q : RustOption ℕ) → q ≡ None → {r : Judged} → r ≡ told_by done 0 → r ≡ settled_by y t x (answer_of q)
   by-none q e f = rw e f
 
-  pub by-receiver : (q : Comparison) {v : ℕ} → q ≡ Superseded v → {r : Judged} → r ≡ falls_by y t x v → r ≡ settled_by y t x (answer_of q)
+  pub by-receiver : (q : RustOption ℕ) {v : ℕ} → q ≡ Some v → {r : Judged} → r ≡ falls_by y t x v → r ≡ settled_by y t x (answer_of q)
   by-receiver q e f = rw e f
 
 -- take t, and the parcel in place k that waits
@@ -101,16 +104,16 @@ module _ (y : Layout) (t : ℕ) (x : Transactor) (m : Message) {u : Bool} (e : u
   unfolding judged_by
   judged-unrelated z q = rw (← e, z) q
 
-  module _ (z : u ≡ false) (p q : Comparison) (f : answer_of p ≡ first_superseded y.transactors m.dependences (known y x)) (g : answer_of q ≡ first_superseded y.transactors (known y x) m.dependences) where
+  module _ (z : u ≡ false) (p q : RustOption ℕ) (f : answer_of p ≡ first_superseded y.transactors m.dependences (known y x)) (g : answer_of q ≡ first_superseded y.transactors (known y x) m.dependences) where
     judged-as : {r : Judged} → r ≡ found_by y t x (answer_of p) (answer_of q) → r ≡ judged_by y t x m
     unfolding judged_by
     judged-as w = rw (← e, z, ← f, ← g) w
 
-    pub judged-settled : p ≡ Current → {r : Judged} → r ≡ settled_by y t x (answer_of q) → r ≡ judged_by y t x m
-    judged-settled h {r} w = judged-as (w ∙ ap (λ (c : Comparison). found_by y t x (answer_of c) (answer_of q)) (sym h))
+    pub judged-settled : p ≡ None → {r : Judged} → r ≡ settled_by y t x (answer_of q) → r ≡ judged_by y t x m
+    judged-settled h {r} w = judged-as (w ∙ ap (λ (c : RustOption ℕ). found_by y t x (answer_of c) (answer_of q)) (sym h))
 
-    pub judged-dropped : {v : ℕ} → p ≡ Superseded v → {r : Judged} → r ≡ told_by dropped v → r ≡ judged_by y t x m
-    judged-dropped h {r} w = judged-as (w ∙ ap (λ (c : Comparison). found_by y t x (answer_of c) (answer_of q)) (sym h))
+    pub judged-dropped : {v : ℕ} → p ≡ Some v → {r : Judged} → r ≡ told_by dropped v → r ≡ judged_by y t x m
+    judged-dropped h {r} w = judged-as (w ∙ ap (λ (c : RustOption ℕ). found_by y t x (answer_of c) (answer_of q)) (sym h))
 
 -- ---- by number
 
@@ -213,40 +216,40 @@ module _ (img : List ℕ) (n k : ℕ) (place : k ≡ place_of (unpack base img) 
     settle true e = sym (decision-is (eqb-true (refusal base s (receiving n)) 0 e))
     settle false e = refl
 
-    -- g is what its status decides
-    module _ {st : ℕ} (e : st ≡ (transactor_at s t).status) (g : ℕ) (f : g ≡ receiver_refusal st) where
-      asked : g ≡ receiver_refusal (transactor_at s t).status
-      asked = f ∙ ap receiver_refusal e
+    module _ {st : ℕ} (e : st ≡ (transactor_at s t).status) where
+      asked : {g : ℕ} → g ≡ receiver_refusal st → g ≡ receiver_refusal (transactor_at s t).status
+      asked f = f ∙ ap receiver_refusal e
 
-      pub number-refused : (g ≡ 0 → ⊥) → {r : Judged} → r ≡ refused_by g → r ≡ judged_of base s n
+      -- r is what its status decides
+      pub number-refused : (r : Refusal) → refusal_number r ≡ receiver_refusal st → refused_by (refusal_number r) ≡ judged_of base s n
       unfolding judged_of
-      number-refused h q =
-          let z : refusal base s (receiving n) ≡ g = refusal-to ∙ first_taken (receiver_refusal (transactor_at s t).status) (refusal_idle t) g asked h in
-          rw (z, ne_eqb g 0 h) q
+      number-refused r f =
+          let h : refusal_number r ≡ 0 → ⊥ = positive r in
+          let z : refusal base s (receiving n) ≡ refusal_number r =
+          refusal-to ∙ first_taken (receiver_refusal (transactor_at s t).status) (refusal_idle t) (refusal_number r) (asked f) h in
+          rw (z, ne_eqb (refusal_number r) 0 h)
 
-      pub number-idle : g ≡ 0 → {r : Judged} → r ≡ judged_by base t x m → r ≡ judged_of base s n
+      pub number-idle : 0 ≡ receiver_refusal st → {r : Judged} → r ≡ judged_by base t x m → r ≡ judged_of base s n
       unfolding judged_of message_superseded receiver_superseded
-      number-idle h w =
-          let i : refusal base s (receiving n) ≡ why = refusal-to ∙ first-left (receiver_refusal (transactor_at s t).status) (refusal_idle t) g asked h in
+      number-idle f w =
+          let i : refusal base s (receiving n) ≡ why = refusal-to ∙ first-left (receiver_refusal (transactor_at s t).status) (refusal_idle t) 0 (asked f) refl in
           w ∙ judged-is
           ∙ sym (ap (λ (z : ℕ). record { refusal = z; decision = pick (eqb z 0) decided undecided }) i)
           ∙ ap (λ (d : Decision). record { refusal = refusal base s (receiving n); decision = d }) (settle (eqb (refusal base s (receiving n)) 0) refl)
 
 -- ---- the call
 
-module _ (img : List ℕ) (n r : ℕ) (is : r ≡ image_refusal base img) where
-  abbrev Refused : ℕ → Type 0
-  Refused z = DecisionPromise base img n z undecided
-
-  pub decide-refused : (r ≡ 0 → ⊥) → Refused r
+module _ (img : List ℕ) (n : ℕ) where
+  pub decide-refused : (r : Refusal) → refusal_number r ≡ image_refusal base img → DecisionPromise base img n (refusal_number r) undecided
   unfolding decision_refusal decision_answer
-  decide-refused = image-refused base img r is Refused
+  decide-refused r is = image-refused base img (refusal_number r) is (λ (z : ℕ). DecisionPromise base img n z undecided)
       (λ h. let e = wrong-length base img h in (rw e refl, rw e refl))
       (λ h e. let l = right-length base img h in (rw (l, e) refl, rw (l, e) refl))
+      (positive r)
 
-  pub decide-judged : r ≡ 0 → {j : Judged} → j ≡ judged_of base (unpack base img) n → DecisionPromise base img n j.refusal j.decision
+  pub decide-judged : 0 ≡ image_refusal base img → {j : Judged} → j ≡ judged_of base (unpack base img) n → DecisionPromise base img n j.refusal j.decision
   unfolding decision_refusal decision_answer judged_of
-  decide-judged z q =
-      let l = right-length base img (sound-long base img r is z) in
-      let e = sound-not base img r is z in
+  decide-judged is q =
+      let l = right-length base img (sound-long base img 0 is refl) in
+      let e = sound-not base img 0 is refl in
       (rw (l, e, q) refl, rw (l, e, q) refl)

@@ -1,10 +1,11 @@
 -- Two packed marks of one take compared: document 02, W3, and which of them is the newer, document 01, "Lives and marks".
-use Rattle.std.specs.Prelude.{ℕ, Bool, not, ◌≡◌, List, length, eqb}
+use Rattle.std.specs.Prelude.{ℕ, Bool, not, ◌≡◌, List, length, eqb, Result, Ok, Err}
 use Rattle.octets.specs.Bytes.{pick, ◌and◌}
 use Rattle.marks.specs.declared.History.{History}
 use Rattle.marks.specs.Packed.{width, places, history_size, bit, unpack_history, present_in, formed_history}
 use Rattle.marks.specs.History.{incarnation_of, is_older}
 use Rattle.marks.specs.Relation.{relation_of, relation_number}
+use Rattle.rules.specs.declared.refusals.Refusal.{Refusal}
 use Rattle.decisive.specs.declared.Compared.{Compared}
 
 -- The relation's number: 0 same life; 1, 2 earlier one signed, the left, the right one being the earlier; 3, 4 earlier one withdrawn, the
@@ -25,11 +26,18 @@ compare_refusal a b =
     (pick (not (is_history b)) 19 0)))
 
 -- refused: both 0
+abbrev pub uncompared : Compared
+uncompared = record { relation = 0; newer = 0 }
+
 unfoldable pub compare_answer : List ℕ → List ℕ → Compared
 compare_answer a b =
-    pick (eqb (compare_refusal a b) 0) (compared_of (unpack_history width places a) (unpack_history width places b))
-    (record { relation = 0; newer = 0 })
+    pick (eqb (compare_refusal a b) 0) (compared_of (unpack_history width places a) (unpack_history width places b)) uncompared
 
--- what the call promises: r is what the lent number takes
+-- what is told of an answer
+abbrev pub compared_in : Result Compared Refusal → Compared
+compared_in (Ok c) = c
+compared_in (Err r) = uncompared
+
+-- what the call promises: r is the number of the refusal, or 0
 abbrev pub ComparePromise : (a b : List ℕ) (r : ℕ) → Compared → Type 0
 ComparePromise a b r answer = (r ≡ compare_refusal a b) × (answer ≡ compare_answer a b)

@@ -1,6 +1,6 @@
 -- What the receipt of a waiting parcel would reply now, and by which take's marks: document 01, "Receive compares the parcel's map with state
 -- and creation maps joined."
-use Rattle.std.specs.Prelude.{ℕ, ◌<◌, true, false, not, ◌≡◌, List, eqb}
+use Rattle.std.specs.Prelude.{ℕ, ◌<◌, true, false, not, ◌≡◌, List, eqb, Result, Ok, Err}
 use Rattle.std.proofs.Math.Option.{Option, none, some}
 use Rattle.octets.specs.Bytes.{pick}
 use Rattle.maps.specs.declared.DependenceMap.{DependenceMap}
@@ -11,6 +11,7 @@ use Rattle.rules.specs.declared.Step.{Step}
 use Rattle.rules.specs.Step.{receive, done, dropped}
 use Rattle.rules.specs.Rules.{known, rollback, refusal, step_of}
 use Rattle.rules.specs.Pack.{unpack}
+use Rattle.rules.specs.declared.refusals.Refusal.{Refusal}
 use Rattle.rules.specs.Form.{well_formed}
 use Rattle.rules.specs.Calls.{wrong_length}
 use Rattle.decisive.specs.declared.Decision.{Decision}
@@ -59,7 +60,12 @@ undecided = record { outcome = 0; transactor = 0 }
 unfoldable pub decision_answer : Layout → List ℕ → ℕ → Decision
 decision_answer y img n = pick (eqb (decision_refusal y img n) 0) (decision_of y (unpack y img) n) undecided
 
--- what the call promises: r is what the lent number takes
+-- what is told of an answer
+abbrev pub decision_in : Result Decision Refusal → Decision
+decision_in (Ok d) = d
+decision_in (Err r) = undecided
+
+-- what the call promises: r is the number of the refusal, or 0
 abbrev pub DecisionPromise : Layout → (img : List ℕ) (n r : ℕ) → Decision → Type 0
 DecisionPromise y img n r d = (r ≡ decision_refusal y img n) × (d ≡ decision_answer y img n)
 

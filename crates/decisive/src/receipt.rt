@@ -6,63 +6,50 @@ ghost use Rattle.rules.specs.State.{transactor_at, message_at};
 ghost use Rattle.rules.specs.Rules.{known, message_unrelated};
 ghost use Rattle.rules.specs.Pack.{waiting_in, unpack};
 ghost use Rattle.rules.specs.Internal.Good.{Good};
-ghost use Rattle.decisive.specs.Decision.{DecisionPromise};
-ghost use Rattle.decisive.specs.Internal.Judging.{refused_by, told_by, falls_by, settled_by, judged_by, judged_of};
+ghost use Rattle.rules.specs.Numbers.{outcome_number, refusal_in};
+ghost use Rattle.decisive.specs.Decision.{DecisionPromise, decision_in};
+ghost use Rattle.decisive.specs.Internal.Judging.{judged_in, falls_by, settled_by, judged_by, judged_of};
 
-use crate::{Decision, Judged};
+use crate::Decision;
 use group::own;
 use image::layout::{CREATION, FIRST_TRANSACTOR, STATE, TRANSACTOR, map_at};
 use image::{head, messages};
 use lists::{limits, refusals};
-use maps::{Comparison, Comparisons};
-use rules::numbers;
+use maps::Comparisons;
+use rules::outcomes::Outcome;
+use rules::refusals::Refusal;
 
-fn refused(number: u8) -> Judged
-    ensures { result ≡ refused_by number }
+fn told(outcome: Outcome, transactor: usize) -> Decision
+    ensures { result ≡ record { outcome = outcome_number outcome; transactor = transactor } }
 {
-    Judged {
-        refusal: number,
-        decision: Decision {
-            outcome: 0,
-            transactor: 0,
-        },
-    }
-}
-
-fn told(outcome: u8, transactor: usize) -> Judged
-    ensures { result ≡ told_by outcome transactor }
-{
-    Judged {
-        refusal: 0,
-        decision: Decision {
-            outcome: outcome as usize,
-            transactor,
-        },
+    Decision {
+        outcome: usize::from(outcome.number()),
+        transactor,
     }
 }
 
 // The fall of transactor t, since its history of transactor u is superseded: 28 where it was checkpointed and is at the last incarnation.
-fn falls(image: &[u8], t: usize, u: usize) -> Judged
+fn falls(image: &[u8], t: usize, u: usize) -> Result<Decision, Refusal>
     requires { Good image.now × (t < base.transactors) }
-    ensures { result ≡ falls_by base t (transactor_at (unpack base image.now) t) u }
+    ensures { judged_in result ≡ falls_by base t (transactor_at (unpack base image.now) t) u }
 {
     let h = own(image, t);
     if h.count == 0 {
-        return told(numbers::VANISHED, u);
+        return Ok(told(Outcome::Vanished, u));
     }
     if h.incarnation == limits::LAST {
-        return refused(numbers::LAST_INCARNATION);
+        return Err(Refusal::LastIncarnation);
     }
-    told(numbers::FALLEN_BACK, u)
+    Ok(told(Outcome::FallenBack, u))
 }
 
 // Of a message that is not superseded: whether the receiver is.
-fn settled(image: &[u8], t: usize, receiver: Comparison) -> Judged
+fn settled(image: &[u8], t: usize, receiver: Option<usize>) -> Result<Decision, Refusal>
     requires { Good image.now × (t < base.transactors) }
-    ensures { result ≡ settled_by base t (transactor_at (unpack base image.now) t) (answer_of receiver) }
+    ensures { judged_in result ≡ settled_by base t (transactor_at (unpack base image.now) t) (answer_of receiver) }
 {
-    let Comparison::Superseded(u) = receiver else {
-        return told(numbers::DONE, 0);
+    let Some(u) = receiver else {
+        return Ok(told(Outcome::Done, 0));
     };
     falls(image, t, u)
 }
@@ -77,60 +64,43 @@ fn compared(image: &[u8], t: usize, k: usize) -> Comparisons
     let at = FIRST_TRANSACTOR + TRANSACTOR * t;
     let state = at + STATE;
     let creation = at + CREATION;
-    let m = map_at(k);
-    let known = packed_maps::joined(image, state, creation);
-    packed_maps::compare(known, image, m)
+    transactor::receipt::compared(image, state, creation, map_at(k))
 }
 
 // The message in place k, addressed to transactor t, which is idle: 31, 28, or the decision.
-fn judge(image: &[u8], t: usize, k: usize) -> Judged
+fn judge(image: &[u8], t: usize, k: usize) -> Result<Decision, Refusal>
     requires { Good image.now × (t < base.transactors) × (k < waiting_in base image.now) × (k < base.messages) }
-    ensures { result ≡ judged_by base t (transactor_at (unpack base image.now) t) (message_at (unpack base image.now) k) }
+    ensures { judged_in result ≡ judged_by base t (transactor_at (unpack base image.now) t) (message_at (unpack base image.now) k) }
 {
     let answers = compared(image, t, k);
     if answers.unrelated {
-        return refused(numbers::UNRELATED);
+        return Err(Refusal::Unrelated);
     }
-    let message = answers.packed;
-    let receiver = answers.own;
-    let Comparison::Superseded(u) = message else {
-        return settled(image, t, receiver);
+    let Some(u) = answers.packed else {
+        return settled(image, t, answers.own);
     };
-    told(numbers::DROPPED, u)
+    Ok(told(Outcome::Dropped, u))
 }
 
 // The message with this number: 24, 22, 23, or as judged.
-fn judge_numbered(image: &[u8], number: usize) -> Judged
+fn judge_numbered(image: &[u8], number: usize) -> Result<Decision, Refusal>
     requires { Good image.now }
-    ensures { result ≡ judged_of base (unpack base image.now) number }
+    ensures { judged_in result ≡ judged_of base (unpack base image.now) number }
 {
     let n = messages::waiting(image);
-    let k = messages::place_numbered(image, n, number);
-    if n <= k {
-        return refused(numbers::NOT_WAITING);
-    }
+    let Some(k) = messages::place_numbered(image, n, number) else {
+        return Err(Refusal::NotWaiting);
+    };
     let t = messages::addressee(image, k);
-    let r = refusals::receiver(head::status(image, t));
-    if r != 0 {
-        return refused(r);
-    }
+    refusals::receiver(head::status(image, t).number())?;
     judge(image, t, k)
 }
 
-// What the receipt of the waiting message with this number would reply now, and the first transactor whose histories decide it. The lent number
-// takes the refusal, 16, 19, or what the receipt would get, 24, 22, 23, 31 or 28, or 0; refused, both numbers are 0.
-pub fn decide(image: &[u8], number: usize, refusal: &mut u8) -> Decision
-    ensures { DecisionPromise base image.now number refusal.new result }
+// What the receipt of the waiting message with this number would reply now, and the first transactor whose histories decide it; refused as
+// 16, 19, or with what the receipt would get, 24, 22, 23, 31 or 28.
+pub fn decide(image: &[u8], number: usize) -> Result<Decision, Refusal>
+    ensures { DecisionPromise base image.now number (refusal_in result) (decision_in result) }
 {
-    let r = form::image_refusal(image);
-    if r != 0 {
-        *refusal = r;
-        return Decision {
-            outcome: 0,
-            transactor: 0,
-        };
-    }
-    let judged = judge_numbered(image, number);
-    *refusal = judged.refusal;
-    judged.decision
+    form::check_image(image)?;
+    judge_numbered(image, number)
 }

@@ -1,5 +1,5 @@
 -- A receipt judged without being done: its refusal, or what decides it.
-use Rattle.std.specs.Prelude.{ℕ, eqb}
+use Rattle.std.specs.Prelude.{ℕ, eqb, Result}
 use Rattle.std.proofs.Math.Option.{Option, none, some}
 use Rattle.octets.specs.Bytes.{pick}
 use Rattle.maps.specs.Map.{first_superseded}
@@ -8,8 +8,18 @@ use Rattle.rules.specs.State.{Transactor, Message, State}
 use Rattle.rules.specs.Step.{done, dropped}
 use Rattle.rules.specs.Rules.{known, message_unrelated, rollback, refusal}
 use Rattle.rules.specs.Internal.Guards.{is_last_incarnation}
-use Rattle.decisive.specs.declared.Judged.{Judged}
-use Rattle.decisive.specs.Decision.{decision_of, receiving, undecided}
+use Rattle.decisive.specs.declared.Decision.{Decision}
+use Rattle.rules.specs.declared.refusals.Refusal.{Refusal}
+use Rattle.rules.specs.Numbers.{refusal_in}
+use Rattle.decisive.specs.Decision.{decision_of, decision_in, receiving, undecided}
+
+-- the number of the refusal, or 0, and the decision
+pub record Judged : Type 0 where
+  pub refusal : ℕ
+  pub decision : Decision
+
+abbrev pub judged_in : Result Decision Refusal → Judged
+judged_in r = record { refusal = refusal_in r; decision = decision_in r }
 
 abbrev pub refused_by : ℕ → Judged
 refused_by n = record { refusal = n; decision = undecided }
