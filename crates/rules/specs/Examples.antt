@@ -1,5 +1,5 @@
 -- The three queries on a small session: names, a page set from them, and a page set from that page, whose sender had not read.
-use Rattle.std.specs.Prelude.{ℕ, true, ◌≡◌, List, [], ◌∷◌, ◌++◌}
+use Rattle.std.specs.Prelude.{ℕ, true, ◌≡◌, List, [], ◌∷◌, ◌++◌, Some}
 use Rattle.rules.specs.declared.Step.{Step}
 use Rattle.rules.specs.declared.Obstacle.TheVariants.{Unstable, Outside, SupersededOrAnnihilated}
 use Rattle.rules.specs.declared.Impediment.TheVariants as impediment
@@ -58,17 +58,17 @@ pub record Computed : Type 0 where
   pub working : (dependents_of three pages 0).unfinished ≡ 0
   pub page-working : (dependents_of three pages 1).unfinished ≡ 4
   -- page 2 is not ready: not frozen; frozen: it rests on page 1; with it: page 1 rests on the names
-  pub first : obstacle_of three pages 4 ≡ Unstable 2
-  pub second : obstacle_of three frozen 4 ≡ Outside 2 1
-  pub third : obstacle_of three frozen 6 ≡ Outside 1 0
+  pub first : obstacle_of three pages 4 ≡ Some (Unstable 2)
+  pub second : obstacle_of three frozen 4 ≡ Some (Outside 2 1)
+  pub third : obstacle_of three frozen 6 ≡ Some (Outside 1 0)
   -- and when the names vanish, page 1 rests on a withdrawn life, and page 2, which rests on page 1, still on a present one
-  pub fourth : obstacle_of three withdrawn 6 ≡ SupersededOrAnnihilated 1 0
-  pub fifth : obstacle_of three withdrawn 4 ≡ Outside 2 1
+  pub fourth : obstacle_of three withdrawn 6 ≡ Some (SupersededOrAnnihilated 1 0)
+  pub fifth : obstacle_of three withdrawn 4 ≡ Some (Outside 2 1)
   -- why there is no volume with page 2: the names are not frozen, and the chain goes by page 1; when they vanish, page 1 rests on a withdrawn life
-  pub sixth : impediment_of three frozen 2 ≡ impediment.Unstable 0 1
-  pub seventh : impediment_of three withdrawn 2 ≡ Hopeless 1 0 1
+  pub sixth : impediment_of three frozen 2 ≡ Some (impediment.Unstable 0 1)
+  pub seventh : impediment_of three withdrawn 2 ≡ Some (Hopeless 1 0 1)
   -- asked about the next, page 1: it is in the way itself
-  pub eighth : impediment_of three withdrawn 1 ≡ Hopeless 1 0 1
+  pub eighth : impediment_of three withdrawn 1 ≡ Some (Hopeless 1 0 1)
   -- what is left to do for page 2: freeze the names, sign all three; if the names are idle, wake them first; when they vanished, nothing helps
   pub plan : plan_of three frozen 2 ≡ pack_step (freezing 0) ++ pack_step (signing 7)
   pub woken : plan_of three rested 2 ≡ pack_step (waking 0) ++ pack_step (receipt 4) ++ pack_step (freezing 0) ++ pack_step (signing 7)

@@ -1,6 +1,6 @@
 -- Why no volume with a take could be signed. `smallest_group` says that none exists; this says which take is in the way, and by which of
 -- those that it rests on a chain leads there. (An obstacle of one volume misleads where no volume can help.)
-use Rattle.std.specs.Prelude.{ℕ, zero, suc, ◌≤◌, ◌<◌, Bool, true, false, not, ◌≡◌, List, eqb, ltb, leb}
+use Rattle.std.specs.Prelude.{ℕ, zero, suc, ◌≤◌, ◌<◌, Bool, true, false, not, ◌≡◌, List, eqb, ltb, leb, Option, Some, None}
 use Rattle.octets.specs.Bytes.{pick, ◌and◌, ◌or◌}
 use Rattle.marks.specs.declared.History.{History}
 use Rattle.marks.specs.Incarnation.{checkpointed_in, same_incarnation}
@@ -8,7 +8,7 @@ use Rattle.marks.specs.History.{incarnation_of}
 use Rattle.maps.specs.declared.DependenceMap.{DependenceMap}
 use Rattle.maps.specs.Map.{held_at, history_at}
 use Rattle.rules.specs.declared.Impediment.{Impediment}
-use Rattle.rules.specs.declared.Impediment.TheVariants.{Nothing, Hopeless, Exhausted, Unstable}
+use Rattle.rules.specs.declared.Impediment.TheVariants.{Hopeless, Exhausted, Unstable}
 use Rattle.rules.specs.Layout.{Layout}
 use Rattle.rules.specs.State.{State, transactor_at, own_history, live, place_from}
 use Rattle.rules.specs.Pack.{unpack}
@@ -28,11 +28,11 @@ pub record ImpedimentNumbers : Type 0 where
   -- the next take from the one asked about to the one in the way
   pub next : ℕ
 
-abbrev pub impediment_numbers : Impediment → ImpedimentNumbers
-impediment_numbers Nothing = record { kind = 0; transactor = 0; support = 0; next = 0 }
-impediment_numbers (Hopeless c u x) = record { kind = 1; transactor = c; support = u; next = x }
-impediment_numbers (Exhausted c x) = record { kind = 2; transactor = c; support = 0; next = x }
-impediment_numbers (Unstable c x) = record { kind = 3; transactor = c; support = 0; next = x }
+abbrev pub impediment_numbers : Option Impediment → ImpedimentNumbers
+impediment_numbers None = record { kind = 0; transactor = 0; support = 0; next = 0 }
+impediment_numbers (Some (Hopeless c u x)) = record { kind = 1; transactor = c; support = u; next = x }
+impediment_numbers (Some (Exhausted c x)) = record { kind = 2; transactor = c; support = 0; next = x }
+impediment_numbers (Some (Unstable c x)) = record { kind = 3; transactor = c; support = 0; next = x }
 
 -- ---- what is in the way
 
@@ -77,19 +77,19 @@ next_at s (suc k) c w = pick (through_at s k c w) (next_at s k c w) (next_at s k
 
 -- ---- the first that is one: all of kind 1 before those of kind 2, and these before those of kind 3
 
-unfoldable pub impediment_of : Layout → State → ℕ → Impediment
+unfoldable pub impediment_of : Layout → State → ℕ → Option Impediment
 impediment_of y s t =
     let n : ℕ = y.transactors in
     let c : ℕ → ℕ = λ kind. lowest_for y s kind t in
-    pick (ltb (c 1) n) (Hopeless (c 1) (lost_ground y s (c 1)) (next_at s n (c 1) t))
-    (pick (ltb (c 2) n) (Exhausted (c 2) (next_at s n (c 2) t))
-    (pick (ltb (c 3) n) (Unstable (c 3) (next_at s n (c 3) t)) Nothing))
+    pick (ltb (c 1) n) (Some (Hopeless (c 1) (lost_ground y s (c 1)) (next_at s n (c 1) t)))
+    (pick (ltb (c 2) n) (Some (Exhausted (c 2) (next_at s n (c 2) t)))
+    (pick (ltb (c 3) n) (Some (Unstable (c 3) (next_at s n (c 3) t))) None))
 
 -- ---- the call
 
 -- 16, 19, 21 and 22 as offer; refused: nothing
-unfoldable pub impediment_answer : Layout → List ℕ → ℕ → Impediment
-impediment_answer y img t = pick (eqb (query_refusal y img t) 0) (impediment_of y (unpack y img) t) Nothing
+unfoldable pub impediment_answer : Layout → List ℕ → ℕ → Option Impediment
+impediment_answer y img t = pick (eqb (query_refusal y img t) 0) (impediment_of y (unpack y img) t) None
 
 -- ---- for theorems: what each answer means, in the rules' words
 
@@ -104,14 +104,14 @@ pub record Leads (y : Layout) (s : State) (t c x : ℕ) : Type 0 where
   pub next : x ≡ next_at s y.transactors c t
   pub follows : Follows y s c t
 
-pub data Impedes (y : Layout) (s : State) (t : ℕ) : Impediment → Type 0 where
-  is-nothing : {v : ℕ} → Checkpointable y s t v → Impedes y s t Nothing
-  is-hopeless : {c u x : ℕ} {h : History} → Leads y s t c x → u < y.transactors → StandsIn s c u h → WithdrawnMark s u h → Impedes y s t (Hopeless c u x)
-  is-exhausted : {c x : ℕ} → Leads y s t c x → s.limits.checkpoints ≤ (own_history c (transactor_at s c)).count → Impedes y s t (Exhausted c x)
-  is-unstable : {c x : ℕ} → Leads y s t c x → (own_history c (transactor_at s c)).stable ≡ false → Impedes y s t (Unstable c x)
+pub data Impedes (y : Layout) (s : State) (t : ℕ) : Option Impediment → Type 0 where
+  is-nothing : {v : ℕ} → Checkpointable y s t v → Impedes y s t None
+  is-hopeless : {c u x : ℕ} {h : History} → Leads y s t c x → u < y.transactors → StandsIn s c u h → WithdrawnMark s u h → Impedes y s t (Some (Hopeless c u x))
+  is-exhausted : {c x : ℕ} → Leads y s t c x → s.limits.checkpoints ≤ (own_history c (transactor_at s c)).count → Impedes y s t (Some (Exhausted c x))
+  is-unstable : {c x : ℕ} → Leads y s t c x → (own_history c (transactor_at s c)).stable ≡ false → Impedes y s t (Some (Unstable c x))
 
 -- Asked about the next take on the chain, the call is not refused, and answers o but for the next of it.
-pub data Again (y : Layout) (img : List ℕ) : Impediment → Type 0 where
-  again-hopeless : {c u x : ℕ} → query_refusal y img x ≡ 0 → impediment_answer y img x ≡ Hopeless c u (next_at (unpack y img) y.transactors c x) → Again y img (Hopeless c u x)
-  again-exhausted : {c x : ℕ} → query_refusal y img x ≡ 0 → impediment_answer y img x ≡ Exhausted c (next_at (unpack y img) y.transactors c x) → Again y img (Exhausted c x)
-  again-unstable : {c x : ℕ} → query_refusal y img x ≡ 0 → impediment_answer y img x ≡ Unstable c (next_at (unpack y img) y.transactors c x) → Again y img (Unstable c x)
+pub data Again (y : Layout) (img : List ℕ) : Option Impediment → Type 0 where
+  again-hopeless : {c u x : ℕ} → query_refusal y img x ≡ 0 → impediment_answer y img x ≡ Some (Hopeless c u (next_at (unpack y img) y.transactors c x)) → Again y img (Some (Hopeless c u x))
+  again-exhausted : {c x : ℕ} → query_refusal y img x ≡ 0 → impediment_answer y img x ≡ Some (Exhausted c (next_at (unpack y img) y.transactors c x)) → Again y img (Some (Exhausted c x))
+  again-unstable : {c x : ℕ} → query_refusal y img x ≡ 0 → impediment_answer y img x ≡ Some (Unstable c (next_at (unpack y img) y.transactors c x)) → Again y img (Some (Unstable c x))

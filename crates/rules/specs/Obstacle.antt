@@ -1,5 +1,6 @@
 -- Why a volume can't be signed now. Students confuse frozen with signed and cannot see why a volume is not ready.
-use Rattle.std.specs.Prelude.{ℕ, zero, suc, ◌<◌, Bool, true, false, not, ◌≡◌, List, length, eqb}
+use Rattle.std.specs.Prelude.{ℕ, zero, suc, ◌<◌, Bool, true, false, not, ◌≡◌, List, length, eqb, Option, Some, None}
+use Rattle.std.specs.Option.{option_or}
 use Rattle.octets.specs.Bytes.{pick, ◌and◌}
 use Rattle.octets.specs.Numbers.{bound}
 use Rattle.marks.specs.declared.History.{History}
@@ -8,7 +9,7 @@ use Rattle.marks.specs.History.{incarnation_of}
 use Rattle.maps.specs.declared.DependenceMap.{DependenceMap}
 use Rattle.maps.specs.Map.{held_at, history_at}
 use Rattle.rules.specs.declared.Obstacle.{Obstacle}
-use Rattle.rules.specs.declared.Obstacle.TheVariants.{Nothing, Unstable, Outside, SupersededOrAnnihilated}
+use Rattle.rules.specs.declared.Obstacle.TheVariants.{Unstable, Outside, SupersededOrAnnihilated}
 use Rattle.rules.specs.Layout.{Layout, image_bytes}
 use Rattle.rules.specs.State.{State, transactor_at, own_history, live}
 use Rattle.rules.specs.Step.{done}
@@ -28,30 +29,22 @@ pub record ObstacleNumbers : Type 0 where
   -- the take that it rests on
   pub support : ℕ
 
-abbrev pub obstacle_numbers : Obstacle → ObstacleNumbers
-obstacle_numbers Nothing = record { kind = 0; transactor = 0; support = 0 }
-obstacle_numbers (Unstable t) = record { kind = 1; transactor = t; support = 0 }
-obstacle_numbers (Outside t u) = record { kind = 2; transactor = t; support = u }
-obstacle_numbers (SupersededOrAnnihilated t u) = record { kind = 3; transactor = t; support = u }
-
--- ---- the first that is one
-
-abbrev pub or_else : Obstacle → Obstacle → Obstacle
-or_else Nothing o = o
-or_else (Unstable t) o = Unstable t
-or_else (Outside t u) o = Outside t u
-or_else (SupersededOrAnnihilated t u) o = SupersededOrAnnihilated t u
+abbrev pub obstacle_numbers : Option Obstacle → ObstacleNumbers
+obstacle_numbers None = record { kind = 0; transactor = 0; support = 0 }
+obstacle_numbers (Some (Unstable t)) = record { kind = 1; transactor = t; support = 0 }
+obstacle_numbers (Some (Outside t u)) = record { kind = 2; transactor = t; support = u }
+obstacle_numbers (Some (SupersededOrAnnihilated t u)) = record { kind = 3; transactor = t; support = u }
 
 -- the first of f k, f (k + 1), .., n of them, that is one
-unfoldable pub first_of : (ℕ → Obstacle) → ℕ → ℕ → Obstacle
-first_of f k zero = Nothing
-first_of f k (suc n) = or_else (f k) (first_of f (suc k) n)
+unfoldable pub first_of : (ℕ → Option Obstacle) → ℕ → ℕ → Option Obstacle
+first_of f k zero = None
+first_of f k (suc n) = option_or (f k) (first_of f (suc k) n)
 
 -- ---- what keeps volume v from being signed
 
 -- take t is named and not frozen
-unfoldable pub unstable_at : State → ℕ → ℕ → Obstacle
-unstable_at s v t = pick (named v t and not (own_history t (transactor_at s t)).stable) (Unstable t) Nothing
+unfoldable pub unstable_at : State → ℕ → ℕ → Option Obstacle
+unstable_at s v t = pick (named v t and not (own_history t (transactor_at s t)).stable) (Some (Unstable t)) None
 
 -- m has a mark of take u that is "neither of a signed life nor of the present life of a named take"
 unfoldable pub blocks_in : State → ℕ → DependenceMap → ℕ → Bool
@@ -66,18 +59,18 @@ unfoldable pub ground_of : State → ℕ → ℕ → History → Obstacle
 ground_of s t u h = pick (is_present s u h) (Outside t u) (SupersededOrAnnihilated t u)
 
 -- the marks of take u in the maps of take t, state before creation
-unfoldable pub entry_obstacle : State → ℕ → ℕ → ℕ → Obstacle
+unfoldable pub entry_obstacle : State → ℕ → ℕ → ℕ → Option Obstacle
 entry_obstacle s v t u =
-    pick (blocks_in s v (transactor_at s t).state u) (ground_of s t u (history_at (transactor_at s t).state u))
-    (pick (blocks_in s v (transactor_at s t).creation u) (ground_of s t u (history_at (transactor_at s t).creation u)) Nothing)
+    pick (blocks_in s v (transactor_at s t).state u) (Some (ground_of s t u (history_at (transactor_at s t).state u)))
+    (pick (blocks_in s v (transactor_at s t).creation u) (Some (ground_of s t u (history_at (transactor_at s t).creation u))) None)
 
 -- the maps of take t, if it is named, entry by entry
-unfoldable pub map_obstacle : Layout → State → ℕ → ℕ → Obstacle
-map_obstacle y s v t = pick (named v t) (first_of (entry_obstacle s v t) 0 y.transactors) Nothing
+unfoldable pub map_obstacle : Layout → State → ℕ → ℕ → Option Obstacle
+map_obstacle y s v t = pick (named v t) (first_of (entry_obstacle s v t) 0 y.transactors) None
 
 -- the first named take that is not frozen; else the first mark, take by take and entry by entry
-unfoldable pub obstacle_of : Layout → State → ℕ → Obstacle
-obstacle_of y s v = or_else (first_of (unstable_at s v) 0 y.transactors) (first_of (map_obstacle y s v) 0 y.transactors)
+unfoldable pub obstacle_of : Layout → State → ℕ → Option Obstacle
+obstacle_of y s v = option_or (first_of (unstable_at s v) 0 y.transactors) (first_of (map_obstacle y s v) 0 y.transactors)
 
 -- ---- the call
 
@@ -88,8 +81,8 @@ obstacle_refusal y img v =
     (pick (not (well_formed y img)) 19 (signing_refusal (refusal y (unpack y img)) v))
 
 -- refused: nothing
-unfoldable pub obstacle_answer : Layout → List ℕ → ℕ → Obstacle
-obstacle_answer y img v = pick (eqb (obstacle_refusal y img v) 0) (obstacle_of y (unpack y img) v) Nothing
+unfoldable pub obstacle_answer : Layout → List ℕ → ℕ → Option Obstacle
+obstacle_answer y img v = pick (eqb (obstacle_refusal y img v) 0) (obstacle_of y (unpack y img) v) None
 
 -- ---- for theorems: what each answer means, in the rules' words
 
@@ -110,9 +103,9 @@ pub record WithdrawnMark (s : State) (u : ℕ) (h : History) : Type 0 where
   pub not-present : live (transactor_at s u) ≡ true → incarnation_of h ≡ incarnation_of (own_history u (transactor_at s u)) → ⊥
   pub not-checkpointed : live (transactor_at s u) ≡ true → Checkpointed (incarnation_of h) (incarnation_of (own_history u (transactor_at s u))) → ⊥
 
-pub data Obstructs (y : Layout) (s : State) (v : ℕ) : Obstacle → Type 0 where
-  is-ready : group_ready y s v ≡ true → Obstructs y s v Nothing
-  is-unstable : {t : ℕ} → t < y.transactors → named v t ≡ true → (own_history t (transactor_at s t)).stable ≡ false → Obstructs y s v (Unstable t)
+pub data Obstructs (y : Layout) (s : State) (v : ℕ) : Option Obstacle → Type 0 where
+  is-ready : group_ready y s v ≡ true → Obstructs y s v None
+  is-unstable : {t : ℕ} → t < y.transactors → named v t ≡ true → (own_history t (transactor_at s t)).stable ≡ false → Obstructs y s v (Some (Unstable t))
   is-outside : {t u : ℕ} {h : History} → t < y.transactors → u < y.transactors → named v t ≡ true → StandsIn s t u h
-      → live (transactor_at s u) ≡ true → incarnation_of h ≡ incarnation_of (own_history u (transactor_at s u)) → named v u ≡ false → Obstructs y s v (Outside t u)
-  is-withdrawn : {t u : ℕ} {h : History} → t < y.transactors → u < y.transactors → named v t ≡ true → StandsIn s t u h → WithdrawnMark s u h → Obstructs y s v (SupersededOrAnnihilated t u)
+      → live (transactor_at s u) ≡ true → incarnation_of h ≡ incarnation_of (own_history u (transactor_at s u)) → named v u ≡ false → Obstructs y s v (Some (Outside t u))
+  is-withdrawn : {t u : ℕ} {h : History} → t < y.transactors → u < y.transactors → named v t ≡ true → StandsIn s t u h → WithdrawnMark s u h → Obstructs y s v (Some (SupersededOrAnnihilated t u))

@@ -3,10 +3,10 @@
 -- them answered with outcome 0. For an example: take 1 is at work and rests on take 0, which is idle; neither is
 -- frozen, and the next parcel number is 5. The plan for take 1 is: letter to 0, receive 5, freeze 0, freeze 1,
 -- sign {0,1}.
-use Rattle.std.specs.Prelude.{ℕ, ◌+◌, ◌*◌, ◌-◌, ◌<◌, Bool, true, false, not, ◌≡◌, List, [], ◌++◌, length, get_or, eqb, ltb, leb}
+use Rattle.std.specs.Prelude.{ℕ, ◌+◌, ◌*◌, ◌-◌, ◌<◌, Bool, true, false, not, ◌≡◌, List, [], ◌++◌, length, get_or, eqb, ltb, leb, Option, Some, None}
 use Rattle.octets.specs.Bytes.{pick, ◌and◌, ◌or◌, part, chunks, zeros}
 use Rattle.rules.specs.declared.Impediment.{Impediment}
-use Rattle.rules.specs.declared.Impediment.TheVariants.{Nothing, Hopeless, Exhausted, Unstable}
+use Rattle.rules.specs.declared.Impediment.TheVariants.{Hopeless, Exhausted, Unstable}
 use Rattle.rules.specs.Layout.{Layout, last_number}
 use Rattle.rules.specs.Status.{idle}
 use Rattle.rules.specs.State.{State, transactor_at, own_history}
@@ -68,11 +68,11 @@ unfoldable pub resting_volume : Layout → State → ℕ → ℕ
 resting_volume y s t = group_of y.transactors (λ c. through_at s y.transactors c t)
 
 -- what is in the way, if anything is, can be mended by further steps: it is neither hopeless nor exhausted
-abbrev pub mendable : Impediment → Bool
-mendable Nothing = true
-mendable (Hopeless c u x) = false
-mendable (Exhausted c x) = false
-mendable (Unstable c x) = true
+abbrev pub mendable : Option Impediment → Bool
+mendable None = true
+mendable (Some (Hopeless c u x)) = false
+mendable (Some (Exhausted c x)) = false
+mendable (Some (Unstable c x)) = true
 
 -- the steps that sign volume g, packed; none if there is no room for a letter that is needed
 unfoldable pub steps_to_sign : Layout → State → ℕ → List ℕ

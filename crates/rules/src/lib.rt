@@ -62,10 +62,8 @@ pub struct Dependents {
 }
 
 // Why a group can't be checkpointed now: by the transactor whose maps are looked at first, and the one whose history is found there.
-#[derive(Clone, Copy)]
+#[derive(Clone, Copy, Debug, PartialEq, Eq)]
 pub enum Obstacle {
-    // It can.
-    Nothing,
     // A named transactor is not stable (document 01: frozen).
     Unstable(u8),
     // A named transactor rests on the present incarnation of one that is not named.
@@ -76,10 +74,8 @@ pub enum Obstacle {
 
 // Why no group with a transactor could be checkpointed: the transactor that is in the way, the asked one or one that it rests on; and last, the
 // next on a chain from the asked one to that, each resting on the present incarnation of the next: asked about, it has the same in its way.
-#[derive(Clone, Copy)]
+#[derive(Clone, Copy, Debug, PartialEq, Eq)]
 pub enum Impediment {
-    // One could.
-    Nothing,
     // It rests on an incarnation of the second one that is superseded or annihilated (document 01: withdrawn): it can't be checkpointed any
     // more, as long as it keeps its present incarnation.
     Hopeless(u8, u8, u8),

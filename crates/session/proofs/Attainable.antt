@@ -8,6 +8,7 @@ use native.Mathlib.Omega.{arith}
 use lib.ListN.{length}
 use lib.Dec.{eqb, ltb, leb}
 use borrow.Author.Tests.{eq-eqb, leb-false, le-leb, lt-ltb}
+use Rattle.std.specs.Prelude.{Option}
 use Rattle.octets.specs.Bytes.{Octets}
 use Rattle.octets.specs.Numbers.{bound}
 use Rattle.octets.proofs.Chunks.{sides}
@@ -128,7 +129,7 @@ module _ {y : Layout} (z : Fitting y) {img : List ℕ} {τ : Trace y img} {s : S
     mends-unspoilt : mendable (impediment_of y s t) ≡ true → Spoilt b t → ⊥
     mends-unspoilt e q =
         let h = spoilt-hopeless z k q in
-        false≢true (subst (λ (o : Impediment). mendable o ≡ true) h.3 e)
+        false≢true (subst (λ (o : Option Impediment). mendable o ≡ true) h.3 e)
 
     mends-room : mendable (impediment_of y s t) ≡ true → ExhaustedBelow b t → ⊥
     mends-room e f = go (live-or-not (b.holders f.transactor).status)
@@ -146,7 +147,7 @@ module _ {y : Layout} (z : Fitting y) {img : List ℕ} {τ : Trace y img} {s : S
     both-mend : (Spoilt b t → ⊥) → (ExhaustedBelow b t → ⊥) → mendable (impediment_of y s t) ≡ true
     both-mend fine spare = go (impediment_of y s t) refl (impediment-means z k t there)
       where
-        go : (o : Impediment) → impediment_of y s t ≡ o → ImpedimentMeans y s b t o → mendable o ≡ true
+        go : (o : Option Impediment) → impediment_of y s t ≡ o → ImpedimentMeans y s b t o → mendable o ≡ true
         go o e (means-nothing n q) = refl
         go o e (means-hopeless l rests wd) = absurd (fine (hopeless-spoilt z k e))
         go o e (means-exhausted {c} l h) = absurd (spare (record { transactor = c; through = l.through; full = h }))
@@ -155,7 +156,7 @@ module _ {y : Layout} (z : Fitting y) {img : List ℕ} {τ : Trace y img} {s : S
     lasting-doomed : mendable (impediment_of y s t) ≡ false → Doomed y s t
     lasting-doomed e = go (impediment_of y s t) refl (impediment-means z k t there) e
       where
-        go : (o : Impediment) → impediment_of y s t ≡ o → ImpedimentMeans y s b t o → mendable o ≡ false → Doomed y s t
+        go : (o : Option Impediment) → impediment_of y s t ≡ o → ImpedimentMeans y s b t o → mendable o ≡ false → Doomed y s t
         go o e (means-nothing n q) f = absurd (false≢true (sym f))
         go o e (means-hopeless l rests wd) f = hopeless-doomed z k e
         go o e (means-exhausted {c} l h) f = below-doomed (record { transactor = c; through = l.through; full = h })

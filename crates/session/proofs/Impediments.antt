@@ -8,6 +8,7 @@ use mathlib.Core.Logic.{◌⊎◌, inl, inr, ⊎_elim, ◌↔◌}
 use native.Mathlib.Omega.{arith}
 use lib.ListN.{length}
 use borrow.Author.Tests.{eq-eqb}
+use Rattle.std.specs.Prelude.{Option, Some}
 use Rattle.marks.specs.declared.History.{History}
 use Rattle.marks.specs.Incarnation.{Incarnation, Superseded, Checkpointed}
 use Rattle.marks.specs.History.{HistoryView, incarnation_of, view_of}
@@ -200,20 +201,20 @@ module _ {y : Layout} {s : State} (w : WellFormed y s) {b : Provenance} (r : Rel
 
 module _ {y : Layout} (z : Fitting y) {img : List ℕ} {τ : Trace y img} {s : State} {b : Provenance} (k : Point y img τ s b) where
   -- Hopeless is answered exactly about spoilt takes.
-  pub hopeless-spoilt : {t c u x : ℕ} → impediment_of y s t ≡ Hopeless c u x → Spoilt b t
+  pub hopeless-spoilt : {t c u x : ℕ} → impediment_of y s t ≡ Some (Hopeless c u x) → Spoilt b t
   hopeless-spoilt {t} {c} {u} e =
       let h = hopeless-at y s e in
       let l = live_to (well z k) (related z k) c (stands_live (well z k) h.below h.stands) in
       spread (well z k) (related z k) (on-withdrawn (stands-rests (well z k) (related z k) h.stands) (withdrawn-mark (well z k) (related z k) h.withdrawn))
       (through-to (well z k) (related z k) y.transactors c t l h.through)
 
-  pub spoilt-hopeless : {t : ℕ} → Spoilt b t → (c : ℕ) × (u : ℕ) × (x : ℕ) × (impediment_of y s t ≡ Hopeless c u x)
+  pub spoilt-hopeless : {t : ℕ} → Spoilt b t → (c : ℕ) × (u : ℕ) × (x : ℕ) × (impediment_of y s t ≡ Some (Hopeless c u x))
   spoilt-hopeless {t} q =
       let l = lost-in (well z k) (related z k) q in
       (_, _, _, hopeless-some y s t l.at l.support l.below l.ground-below l.through l.lost)
 
   -- And then no volume with the take is ready, after whatever steps, as long as it keeps its life.
-  pub hopeless-doomed : {t c u x : ℕ} → impediment_of y s t ≡ Hopeless c u x → Doomed y s t
+  pub hopeless-doomed : {t c u x : ℕ} → impediment_of y s t ≡ Some (Hopeless c u x) → Doomed y s t
   hopeless-doomed e = spoilt-doomed z (well z k) (related z k) (hopeless-spoilt e)
 
   -- What the answer about a live take means.
@@ -222,7 +223,7 @@ module _ {y : Layout} (z : Fitting y) {img : List ℕ} {τ : Trace y img} {s : S
       let alive = live_of (well z k) (related z k) t there in
       go (impedes z.transactors (well z k) t (live-low (well z k) t alive) alive)
     where
-      go : {o : Impediment} → Impedes y s t o → ImpedimentMeans y s b t o
+      go : {o : Option Impediment} → Impedes y s t o → ImpedimentMeans y s b t o
       go (is-nothing c) = means-nothing c.contains (record { bits = c.bits; signs = c.signs })
       go (is-hopeless l h stands m) = means-hopeless (onto (well z k) (related z k) l) (stands-rests (well z k) (related z k) stands) (withdrawn-mark (well z k) (related z k) m)
       go (is-exhausted {c} l h) = means-exhausted (onto (well z k) (related z k) l) (counted (well z k) (related z k) c h)
@@ -233,7 +234,7 @@ module _ {y : Layout} (z : Fitting y) {img : List ℕ} {τ : Trace y img} {s : S
       → ((u : ℕ) → RestsThrough b u t → length (b.holders u).history.incarnation.checkpoints < b.limits.checkpoints) → (v : ℕ) × (named v t ≡ true) × ReadyGroup y s v
   unspoilt-ready t there fine stable room = go (impediment_of y s t) refl (impediment-means t there)
     where
-      go : (o : Impediment) → impediment_of y s t ≡ o → ImpedimentMeans y s b t o → (v : ℕ) × (named v t ≡ true) × ReadyGroup y s v
+      go : (o : Option Impediment) → impediment_of y s t ≡ o → ImpedimentMeans y s b t o → (v : ℕ) × (named v t ≡ true) × ReadyGroup y s v
       go o e (means-nothing {v} n q) = (v, n, q)
       go o e (means-hopeless l rests wd) = absurd (fine (hopeless-spoilt e))
       go o e (means-exhausted {c} l h) = let q = room c l.through in absurd (omega arith)
@@ -247,10 +248,10 @@ impediment-answered {y} z {img} τ f t e = rw (eq-eqb (query_refusal y img t) 0 
 
 -- At the ledger's own layout: no hypothesis but the trace.
 module _ {img : List ℕ} {τ : Trace base img} {s : State} {b : Provenance} (k : Point base img τ s b) where
-  pub hopeless-exactly-base : (t : ℕ) → Spoilt b t ↔ ((c : ℕ) × (u : ℕ) × (x : ℕ) × (impediment_of base s t ≡ Hopeless c u x))
+  pub hopeless-exactly-base : (t : ℕ) → Spoilt b t ↔ ((c : ℕ) × (u : ℕ) × (x : ℕ) × (impediment_of base s t ≡ Some (Hopeless c u x)))
   hopeless-exactly-base t = (λ q. spoilt-hopeless fitting-base k q, λ e. hopeless-spoilt fitting-base k e.3)
 
-  pub hopeless-doomed-base : {t c u x : ℕ} → impediment_of base s t ≡ Hopeless c u x → Doomed base s t
+  pub hopeless-doomed-base : {t c u x : ℕ} → impediment_of base s t ≡ Some (Hopeless c u x) → Doomed base s t
   hopeless-doomed-base e = hopeless-doomed fitting-base k e
 
   pub impediment-means-base : (t : ℕ) → Live (b.holders t).status → ImpedimentMeans base s b t (impediment_of base s t)

@@ -6,6 +6,7 @@ use mathlib.Core.Path.{◌≡◌, refl, ap, sym, ◌∙◌, subst}
 use native.Mathlib.Omega.{arith}
 use lib.Dec.{leb}
 use borrow.Author.Tests.{eq-eqb, leb-false}
+use Rattle.std.specs.Prelude.{Option, Some, None}
 use Rattle.octets.specs.Numbers.{bound}
 use Rattle.octets.proofs.Tests.{pick-zero}
 use Rattle.marks.specs.declared.History.{History}
@@ -72,20 +73,20 @@ module _ {y : Layout} {s : State} (w : WellFormed y s) {b : Provenance} (r : Rel
 -- ---- what each answer means in the book
 
 module _ {y : Layout} (z : Fitting y) {img : List ℕ} {τ : Trace y img} {s : State} {b : Provenance} (k : Point y img τ s b) where
-  answered : (v : ℕ) (o : Obstacle) → obstacle_of y s v ≡ o → Obstructs y s v o
+  answered : (v : ℕ) (o : Option Obstacle) → obstacle_of y s v ≡ o → Obstructs y s v o
   answered v o e = subst (Obstructs y s v) e (obstructs y s v)
 
-  pub unstable-means : (v t : ℕ) → obstacle_of y s v ≡ Unstable t → UnstableMeans b v t
+  pub unstable-means : (v t : ℕ) → obstacle_of y s v ≡ Some (Unstable t) → UnstableMeans b v t
   unfolding view
-  unstable-means v t e = go (answered v (Unstable t) e)
+  unstable-means v t e = go (answered v (Some (Unstable t)) e)
     where
-      go : Obstructs y s v (Unstable t) → UnstableMeans b v t
+      go : Obstructs y s v (Some (Unstable t)) → UnstableMeans b v t
       go (is-unstable low n q) = record { names = n; unstable = sym (ap (λ (m : HistoryView). m.stable) (own-history ((related z k).holders t))) ∙ ap (λ (m : HistoryView). m.stable) (own_view (well z k) t) ∙ q }
 
-  pub outside-means : (v t u : ℕ) → obstacle_of y s v ≡ Outside t u → OutsideMeans b v t u
-  outside-means v t u e = go (answered v (Outside t u) e)
+  pub outside-means : (v t u : ℕ) → obstacle_of y s v ≡ Some (Outside t u) → OutsideMeans b v t u
+  outside-means v t u e = go (answered v (Some (Outside t u)) e)
     where
-      go : Obstructs y s v (Outside t u) → OutsideMeans b v t u
+      go : Obstructs y s v (Some (Outside t u)) → OutsideMeans b v t u
       go (is-outside {h = h} low low-u n stands l q m) = record {
         names = n;
         unnamed = m;
@@ -94,10 +95,10 @@ module _ {y : Layout} (z : Fitting y) {img : List ℕ} {τ : Trace y img} {s : S
         uncheckpointed = λ c. checkpointed-irrefl c.is;
       }
 
-  pub withdrawn-means : (v t u : ℕ) → obstacle_of y s v ≡ answer.SupersededOrAnnihilated t u → WithdrawnMeans b v t u
-  withdrawn-means v t u e = go (answered v (answer.SupersededOrAnnihilated t u) e)
+  pub withdrawn-means : (v t u : ℕ) → obstacle_of y s v ≡ Some (answer.SupersededOrAnnihilated t u) → WithdrawnMeans b v t u
+  withdrawn-means v t u e = go (answered v (Some (answer.SupersededOrAnnihilated t u)) e)
     where
-      go : Obstructs y s v (answer.SupersededOrAnnihilated t u) → WithdrawnMeans b v t u
+      go : Obstructs y s v (Some (answer.SupersededOrAnnihilated t u)) → WithdrawnMeans b v t u
       go (is-withdrawn {h = h} low low-u n stands m) = record {
         names = n;
         incarnation = incarnation_of h;
@@ -106,7 +107,7 @@ module _ {y : Layout} (z : Fitting y) {img : List ℕ} {τ : Trace y img} {s : S
       }
 
   -- And then no volume with take t can be signed, after whatever steps, signings included, as long as take t keeps its present life.
-  pub withdrawn-for-good : (v t u : ℕ) → obstacle_of y s v ≡ answer.SupersededOrAnnihilated t u → {after : State} → Further y s after → SameIncarnation s after t → (g : ℕ) → named g t ≡ true → ReadyGroup y after g → ⊥
+  pub withdrawn-for-good : (v t u : ℕ) → obstacle_of y s v ≡ Some (answer.SupersededOrAnnihilated t u) → {after : State} → Further y s after → SameIncarnation s after t → (g : ℕ) → named g t ≡ true → ReadyGroup y after g → ⊥
   withdrawn-for-good v t u e o same =
       let m = withdrawn-means v t u e in
       never-ready z (well z k) (related z k) m.rests m.withdrawn o same
@@ -115,11 +116,11 @@ module _ {y : Layout} (z : Fitting y) {img : List ℕ} {τ : Trace y img} {s : S
   pub obstacle-means : (v : ℕ) → v < bound 2 → refusal y s (signing v) ≡ 0 → ObstacleMeans b v (obstacle_of y s v)
   obstacle-means v bits zero = go (obstacle_of y s v) refl
     where
-      go : (o : Obstacle) → obstacle_of y s v ≡ o → ObstacleMeans b v o
-      go answer.Nothing e = means-equal ((signs-exactly z (well z k) (related z k) v bits).0 ((nothing-exactly y s v).0 (zero, e))).same
-      go (Unstable t) e = means-not-stable (unstable-means v t e)
-      go (Outside t u) e = means-outside (outside-means v t u e)
-      go (answer.SupersededOrAnnihilated t u) e = means-withdrawn (withdrawn-means v t u e)
+      go : (o : Option Obstacle) → obstacle_of y s v ≡ o → ObstacleMeans b v o
+      go None e = means-equal ((signs-exactly z (well z k) (related z k) v bits).0 ((nothing-exactly y s v).0 (zero, e))).same
+      go (Some (Unstable t)) e = means-not-stable (unstable-means v t e)
+      go (Some (Outside t u)) e = means-outside (outside-means v t u e)
+      go (Some (answer.SupersededOrAnnihilated t u)) e = means-withdrawn (withdrawn-means v t u e)
 
 -- Between two calls, and not refused: what the call answers.
 pub obstacle-answered : {y : Layout} (z : Fitting y) {img : List ℕ} (τ : Trace y img) {b : Provenance} → ProvenanceOf y (calls_of τ) b → (v : ℕ) → obstacle_refusal y img v ≡ 0
@@ -137,14 +138,14 @@ obstacle-answered-base = obstacle-answered fitting-base
 
 -- At the ledger's own layout: no hypothesis but the trace.
 module _ {img : List ℕ} {τ : Trace base img} {s : State} {b : Provenance} (k : Point base img τ s b) where
-  pub unstable-means-base : (v t : ℕ) → obstacle_of base s v ≡ Unstable t → UnstableMeans b v t
+  pub unstable-means-base : (v t : ℕ) → obstacle_of base s v ≡ Some (Unstable t) → UnstableMeans b v t
   unstable-means-base = unstable-means fitting-base k
 
-  pub outside-means-base : (v t u : ℕ) → obstacle_of base s v ≡ Outside t u → OutsideMeans b v t u
+  pub outside-means-base : (v t u : ℕ) → obstacle_of base s v ≡ Some (Outside t u) → OutsideMeans b v t u
   outside-means-base = outside-means fitting-base k
 
-  pub withdrawn-means-base : (v t u : ℕ) → obstacle_of base s v ≡ answer.SupersededOrAnnihilated t u → WithdrawnMeans b v t u
+  pub withdrawn-means-base : (v t u : ℕ) → obstacle_of base s v ≡ Some (answer.SupersededOrAnnihilated t u) → WithdrawnMeans b v t u
   withdrawn-means-base = withdrawn-means fitting-base k
 
-  pub withdrawn-for-good-base : (v t u : ℕ) → obstacle_of base s v ≡ answer.SupersededOrAnnihilated t u → Doomed base s t
+  pub withdrawn-for-good-base : (v t u : ℕ) → obstacle_of base s v ≡ Some (answer.SupersededOrAnnihilated t u) → Doomed base s t
   withdrawn-for-good-base v t u e after o same = withdrawn-for-good fitting-base k v t u e o same

@@ -1,7 +1,8 @@
 -- What the answers of offer and of the queries mean in the book.
-use Rattle.std.specs.Prelude.{ℕ, ◌≤◌, ◌<◌, Bool, true, false, ◌≡◌, ◌↔◌, ◌≢◌, length, get_or}
+use Rattle.std.specs.Prelude.{ℕ, ◌≤◌, ◌<◌, Bool, true, false, ◌≡◌, ◌↔◌, ◌≢◌, length, get_or, Option, Some, None}
 use mathlib.Core.List.{List, Memᴰ}
-use Rattle.std.proofs.Math.Option.{Option, none, some}
+use Rattle.std.proofs.Math.Option as maybe
+use Rattle.std.proofs.Math.Option.{none, some}
 use Rattle.octets.specs.Numbers.{bound}
 use Rattle.marks.specs.Incarnation.{Incarnation}
 use Rattle.marks.specs.Order.{Precedes}
@@ -9,7 +10,7 @@ use Rattle.rules.specs.declared.Dependents.{Dependents}
 use Rattle.rules.specs.declared.Obstacle.{Obstacle}
 use Rattle.rules.specs.declared.Obstacle.TheVariants as obstacle
 use Rattle.rules.specs.declared.Impediment.{Impediment}
-use Rattle.rules.specs.declared.Impediment.TheVariants.{Nothing, Hopeless, Exhausted, Unstable}
+use Rattle.rules.specs.declared.Impediment.TheVariants.{Hopeless, Exhausted, Unstable}
 use Rattle.rules.specs.Layout.{Layout}
 use Rattle.rules.specs.State.{State}
 use Rattle.rules.specs.Refusals.{named}
@@ -31,7 +32,7 @@ pub record WaitsIn (b : Provenance) (t n : ℕ) : Type 0 where
   pub number : message.number ≡ n
 
 -- "the waiting parcel for that take with the lowest number", or none exactly if there is none
-pub data OfferMeans (b : Provenance) (t : ℕ) : Option ℕ → Type 0 where
+pub data OfferMeans (b : Provenance) (t : ℕ) : maybe.Option ℕ → Type 0 where
   no-message : ((n : ℕ) → WaitsIn b t n → ⊥) → OfferMeans b t none
   lowest : {n : ℕ} → WaitsIn b t n → ((k : ℕ) → WaitsIn b t k → n ≤ k) → OfferMeans b t (some n)
 
@@ -45,7 +46,7 @@ pub record Signable (b : Provenance) (v : ℕ) : Type 0 where
   pub equal : Equal b v
 
 -- W1: "the smallest volume containing it that could be signed now": every take of it is in each that could; or none exactly if there is none
-pub data SmallestMeans (b : Provenance) (t : ℕ) : Option ℕ → Type 0 where
+pub data SmallestMeans (b : Provenance) (t : ℕ) : maybe.Option ℕ → Type 0 where
   no-group : ((v : ℕ) → named v t ≡ true → Signable b v → ⊥) → SmallestMeans b t none
   smallest : {v : ℕ} → named v t ≡ true → Signable b v → ((w : ℕ) → named w t ≡ true → Signable b w → (u : ℕ) → named v u ≡ true → named w u ≡ true)
       → SmallestMeans b t (some v)
@@ -111,12 +112,12 @@ pub record WithdrawnMeans (b : Provenance) (v t u : ℕ) : Type 0 where
   pub withdrawn : SupersededOrAnnihilated b u incarnation
 
 -- the answer about volume v
-pub data ObstacleMeans (b : Provenance) (v : ℕ) : Obstacle → Type 0 where
+pub data ObstacleMeans (b : Provenance) (v : ℕ) : Option Obstacle → Type 0 where
   -- its two sets of lives are equal
-  means-equal : Equal b v → ObstacleMeans b v obstacle.Nothing
-  means-not-stable : {t : ℕ} → UnstableMeans b v t → ObstacleMeans b v (obstacle.Unstable t)
-  means-outside : {t u : ℕ} → OutsideMeans b v t u → ObstacleMeans b v (obstacle.Outside t u)
-  means-withdrawn : {t u : ℕ} → WithdrawnMeans b v t u → ObstacleMeans b v (obstacle.SupersededOrAnnihilated t u)
+  means-equal : Equal b v → ObstacleMeans b v None
+  means-not-stable : {t : ℕ} → UnstableMeans b v t → ObstacleMeans b v (Some (obstacle.Unstable t))
+  means-outside : {t u : ℕ} → OutsideMeans b v t u → ObstacleMeans b v (Some (obstacle.Outside t u))
+  means-withdrawn : {t u : ℕ} → WithdrawnMeans b v t u → ObstacleMeans b v (Some (obstacle.SupersededOrAnnihilated t u))
 
 -- ---- why no volume with take t could be signed
 
@@ -125,12 +126,12 @@ pub record Onto (b : Provenance) (t c x : ℕ) : Type 0 where
   pub through : RestsThrough b c t
   pub next : c ≢ t → RestsOn b t x (b.holders x).history.incarnation × RestsThrough b c x
 
-pub data ImpedimentMeans (y : Layout) (s : State) (b : Provenance) (t : ℕ) : Impediment → Type 0 where
+pub data ImpedimentMeans (y : Layout) (s : State) (b : Provenance) (t : ℕ) : Option Impediment → Type 0 where
   -- some volume with take t is ready
-  means-nothing : {v : ℕ} → named v t ≡ true → ReadyGroup y s v → ImpedimentMeans y s b t Nothing
+  means-nothing : {v : ℕ} → named v t ≡ true → ReadyGroup y s v → ImpedimentMeans y s b t None
   -- take c rests on a withdrawn life of take u
-  means-hopeless : {c u x : ℕ} {a : Incarnation} → Onto b t c x → RestsOn b c u a → SupersededOrAnnihilated b u a → ImpedimentMeans y s b t (Hopeless c u x)
+  means-hopeless : {c u x : ℕ} {a : Incarnation} → Onto b t c x → RestsOn b c u a → SupersededOrAnnihilated b u a → ImpedimentMeans y s b t (Some (Hopeless c u x))
   -- take c has all the signings that the session allows
-  means-exhausted : {c x : ℕ} → Onto b t c x → b.limits.checkpoints ≤ length (b.holders c).history.incarnation.checkpoints → ImpedimentMeans y s b t (Exhausted c x)
+  means-exhausted : {c x : ℕ} → Onto b t c x → b.limits.checkpoints ≤ length (b.holders c).history.incarnation.checkpoints → ImpedimentMeans y s b t (Some (Exhausted c x))
   -- take c is not frozen
-  means-unstable : {c x : ℕ} → Onto b t c x → (b.holders c).history.stable ≡ false → ImpedimentMeans y s b t (Unstable c x)
+  means-unstable : {c x : ℕ} → Onto b t c x → (b.holders c).history.stable ≡ false → ImpedimentMeans y s b t (Some (Unstable c x))

@@ -5,7 +5,9 @@ use mathlib.Core.Path.{◌≡◌, refl, ap, sym, ◌∙◌, subst}
 use mathlib.Core.List.{List}
 use lib.ListN.{get_or-eq_default}
 use mathlib.Core.Logic.{◌↔◌, ◌⊎◌, inl, inr, ⊎_elim}
-use mathlib.Core.Option.{Option, none}
+use mathlib.Core.Option as maybe
+use mathlib.Core.Option.{none}
+use Rattle.std.specs.Prelude.{Option, Some, None}
 use native.Mathlib.Decide.{ℕ_discrete}
 use native.Mathlib.Nat.{pow-le-pow_right}
 use native.Mathlib.Omega.{arith}
@@ -25,7 +27,7 @@ use Rattle.maps.specs.declared.DependenceMap.{DependenceMap}
 use Rattle.maps.specs.Map.{held_at, history_at}
 use Rattle.maps.proofs.Map.{held-empty}
 use Rattle.rules.specs.declared.Impediment.{Impediment}
-use Rattle.rules.specs.declared.Impediment.TheVariants.{Nothing, Hopeless, Exhausted, Unstable}
+use Rattle.rules.specs.declared.Impediment.TheVariants.{Hopeless, Exhausted, Unstable}
 use Rattle.rules.specs.Layout.{Layout, base}
 use Rattle.rules.specs.Status.{annihilated}
 use Rattle.rules.specs.State.{Transactor, State, no_transactor, transactor_at, own_history, live, place_from}
@@ -265,7 +267,7 @@ module _ (y : Layout) (s : State) where
   lowest-place kind t = place (in_way kind t) 0 n
 
   module _ (kind t : ℕ) (h : lowest_for y s kind t < n) where
-    in-way : (through_at s n (lowest_for y s kind t) t ≡ true) × (impedes_at y s kind (lowest_for y s kind t) ≡ true)
+    pub in-way : (through_at s n (lowest_for y s kind t) t ≡ true) × (impedes_at y s kind (lowest_for y s kind t) ≡ true)
     in-way = both (through_at s n (lowest_for y s kind t) t) (impedes_at y s kind (lowest_for y s kind t)) ((lowest-place kind t).here (omega arith))
 
     leads : live (transactor_at s (lowest_for y s kind t)) ≡ true → Leads y s t (lowest_for y s kind t) (next_at s n (lowest_for y s kind t) t)
@@ -379,7 +381,7 @@ module _ (y : Layout) (s : State) where
       member : (c : ℕ) → c < y.transactors → through_at s y.transactors c t ≡ true → named v c ≡ true
       member c h e = closed_in v facts.rule y.transactors (omega arith) c t h low e could.contains
 
-      pub could-nothing : impediment_of y s t ≡ Nothing
+      pub could-nothing : impediment_of y s t ≡ None
       unfolding impediment_of
       could-nothing = rw (
         lowest-none y s 1 t (λ c h e. named-fine v facts.rule c h (member c h e)),
@@ -548,11 +550,11 @@ module _ {y : Layout} {s : State} (well : WellFormed y s) where
 -- ---- what is answered
 
 -- which of the four it is, and why
-data Found (y : Layout) (s : State) (t : ℕ) : Impediment → Type 0 where
-  found-hopeless : lowest_for y s 1 t < y.transactors → Found y s t (Hopeless (lowest_for y s 1 t) (lost_ground y s (lowest_for y s 1 t)) (next_at s y.transactors (lowest_for y s 1 t) t))
-  found-exhausted : y.transactors ≤ lowest_for y s 1 t → lowest_for y s 2 t < y.transactors → Found y s t (Exhausted (lowest_for y s 2 t) (next_at s y.transactors (lowest_for y s 2 t) t))
-  found-unstable : y.transactors ≤ lowest_for y s 1 t → y.transactors ≤ lowest_for y s 2 t → lowest_for y s 3 t < y.transactors → Found y s t (Unstable (lowest_for y s 3 t) (next_at s y.transactors (lowest_for y s 3 t) t))
-  found_nothing : y.transactors ≤ lowest_for y s 1 t → y.transactors ≤ lowest_for y s 2 t → y.transactors ≤ lowest_for y s 3 t → Found y s t Nothing
+data Found (y : Layout) (s : State) (t : ℕ) : Option Impediment → Type 0 where
+  found-hopeless : lowest_for y s 1 t < y.transactors → Found y s t (Some (Hopeless (lowest_for y s 1 t) (lost_ground y s (lowest_for y s 1 t)) (next_at s y.transactors (lowest_for y s 1 t) t)))
+  found-exhausted : y.transactors ≤ lowest_for y s 1 t → lowest_for y s 2 t < y.transactors → Found y s t (Some (Exhausted (lowest_for y s 2 t) (next_at s y.transactors (lowest_for y s 2 t) t)))
+  found-unstable : y.transactors ≤ lowest_for y s 1 t → y.transactors ≤ lowest_for y s 2 t → lowest_for y s 3 t < y.transactors → Found y s t (Some (Unstable (lowest_for y s 3 t) (next_at s y.transactors (lowest_for y s 3 t) t)))
+  found_nothing : y.transactors ≤ lowest_for y s 1 t → y.transactors ≤ lowest_for y s 2 t → y.transactors ≤ lowest_for y s 3 t → Found y s t None
 
 found : (y : Layout) (s : State) (t : ℕ) → Found y s t (impediment_of y s t)
 unfolding impediment_of
@@ -563,11 +565,11 @@ found y s t =
     (λ e. found-unstable (ltb-false (lowest_for y s 1 t) y.transactors e1) (ltb-false (lowest_for y s 2 t) y.transactors e2) (ltb-true (lowest_for y s 3 t) y.transactors e))
     (λ e. found_nothing (ltb-false (lowest_for y s 1 t) y.transactors e1) (ltb-false (lowest_for y s 2 t) y.transactors e2) (ltb-false (lowest_for y s 3 t) y.transactors e))
 
-found_as : (y : Layout) (s : State) (t : ℕ) {o : Impediment} → impediment_of y s t ≡ o → Found y s t o
+found_as : (y : Layout) (s : State) (t : ℕ) {o : Option Impediment} → impediment_of y s t ≡ o → Found y s t o
 found_as y s t e = subst (Found y s t) e (found y s t)
 
 -- and there is one such answer
-found-is : (y : Layout) (s : State) (t : ℕ) {o : Impediment} → Found y s t o → impediment_of y s t ≡ o
+found-is : (y : Layout) (s : State) (t : ℕ) {o : Option Impediment} → Found y s t o → impediment_of y s t ≡ o
 unfolding impediment_of
 found-is y s t (found-hopeless a) = rw (lt-ltb (lowest_for y s 1 t) y.transactors a)
 found-is y s t (found-exhausted a b) = rw (le-ltb (lowest_for y s 1 t) y.transactors a, lt-ltb (lowest_for y s 2 t) y.transactors b)
@@ -578,7 +580,7 @@ found-is y s t (found_nothing a b c) = rw (le-ltb (lowest_for y s 1 t) y.transac
 pub mendable-low : (y : Layout) (s : State) (t : ℕ) → mendable (impediment_of y s t) ≡ true → (y.transactors ≤ lowest_for y s 1 t) × (y.transactors ≤ lowest_for y s 2 t)
 mendable-low y s t e = go (found y s t) e
   where
-    go : {o : Impediment} → Found y s t o → mendable o ≡ true → (y.transactors ≤ lowest_for y s 1 t) × (y.transactors ≤ lowest_for y s 2 t)
+    go : {o : Option Impediment} → Found y s t o → mendable o ≡ true → (y.transactors ≤ lowest_for y s 1 t) × (y.transactors ≤ lowest_for y s 2 t)
     go (found-hopeless h) e = absurd (false≢true e)
     go (found-exhausted a h) e = absurd (false≢true e)
     go (found-unstable a b h) e = (a, b)
@@ -586,7 +588,7 @@ mendable-low y s t e = go (found y s t) e
 
 -- Hopeless is answered exactly if one of those that take t rests on has a mark of a withdrawn life.
 pub hopeless-some : (y : Layout) (s : State) (t c u : ℕ) → c < y.transactors → u < y.transactors → through_at s y.transactors c t ≡ true → withdrawn_by s c u ≡ true
-    → impediment_of y s t ≡ Hopeless (lowest_for y s 1 t) (lost_ground y s (lowest_for y s 1 t)) (next_at s y.transactors (lowest_for y s 1 t) t)
+    → impediment_of y s t ≡ Some (Hopeless (lowest_for y s 1 t) (lost_ground y s (lowest_for y s 1 t)) (next_at s y.transactors (lowest_for y s 1 t) t))
 hopeless-some y s t c u h l e q = found-is y s t (found-hopeless (some-in-way y s 1 t c h e (hopeless-of y s c u l q)))
 
 pub record HopelessAt (y : Layout) (s : State) (t c u : ℕ) : Type 0 where
@@ -596,10 +598,10 @@ pub record HopelessAt (y : Layout) (s : State) (t c u : ℕ) : Type 0 where
   pub stands : StandsIn s c u history
   pub withdrawn : WithdrawnMark s u history
 
-pub hopeless-at : (y : Layout) (s : State) {t c u x : ℕ} → impediment_of y s t ≡ Hopeless c u x → HopelessAt y s t c u
+pub hopeless-at : (y : Layout) (s : State) {t c u x : ℕ} → impediment_of y s t ≡ Some (Hopeless c u x) → HopelessAt y s t c u
 hopeless-at y s {t} e = go (found_as y s t e)
   where
-    go : {c u x : ℕ} → Found y s t (Hopeless c u x) → HopelessAt y s t c u
+    go : {c u x : ℕ} → Found y s t (Some (Hopeless c u x)) → HopelessAt y s t c u
     go (found-hopeless h) =
         let i = in-way y s 1 t h in
         let l = lost s (lowest_for y s 1 t) (lost_ground y s (lowest_for y s 1 t)) (lost-some y s (lowest_for y s 1 t) i.1).1 in
@@ -613,7 +615,7 @@ module _ {y : Layout} (few : y.transactors ≤ group_bits) {s : State} (well : W
   pub impedes : live (transactor_at s t) ≡ true → Impedes y s t (impediment_of y s t)
   impedes there = go (found y s t)
     where
-      go : {o : Impediment} → Found y s t o → Impedes y s t o
+      go : {o : Option Impediment} → Found y s t o → Impedes y s t o
       go (found-hopeless h) =
           let i = in-way y s 1 t h in
           let p = lost-some y s (lowest_for y s 1 t) i.1 in
@@ -628,18 +630,18 @@ module _ {y : Layout} (few : y.transactors ≤ group_bits) {s : State} (well : W
       go (found_nothing a b c) = is-nothing (clear-could y s few t low well (clear_of a b c))
 
   -- Nothing exactly if some volume with the take could be signed.
-  pub nothing-exactly : (impediment_of y s t ≡ Nothing) ↔ ((v : ℕ) × Checkpointable y s t v)
+  pub nothing-exactly : (impediment_of y s t ≡ None) ↔ ((v : ℕ) × Checkpointable y s t v)
   nothing-exactly = (λ e. go (found_as y s t e), λ c. could-nothing y s few t low c.1)
     where
-      go : Found y s t Nothing → (v : ℕ) × Checkpointable y s t v
+      go : Found y s t None → (v : ℕ) × Checkpointable y s t v
       go (found_nothing a b c) = (_, clear-could y s few t low well (clear_of a b c))
 
 -- ---- asked about the next, the answer is the same but for the next of it
 
-data SameAgain (y : Layout) (s : State) : Impediment → Type 0 where
-  same-hopeless : {c u x : ℕ} → impediment_of y s x ≡ Hopeless c u (next_at s y.transactors c x) → SameAgain y s (Hopeless c u x)
-  same-exhausted : {c x : ℕ} → impediment_of y s x ≡ Exhausted c (next_at s y.transactors c x) → SameAgain y s (Exhausted c x)
-  same-unstable : {c x : ℕ} → impediment_of y s x ≡ Unstable c (next_at s y.transactors c x) → SameAgain y s (Unstable c x)
+data SameAgain (y : Layout) (s : State) : Option Impediment → Type 0 where
+  same-hopeless : {c u x : ℕ} → impediment_of y s x ≡ Some (Hopeless c u (next_at s y.transactors c x)) → SameAgain y s (Some (Hopeless c u x))
+  same-exhausted : {c x : ℕ} → impediment_of y s x ≡ Some (Exhausted c (next_at s y.transactors c x)) → SameAgain y s (Some (Exhausted c x))
+  same-unstable : {c x : ℕ} → impediment_of y s x ≡ Some (Unstable c (next_at s y.transactors c x)) → SameAgain y s (Some (Unstable c x))
 
 module _ (y : Layout) (s : State) (t : ℕ) (low : t < y.transactors) where
   abbrev onward : ℕ → ℕ
@@ -685,24 +687,24 @@ module _ (y : Layout) (s : State) (t : ℕ) (low : t < y.transactors) where
         place_from-is (in_way y s kind (onward c)) 0 y.transactors (lowest_for y s kind t) (omega arith) (omega arith) (λ j a b. fewer kind j ((lowest-place y s kind t).before j a b))
         (λ z. subst (λ (d : ℕ). in_way y s kind (onward c) d ≡ true) i (rw (onward-on c e) (subst (λ (d : ℕ). impedes_at y s kind d ≡ true) (sym i) (in-way y s kind t q).1)))
 
-  asked-again : {o : Impediment} → impediment_of y s t ≡ o → (o ≡ Nothing → ⊥) → SameAgain y s o
+  asked-again : {o : Option Impediment} → impediment_of y s t ≡ o → (o ≡ None → ⊥) → SameAgain y s o
   asked-again {o} e some = go (found_as y s t e) some
     where
-      go : {o : Impediment} → Found y s t o → (o ≡ Nothing → ⊥) → SameAgain y s o
+      go : {o : Option Impediment} → Found y s t o → (o ≡ None → ⊥) → SameAgain y s o
       go (found-hopeless h) n = same-hopeless (
           let c : ℕ = lowest_for y s 1 t in
           let r : lowest_for y s 1 (onward c) ≡ c = lowest-again c h (in-way y s 1 t h).0 1 refl in
-          subst (λ (d : ℕ). impediment_of y s (onward c) ≡ Hopeless d (lost_ground y s d) (next_at s y.transactors d (onward c))) r (found-is y s (onward c) (found-hopeless (omega arith))))
+          subst (λ (d : ℕ). impediment_of y s (onward c) ≡ Some (Hopeless d (lost_ground y s d) (next_at s y.transactors d (onward c)))) r (found-is y s (onward c) (found-hopeless (omega arith))))
       go (found-exhausted a h) n = same-exhausted (
           let c : ℕ = lowest_for y s 2 t in
           let i : through_at s y.transactors c t ≡ true = (in-way y s 2 t h).0 in
           let r : lowest_for y s 2 (onward c) ≡ c = lowest-again c h i 2 refl in
-          subst (λ (d : ℕ). impediment_of y s (onward c) ≡ Exhausted d (next_at s y.transactors d (onward c))) r (found-is y s (onward c) (found-exhausted (none-again c h i 1 a) (omega arith))))
+          subst (λ (d : ℕ). impediment_of y s (onward c) ≡ Some (Exhausted d (next_at s y.transactors d (onward c)))) r (found-is y s (onward c) (found-exhausted (none-again c h i 1 a) (omega arith))))
       go (found-unstable a b h) n = same-unstable (
           let c : ℕ = lowest_for y s 3 t in
           let i : through_at s y.transactors c t ≡ true = (in-way y s 3 t h).0 in
           let r : lowest_for y s 3 (onward c) ≡ c = lowest-again c h i 3 refl in
-          subst (λ (d : ℕ). impediment_of y s (onward c) ≡ Unstable d (next_at s y.transactors d (onward c))) r (found-is y s (onward c) (found-unstable (none-again c h i 1 a) (none-again c h i 2 b) (omega arith))))
+          subst (λ (d : ℕ). impediment_of y s (onward c) ≡ Some (Unstable d (next_at s y.transactors d (onward c)))) r (found-is y s (onward c) (found-unstable (none-again c h i 1 a) (none-again c h i 2 b) (omega arith))))
       go (found_nothing a b c) n = absurd (n refl)
 
 -- ---- what the call answers, on every image; beside smallest_group
@@ -773,23 +775,23 @@ module _ (y : Layout) (few : y.transactors ≤ group_bits) (img : List ℕ) (t :
 
   -- Asked about the next take, the call is not refused and answers the same but for the next of it. So a caller who asks again, about the next each
   -- time, walks the chain to the take that is in the way.
-  pub answer-again : (impediment_answer y img t ≡ Nothing → ⊥) → Again y img (impediment_answer y img t)
+  pub answer-again : (impediment_answer y img t ≡ None → ⊥) → Again y img (impediment_answer y img t)
   answer-again n = go answer-impedes (asked-again y (unpack y img) t accepted.below (sym answer-is) n)
     where
-      go : {o : Impediment} → Impedes y (unpack y img) t o → SameAgain y (unpack y img) o → Again y img o
+      go : {o : Option Impediment} → Impedes y (unpack y img) t o → SameAgain y (unpack y img) o → Again y img o
       go (is-nothing {v = v} _) x5 = elim x5 [ ]
       go (is-hopeless {x = x} l h stands m) (same-hopeless e) = again-hopeless (next-asked l) (answer-as x (next-asked l) ∙ e)
       go (is-exhausted {x = x} l h) (same-exhausted e) = again-exhausted (next-asked l) (answer-as x (next-asked l) ∙ e)
       go (is-unstable {x = x} l h) (same-unstable e) = again-unstable (next-asked l) (answer-as x (next-asked l) ∙ e)
 
   -- Nothing exactly if smallest_group names a volume.
-  pub nothing-smallest : {a : Option ℕ} → Smallest y img t a → (impediment_answer y img t ≡ Nothing) ↔ (a ≡ none → ⊥)
-  nothing-smallest {a} q = subst (λ (x : Impediment). (x ≡ Nothing) ↔ (a ≡ none → ⊥)) (sym answer-is) (go q)
+  pub nothing-smallest : {a : maybe.Option ℕ} → Smallest y img t a → (impediment_answer y img t ≡ None) ↔ (a ≡ none → ⊥)
+  nothing-smallest {a} q = subst (λ (x : Option Impediment). (x ≡ None) ↔ (a ≡ none → ⊥)) (sym answer-is) (go q)
     where
-      exact : (impediment_of y (unpack y img) t ≡ Nothing) ↔ ((v : ℕ) × Checkpointable y (unpack y img) t v)
+      exact : (impediment_of y (unpack y img) t ≡ None) ↔ ((v : ℕ) × Checkpointable y (unpack y img) t v)
       exact = nothing-exactly few formed t accepted.below
 
-      go : {a : Option ℕ} → Smallest y img t a → (impediment_of y (unpack y img) t ≡ Nothing) ↔ (a ≡ none → ⊥)
+      go : {a : maybe.Option ℕ} → Smallest y img t a → (impediment_of y (unpack y img) t ≡ None) ↔ (a ≡ none → ⊥)
       go (groups.refused n) = absurd (n z)
       go (groups.nothing q n) = (λ e. let c = exact.0 e in absurd (n c.0 c.1), λ f. absurd (f refl))
       go (groups.smallest {v} q c l) = (λ e f. (let d : ◌≡◌ {A = ℕ} 0 1 = cc in omega arith), λ f. exact.1 (v, c))
@@ -799,8 +801,8 @@ module _ (img : List ℕ) (t : ℕ) (o : Octets img) (z : query_refusal base img
   pub answer-impedes-base : Impedes base (unpack base img) t (impediment_answer base img t)
   answer-impedes-base = answer-impedes base (omega arith) img t o z
 
-  pub answer-again-base : (impediment_answer base img t ≡ Nothing → ⊥) → Again base img (impediment_answer base img t)
+  pub answer-again-base : (impediment_answer base img t ≡ None → ⊥) → Again base img (impediment_answer base img t)
   answer-again-base = answer-again base (omega arith) img t o z
 
-  pub nothing-smallest-base : {a : Option ℕ} → Smallest base img t a → (impediment_answer base img t ≡ Nothing) ↔ (a ≡ none → ⊥)
+  pub nothing-smallest-base : {a : maybe.Option ℕ} → Smallest base img t a → (impediment_answer base img t ≡ None) ↔ (a ≡ none → ⊥)
   nothing-smallest-base = nothing-smallest base (omega arith) img t o z

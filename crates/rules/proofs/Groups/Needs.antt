@@ -1,10 +1,9 @@
 -- What the takes need of a volume: found entry by entry, and when a volume is ready by it.
-use Prim.Native.Nat.{ℕ, ◌+◌, ◌*◌, ◌%◌, ◌^◌, ◌≤◌, ◌<◌}
+use Prim.Native.Nat.{ℕ, ◌+◌, ◌*◌, ◌^◌, ◌≤◌, ◌<◌, max}
 use mathlib.Core.Bool.{Bool, true, false, not}
 use mathlib.Core.Path.{◌≡◌, refl, sym, ap, ◌∙◌, subst}
 use mathlib.Core.List.{List}
-use mathlib.Core.Logic.{◌⊎◌, inl, inr, ⊎_elim}
-use native.Mathlib.Nat.{zero-mul}
+use mathlib.Core.Logic.{⊎_elim}
 use native.Mathlib.Omega.{arith}
 use borrow.Author.Tests.{not-true, not-false, leb-false, lt-leb, eqb-false}
 use lib.ListN.{length, get_or, set, length-set}
@@ -28,7 +27,7 @@ use Rattle.rules.specs.ReadyGroups.{ready_group, Ready}
 use Rattle.rules.specs.Internal.Well.{WellFormed}
 use Rattle.rules.specs.Internal.Guards.{is_full}
 use Rattle.rules.specs.Internal.Closure.{stored_ready, pair_ready, Names, Kept, in_group_at, checkpointed_at, asked_at, pair_asks, needs_of, able, Row, Needed, inside, meets, Closed}
-use Rattle.rules.proofs.Bits.{named-zero, shifted, names-none, names-fits, names-on, names-off}
+use Rattle.rules.proofs.Bits.{named-zero, names-none, names-on, names-off}
 use Rattle.rules.proofs.Groups.Ready.{stable-alive, alive-there, transactor-is, kept-in-group, kept-other}
 use Rattle.rules.proofs.Groups.Signable.{ready-exactly}
 use Rattle.rules.proofs.Groups.Closure.{inside-at, inside-all}
@@ -102,33 +101,24 @@ module _ (y : Layout) (img : List ℕ) (g t u : ℕ) where
       rw (stored-wider y img state u g a.0, stored-wider y img creation u g a.1)
 
   -- both ask for the more of the two
-  greater : (a b c d : Bool) → (a ≡ true → b ≡ true) → (c ≡ true → d ≡ true)
-      → (number a b < number c d → number c d ≡ number (a and c) (b and d)) × (number c d ≤ number a b → number a b ≡ number (a and c) (b and d))
-  greater true true true true f k = (λ q. refl, λ q. refl)
-  greater true true false true f k = (λ q. refl, λ q. absurd (omega arith))
-  greater true true false false f k = (λ q. refl, λ q. absurd (omega arith))
-  greater false true true true f k = (λ q. absurd (omega arith), λ q. refl)
-  greater false true false true f k = (λ q. refl, λ q. refl)
-  greater false true false false f k = (λ q. refl, λ q. absurd (omega arith))
-  greater false false true true f k = (λ q. absurd (omega arith), λ q. refl)
-  greater false false false true f k = (λ q. absurd (omega arith), λ q. refl)
-  greater false false false false f k = (λ q. refl, λ q. refl)
+  greater : (a b c d : Bool) → (a ≡ true → b ≡ true) → (c ≡ true → d ≡ true) → max (number a b) (number c d) ≡ number (a and c) (b and d)
+  greater true true true true f k = refl
+  greater true true false true f k = refl
+  greater true true false false f k = refl
+  greater false true true true f k = refl
+  greater false true false true f k = refl
+  greater false true false false f k = refl
+  greater false false true true f k = refl
+  greater false false false true f k = refl
+  greater false false false false f k = refl
   greater true false c d f k = never (sym (f refl))
-  greater true true true false f k = never (sym (k refl))
-  greater false true true false f k = never (sym (k refl))
-  greater false false true false f k = never (sym (k refl))
+  greater a b true false f k = never (sym (k refl))
 
   module _ (a b : ℕ) (first : a ≡ asked_at y img g (transactor_address y t + state_at + history_bytes y * u) u) (second : b ≡ asked_at y img g (transactor_address y t + creation_at y + history_bytes y * u) u) where
-    both-asked : (a < b → b ≡ pair_asks y img g t u) × (b ≤ a → a ≡ pair_asks y img g t u)
+    pub pair-more : (m : ℕ) → m ≡ max a b → m ≡ pair_asks y img g t u
     unfolding asked_at pair_asks pair_ready
-    both-asked = rw (first, second) (greater (stored_ready y img 0 state u) (stored_ready y img g state u) (stored_ready y img 0 creation u) (stored_ready y img g creation u)
+    pair-more m e = rw (e, first, second) (greater (stored_ready y img 0 state u) (stored_ready y img g state u) (stored_ready y img 0 creation u) (stored_ready y img g creation u)
         (stored-wider y img state u g) (stored-wider y img creation u g))
-
-    pub pair-second : a < b → b ≡ pair_asks y img g t u
-    pair-second = both-asked.0
-
-    pub pair-first : b ≤ a → a ≡ pair_asks y img g t u
-    pair-first = both-asked.1
 
 -- ---- the entries of take t, one after the other
 
@@ -140,112 +130,110 @@ pub record Rowed (y : Layout) (img : List ℕ) (g t u need : ℕ) : Type 0 where
 pub rowed-none : (y : Layout) (img : List ℕ) (g t : ℕ) → Rowed y img g t 0 0
 rowed-none y img g t = record { pairs = held_none (pair_ready y img g t) y.transactors; needed = names-none (needs_of y img t) }
 
-module _ {y : Layout} {img : List ℕ} {g t u need : ℕ} (rowed : Rowed y img g t u need) (below : u < y.transactors) (a : ℕ) (is : a ≡ pair_asks y img g t u) where
-  pub rowed-off : a ≡ 2 → every y.transactors (pair_ready y img g t) ≡ false
+module _ {y : Layout} {img : List ℕ} {g t u need : ℕ} (rowed : Rowed y img g t u need) (below : u < y.transactors) where
+  pub rowed-off : 2 ≡ pair_asks y img g t u → every y.transactors (pair_ready y img g t) ≡ false
   unfolding pair_asks
-  rowed-off e = go (pair_ready y img 0 t u) (pair_ready y img g t u) refl (sym is ∙ e)
+  rowed-off e = go (pair_ready y img 0 t u) (pair_ready y img g t u) refl e
     where
-      go : (p q : Bool) → pair_ready y img g t u ≡ q → ◌≡◌ {A = ℕ} (number p q) 2 → every y.transactors (pair_ready y img g t) ≡ false
+      go : (p q : Bool) → pair_ready y img g t u ≡ q → ◌≡◌ {A = ℕ} 2 (number p q) → every y.transactors (pair_ready y img g t) ≡ false
       go true q f k = absurd (omega arith)
       go false true f k = absurd (omega arith)
       go false false f k = every-off (pair_ready y img g t) y.transactors u below f
 
-  module _ (size : y.transactors ≡ group_bits) (met : a ≡ 2 → ⊥) (b : ℕ) (bit : b ≡ a * 2 ^ u % 2 ^ group_bits) where
-    -- they ask for u or not
-    asked : ((b ≡ 0) × (needs_of y img t u ≡ false) × (pair_ready y img g t u ≡ true)) ⊎ ((b ≡ 2 ^ u) × (needs_of y img t u ≡ true) × (pair_ready y img g t u ≡ true))
-    unfolding pair_asks needs_of
-    asked = go (pair_ready y img 0 t u) refl (pair_ready y img g t u) refl is
-      where
-        go : (p : Bool) → pair_ready y img 0 t u ≡ p → (q : Bool) → pair_ready y img g t u ≡ q → a ≡ number p q
-            → ((b ≡ 0) × (not (pair_ready y img 0 t u) ≡ false) × (pair_ready y img g t u ≡ true)) ⊎ ((b ≡ 2 ^ u) × (not (pair_ready y img 0 t u) ≡ true) × (pair_ready y img g t u ≡ true))
-        go true e q f k = inl (bit ∙ rw (k, zero-mul (2 ^ u)), ap not e, pair-wider y img g t u e)
-        go false e true f k = inr (bit ∙ rw k (shifted u group_bits (omega arith)), ap not e, f)
-        go false e false f k = absurd (met k)
+  -- they ask for nothing
+  pub rowed-past : 0 ≡ pair_asks y img g t u → Rowed y img g t (u + 1) need
+  unfolding pair_asks needs_of
+  rowed-past e = go (pair_ready y img 0 t u) refl (pair_ready y img g t u) e
+    where
+      go : (p : Bool) → pair_ready y img 0 t u ≡ p → (q : Bool) → ◌≡◌ {A = ℕ} 0 (number p q) → Rowed y img g t (u + 1) need
+      go true f q k = record { pairs = held_more rowed.pairs below (ap not (pair-wider y img g t u f)); needed = names-off rowed.needed (ap not f) }
+      go false f true k = absurd (omega arith)
+      go false f false k = absurd (omega arith)
 
-    pub rowed-more : Rowed y img g t (u + 1) (need + b)
-    rowed-more = ⊎_elim
-        (λ w.
-        let e : need ≡ need + b = omega (arith, w.0) in
-        record { pairs = held_more rowed.pairs below (ap not w.2); needed = subst (Names (needs_of y img t) (u + 1)) e (names-off rowed.needed w.1) })
-        (λ w. record { pairs = held_more rowed.pairs below (ap not w.2); needed = names-on rowed.needed b w.0 w.1 })
-        asked
-
-    pub rowed-fits : need + b < 2 ^ group_bits
-    rowed-fits = let n = names-fits rowed.needed group_bits (omega arith) in ⊎_elim (λ w. omega (arith, w.0)) (λ w. omega (arith, w.0)) asked
+  -- they ask for u
+  pub rowed-more : 1 ≡ pair_asks y img g t u → (b : ℕ) → b ≡ 2 ^ u → Rowed y img g t (u + 1) (need + b)
+  unfolding pair_asks needs_of
+  rowed-more e b bit = go (pair_ready y img 0 t u) refl (pair_ready y img g t u) refl e
+    where
+      go : (p : Bool) → pair_ready y img 0 t u ≡ p → (q : Bool) → pair_ready y img g t u ≡ q → ◌≡◌ {A = ℕ} 1 (number p q) → Rowed y img g t (u + 1) (need + b)
+      go true f q i k = absurd (omega arith)
+      go false f true i k = record { pairs = held_more rowed.pairs below (ap not i); needed = names-on rowed.needed b bit (ap not f) }
+      go false f false i k = absurd (omega arith)
 
 -- whether take t can be in a ready volume: one test after the other
-module _ (y : Layout) (img : List ℕ) (g t need : ℕ) where
-  pub row-unnamed : need ≡ 0 → named g t ≡ false → Row y img g t need false
+module _ (y : Layout) (img : List ℕ) (g t : ℕ) where
+  pub able-unnamed : named g t ≡ false → able y img g t ≡ false
   unfolding able
-  row-unnamed o e = record { is = rw e; needed = λ z. never (sym z); unneeded = λ z. o }
+  able-unnamed e = rw e
 
-  module _ (name : named g t ≡ true) where
-    pub row-full : need ≡ 0 → is_full (unpack y img) t ≡ true → Row y img g t need false
-    unfolding able
-    row-full o e = record { is = rw (name, e); needed = λ z. never (sym z); unneeded = λ z. o }
+  pub able-full : is_full (unpack y img) t ≡ true → able y img g t ≡ false
+  unfolding able
+  able-full e = go (named g t) (is_full (unpack y img) t) e
+    where
+      go : (n f : Bool) → f ≡ true → n and not f and every y.transactors (pair_ready y img g t) ≡ false
+      go true true e = refl
+      go true false e = never (sym e)
+      go false f e = refl
 
-    module _ (room : is_full (unpack y img) t ≡ false) where
-      pub row-off : need ≡ 0 → every y.transactors (pair_ready y img g t) ≡ false → Row y img g t need false
-      unfolding able
-      row-off o e = record { is = rw (name, room, e); needed = λ z. never (sym z); unneeded = λ z. o }
+  pub able-off : every y.transactors (pair_ready y img g t) ≡ false → able y img g t ≡ false
+  unfolding able
+  able-off e = rw e (go (named g t) (not (is_full (unpack y img) t)))
+    where
+      go : (n f : Bool) → n and f and false ≡ false
+      go true true = refl
+      go true false = refl
+      go false f = refl
 
-      pub row-met : {u : ℕ} → Rowed y img g t u need → y.transactors ≤ u → Row y img g t need true
-      unfolding able
-      row-met {u} r h =
-          let e : u ≡ y.transactors = omega (arith, r.pairs.within) in
-          record { is = rw (name, room) (held_all r.pairs h); needed = λ z. subst (λ (n : ℕ). Names (needs_of y img t) n need) e r.needed; unneeded = λ z. never z }
+  pub row-met : named g t ≡ true → is_full (unpack y img) t ≡ false → {need : ℕ} → Rowed y img g t y.transactors need → Row y img g t need
+  unfolding able
+  row-met name room {need} r = record { is = rw (name, room) (sym (held_all r.pairs (omega arith))); needed = r.needed }
 
 -- ---- the takes, one after the other
 
+-- after t turns; the other places hold 0
 pub record Gathered (y : Layout) (img : List ℕ) (g t : ℕ) (l : List ℕ) (v : ℕ) : Type 0 where
-  pub within : t ≤ y.transactors
   pub long : length l ≡ y.transactors
   pub members : Names (able y img g) t v
   pub needed : (u : ℕ) → u < t → able y img g u ≡ true → Names (needs_of y img u) y.transactors (get_or l u 0)
-  pub unneeded : (u : ℕ) → u < t → able y img g u ≡ false → get_or l u 0 ≡ 0
+  pub unneeded : (u : ℕ) → (u < t → able y img g u ≡ false) → get_or l u 0 ≡ 0
 
-pub gathered_none : (y : Layout) (img : List ℕ) (g : ℕ) (l : List ℕ) → length l ≡ y.transactors → Gathered y img g 0 l 0
-gathered_none y img g l e = record { within = omega arith; long = e; members = names-none (able y img g); needed = λ u h. absurd (omega arith); unneeded = λ u h. absurd (omega arith) }
+pub gathered_none : (y : Layout) (img : List ℕ) (g : ℕ) (l : List ℕ) → length l ≡ y.transactors → ((u : ℕ) → get_or l u 0 ≡ 0) → Gathered y img g 0 l 0
+gathered_none y img g l e z = record { long = e; members = names-none (able y img g); needed = λ u h. absurd (omega arith); unneeded = λ u h. z u }
+
+pub gathered-all : {y : Layout} {img : List ℕ} {g : ℕ} {l : List ℕ} {v : ℕ} → Gathered y img g y.transactors l v
+    → Names (λ t. (own_history t (transactor_at (unpack y img) t)).stable) y.transactors g → Needed y img l v
+gathered-all {y} {img} {g} k stable = record { g = g; stable = stable; members = k.members; needed = k.needed; unneeded = λ u b e. k.unneeded u (λ h. e) }
 
 module _ {y : Layout} {img : List ℕ} {g t : ℕ} {l : List ℕ} {v : ℕ} (gathered : Gathered y img g t l v) where
-  pub gathered-all : Names (λ t. (own_history t (transactor_at (unpack y img) t)).stable) y.transactors g → y.transactors ≤ t → Needed y img l v
-  gathered-all stable h =
-      let e : t ≡ y.transactors = omega (arith, gathered.within) in
-      record {
-        g = g;
-        stable = stable;
-        members = subst (λ (n : ℕ). Names (able y img g) n v) e gathered.members;
-        needed = λ u b. gathered.needed u (omega arith);
-        unneeded = λ u b. gathered.unneeded u (omega arith);
-      }
+  pub gathered-off : able y img g t ≡ false → Gathered y img g (t + 1) l v
+  gathered-off e = record {
+    long = gathered.long;
+    members = names-off gathered.members e;
+    needed = λ u h a. ⊎_elim
+        (λ (q : u < t). gathered.needed u q a)
+        (λ (q : t ≤ u). let f : t ≡ u = omega arith in never (sym a ∙ subst (λ (x : ℕ). able y img g x ≡ false) f e))
+        (sides u t);
+    unneeded = λ u h. gathered.unneeded u (λ q. h (omega arith));
+  }
 
-  module _ (below : t < y.transactors) {need : ℕ} {met : Bool} (row : Row y img g t need met) where
+  module _ (below : t < y.transactors) {need : ℕ} (row : Row y img g t need) where
     kept : (u : ℕ) → u < t + 1 → able y img g u ≡ true → Names (needs_of y img u) y.transactors (get_or (set l t need) u 0)
     kept u h e = ⊎_elim
         (λ (q : u < t). subst (Names (needs_of y img u) y.transactors) (sym (get_or-set_other l t u need 0 (λ z. omega arith))) (gathered.needed u q e))
         (λ (q : t ≤ u).
         let f : t ≡ u = omega arith in
-        subst (λ (x : ℕ). able y img g x ≡ true → Names (needs_of y img x) y.transactors (get_or (set l t need) x 0)) f
-        (λ a. subst (Names (needs_of y img t) y.transactors) (sym (get_or-set_same l t need 0 (omega (arith, gathered.long)))) (row.needed (row.is ∙ a))) e)
+        subst (λ (x : ℕ). Names (needs_of y img x) y.transactors (get_or (set l t need) x 0)) f
+        (subst (Names (needs_of y img t) y.transactors) (sym (get_or-set_same l t need 0 (omega (arith, gathered.long)))) row.needed))
         (sides u t)
 
-    kept-none : (u : ℕ) → u < t + 1 → able y img g u ≡ false → get_or (set l t need) u 0 ≡ 0
-    kept-none u h e = ⊎_elim
-        (λ (q : u < t). get_or-set_other l t u need 0 (λ z. omega arith) ∙ gathered.unneeded u q e)
-        (λ (q : t ≤ u).
-        let f : t ≡ u = omega arith in
-        subst (λ (x : ℕ). able y img g x ≡ false → get_or (set l t need) x 0 ≡ 0) f
-        (λ a. get_or-set_same l t need 0 (omega (arith, gathered.long)) ∙ row.unneeded (row.is ∙ a)) e)
-        (sides u t)
+    kept-none : (u : ℕ) → (u < t + 1 → able y img g u ≡ false) → get_or (set l t need) u 0 ≡ 0
+    kept-none u h = get_or-set_other l t u need 0 differs ∙ gathered.unneeded u (λ q. h (omega arith))
+      where
+        differs : u ≡ t → ⊥
+        differs e = never (sym (subst (λ (x : ℕ). able y img g x ≡ true) (sym e) row.is) ∙ h (omega arith))
 
-    pub gathered-able : met ≡ true → (b : ℕ) → b ≡ 2 ^ t → Gathered y img g (t + 1) (set l t need) (v + b)
-    gathered-able e b bit = record { within = omega arith; long = length-set l t need ∙ gathered.long; members = names-on gathered.members b bit (sym row.is ∙ e); needed = kept; unneeded = kept-none }
-
-    pub gathered-off : met ≡ false → Gathered y img g (t + 1) (set l t need) v
-    gathered-off e = record { within = omega arith; long = length-set l t need ∙ gathered.long; members = names-off gathered.members (sym row.is ∙ e); needed = kept; unneeded = kept-none }
-
-  pub gathered-fits : y.transactors ≡ group_bits → t < y.transactors → (b : ℕ) → b ≡ 2 ^ t → v + b < 2 ^ group_bits
-  gathered-fits size below b bit = rw bit (names-fits gathered.members group_bits (omega arith))
+    pub gathered-able : (b : ℕ) → b ≡ 2 ^ t → Gathered y img g (t + 1) (set l t need) (v + b)
+    gathered-able b bit = record { long = length-set l t need ∙ gathered.long; members = names-on gathered.members b bit row.is; needed = kept; unneeded = kept-none }
 
 -- ---- which volumes are ready
 

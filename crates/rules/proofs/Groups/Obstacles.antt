@@ -8,6 +8,8 @@ use mathlib.Core.List.{List}
 use lib.Dec.{eqb, leb}
 use lib.ListN.{length}
 use borrow.Author.Tests.{eq-eqb, ne_eqb, eqb-true, leb-false, le-leb, lt-leb}
+use Rattle.std.specs.Prelude.{Option, Some, None}
+use Rattle.std.specs.Option.{option_or}
 use Rattle.octets.specs.Bytes.{pick, ◌and◌, ◌or◌}
 use Rattle.octets.specs.Numbers.{bound}
 use Rattle.octets.proofs.Tests.{pick-view, pick-zero}
@@ -21,7 +23,7 @@ use Rattle.marks.proofs.Trail.{eq_or_lt}
 use Rattle.maps.specs.declared.DependenceMap.{DependenceMap}
 use Rattle.maps.specs.Map.{held_at, history_at}
 use Rattle.rules.specs.declared.Obstacle.{Obstacle}
-use Rattle.rules.specs.declared.Obstacle.TheVariants.{Nothing, Unstable, Outside, SupersededOrAnnihilated}
+use Rattle.rules.specs.declared.Obstacle.TheVariants.{Unstable, Outside, SupersededOrAnnihilated}
 use Rattle.rules.specs.Layout.{Layout, image_bytes, base}
 use Rattle.rules.specs.Pack.{unpack}
 use Rattle.rules.specs.Form.{well_formed}
@@ -32,43 +34,31 @@ use Rattle.rules.specs.Refusals.{group_bits, named, malformed}
 use Rattle.rules.specs.Rules.{entry_ready, map_ready, transactor_ready, group_ready, refusal, step_of}
 use Rattle.rules.specs.Groups.{signing, signing_refusal}
 use Rattle.rules.specs.Internal.Guards.{group_in}
-use Rattle.rules.specs.Obstacle.{obstacle_numbers, or_else, first_of, unstable_at, blocks_in, is_present, ground_of, entry_obstacle, map_obstacle, obstacle_of, obstacle_refusal, obstacle_answer, CouldSign, StandsIn, in-state, in-creation, Obstructs, is-ready, is-unstable, is-outside, is-withdrawn}
+use Rattle.rules.specs.Obstacle.{obstacle_numbers, first_of, unstable_at, blocks_in, is_present, ground_of, entry_obstacle, map_obstacle, obstacle_of, obstacle_refusal, obstacle_answer, CouldSign, StandsIn, in-state, in-creation, Obstructs, is-ready, is-unstable, is-outside, is-withdrawn}
 use Rattle.rules.proofs.ByKind.Refused.{refuses}
 use Rattle.rules.proofs.Calls.Begin.{wrong-length, right-length}
 use Rattle.rules.proofs.Groups.Signable.{signing-done}
 
 -- ---- the first that is one
 
--- an answer other than nothing
-pub data Found : Obstacle → Type 0 where
-  found-unstable : (t : ℕ) → Found (Unstable t)
-  found-outside : (t u : ℕ) → Found (Outside t u)
-  found-withdrawn : (t u : ℕ) → Found (SupersededOrAnnihilated t u)
+-- an answer other than none
+pub data Found : Option Obstacle → Type 0 where
+  found : (o : Obstacle) → Found (Some o)
 
-found-not : {o : Obstacle} → Found o → o ≡ Nothing → ⊥
-found-not (found-unstable t) e = let z : ◌≡◌ {A = ℕ} 1 0 = ap (λ o. (obstacle_numbers o).kind) e in omega arith
-found-not (found-outside t u) e = let z : ◌≡◌ {A = ℕ} 2 0 = ap (λ o. (obstacle_numbers o).kind) e in omega arith
-found-not (found-withdrawn t u) e = let z : ◌≡◌ {A = ℕ} 3 0 = ap (λ o. (obstacle_numbers o).kind) e in omega arith
+found-not : {o : Option Obstacle} → Found o → o ≡ None → ⊥
+found-not (found o) e = cc
 
-found-or-not : (o : Obstacle) → Found o ⊎ (o ≡ Nothing)
-found-or-not Nothing = inr refl
-found-or-not (Unstable t) = inl (found-unstable t)
-found-or-not (Outside t u) = inl (found-outside t u)
-found-or-not (SupersededOrAnnihilated t u) = inl (found-withdrawn t u)
+-- what holds of each one found, and of none where none is found
+or-else : (P : Option Obstacle → Type 0) (a b : Option Obstacle) → (Found a → P a) → (a ≡ None → P b) → P (option_or a b)
+or-else P None b f g = g refl
+or-else P (Some o) b f g = f (found o)
 
--- what holds of each one found, and of nothing where none is found
-or-else : (P : Obstacle → Type 0) (a b : Obstacle) → (Found a → P a) → (a ≡ Nothing → P b) → P (or_else a b)
-or-else P Nothing b f g = g refl
-or-else P (Unstable t) b f g = f (found-unstable t)
-or-else P (Outside t u) b f g = f (found-outside t u)
-or-else P (SupersededOrAnnihilated t u) b f g = f (found-withdrawn t u)
-
-first-of : (P : Obstacle → Type 0) (f : ℕ → Obstacle) (k n : ℕ) → ((i : ℕ) → k ≤ i → i < k + n → Found (f i) → P (f i))
-    → (((i : ℕ) → k ≤ i → i < k + n → f i ≡ Nothing) → P Nothing) → P (first_of f k n)
+first-of : (P : Option Obstacle → Type 0) (f : ℕ → Option Obstacle) (k n : ℕ) → ((i : ℕ) → k ≤ i → i < k + n → Found (f i) → P (f i))
+    → (((i : ℕ) → k ≤ i → i < k + n → f i ≡ None) → P None) → P (first_of f k n)
 unfolding first_of
-first-of P f k zero found none = none (λ i h l. absurd (omega arith))
-first-of P f k (suc n) found none = or-else P (f k) (first_of f (suc k) n) (found k (omega arith) (omega arith))
-    (λ e. first-of P f (suc k) n (λ i h l. found i (omega arith) (omega arith)) (λ rest. none (λ i h l. at e rest i h l (cases i h))))
+first-of P f k zero one none = none (λ i h l. absurd (omega arith))
+first-of P f k (suc n) one none = or-else P (f k) (first_of f (suc k) n) (one k (omega arith) (omega arith))
+    (λ e. first-of P f (suc k) n (λ i h l. one i (omega arith) (omega arith)) (λ rest. none (λ i h l. at e rest i h l (cases i h))))
   where
     cases : (i : ℕ) → k ≤ i → (k ≡ i) ⊎ (suc k ≤ i)
     cases i h = go (eq_or_lt k i h)
@@ -77,8 +67,8 @@ first-of P f k (suc n) found none = or-else P (f k) (first_of f (suc k) n) (foun
         go (inl e) = inl e
         go (inr l) = inr (omega arith)
 
-    at : f k ≡ Nothing → ((i : ℕ) → suc k ≤ i → i < suc k + n → f i ≡ Nothing) → (i : ℕ) → k ≤ i → i < k + suc n → (k ≡ i) ⊎ (suc k ≤ i) → f i ≡ Nothing
-    at e rest i h l (inl q) = subst (λ (j : ℕ). f j ≡ Nothing) q e
+    at : f k ≡ None → ((i : ℕ) → suc k ≤ i → i < suc k + n → f i ≡ None) → (i : ℕ) → k ≤ i → i < k + suc n → (k ≡ i) ⊎ (suc k ≤ i) → f i ≡ None
+    at e rest i h l (inl q) = subst (λ (j : ℕ). f j ≡ None) q e
     at e rest i h l (inr q) = rest i q (omega arith)
 
 -- ---- what an answer means
@@ -95,7 +85,7 @@ parts-ready y s v t e =
 module _ (y : Layout) (s : State) (v : ℕ) where
   -- a mark that passes no test of the signing rule
   module _ (t u : ℕ) (h : History) (low : t < y.transactors) (low-u : u < y.transactors) (n : named v t ≡ true) (stands : StandsIn s t u h) (e : entry_ready s v u h ≡ false) where
-    ground-is : Obstructs y s v (ground_of s t u h)
+    ground-is : Obstructs y s v (Some (ground_of s t u h))
     unfolding ground_of is_present entry_ready
     ground-is = go (live x) refl (same_incarnation a b) refl
       where
@@ -119,7 +109,7 @@ module _ (y : Layout) (s : State) (v : ℕ) where
             or-true true = refl
             or-true false = refl
 
-        go : (l : Bool) → live x ≡ l → (q : Bool) → same_incarnation a b ≡ q → Obstructs y s v (pick (l and q) (Outside t u) (SupersededOrAnnihilated t u))
+        go : (l : Bool) → live x ≡ l → (q : Bool) → same_incarnation a b ≡ q → Obstructs y s v (Some (pick (l and q) (Outside t u) (SupersededOrAnnihilated t u)))
         go true el true eq = is-outside low low-u n stands el ((same_test a b).0 eq) (unnamed el eq (named v u) refl)
         go true el false eq = is-withdrawn low low-u n stands (record { not-present = λ l p. false≢true (sym eq ∙ (same_test a b).1 p); not-checkpointed = checkpointed })
         go false el q eq = is-withdrawn low low-u n stands (record { not-present = λ l p. false≢true (sym el ∙ l); not-checkpointed = λ l c. false≢true (sym el ∙ l) })
@@ -154,49 +144,45 @@ module _ (y : Layout) (s : State) (v : ℕ) where
         (λ d g. let p = blocks_to x.creation u d in ground-is t u (history_at x.creation u) low l n (in-creation p.0 refl) p.1)
         (λ d g. absurd (found-not g refl))) f
 
-    ground-found : (u : ℕ) (h : History) → Found (ground_of s t u h)
-    unfolding ground_of
-    ground-found u h = pick-view Found (is_present s u h) _ _ (λ e. found-outside t u) (λ e. found-withdrawn t u)
-
-    entry_free : (u : ℕ) → entry_obstacle s v t u ≡ Nothing → (blocks_in s v (transactor_at s t).state u ≡ false) × (blocks_in s v (transactor_at s t).creation u ≡ false)
+    entry_free : (u : ℕ) → entry_obstacle s v t u ≡ None → (blocks_in s v (transactor_at s t).state u ≡ false) × (blocks_in s v (transactor_at s t).creation u ≡ false)
     unfolding entry_obstacle
     entry_free u = go (blocks_in s v (transactor_at s t).state u) (blocks_in s v (transactor_at s t).creation u)
       where
-        go : (c d : Bool) → pick c (ground_of s t u (history_at (transactor_at s t).state u)) (pick d (ground_of s t u (history_at (transactor_at s t).creation u)) Nothing) ≡ Nothing → (c ≡ false) × (d ≡ false)
-        go true d e = absurd (found-not (ground-found u (history_at (transactor_at s t).state u)) e)
-        go false true e = absurd (found-not (ground-found u (history_at (transactor_at s t).creation u)) e)
+        go : (c d : Bool) → pick c (Some (ground_of s t u (history_at (transactor_at s t).state u))) (pick d (Some (ground_of s t u (history_at (transactor_at s t).creation u))) None) ≡ None → (c ≡ false) × (d ≡ false)
+        go true d e = absurd (found-not (found _) e)
+        go false true e = absurd (found-not (found _) e)
         go false false e = (refl, refl)
 
     -- no mark of take t blocks
-    maps-ready : ((u : ℕ) → u < y.transactors → entry_obstacle s v t u ≡ Nothing) → (map_ready y s v (transactor_at s t).state ≡ true) × (map_ready y s v (transactor_at s t).creation ≡ true)
+    maps-ready : ((u : ℕ) → u < y.transactors → entry_obstacle s v t u ≡ None) → (map_ready y s v (transactor_at s t).state ≡ true) × (map_ready y s v (transactor_at s t).creation ≡ true)
     maps-ready f = (passes (transactor_at s t).state (λ u l. (entry_free u (f u l)).0), passes (transactor_at s t).creation (λ u l. (entry_free u (f u l)).1))
 
     map_is : Found (first_of (entry_obstacle s v t) 0 y.transactors) → Obstructs y s v (first_of (entry_obstacle s v t) 0 y.transactors)
     map_is = first-of (λ o. Found o → Obstructs y s v o) (entry_obstacle s v t) 0 y.transactors (λ i h l f g. entry-is i (omega arith) f) (λ rest g. absurd (found-not g refl))
 
-    map-free : first_of (entry_obstacle s v t) 0 y.transactors ≡ Nothing → (u : ℕ) → u < y.transactors → entry_obstacle s v t u ≡ Nothing
-    map-free = first-of (λ o. o ≡ Nothing → (u : ℕ) → u < y.transactors → entry_obstacle s v t u ≡ Nothing) (entry_obstacle s v t) 0 y.transactors
+    map-free : first_of (entry_obstacle s v t) 0 y.transactors ≡ None → (u : ℕ) → u < y.transactors → entry_obstacle s v t u ≡ None
+    map-free = first-of (λ o. o ≡ None → (u : ℕ) → u < y.transactors → entry_obstacle s v t u ≡ None) (entry_obstacle s v t) 0 y.transactors
         (λ i h l f e. absurd (found-not f e)) (λ rest e u l. rest u (omega arith) (omega arith))
 
-  stable-free : (t : ℕ) → unstable_at s v t ≡ Nothing → named v t ≡ true → (own_history t (transactor_at s t)).stable ≡ true
+  stable-free : (t : ℕ) → unstable_at s v t ≡ None → named v t ≡ true → (own_history t (transactor_at s t)).stable ≡ true
   unfolding unstable_at
   stable-free t e n = go (named v t) n (own_history t (transactor_at s t)).stable e
     where
-      go : (c : Bool) → c ≡ true → (d : Bool) → pick (c and not d) (Unstable t) Nothing ≡ Nothing → d ≡ true
+      go : (c : Bool) → c ≡ true → (d : Bool) → pick (c and not d) (Some (Unstable t)) None ≡ None → d ≡ true
       go true p true q = refl
-      go true p false q = absurd (found-not (found-unstable t) q)
+      go true p false q = absurd (found-not (found _) q)
       go false p d q = absurd (false≢true p)
 
   unstable-is : (t : ℕ) → t < y.transactors → Found (unstable_at s v t) → Obstructs y s v (unstable_at s v t)
   unfolding unstable_at
   unstable-is t l = go (named v t) refl (own_history t (transactor_at s t)).stable refl
     where
-      go : (c : Bool) → named v t ≡ c → (d : Bool) → (own_history t (transactor_at s t)).stable ≡ d → Found (pick (c and not d) (Unstable t) Nothing) → Obstructs y s v (pick (c and not d) (Unstable t) Nothing)
+      go : (c : Bool) → named v t ≡ c → (d : Bool) → (own_history t (transactor_at s t)).stable ≡ d → Found (pick (c and not d) (Some (Unstable t)) None) → Obstructs y s v (pick (c and not d) (Some (Unstable t)) None)
       go true p false q f = is-unstable l p q
       go true p true q f = absurd (found-not f refl)
       go false p d q f = absurd (found-not f refl)
 
-  maps-free : (t : ℕ) → map_obstacle y s v t ≡ Nothing → named v t ≡ true → first_of (entry_obstacle s v t) 0 y.transactors ≡ Nothing
+  maps-free : (t : ℕ) → map_obstacle y s v t ≡ None → named v t ≡ true → first_of (entry_obstacle s v t) 0 y.transactors ≡ None
   unfolding map_obstacle
   maps-free t e n = rw n at e
 
@@ -204,7 +190,7 @@ module _ (y : Layout) (s : State) (v : ℕ) where
   unfolding map_obstacle
   maps-is t l = pick-view (λ o. Found o → Obstructs y s v o) (named v t) _ _ (λ n. map_is t l n) (λ n g. absurd (found-not g refl))
 
-  all-ready : ((t : ℕ) → t < y.transactors → unstable_at s v t ≡ Nothing) → ((t : ℕ) → t < y.transactors → map_obstacle y s v t ≡ Nothing) → group_ready y s v ≡ true
+  all-ready : ((t : ℕ) → t < y.transactors → unstable_at s v t ≡ None) → ((t : ℕ) → t < y.transactors → map_obstacle y s v t ≡ None) → group_ready y s v ≡ true
   unfolding group_ready transactor_ready
   all-ready f g = every-all (λ t. not (named v t) or transactor_ready y s v t) y.transactors (λ t l. at t l (named v t) refl)
     where
@@ -220,8 +206,8 @@ module _ (y : Layout) (s : State) (v : ℕ) where
       (λ e. first-of (Obstructs y s v) (map_obstacle y s v) 0 y.transactors (λ i h l f. maps-is i (omega arith) f)
       (λ rest. is-ready (all-ready (λ t l. stables e t l) (λ t l. rest t (omega arith) (omega arith)))))
     where
-      stables : first_of (unstable_at s v) 0 y.transactors ≡ Nothing → (t : ℕ) → t < y.transactors → unstable_at s v t ≡ Nothing
-      stables = first-of (λ o. o ≡ Nothing → (t : ℕ) → t < y.transactors → unstable_at s v t ≡ Nothing) (unstable_at s v) 0 y.transactors
+      stables : first_of (unstable_at s v) 0 y.transactors ≡ None → (t : ℕ) → t < y.transactors → unstable_at s v t ≡ None
+      stables = first-of (λ o. o ≡ None → (t : ℕ) → t < y.transactors → unstable_at s v t ≡ None) (unstable_at s v) 0 y.transactors
           (λ i h l f e. absurd (found-not f e)) (λ rest e t l. rest t (omega arith) (omega arith))
 
   -- ---- and no obstacle but nothing is there where the volume is ready
@@ -255,7 +241,7 @@ module _ (y : Layout) (s : State) (v : ℕ) where
       go a b false q e = let k = both (named v u) (same_incarnation a b) e in inr (k.0, (same_test a b).0 k.1)
 
   -- Every answer but nothing is a true obstacle: with it the volume is not ready.
-  pub obstructs-not-ready : {o : Obstacle} → Obstructs y s v o → Found o → group_ready y s v ≡ true → ⊥
+  pub obstructs-not-ready : {o : Option Obstacle} → Obstructs y s v o → Found o → group_ready y s v ≡ true → ⊥
   obstructs-not-ready (is-ready e) f g = found-not f refl
   obstructs-not-ready (is-unstable {t} l n k) f g = false≢true (sym k ∙ (parts-ready y s v t (transactor-ready g t l n)).0)
   obstructs-not-ready (is-outside {t} {u} {h} l m n stands w q k) f g = go (entry-to u h (stands-ready g t u h l m n stands)).1
@@ -271,18 +257,18 @@ module _ (y : Layout) (s : State) (v : ℕ) where
       go a (inr p) = w.not-present a p.1
 
   -- nothing exactly if the volume meets the signing rule
-  pub nothing-ready : (obstacle_of y s v ≡ Nothing) ↔ (group_ready y s v ≡ true)
-  nothing-ready = (λ e. of (subst (Obstructs y s v) e obstructs), λ e. to e (found-or-not (obstacle_of y s v)))
+  pub nothing-ready : (obstacle_of y s v ≡ None) ↔ (group_ready y s v ≡ true)
+  nothing-ready = (λ e. of (subst (Obstructs y s v) e obstructs), λ e. to e (obstacle_of y s v) refl)
     where
-      of : Obstructs y s v Nothing → group_ready y s v ≡ true
+      of : Obstructs y s v None → group_ready y s v ≡ true
       of (is-ready e) = e
 
-      to : group_ready y s v ≡ true → Found (obstacle_of y s v) ⊎ (obstacle_of y s v ≡ Nothing) → obstacle_of y s v ≡ Nothing
-      to e (inl f) = absurd (obstructs-not-ready obstructs f e)
-      to e (inr q) = q
+      to : group_ready y s v ≡ true → (o : Option Obstacle) → obstacle_of y s v ≡ o → obstacle_of y s v ≡ None
+      to e None q = q
+      to e (Some o) q = absurd (obstructs-not-ready (subst (Obstructs y s v) q obstructs) (found o) e)
 
   -- Nothing exactly if the signing would reply 0: the call is not refused, and answers nothing.
-  pub nothing-exactly : ((refusal y s (signing v) ≡ 0) × (obstacle_of y s v ≡ Nothing)) ↔ ((step_of y s (signing v)).reply.outcome ≡ done)
+  pub nothing-exactly : ((refusal y s (signing v) ≡ 0) × (obstacle_of y s v ≡ None)) ↔ ((step_of y s (signing v)).reply.outcome ≡ done)
   unfolding malformed
   nothing-exactly = (
     λ k. eqb-true (step_of y s (signing v)).reply.outcome done (signing-done y s v
@@ -298,17 +284,17 @@ module _ (y : Layout) (s : State) (v : ℕ) where
 -- ---- the call's returns
 
 module _ (y : Layout) (img : List ℕ) (v : ℕ) where
-  pub obstacle-16 : (length img ≡ image_bytes y → ⊥) → (16 ≡ obstacle_refusal y img v) × (obstacle_numbers Nothing ≡ obstacle_numbers (obstacle_answer y img v))
+  pub obstacle-16 : (length img ≡ image_bytes y → ⊥) → (16 ≡ obstacle_refusal y img v) × (obstacle_numbers None ≡ obstacle_numbers (obstacle_answer y img v))
   unfolding obstacle_refusal obstacle_answer
   obstacle-16 n = let e = wrong-length y img n in (rw e, rw e)
 
   module _ (long : length img ≡ image_bytes y) where
-    pub obstacle-19 : not (well_formed y img) ≡ true → (19 ≡ obstacle_refusal y img v) × (obstacle_numbers Nothing ≡ obstacle_numbers (obstacle_answer y img v))
+    pub obstacle-19 : not (well_formed y img) ≡ true → (19 ≡ obstacle_refusal y img v) × (obstacle_numbers None ≡ obstacle_numbers (obstacle_answer y img v))
     unfolding obstacle_refusal obstacle_answer
     obstacle-19 e = let l = right-length y img long in (rw (l, e), rw (l, e))
 
     module _ (formed : not (well_formed y img) ≡ false) where
-      pub obstacle-21 : 2 ^ group_bits ≤ v → (21 ≡ obstacle_refusal y img v) × (obstacle_numbers Nothing ≡ obstacle_numbers (obstacle_answer y img v))
+      pub obstacle-21 : 2 ^ group_bits ≤ v → (21 ≡ obstacle_refusal y img v) × (obstacle_numbers None ≡ obstacle_numbers (obstacle_answer y img v))
       unfolding obstacle_refusal obstacle_answer signing_refusal
       obstacle-21 h = let l = right-length y img long in let w = le-leb (2 ^ group_bits) v h in (rw (l, formed, w), rw (l, formed, w))
 
@@ -318,11 +304,11 @@ module _ (y : Layout) (img : List ℕ) (v : ℕ) where
         unfolding obstacle_refusal signing_refusal malformed
         refusal_is = e ∙ sym ((refuses y (unpack y img) (signing v) refl).sign refl) ∙ rw (right-length y img long, formed, lt-leb (2 ^ group_bits) v narrow)
 
-        pub obstacle-refused : (r ≡ 0 → ⊥) → (r ≡ obstacle_refusal y img v) × (obstacle_numbers Nothing ≡ obstacle_numbers (obstacle_answer y img v))
+        pub obstacle-refused : (r ≡ 0 → ⊥) → (r ≡ obstacle_refusal y img v) × (obstacle_numbers None ≡ obstacle_numbers (obstacle_answer y img v))
         unfolding obstacle_answer
         obstacle-refused n = (refusal_is, rw (ne_eqb (obstacle_refusal y img v) 0 (λ (z : obstacle_refusal y img v ≡ 0). n (refusal_is ∙ z))))
 
-        pub obstacle-0 : r ≡ 0 → (o : Obstacle) → o ≡ obstacle_of y (unpack y img) v → (r ≡ obstacle_refusal y img v) × (obstacle_numbers o ≡ obstacle_numbers (obstacle_answer y img v))
+        pub obstacle-0 : r ≡ 0 → (o : Option Obstacle) → o ≡ obstacle_of y (unpack y img) v → (r ≡ obstacle_refusal y img v) × (obstacle_numbers o ≡ obstacle_numbers (obstacle_answer y img v))
         unfolding obstacle_answer
         obstacle-0 z o q = (refusal_is, ap obstacle_numbers q ∙ rw (eq-eqb (obstacle_refusal y img v) 0 (sym refusal_is ∙ z)))
 
@@ -338,7 +324,7 @@ module _ (y : Layout) (img : List ℕ) (v : ℕ) where
   answer-obstructs z = subst (Obstructs y (unpack y img) v) (sym (answer-is z)) (obstructs y (unpack y img) v)
 
   -- Not refused and nothing exactly if the volume could be signed.
-  pub answer-nothing : ((obstacle_refusal y img v ≡ 0) × (obstacle_answer y img v ≡ Nothing)) ↔ CouldSign y img v
+  pub answer-nothing : ((obstacle_refusal y img v ≡ 0) × (obstacle_answer y img v ≡ None)) ↔ CouldSign y img v
   unfolding obstacle_refusal signing_refusal bound
   answer-nothing = (
     λ k.
@@ -368,5 +354,5 @@ module _ (img : List ℕ) (v : ℕ) where
   pub answer-obstructs-base : obstacle_refusal base img v ≡ 0 → Obstructs base (unpack base img) v (obstacle_answer base img v)
   answer-obstructs-base = answer-obstructs base img v
 
-  pub answer-nothing-base : ((obstacle_refusal base img v ≡ 0) × (obstacle_answer base img v ≡ Nothing)) ↔ CouldSign base img v
+  pub answer-nothing-base : ((obstacle_refusal base img v ≡ 0) × (obstacle_answer base img v ≡ None)) ↔ CouldSign base img v
   answer-nothing-base = answer-nothing base img v

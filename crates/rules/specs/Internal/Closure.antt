@@ -80,11 +80,10 @@ needs_of y img t u = not (pair_ready y img 0 t u)
 unfoldable pub able : Layout → List ℕ → ℕ → ℕ → Bool
 able y img g t = named g t and not (is_full (unpack y img) t) and every y.transactors (pair_ready y img g t)
 
--- whether take t is, and what it then needs; if not, nobody
-pub record Row (y : Layout) (img : List ℕ) (g t need : ℕ) (met : Bool) : Type 0 where
-  pub is : met ≡ able y img g t
-  pub needed : met ≡ true → Names (needs_of y img t) y.transactors need
-  pub unneeded : met ≡ false → need ≡ 0
+-- take t can, and what it then needs
+pub record Row (y : Layout) (img : List ℕ) (g t need : ℕ) : Type 0 where
+  pub is : able y img g t ≡ true
+  pub needed : Names (needs_of y img t) y.transactors need
 
 -- of every take; g are the frozen ones
 pub record Needed (y : Layout) (img : List ℕ) (l : List ℕ) (v : ℕ) : Type 0 where
