@@ -6,13 +6,12 @@ use mathlib.Core.List.{List}
 use lib.Dec.{eqb}
 use lib.ListN.{length}
 use borrow.Author.Tests.{eq-eqb, ne_eqb}
-use Rattle.octets.specs.Bytes.{put, Octets}
-use Rattle.octets.proofs.Put.{put_whole}
+use Rattle.octets.specs.Bytes.{Octets}
 use Rattle.rules.specs.Layout.{narrow, base, image_bytes}
 use Rattle.rules.specs.Form.{well_formed}
 use Rattle.convert.specs.Convert.{forward, too_wide, forward_answer, forward_image, back_answer, back_image}
 use Rattle.recast.specs.Internal.Recast.{recast, widened}
-use Rattle.convert.proofs.Widened.{length-widened, widened-forward, widened-formed, back-recast}
+use Rattle.convert.proofs.Widened.{widened-forward, widened-formed, back-recast}
 
 module _ (old new : List ℕ) where
   -- ---- forward
@@ -38,12 +37,12 @@ module _ (old new : List ℕ) where
           let f : well_formed narrow old ≡ false = sym (widened-formed old p o) ∙ e in
           forward-refused 19 (rw (eq-eqb (length old) (image_bytes narrow) p, eq-eqb (length new) (image_bytes base) q, f)) refl
 
-      pub forward-done : well_formed base (widened old) ≡ true → (r : List ℕ) → r ≡ put 0 (widened old) new → (0 ≡ forward_answer old new) × (r ≡ forward_image old new)
+      pub forward-done : well_formed base (widened old) ≡ true → (r : List ℕ) → r ≡ widened old → (0 ≡ forward_answer old new) × (r ≡ forward_image old new)
       unfolding forward_answer forward_image
       forward-done e r g =
           let f : well_formed narrow old ≡ true = sym (widened-formed old p o) ∙ e in
           let a : forward_answer old new ≡ 0 = rw (eq-eqb (length old) (image_bytes narrow) p, eq-eqb (length new) (image_bytes base) q, f) in
-          let b : r ≡ forward old = g ∙ put_whole (widened old) new (length-widened old p o ∙ sym q) ∙ widened-forward old p o f in
+          let b : r ≡ forward old = g ∙ widened-forward old p o f in
           (sym a, b ∙ sym (rw a))
 
   -- ---- back

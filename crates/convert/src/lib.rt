@@ -4,50 +4,51 @@
 mod low;
 
 ghost use Rattle.std.specs.Prelude.{◌≡◌};
+ghost use Rattle.rules.specs.Numbers.{refusal_in};
 ghost use Rattle.convert.specs.Convert.{forward_answer, forward_image, back_answer, back_image};
 
 use image::layout::IMAGE;
 use recast::old;
-use rules::numbers;
+use rules::refusals::Refusal;
 
-// Writes the old image in the new form: 0, or 16, 19 with no byte changed. The image is widened whatever it holds, beside the
+// Writes the old image in the new form, or is refused (16, 19) with no byte changed. The image is widened whatever it holds, beside the
 // destination, and its form is tested there.
-pub fn forward(source: &[u8], target: &mut [u8]) -> u8
-    ensures { (result ≡ forward_answer source.now target.old)
-        × (target.new ≡ forward_image source.now target.old) }
+pub fn forward(source: &[u8], target: &mut [u8]) -> Result<(), Refusal>
+    ensures answer { refusal_in result ≡ forward_answer source.now target.old }
+    ensures written { target.new ≡ forward_image source.now target.old }
 {
     if source.len() != old::IMAGE {
-        return numbers::WRONG_LENGTH;
+        return Err(Refusal::WrongLength);
     }
     if target.len() != IMAGE {
-        return numbers::WRONG_LENGTH;
+        return Err(Refusal::WrongLength);
     }
-    let mut wide = [0u8; IMAGE];
+    let mut wide = [0; IMAGE];
     recast::wider(source, &mut wide);
     if !form::formed(&wide) {
-        return numbers::ILL_FORMED;
+        return Err(Refusal::IllFormed);
     }
-    octets::write(target, 0, &wide);
-    0
+    target.copy_from_slice(&wide);
+    Ok(())
 }
 
-// Writes the new image in the old form: 0, or 16, 19, 32 with no byte changed.
-pub fn back(source: &[u8], target: &mut [u8]) -> u8
-    ensures { (result ≡ back_answer source.now target.old)
-        × (target.new ≡ back_image source.now target.old) }
+// Writes the new image in the old form, or is refused (16, 19, 32) with no byte changed.
+pub fn back(source: &[u8], target: &mut [u8]) -> Result<(), Refusal>
+    ensures answer { refusal_in result ≡ back_answer source.now target.old }
+    ensures written { target.new ≡ back_image source.now target.old }
 {
     if source.len() != IMAGE {
-        return numbers::WRONG_LENGTH;
+        return Err(Refusal::WrongLength);
     }
     if target.len() != old::IMAGE {
-        return numbers::WRONG_LENGTH;
+        return Err(Refusal::WrongLength);
     }
     if !form::formed(source) {
-        return numbers::ILL_FORMED;
+        return Err(Refusal::IllFormed);
     }
     if !low::image(source) {
-        return numbers::TOO_WIDE;
+        return Err(Refusal::TooWide);
     }
     recast::narrower(source, target);
-    0
+    Ok(())
 }

@@ -15,16 +15,12 @@ fn limits(s: &[u8]) -> bool
     requires { length s.now ≡ image_bytes base }
     ensures { result ≡ limits_are (unpack base s.now).limits (widest base) }
 {
-    if limits::transactors(s) as usize != TRANSACTORS {
-        return false;
-    }
-    if limits::messages(s) as usize != MESSAGES {
-        return false;
-    }
-    limits::checkpoints(s) as usize == marks::PLACES
+    usize::from(limits::transactors(s)) == TRANSACTORS
+        && usize::from(limits::messages(s)) == MESSAGES
+        && usize::from(limits::checkpoints(s)) == marks::PLACES
 }
 
-// A history: it is not there, or the or of the first bytes of its numbers is zero.
+// A history: it is not there, or the or of the first bytes of its numbers is zero. No early exit, so that the loop vectorises.
 fn history(s: &[u8], at: usize) -> bool
     requires { at + 33 ≤ length s.now }
     ensures { result ≡ entry_within 255 base (part at 33 s.now) }
@@ -33,10 +29,8 @@ fn history(s: &[u8], at: usize) -> bool
         return true;
     }
     let mut any: u8 = 0;
-    let mut i: usize = 0;
-    while i < 1 + marks::PLACES {
-        any = any | s[at + 1 + 2 * i];
-        i += 1;
+    for i in 0..1 + marks::PLACES {
+        any |= s[at + 1 + 2 * i];
     }
     any == 0
 }
@@ -46,32 +40,17 @@ fn histories(s: &[u8], at: usize, n: usize) -> bool
     requires { at + 33 * n ≤ length s.now }
     ensures { result ≡ entries_within 255 base s.now at n }
 {
-    let mut i: usize = 0;
-    while i < n {
-        if !history(s, at + marks::SIZE * i) {
-            return false;
-        }
-        i += 1;
-    }
-    true
+    (0..n).all(|i| history(s, at + marks::SIZE * i))
 }
 
 fn transactors(s: &[u8]) -> bool
     requires { length s.now ≡ image_bytes base }
     ensures { result ≡ every base.transactors (λ t. entries_within 255 base s.now (transactor_address base t + state_at) 48) }
 {
-    let mut t: usize = 0;
-    while t < TRANSACTORS {
-        if !histories(
-            s,
-            FIRST_TRANSACTOR + TRANSACTOR * t + STATE,
-            3 * maps::ENTRIES,
-        ) {
-            return false;
-        }
-        t += 1;
-    }
-    true
+    (0..TRANSACTORS).all(|t| {
+        let at = FIRST_TRANSACTOR + TRANSACTOR * t + STATE;
+        histories(s, at, 3 * maps::ENTRIES)
+    })
 }
 
 // The n messages that wait.
@@ -79,25 +58,12 @@ fn messages(s: &[u8], n: usize) -> bool
     requires { (length s.now ≡ image_bytes base) × (n ≤ base.messages) }
     ensures { result ≡ every n (λ k. entries_within 255 base s.now (message_address base k + dependences_at) 16) }
 {
-    let mut k: usize = 0;
-    while k < n {
-        if !histories(s, map_at(k), maps::ENTRIES) {
-            return false;
-        }
-        k += 1;
-    }
-    true
+    (0..n).all(|k| histories(s, map_at(k), maps::ENTRIES))
 }
 
 pub fn image(s: &[u8]) -> bool
     requires { length s.now ≡ image_bytes base }
     ensures { result ≡ not (too_wide s.now) }
 {
-    if !limits(s) {
-        return false;
-    }
-    if !transactors(s) {
-        return false;
-    }
-    messages(s, messages::waiting(s))
+    limits(s) && transactors(s) && messages(s, messages::waiting(s))
 }
