@@ -13,15 +13,13 @@ use lib.Seq.{take_all}
 use borrow.Author.Tests.{le-leb, lt-leb, eq-eqb, ne_eqb}
 use Rattle.octets.specs.Bytes.{◌and◌, ◌or◌, put, part, chunks, tabulate, all_zero}
 use Rattle.octets.specs.Numbers.{be, of_be}
-use Rattle.octets.proofs.Put.{part-part, get_d_part, part-def, part-add, part-one, length_part, put_then}
-use Rattle.octets.proofs.Numbers.{length-be, put-be-one}
+use Rattle.octets.proofs.Put.{part-part, get_d_part, part-def, part-add, part-one, length_part}
 use Rattle.octets.proofs.Chunks.{step, sides, tabulate-same, get_d_tabulate, fill_more, fill-all, put-more}
 use Rattle.octets.proofs.Tests.{and-true}
 use Rattle.octets.proofs.Zero.{all_zero-append}
-use Rattle.marks.specs.declared.History.{History}
 use Rattle.marks.specs.Internal.News.{may_show}
-use Rattle.marks.proofs.Packed.{head_of, head-fits, front, numbers, length-pack_number_at, length_front, length-numbers}
-use Rattle.marks.specs.Packed.{count_bound, history_size, rest_size, bit, pack_number_at, pack_history, unpack_history, load_number_at, history_in, present_in, formed_history}
+use Rattle.marks.proofs.Packed.{length-pack_number_at}
+use Rattle.marks.specs.Packed.{history_size, rest_size, pack_number_at, unpack_history, load_number_at, history_in, present_in, formed_history}
 
 -- ---- the places of a list
 
@@ -42,19 +40,6 @@ pub numbers-filled : (w at i n : ℕ) (s l : List ℕ) → take i l ≡ tabulate
 numbers-filled w at i n s l e h k = fill-all (load_number_at w s at) l n (subst (λ (j : ℕ). take j l ≡ tabulate j (load_number_at w s at)) h e) k
 
 -- ---- a history
-
-pub put-history : (w l at : ℕ) (h : History) (f : ℕ) (b b' b'' : List ℕ) → at + history_size w l ≤ length b → f ≡ bit h.stable → h.count < count_bound
-    → b' ≡ put (at + 1) (be w h.incarnation) (set b at (128 + 64 * f + h.count))
-    → b'' ≡ put (at + 1 + w) (chunks l (pack_number_at w h.checkpoints)) b'
-    → b'' ≡ put at (pack_history w l h) b
-unfolding pack_history
-put-history w l at h f b b' b'' k e c p q =
-    let first : set b at (128 + 64 * f + h.count) ≡ put at (be 1 (head_of h)) b =
-    rw e (sym (put-be-one at (head_of h) b (omega arith) (head-fits h.stable h.count c))) in
-    let two : b' ≡ put at (front w h) b =
-    p ∙ rw first (put_then at 1 (be 1 (head_of h)) (be w h.incarnation) b (length-be 1 (head_of h)) (omega (arith, length-be w h.incarnation))) in
-    let place : at + 1 + w ≡ at + (1 + w) = omega arith in
-    q ∙ rw (two, place) (put_then at (1 + w) (front w h) (numbers w l h) b (length_front w l h) (omega (arith, length-numbers w l h l)))
 
 module _ (w l at : ℕ) (s : List ℕ) (h : at + history_size w l ≤ length s) where
   first : get_or (part at (history_size w l) s) 0 0 ≡ get_or s at 0

@@ -1,6 +1,6 @@
 -- Laws of put and part, and of lists of bytes.
 use Prim.Native.Nat.{ℕ, zero, suc, ◌+◌, ◌-◌, ◌≤◌, ◌<◌}
-use mathlib.Core.Path.{◌≡◌, refl, sym, ap, ◌∙◌, subst}
+use mathlib.Core.Path.{◌≡◌, refl, sym, ap, ◌∙◌}
 use mathlib.Core.List.{List, [], ◌∷◌, ◌++◌, append_assoc, append-nil}
 use native.Mathlib.Numerals.{add-one}
 use native.Mathlib.Nat.{add_assoc, add-zero, zero-add, suc-add}
@@ -142,19 +142,6 @@ part-part i n at m l h =
 
 pub get_d_part : (at n : ℕ) (l : List ℕ) (i : ℕ) → i < n → get_or (part at n l) i 0 ≡ get_or l (at + i) 0
 get_d_part at n l i h = rw (part-def, get_or-take n (drop at l) i 0 h, get_or-drop)
-
-pub get_or-put-after : (at : ℕ) (bs l : List ℕ) (k : ℕ) → at + length bs ≤ length l → at + length bs ≤ k → get_or (put at bs l) k 0 ≡ get_or l k 0
-get_or-put-after at bs l k f h =
-    let e : at + length bs + (k - (at + length bs)) ≡ k = omega arith in
-    subst (λ (x : ℕ). get_or (put at bs l) x 0 ≡ get_or l x 0) e
-    (sym (get_or-drop (at + length bs) (put at bs l) (k - (at + length bs)) 0)
-    ∙ ap (λ (x : List ℕ). get_or x (k - (at + length bs)) 0) (drop-put at bs l f)
-    ∙ get_or-drop (at + length bs) l (k - (at + length bs)) 0)
-
-pub get_or-put-before : (at : ℕ) (bs l : List ℕ) (k : ℕ) → at + length bs ≤ length l → k < at → get_or (put at bs l) k 0 ≡ get_or l k 0
-get_or-put-before at bs l k fits h =
-    let z : k + 0 ≡ k = add-zero k in
-    rw z at (sym (get_d_part k 1 (put at bs l) 0 (omega arith)) ∙ ap (λ (x : List ℕ). get_or x 0 0) (part-put-before at bs l fits k 1 (omega arith)) ∙ get_d_part k 1 l 0 (omega arith))
 
 -- within a part
 pub put-inside : (at k n : ℕ) (bs l : List ℕ) → at + n ≤ length l → k + length bs ≤ n → put (at + k) bs l ≡ put at (put k bs (part at n l)) l
