@@ -1,19 +1,17 @@
 -- The tests of the code one by one, as specs/Internal/Footprint has them.
-use Prim.Native.Nat.{ℕ, zero, suc, ◌+◌, ◌*◌, ◌≤◌, ◌<◌}
-use mathlib.Core.Bool.{Bool, true, false, not, ◌||◌}
+use Prim.Native.Nat.{ℕ, ◌+◌, ◌*◌, ◌≤◌, ◌<◌}
+use mathlib.Core.Bool.{Bool, true, false, not}
 use mathlib.Core.Path.{◌≡◌, refl, sym, ap, ◌∙◌}
 use mathlib.Core.List.{List}
 use mathlib.Core.Logic.{⊎_elim}
-use native.Mathlib.Nat.{add-zero}
 use native.Mathlib.Omega.{arith}
 use lib.Dec.{eqb, leb}
 use lib.ListN.{length, take}
 use borrow.Author.Tests.{le-leb, lt-leb, leb-true, leb-false, ne_eqb, eq-eqb, eqb-true}
-use Rattle.std.specs.List.{list_any, range_with_len}
+use Rattle.std.specs.Prelude.{Option, Some, None}
 use Rattle.octets.specs.Bytes.{pick, ◌and◌, ◌or◌, put, part, any}
 use Rattle.octets.proofs.Put.{put_whole}
-use Rattle.octets.proofs.Tests.{never, or-none, and-true}
-use Rattle.octets.proofs.Zero.{any_same, any-first}
+use Rattle.octets.proofs.Tests.{and-true}
 use Rattle.marks.specs.declared.History.{History}
 use Rattle.marks.specs.Incarnation.{Incarnation, same_list, same_incarnation}
 use Rattle.marks.specs.Packed.{present_in}
@@ -22,15 +20,14 @@ use Rattle.rules.specs.Layout.{base, image_bytes, history_bytes, state_at, creat
 use Rattle.rules.specs.State.{State, transactor_at, message_at, own_history, place_of}
 use Rattle.rules.specs.declared.Step.{Step}
 use Rattle.rules.specs.declared.Reply.{Reply}
-use Rattle.rules.specs.Step.{letter, receive, send, sign, done, not_ready, is_refusal}
+use Rattle.rules.specs.Step.{receive, send, sign, done, not_ready, is_refusal}
 use Rattle.rules.specs.Refusals.{named, acts, sends, malformed}
 use Rattle.rules.specs.Rules.{Result, answer, apply_sign, checkpoint_group, group_ready, refusal, step_of}
 use Rattle.rules.specs.Pack.{waiting_in, pack, unpack}
 use Rattle.rules.specs.Internal.Well.{StepOk, WellFormed}
 use Rattle.rules.specs.Internal.Good.{Good}
 use Rattle.steps.specs.Internal.Stepped.{Stepped, Counted}
-use Rattle.rules.specs.Form.{well_formed}
-use Rattle.rules.specs.Independent.{opens, takes_away, has_mark, independent_refusal}
+use Rattle.rules.specs.Independent.{opens, has_mark}
 use Rattle.rules.proofs.Good.{good-pack}
 use Rattle.rules.proofs.Pack.RoundTrip.{unpack-pack}
 use Rattle.rules.proofs.Keep.Step.{fitting-base, applied-same, keeps}
@@ -38,44 +35,28 @@ use Rattle.rules.proofs.ByKind.Applied.{applies}
 use Rattle.rules.proofs.ByKind.Outcomes.{Judged, judged, apply-outcome}
 use Rattle.rules.proofs.Independent.Steps.{decided}
 use Rattle.rules.proofs.Pack.Loads.{held-at, read-state, read-creation, unpack-waiting}
-use Rattle.independence.specs.Internal.Footprint.{receiver_of, touches, touches_in, leaves, leaves_by, transactors_meet, addresses, handles, handled, parcels_meet, heads_meet, relisted, has_marks, lists_meet, meets}
-
--- ---- a test at 0, 1, .., as a chain over a range makes it
-
-or-either : (a b c : Bool) → b ≡ c → a || b ≡ a or c
-or-either true b c e = refl
-or-either false b c e = e
-
-ranged_from : (f : ℕ → Bool) (a n : ℕ) → list_any f (range_with_len a n) ≡ any n (λ i. f (a + i))
-unfolding any
-ranged_from f a zero = refl
-ranged_from f a (suc n) =
-    or-either (f a) _ _ (ranged_from f (a + 1) n ∙ any_same (λ i. f (a + 1 + i)) (λ i. f (a + suc i)) n (λ i h. ap f (omega arith)))
-    ∙ sym (any-first (λ i. f (a + i)) n ∙ ap (λ (k : ℕ). f k or any n (λ i. f (a + suc i))) (add-zero a))
-
-pub any-ranged : (f : ℕ → Bool) (n : ℕ) → list_any f (range_with_len 0 n) ≡ any n f
-any-ranged f n = ranged_from f 0 n ∙ any_same (λ i. f (0 + i)) f n (λ i h. ap f (omega arith))
+use Rattle.independence.specs.Internal.Footprint.{receiver_of, is_take, touches, touches_in, leaves, leaves_by, transactors_meet, addresses, handled, parcels_meet, heads_meet, relisted, has_marks, lists_meet, meets}
 
 -- ---- takes
 
 module _ (img : List ℕ) (number w k : ℕ) (e : w ≡ waiting_in base img) (f : k ≡ place_of (unpack base img) number) where
-  pub receiver-none : w ≤ k → base.transactors ≡ receiver_of base (unpack base img) number
+  pub receiver-none : w ≤ k → None ≡ receiver_of (unpack base img) number
   unfolding receiver_of
   receiver-none h = rw (le-leb (length (unpack base img).messages) (place_of (unpack base img) number) (omega (arith, unpack-waiting base img)))
 
-  pub receiver-some : k < w → (a : ℕ) → a ≡ (message_at (unpack base img) k).addressee → a ≡ receiver_of base (unpack base img) number
+  pub receiver-some : k < w → (a : ℕ) → a ≡ (message_at (unpack base img) k).addressee → Some a ≡ receiver_of (unpack base img) number
   unfolding receiver_of
   receiver-some h a g =
-      g ∙ ap (λ (i : ℕ). (message_at (unpack base img) i).addressee) f
+      ap Some (g ∙ ap (λ (i : ℕ). (message_at (unpack base img) i).addressee) f)
       ∙ rw (lt-leb (length (unpack base img).messages) (place_of (unpack base img) number) (omega (arith, unpack-waiting base img)))
 
-module _ (o r t : ℕ) (p : Step) where
+module _ (o : ℕ) (r : Option ℕ) (t : ℕ) (p : Step) where
   pub touch-sign : p.kind ≡ sign → named p.message t ≡ touches o r p t
   unfolding touches
   touch-sign e = rw (eq-eqb p.kind sign e)
 
   module _ (ns : p.kind ≡ sign → ⊥) where
-    pub touch-receive : p.kind ≡ receive → eqb r t ≡ touches o r p t
+    pub touch-receive : p.kind ≡ receive → is_take r t ≡ touches o r p t
     unfolding touches
     touch-receive e = rw (ne_eqb p.kind sign ns, eq-eqb p.kind receive e)
 
@@ -84,37 +65,13 @@ module _ (o r t : ℕ) (p : Step) where
       unfolding touches
       touch-else = rw (ne_eqb p.kind sign ns, ne_eqb p.kind receive nr)
 
-      pub touch-opens : opens p.kind and eqb o t ≡ true → true ≡ touches o r p t
-      touch-opens e = sym (touch-else ∙ ap (λ (c : Bool). c or (acts p.kind and eqb p.transactor t)) e)
-
-      module _ (e : opens p.kind and eqb o t ≡ false) where
-        pub touch-acts : acts p.kind ≡ true → eqb p.transactor t ≡ touches o r p t
-        touch-acts k = sym (touch-else ∙ ap (λ (c : Bool). c or (acts p.kind and eqb p.transactor t)) e ∙ ap (λ (c : Bool). c and eqb p.transactor t) k)
-
-        pub touch-none : acts p.kind ≡ false → false ≡ touches o r p t
-        touch-none k = sym (touch-else ∙ ap (λ (c : Bool). c or (acts p.kind and eqb p.transactor t)) e ∙ ap (λ (c : Bool). c and eqb p.transactor t) k)
-
 -- both, where the numbers are those of the state
-pub touch-turn : (s : State) (p q : Step) (o a b t : ℕ) (r : Bool) → o ≡ s.opened → a ≡ receiver_of base s p.message → b ≡ receiver_of base s q.message
-    → r ≡ touches o a p t and touches o b q t → r ≡ touches_in base s p t and touches_in base s q t
+pub touch-turn : (s : State) (p q : Step) (o : ℕ) (a b : Option ℕ) (t : ℕ) (r : Bool) → o ≡ s.opened → a ≡ receiver_of s p.message → b ≡ receiver_of s q.message
+    → r ≡ touches o a p t and touches o b q t → r ≡ touches_in s p t and touches_in s q t
 touch-turn s p q o a b t r e f g h =
     h ∙ ap (λ (n : ℕ). touches n a p t and touches n b q t) e
-    ∙ ap (λ (n : ℕ). touches s.opened n p t and touches s.opened b q t) f
-    ∙ ap (λ (n : ℕ). touches_in base s p t and touches s.opened n q t) g
-
-module _ (q : Step) (t : ℕ) where
-  pub address-letter : q.kind ≡ letter → eqb q.transactor t ≡ addresses q t
-  unfolding addresses
-  address-letter e = rw (eq-eqb q.kind letter e, ne_eqb q.kind send (λ (f : q.kind ≡ send). omega (arith, e, f))) (sym (or-none (eqb q.transactor t)))
-
-  module _ (n : q.kind ≡ letter → ⊥) where
-    pub address-send : q.kind ≡ send → eqb q.other t ≡ addresses q t
-    unfolding addresses
-    address-send e = rw (ne_eqb q.kind letter n, eq-eqb q.kind send e)
-
-    pub address-none : (q.kind ≡ send → ⊥) → false ≡ addresses q t
-    unfolding addresses
-    address-none m = rw (ne_eqb q.kind letter n, ne_eqb q.kind send m)
+    ∙ ap (λ (n : Option ℕ). touches s.opened n p t and touches s.opened b q t) f
+    ∙ ap (λ (n : Option ℕ). touches_in s p t and touches s.opened n q t) g
 
 -- ---- parcels
 
@@ -127,52 +84,7 @@ module _ (next : ℕ) (p : Step) where
   unfolding handled
   handled-other e = sym (ap (λ (c : Bool). pick c next p.message) e)
 
-module _ (p q : Step) where
-  pub freed-full : (c : Bool) → not c ≡ true → false ≡ c and takes_away p.kind and sends q.kind
-  freed-full true e = never (sym e)
-  freed-full false e = refl
-
-  pub freed-first : (c : Bool) → not c ≡ false → takes_away p.kind ≡ false → false ≡ c and takes_away p.kind and sends q.kind
-  freed-first true e f = sym (ap (λ (d : Bool). d and sends q.kind) f)
-  freed-first false e f = never e
-
-  pub freed-both : (c : Bool) → not c ≡ false → takes_away p.kind ≡ true → sends q.kind ≡ c and takes_away p.kind and sends q.kind
-  freed-both true e f = sym (ap (λ (d : Bool). d and sends q.kind) f)
-  freed-both false e f = never e
-
-module _ (next : ℕ) (full : Bool) (p q : Step) where
-  abbrev same : Bool
-  same = handles p.kind and handles q.kind and eqb (handled next p) (handled next q)
-
-  pub parcels-freed : full and takes_away p.kind and sends q.kind ≡ true → true ≡ parcels_meet next full p q
-  unfolding parcels_meet
-  parcels-freed e = sym (ap (λ (c : Bool). c or same) e)
-
-  module _ (e : full and takes_away p.kind and sends q.kind ≡ false) where
-    parcels-else : parcels_meet next full p q ≡ same
-    unfolding parcels_meet
-    parcels-else = ap (λ (c : Bool). c or same) e
-
-    pub parcels-first : handles p.kind ≡ false → false ≡ parcels_meet next full p q
-    parcels-first f = sym (parcels-else ∙ ap (λ (c : Bool). c and handles q.kind and eqb (handled next p) (handled next q)) f)
-
-    module _ (f : handles p.kind ≡ true) where
-      parcels-rest : parcels_meet next full p q ≡ handles q.kind and eqb (handled next p) (handled next q)
-      parcels-rest = parcels-else ∙ ap (λ (c : Bool). c and handles q.kind and eqb (handled next p) (handled next q)) f
-
-      pub parcels-second : handles q.kind ≡ false → false ≡ parcels_meet next full p q
-      parcels-second g = sym (parcels-rest ∙ ap (λ (c : Bool). c and eqb (handled next p) (handled next q)) g)
-
-      pub parcels-both : handles q.kind ≡ true → (n m : ℕ) → n ≡ handled next p → m ≡ handled next q → eqb n m ≡ parcels_meet next full p q
-      parcels-both g n m a b =
-          ap (λ (i : ℕ). eqb i m) a ∙ ap (eqb (handled next p)) b
-          ∙ sym (parcels-rest ∙ ap (λ (c : Bool). c and eqb (handled next p) (handled next q)) g)
-
 module _ (img : List ℕ) (p q : Step) (r : Bool) where
-  pub heads-opened : opens p.kind ≡ true → (o : ℕ) → o ≡ (unpack base img).opened → r ≡ addresses q o → r ≡ heads_meet (unpack base img) p q
-  unfolding heads_meet
-  heads-opened k o e f = f ∙ ap (addresses q) e ∙ sym (ap (λ (c : Bool). pick c (addresses q (unpack base img).opened) (parcels_meet (unpack base img).next (leb (unpack base img).limits.messages (length (unpack base img).messages)) p q)) k)
-
   pub heads-parcels : opens p.kind ≡ false → (n m w : ℕ) → n ≡ (unpack base img).next → m ≡ (unpack base img).limits.messages → w ≡ waiting_in base img
       → r ≡ parcels_meet n (leb m w) p q → r ≡ heads_meet (unpack base img) p q
   unfolding heads_meet
@@ -214,10 +126,6 @@ module _ (img : List ℕ) (t u : ℕ) (below : t < base.transactors) (under : u 
     has-creation f r' g = g ∙ sym in-creation ∙ sym (ap (λ (c : Bool). c or held_at (transactor_at (unpack base img) t).creation u) (in-state ∙ sym e ∙ f))
 
 module _ (s s' : State) (q : Step) where
-  pub lists-not : (q.kind ≡ sign → ⊥) → false ≡ lists_meet base s s' q
-  unfolding lists_meet
-  lists-not n = rw (ne_eqb q.kind sign n)
-
   pub lists-any : q.kind ≡ sign → any 16 (λ t. relisted s s' t and has_marks s q.message t) ≡ lists_meet base s s' q
   unfolding lists_meet
   lists-any e = rw (eq-eqb q.kind sign e)
@@ -321,29 +229,3 @@ module _ (s : State) (p q : Step) where
 
         pub meets-lists : not (leaves_by p o) and transactors_meet base s p q ≡ false → (x : State) → x ≡ (step_of base s p).state → (b : Bool) → b ≡ lists_meet base s x q → b ≡ meets base s p q
         meets-lists t x i b g = g ∙ ap (λ (y : State). lists_meet base s y q) i ∙ sym (rest ∙ ap (λ (c : Bool). c or lists_meet base s (step_of base s p).state q) t)
-
--- ---- refusals
-
-module _ (img first second : List ℕ) where
-  pub independent-16 : (length img ≡ image_bytes base → ⊥) → 16 ≡ independent_refusal base img first second
-  unfolding independent_refusal
-  independent-16 n = rw (ne_eqb (length img) (image_bytes base) n)
-
-  module _ (long : length img ≡ image_bytes base) where
-    pub independent-17 : (length first ≡ 8 → ⊥) → 17 ≡ independent_refusal base img first second
-    unfolding independent_refusal
-    independent-17 n = rw (eq-eqb (length img) (image_bytes base) long, ne_eqb (length first) 8 n)
-
-    module _ (f : length first ≡ 8) where
-      pub independent-17-second : (length second ≡ 8 → ⊥) → 17 ≡ independent_refusal base img first second
-      unfolding independent_refusal
-      independent-17-second n = rw (eq-eqb (length img) (image_bytes base) long, eq-eqb (length first) 8 f, ne_eqb (length second) 8 n)
-
-      module _ (g : length second ≡ 8) where
-        pub independent-19 : well_formed base img ≡ false → 19 ≡ independent_refusal base img first second
-        unfolding independent_refusal
-        independent-19 n = rw (eq-eqb (length img) (image_bytes base) long, eq-eqb (length first) 8 f, eq-eqb (length second) 8 g, n)
-
-        pub independent-0 : well_formed base img ≡ true → 0 ≡ independent_refusal base img first second
-        unfolding independent_refusal
-        independent-0 n = rw (eq-eqb (length img) (image_bytes base) long, eq-eqb (length first) 8 f, eq-eqb (length second) 8 g, n)

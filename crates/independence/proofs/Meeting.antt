@@ -1,4 +1,5 @@
 -- What the code tests is what specs/Independent says: q sees something that p changes exactly if the tests of specs/Internal/Footprint hold.
+use Rattle.std.specs.Prelude.{Option, Some, None}
 use Prim.Native.Nat.{ℕ, zero, suc, ◌≤◌, ◌<◌}
 use mathlib.Core.Bool.{Bool, true, false, not}
 use mathlib.Core.Path.{◌≡◌, refl, sym, ap, ◌∙◌, subst}
@@ -38,7 +39,7 @@ use Rattle.rules.proofs.Keep.Run.{step_ok-unpack}
 use Rattle.rules.proofs.Keep.Step.{fitting-base, keeps}
 use Rattle.rules.proofs.Independent.Effects.{waits-for}
 use Rattle.rules.proofs.Independent.Steps.{whole-seen}
-use Rattle.independence.specs.Internal.Footprint.{receiver_of, touches_in, leaves, transactors_meet, addresses, handles, handled, parcels_meet, is_crowded, heads_meet, relisted, has_marks, lists_meet, meets}
+use Rattle.independence.specs.Internal.Footprint.{receiver_of, is_take, touches_in, leaves, transactors_meet, addresses, handles, handled, parcels_meet, is_crowded, heads_meet, relisted, has_marks, lists_meet, meets}
 use Rattle.independence.proofs.Clauses.{touch-sign, touch-receive, touch-else, handled-sent, handled-other}
 use Rattle.independence.proofs.Signing.{same-signed, other-signed}
 
@@ -101,7 +102,7 @@ list t s = (incarnation_of (own_history t (transactor_at s t))).checkpoints
 
 module _ {s : State} (w : WellFormed base s) where
   -- the parcel with number n waits for one take alone
-  receiver-waits : (t n : ℕ) → WaitsFor s t n → receiver_of base s n ≡ t
+  receiver-waits : (t n : ℕ) → WaitsFor s t n → receiver_of s n ≡ Some t
   unfolding receiver_of place_of numbered
   receiver-waits t n v =
       let f : ℕ → Bool = λ k. eqb (message_at s k).number n in
@@ -117,25 +118,24 @@ module _ {s : State} (w : WellFormed base s) where
       (λ (h : place_of s n < v.place). absurd (omega (arith, numbers-rise w (place_of s n) v.place h v.waits, same, v.number)))
       (λ (h : v.place ≤ place_of s n). omega arith)
       (sides (place_of s n) v.place) in
-      ap (λ (c : Bool). pick c 16 (message_at s (place_of s n)).addressee) (lt-leb (length s.messages) (place_of s n) below)
-      ∙ ap (λ (k : ℕ). (message_at s k).addressee) e ∙ v.addressee
+      ap (λ (c : Bool). pick c None (Some (message_at s (place_of s n)).addressee)) (lt-leb (length s.messages) (place_of s n) below)
+      ∙ ap Some (ap (λ (k : ℕ). (message_at s k).addressee) e ∙ v.addressee)
 
-  waits-receiver : (t n : ℕ) → t < base.transactors → receiver_of base s n ≡ t → WaitsFor s t n
+  waits-receiver : (t n : ℕ) → is_take (receiver_of s n) t ≡ true → WaitsFor s t n
   unfolding receiver_of
-  waits-receiver t n below e = ⊎_elim
-      (λ (f : leb (length s.messages) (place_of s n) ≡ true). absurd (away (sym (ap (λ (c : Bool). pick c 16 (message_at s (place_of s n)).addressee) f) ∙ e)))
+  waits-receiver t n e = ⊎_elim
+      (λ (f : leb (length s.messages) (place_of s n) ≡ true). never (sym e ∙ ap (λ (c : Bool). is_take (pick c None (Some (message_at s (place_of s n)).addressee)) t) f))
       (λ (f : leb (length s.messages) (place_of s n) ≡ false).
-      subst (λ (u : ℕ). WaitsFor s u n) (sym (ap (λ (c : Bool). pick c 16 (message_at s (place_of s n)).addressee) f) ∙ e) (waits-for s n f))
+      subst (λ (u : ℕ). WaitsFor s u n)
+      (eqb-true (message_at s (place_of s n)).addressee t (sym (ap (λ (c : Bool). is_take (pick c None (Some (message_at s (place_of s n)).addressee)) t) f) ∙ e))
+      (waits-for s n f))
       (true-or-false (leb (length s.messages) (place_of s n)))
-    where
-      away : 16 ≡ t → ⊥
-      away f = omega arith
 
   module _ (q : Step) where
-    else-touch : Neither q.kind → (t : ℕ) → touches_in base s q t ≡ (opens q.kind and eqb s.opened t) or (acts q.kind and eqb q.transactor t)
-    else-touch n t = touch-else s.opened (receiver_of base s q.message) t q n.sign n.receive
+    else-touch : Neither q.kind → (t : ℕ) → touches_in s q t ≡ (opens q.kind and eqb s.opened t) or (acts q.kind and eqb q.transactor t)
+    else-touch n t = touch-else s.opened (receiver_of s q.message) t q n.sign n.receive
 
-    sees-touch : {t : ℕ} → Sees s q (whole t) → touches_in base s q t ≡ true
+    sees-touch : {t : ℕ} → Sees s q (whole t) → touches_in s q t ≡ true
     sees-touch (Sees.acting k) =
         else-touch (acts-neither q.kind k) q.transactor
         ∙ or-of (opens q.kind and eqb s.opened q.transactor) _ (inr (and-of (acts q.kind) _ k (eq-eqb q.transactor q.transactor refl)))
@@ -143,12 +143,12 @@ module _ {s : State} (w : WellFormed base s) where
         else-touch (opens-neither q.kind k) s.opened
         ∙ or-of (opens q.kind and eqb s.opened s.opened) _ (inl (and-of (opens q.kind) _ k (eq-eqb s.opened s.opened refl)))
     sees-touch (Sees.receiving t k v) =
-        sym (touch-receive s.opened (receiver_of base s q.message) t q (λ (f : q.kind ≡ sign). omega (arith, k, f)) k)
-        ∙ eq-eqb (receiver_of base s q.message) t (receiver-waits t q.message v)
-    sees-touch (Sees.naming t k n) = sym (touch-sign s.opened (receiver_of base s q.message) t q k) ∙ n
+        sym (touch-receive s.opened (receiver_of s q.message) t q (λ (f : q.kind ≡ sign). omega (arith, k, f)) k)
+        ∙ ap (λ (r : Option ℕ). is_take r t) (receiver-waits t q.message v) ∙ eq-eqb t t refl
+    sees-touch (Sees.naming t k n) = sym (touch-sign s.opened (receiver_of s q.message) t q k) ∙ n
 
-    touch-sees : (t : ℕ) → t < base.transactors → touches_in base s q t ≡ true → Sees s q (whole t)
-    touch-sees t below e = by (true-or-false (eqb q.kind sign)) (true-or-false (eqb q.kind receive))
+    touch-sees : (t : ℕ) → touches_in s q t ≡ true → Sees s q (whole t)
+    touch-sees t e = by (true-or-false (eqb q.kind sign)) (true-or-false (eqb q.kind receive))
       where
         acting : (acts q.kind ≡ true) × (eqb q.transactor t ≡ true) → Sees s q (whole t)
         acting r = subst (λ (u : ℕ). Sees s q (whole u)) (eqb-true q.transactor t r.1) (Sees.acting r.0)
@@ -159,11 +159,10 @@ module _ {s : State} (w : WellFormed base s) where
         by : (eqb q.kind sign ≡ true) ⊎ (eqb q.kind sign ≡ false) → (eqb q.kind receive ≡ true) ⊎ (eqb q.kind receive ≡ false) → Sees s q (whole t)
         by (inl f) g =
             let k : q.kind ≡ sign = eqb-true q.kind sign f in
-            Sees.naming t k (touch-sign s.opened (receiver_of base s q.message) t q k ∙ e)
+            Sees.naming t k (touch-sign s.opened (receiver_of s q.message) t q k ∙ e)
         by (inr f) (inl g) =
             let k : q.kind ≡ receive = eqb-true q.kind receive g in
-            Sees.receiving t k (waits-receiver t q.message below
-            (eqb-true (receiver_of base s q.message) t (touch-receive s.opened (receiver_of base s q.message) t q (eqb-false q.kind sign f) k ∙ e)))
+            Sees.receiving t k (waits-receiver t q.message (touch-receive s.opened (receiver_of s q.message) t q (eqb-false q.kind sign f) k ∙ e))
         by (inr f) (inr g) =
             let n : Neither q.kind = record { receive = eqb-false q.kind receive g; sign = eqb-false q.kind sign f } in
             ⊎_elim
@@ -325,8 +324,8 @@ module _ {s : State} (w : WellFormed base s) (p q : Step) (ok : StepOk p) (ok' :
     unfolding transactors_meet
     wholes o {t} k v =
         let none : transactors_meet base s p q ≡ false = and-off (not (leaves base s p)) _ o.takes (ap not (changes-moves w p ok z k)) in
-        never (sym (and-of (touches_in base s p t) (touches_in base s q t) (sees-touch w p (whole-seen k)) (sees-touch w q v))
-        ∙ any_at (λ u. touches_in base s p u and touches_in base s q u) 16 t none (changes-low w p ok z k))
+        never (sym (and-of (touches_in s p t) (touches_in s q t) (sees-touch w p (whole-seen k)) (sees-touch w q v))
+        ∙ any_at (λ u. touches_in s p u and touches_in s q u) 16 t none (changes-low w p ok z k))
 
     apart : Off → {c : Cell} → Changes base s p c → Sees s q c → ⊥
     unfolding heads_meet lists_meet
@@ -382,9 +381,9 @@ module _ {s : State} (w : WellFormed base s) (p q : Step) (ok : StepOk p) (ok' :
     unfolding transactors_meet
     seen-transactors e =
         let a = both (not (leaves base s p)) _ e in
-        let r = any-within (λ t. touches_in base s p t and touches_in base s q t) 16 a.1 in
-        let h = both (touches_in base s p r.0) (touches_in base s q r.0) r.2 in
-        clash (whole r.0) (moves-changes w p ok z (not-true (leaves base s p) a.0) (touch-sees w p r.0 r.1 h.0)) (touch-sees w q r.0 r.1 h.1)
+        let r = any-within (λ t. touches_in s p t and touches_in s q t) 16 a.1 in
+        let h = both (touches_in s p r.0) (touches_in s q r.0) r.2 in
+        clash (whole r.0) (moves-changes w p ok z (not-true (leaves base s p) a.0) (touch-sees w p r.0 h.0)) (touch-sees w q r.0 h.1)
 
     seen-lists : lists_meet base s s' q ≡ true → ⊥
     unfolding lists_meet

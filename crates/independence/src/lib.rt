@@ -7,12 +7,15 @@ ghost use Rattle.octets.specs.Bytes.{◌and◌};
 ghost use Rattle.rules.specs.Layout.{base, image_bytes};
 ghost use Rattle.rules.specs.State.{transactor_at};
 ghost use Rattle.rules.specs.Refusals as kinds;
+ghost use Rattle.rules.specs.Step.{sign};
 ghost use Rattle.rules.specs.Independent as clauses;
 ghost use Rattle.rules.specs.Rules.{step_of};
 ghost use Rattle.rules.specs.Pack.{pack, unpack};
+ghost use Rattle.rules.specs.Numbers.{refusal_in};
 ghost use Rattle.rules.specs.Promises.{IndependentPromise};
 ghost use Rattle.rules.specs.Internal.Well.{StepOk};
 ghost use Rattle.rules.specs.Internal.Good.{Good};
+ghost use Rattle.independence.specs.Answer.{is_independent};
 ghost use Rattle.independence.specs.Internal.Footprint as footprint;
 
 use group::own;
@@ -20,180 +23,137 @@ use image::layout::{CREATION, FIRST_TRANSACTOR, IMAGE, STATE, TRANSACTOR, TRANSA
 use image::{head, limits, messages};
 use lists::groups::is_named;
 use lists::{STEP, fields, packed, refusals};
-use rules::{Step, numbers};
+use rules::Step;
+use rules::kinds::Kind;
+use rules::outcomes::Outcome;
+use rules::refusals::Refusal;
 
 // ---- kinds
 
 // root, new
-fn opens(kind: u8) -> bool
-    ensures { result ≡ clauses.opens kind }
+fn opens(p: Step) -> bool
+    ensures { result ≡ clauses.opens p.kind }
 {
-    kind == numbers::ROOT || kind == numbers::NEW
-}
-
-// new to fail
-fn acts(kind: u8) -> bool
-    ensures { result ≡ kinds.acts kind }
-{
-    numbers::NEW <= kind && kind <= numbers::FAIL
+    matches!(Kind::try_from(p.kind), Ok(Kind::Root | Kind::New))
 }
 
 // letter, send
-fn sends(kind: u8) -> bool
-    ensures { result ≡ kinds.sends kind }
+fn sends(p: Step) -> bool
+    ensures { result ≡ kinds.sends p.kind }
 {
-    kind == numbers::LETTER || kind == numbers::SEND
+    matches!(Kind::try_from(p.kind), Ok(Kind::Letter | Kind::Send))
 }
 
 // receive, lose
-fn consumes(kind: u8) -> bool
-    ensures { result ≡ clauses.takes_away kind }
+fn consumes(p: Step) -> bool
+    ensures { result ≡ clauses.takes_away p.kind }
 {
-    kind == numbers::RECEIVE || kind == numbers::LOSE
+    matches!(Kind::try_from(p.kind), Ok(Kind::Receive | Kind::Lose))
+}
+
+// sign
+fn signs(p: Step) -> bool
+    ensures { result ≡ eqb p.kind sign }
+{
+    matches!(Kind::try_from(p.kind), Ok(Kind::Sign))
 }
 
 // ---- transactors
 
-// To whom the waiting message with this number is addressed; if none waits, a number that no transactor has.
-fn receiver(image: &[u8], number: u16) -> usize
+// To whom the waiting message with this number is addressed.
+fn receiver(image: &[u8], number: u16) -> Option<usize>
     requires { Good image.now }
-    ensures { result ≡ footprint.receiver_of base (unpack base image.now) number }
+    ensures { result ≡ footprint.receiver_of (unpack base image.now) number }
 {
-    let n = messages::waiting(image);
-    let k = messages::place_of(image, n, number);
-    if n <= k {
-        return TRANSACTORS;
-    }
-    messages::addressee(image, k)
-}
-
-// Whether a step of this kind opens transactor t, where so many are opened.
-fn opens_at(kind: u8, opened: usize, t: usize) -> bool
-    ensures { result ≡ clauses.opens kind and eqb opened t }
-{
-    if !opens(kind) {
-        return false;
-    }
-    opened == t
+    let k = messages::place_of(image, messages::waiting(image), number)?;
+    Some(messages::addressee(image, k))
 }
 
 // Whether the step sees transactor t whole; so many are opened, and that one would receive.
-fn touches(p: Step, opened: usize, to: usize, t: usize) -> bool
+#[tactic(auto, unfolding(crate::specs::Internal::Footprint::touches))]
+fn touches(p: Step, opened: usize, to: Option<usize>, t: usize) -> bool
     requires { t < base.transactors }
     ensures { result ≡ footprint.touches opened to p t }
 {
-    let kind = p.kind;
-    if kind == numbers::SIGN {
-        return is_named(p.message, t);
-    }
-    if kind == numbers::RECEIVE {
-        return to == t;
-    }
-    if opens_at(kind, opened, t) {
-        return true;
-    }
-    if !acts(kind) {
+    let Ok(kind) = Kind::try_from(p.kind) else {
         return false;
+    };
+    match kind {
+        Kind::Sign => is_named(p.message, t),
+        Kind::Receive => to == Some(t),
+        Kind::Root => opened == t,
+        Kind::New => opened == t || usize::from(p.transactor) == t,
+        Kind::Send
+        | Kind::Read
+        | Kind::Write
+        | Kind::Freeze
+        | Kind::Finish
+        | Kind::Fall
+        | Kind::Fail => usize::from(p.transactor) == t,
+        Kind::Letter | Kind::Lose => false,
     }
-    p.transactor as usize == t
-}
-
-// Whether both steps see transactor t whole; the two that would receive are first and second.
-fn both_touch(p: Step, q: Step, opened: usize, first: usize, second: usize, t: usize) -> bool
-    requires { t < base.transactors }
-    ensures { result ≡ footprint.touches opened first p t and footprint.touches opened second q t }
-{
-    if !touches(p, opened, first, t) {
-        return false;
-    }
-    touches(q, opened, second, t)
 }
 
 // Whether both see some transactor whole.
+#[tactic(auto, unfolding(crate::specs::Internal::Footprint::transactors_meet))]
 fn transactors_meet(image: &[u8], p: Step, q: Step) -> bool
     requires { Good image.now }
     ensures { result ≡ footprint.transactors_meet base (unpack base image.now) p q }
 {
-    let opened = head::opened(image) as usize;
+    let opened = usize::from(head::opened(image));
     let first = receiver(image, p.message);
     let second = receiver(image, q.message);
-    (0..TRANSACTORS).any(|t| both_touch(p, q, opened, first, second, t))
+    (0..TRANSACTORS).any(|t| touches(p, opened, first, t) && touches(q, opened, second, t))
 }
 
 // Whether the step is a letter or a send to transactor t.
+#[tactic(auto, unfolding(crate::specs::Internal::Footprint::addresses))]
 fn addresses(q: Step, t: u8) -> bool
     ensures { result ≡ footprint.addresses q t }
 {
-    let kind = q.kind;
-    if kind == numbers::LETTER {
-        return q.transactor == t;
+    match Kind::try_from(q.kind) {
+        Ok(Kind::Letter) => q.transactor == t,
+        Ok(Kind::Send) => q.other == t,
+        _ => false,
     }
-    if kind == numbers::SEND {
-        return q.other == t;
-    }
-    false
 }
 
 // ---- messages
 
 // The number of the message that the step makes, receives or loses.
+#[tactic(auto, unfolding(crate::specs::Internal::Footprint::handled))]
 fn handled(next: u16, p: Step) -> u16
     ensures { result ≡ footprint.handled next p }
 {
-    if sends(p.kind) {
-        return next;
-    }
-    p.message
+    if sends(p) { next } else { p.message }
 }
 
-// Whether a step of this kind makes, receives or loses a message.
-fn handles(kind: u8) -> bool
-    ensures { result ≡ footprint.handles kind }
+// Whether the step makes, receives or loses a message.
+fn handles(p: Step) -> bool
+    ensures { result ≡ footprint.handles p.kind }
 {
-    if consumes(kind) {
-        return true;
-    }
-    sends(kind)
+    consumes(p) || sends(p)
 }
 
-// Whether all places are taken, p frees one, and q wants one.
-fn frees(full: bool, p: Step, q: Step) -> bool
-    ensures { result ≡ full and clauses.takes_away p.kind and kinds.sends q.kind }
-{
-    if !full {
-        return false;
-    }
-    if !consumes(p.kind) {
-        return false;
-    }
-    sends(q.kind)
-}
-
-// Whether p frees a place where none is free, and q wants one; or both make, receive or lose the same message.
+// Whether p frees a place where none is free (full), and q wants one; or both make, receive or lose the same message.
+#[tactic(auto, unfolding(crate::specs::Internal::Footprint::parcels_meet))]
 fn messages_meet(next: u16, full: bool, p: Step, q: Step) -> bool
     ensures { result ≡ footprint.parcels_meet next full p q }
 {
-    if frees(full, p, q) {
-        return true;
-    }
-    if !handles(p.kind) {
-        return false;
-    }
-    if !handles(q.kind) {
-        return false;
-    }
-    handled(next, p) == handled(next, q)
+    full && consumes(p) && sends(q)
+        || handles(p) && handles(q) && handled(next, p) == handled(next, q)
 }
 
 // Whether p opens the transactor to which q is addressed, or they meet in a message or in the room for one.
+#[tactic(auto, unfolding(crate::specs::Internal::Footprint::heads_meet))]
 fn heads_meet(image: &[u8], p: Step, q: Step) -> bool
     requires { Good image.now }
     ensures { result ≡ footprint.heads_meet (unpack base image.now) p q }
 {
-    if opens(p.kind) {
+    if opens(p) {
         return addresses(q, head::opened(image));
     }
-    let full = limits::messages(image) as usize <= messages::waiting(image);
+    let full = usize::from(limits::messages(image)) <= messages::waiting(image);
     messages_meet(head::next(image), full, p, q)
 }
 
@@ -219,22 +179,8 @@ fn has_history(image: &[u8], t: usize, u: usize) -> bool
 {
     let at = FIRST_TRANSACTOR + TRANSACTOR * t;
     let state = at + STATE + marks::SIZE * u;
-    if packed_histories::present(image, state) {
-        return true;
-    }
     let creation = at + CREATION + marks::SIZE * u;
-    packed_histories::present(image, creation)
-}
-
-// Whether the group names transactor t, and it has.
-fn named_has(image: &[u8], group: u16, t: usize, u: usize) -> bool
-    requires { Good image.now × (t < base.transactors) × (u < base.transactors) }
-    ensures { result ≡ kinds.named group t and clauses.has_mark (transactor_at (unpack base image.now) t) u }
-{
-    if !is_named(group, t) {
-        return false;
-    }
-    has_history(image, t, u)
+    packed_histories::present(image, state) || packed_histories::present(image, creation)
 }
 
 // Whether one that the group names has.
@@ -242,30 +188,17 @@ fn have_history(image: &[u8], group: u16, u: usize) -> bool
     requires { Good image.now × (u < base.transactors) }
     ensures { result ≡ footprint.has_marks (unpack base image.now) group u }
 {
-    (0..TRANSACTORS).any(|t| named_has(image, group, t, u))
-}
-
-// Whether transactor t has another list in the copy, and one that the group names has a history of it.
-fn list_meets(image: &[u8], copy: &[u8], group: u16, t: usize) -> bool
-    requires { Good image.now × Good copy.now × (t < base.transactors) }
-    ensures { result ≡ footprint.relisted (unpack base image.now) (unpack base copy.now) t and footprint.has_marks (unpack base image.now) group t }
-{
-    if !relisted(image, copy, t) {
-        return false;
-    }
-    have_history(image, group, t)
+    (0..TRANSACTORS).any(|t| is_named(group, t) && has_history(image, t, u))
 }
 
 // Whether q, a signing, looks at the checkpoints of a transactor that has another list in the copy.
+#[tactic(auto, unfolding(crate::specs::Internal::Footprint::lists_meet))]
 fn lists_meet(image: &[u8], copy: &[u8], q: Step) -> bool
     requires { Good image.now × Good copy.now }
     ensures { result ≡ footprint.lists_meet base (unpack base image.now) (unpack base copy.now) q }
 {
-    if q.kind != numbers::SIGN {
-        return false;
-    }
-    let group = q.message;
-    (0..TRANSACTORS).any(|t| list_meets(image, copy, group, t))
+    signs(q)
+        && (0..TRANSACTORS).any(|t| relisted(image, copy, t) && have_history(image, q.message, t))
 }
 
 // ---- two steps
@@ -282,14 +215,15 @@ fn play(image: &[u8], copy: &mut [u8], p: Step) -> u8
 }
 
 // Whether p, which has this outcome, leaves the transactors that it sees as they were: a send, or a signing that is not ready.
+#[tactic(auto, unfolding(crate::specs::Internal::Footprint::leaves_by))]
 fn leaves(p: Step, outcome: u8) -> bool
     ensures { result ≡ footprint.leaves_by p outcome }
 {
-    let kind = p.kind;
-    if kind == numbers::SEND {
-        return true;
+    match Kind::try_from(p.kind) {
+        Ok(Kind::Send) => true,
+        Ok(Kind::Sign) => outcome == Outcome::NotReady.number(),
+        _ => false,
     }
-    kind == numbers::SIGN && outcome == numbers::NOT_READY
 }
 
 // Whether p, which has this outcome, changes a transactor that q sees whole.
@@ -297,10 +231,7 @@ fn changes_meet(image: &[u8], p: Step, q: Step, outcome: u8) -> bool
     requires { Good image.now }
     ensures { result ≡ not (footprint.leaves_by p outcome) and footprint.transactors_meet base (unpack base image.now) p q }
 {
-    if leaves(p, outcome) {
-        return false;
-    }
-    transactors_meet(image, p, q)
+    !leaves(p, outcome) && transactors_meet(image, p, q)
 }
 
 // Whether q sees something that p changes. The copy is for the play.
@@ -324,40 +255,34 @@ fn meets(image: &[u8], copy: &mut [u8], p: Step, q: Step) -> bool
     lists_meet(image, copy, q)
 }
 
-// 16, 17 for a step that has not eight bytes, 19, or 0.
-fn refused(image: &[u8], first: &[u8], second: &[u8]) -> u8
-    ensures { result ≡ clauses.independent_refusal base image.now first.now second.now }
+// 16, 17 for a step that has not eight bytes, 19.
+#[tactic(auto, unfolding(rules::specs::Independent::independent_refusal))]
+fn check(image: &[u8], first: &[u8], second: &[u8]) -> Result<(), Refusal>
+    ensures { refusal_in result ≡ clauses.independent_refusal base image.now first.now second.now }
 {
     if image.len() != IMAGE {
-        return numbers::WRONG_LENGTH;
+        return Err(Refusal::WrongLength);
     }
-    if first.len() != STEP {
-        return numbers::WRONG_PART;
-    }
-    if second.len() != STEP {
-        return numbers::WRONG_PART;
+    if first.len() != STEP || second.len() != STEP {
+        return Err(Refusal::WrongPart);
     }
     if !form::formed(image) {
-        return numbers::ILL_FORMED;
+        return Err(Refusal::IllFormed);
     }
-    0
+    Ok(())
 }
 
-// Whether the two packed steps are independent on the image: whether neither sees what the other changes. The lent number takes the refusal, 16,
-// 17 for a step that has not eight bytes, or 19, or 0; refused, no.
-pub fn independent(image: &[u8], first: &[u8], second: &[u8], refusal: &mut u8) -> bool
-    ensures { IndependentPromise base image.now first.now second.now refusal.new result }
+// Whether the two packed steps are independent on the image: whether neither sees what the other changes. Refused as 16, 17 for a step that has
+// not eight bytes, or 19.
+pub fn independent(image: &[u8], first: &[u8], second: &[u8]) -> Result<bool, Refusal>
+    ensures { IndependentPromise base image.now first.now second.now (refusal_in result) (is_independent result) }
 {
-    let number = refused(image, first, second);
-    *refusal = number;
-    if number != 0 {
-        return false;
-    }
+    check(image, first, second)?;
     let p = packed::decode(first, 0);
     let q = packed::decode(second, 0);
     let mut copy = [0u8; IMAGE];
     if meets(image, &mut copy, p, q) {
-        return false;
+        return Ok(false);
     }
-    !meets(image, &mut copy, q, p)
+    Ok(!meets(image, &mut copy, q, p))
 }

@@ -9,7 +9,7 @@ use Rattle.rules.specs.State.{transactor_at}
 use Rattle.rules.specs.Refusals.{named, any_named}
 use Rattle.rules.specs.Independent.{has_mark}
 use Rattle.independence.specs.Internal.Footprint.{has_marks}
-use Rattle.independence.proofs.Clauses.{any-ranged}
+use Rattle.octets.proofs.Ranges.{any-ranged}
 use Rattle.independence.proofs.have_history.Goals as goal
 
 pub returns : goal.returns

@@ -1,6 +1,6 @@
 -- Whether one step sees what another changes (specs/Independent), as the code tests it: takes, the take that is opened, parcels, lists of
 -- signings. On a well-formed state the two say the same (proofs/Meeting).
-use Rattle.std.specs.Prelude.{ℕ, Bool, not, eqb, leb, length}
+use Rattle.std.specs.Prelude.{ℕ, Bool, false, not, eqb, leb, length, Option, Some, None}
 use Rattle.octets.specs.Bytes.{pick, ◌and◌, ◌or◌, any}
 use Rattle.marks.specs.Incarnation.{same_list}
 use Rattle.marks.specs.History.{incarnation_of}
@@ -14,20 +14,25 @@ use Rattle.rules.specs.Independent.{opens, takes_away, has_mark}
 
 -- ---- takes
 
--- the addressee of the waiting parcel with number n; if none waits, a number that no take has
-unfoldable pub receiver_of : Layout → State → ℕ → ℕ
-receiver_of y s n = pick (leb (length s.messages) (place_of s n)) y.transactors (message_at s (place_of s n)).addressee
+-- the addressee of the waiting parcel with number n, if one waits
+unfoldable pub receiver_of : State → ℕ → Option ℕ
+receiver_of s n = pick (leb (length s.messages) (place_of s n)) None (Some (message_at s (place_of s n)).addressee)
+
+-- it is take t
+abbrev pub is_take : Option ℕ → ℕ → Bool
+is_take None t = false
+is_take (Some u) t = eqb u t
 
 -- Step p sees take t as a whole: it is a signing that names t, a receipt by t, it opens t, or t is its acting take. There are o takes opened, and r
 -- receives. Every take that p changes is among these.
-unfoldable pub touches : (o r : ℕ) → Step → ℕ → Bool
+unfoldable pub touches : (o : ℕ) (r : Option ℕ) → Step → ℕ → Bool
 touches o r p t =
     pick (eqb p.kind sign) (named p.message t)
-    (pick (eqb p.kind receive) (eqb r t)
+    (pick (eqb p.kind receive) (is_take r t)
     ((opens p.kind and eqb o t) or (acts p.kind and eqb p.transactor t)))
 
-abbrev pub touches_in : Layout → State → Step → ℕ → Bool
-touches_in y s p t = touches s.opened (receiver_of y s p.message) p t
+abbrev pub touches_in : State → Step → ℕ → Bool
+touches_in s p t = touches s.opened (receiver_of s p.message) p t
 
 -- a step that is not refused leaves the takes that it sees as they were: a send, and a signing that is not ready
 unfoldable pub leaves : Layout → State → Step → Bool
@@ -39,7 +44,7 @@ leaves_by p outcome = eqb p.kind send or (eqb p.kind sign and eqb outcome not_re
 
 -- some take is seen by both
 unfoldable pub transactors_meet : Layout → State → Step → Step → Bool
-transactors_meet y s p q = any y.transactors (λ t. touches_in y s p t and touches_in y s q t)
+transactors_meet y s p q = any y.transactors (λ t. touches_in s p t and touches_in s q t)
 
 -- ---- the take that p opens
 
