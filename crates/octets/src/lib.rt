@@ -33,6 +33,7 @@ pub fn lower(image: &mut [u8], at: usize, gap: usize, n: usize)
 }
 
 // Copies the n bytes from from on to to on, which is behind them.
+// Stays beside lower: each is one call of std, and one function for both would be no plainer.
 pub fn raise(image: &mut [u8], from: usize, to: usize, n: usize)
     requires { (from + n ≤ to) × (to + n ≤ length image.old) }
     ensures { image.new ≡ put to (part from n image.old) image.old }

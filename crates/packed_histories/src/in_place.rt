@@ -75,6 +75,7 @@ pub fn same_in(s: &[u8], a: usize, b: usize) -> bool
 // ---- one packed, the other by value
 
 // Whether the first n places of the two lists are the same.
+// Stays beside agree_few: one function for both, over a closure that reads a place, would be no plainer.
 fn agree_with(s: &[u8], at: usize, h: History, n: usize) -> bool
     requires { (at + history_size width places ≤ length s.now) × (n ≤ places) }
     ensures { result ≡ same_list (take n (history_in width places s.now at).checkpoints) (take n h.checkpoints) }
