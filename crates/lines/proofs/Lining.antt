@@ -8,6 +8,9 @@ use native.Mathlib.Numerals.{add-one}
 use native.Mathlib.Omega.{arith}
 use borrow.Author.Tests.{ne_eqb}
 use lib.Dec.{eqb}
+use Prim.Native.Nat.{min}
+use mathlib.Core.Logic.{⊎_elim}
+use Rattle.octets.proofs.Chunks.{sides}
 use lib.ListN.{length, take, drop, get_or, set, length-append, length-take}
 use lib.Seq.{take_all, take_at, take-suc-set, length-take-le}
 use Rattle.octets.specs.Bytes.{pick, part}
@@ -63,6 +66,14 @@ module _ (l : Line) (sized : length l.bytes ≡ line_room) where
   plus-byte b h =
       rw (add-one, take-suc-set l.bytes l.len b (omega arith))
       (sym (take_all line_room (take l.len l.bytes ++ (b ∷ [])) (omega (arith, length-append (take l.len l.bytes) (b ∷ []), length-take-le l.len l.bytes (omega arith)))))
+
+-- no more than the room is said
+pub written-cut : (l : Line) → length l.bytes ≡ line_room → (n : ℕ) → n ≡ min l.len line_room → take n l.bytes ≡ written l
+unfolding written
+written-cut l s n e = ⊎_elim
+    (λ (h : l.len < line_room). let k : n ≡ l.len = omega arith in rw k)
+    (λ (h : line_room ≤ l.len). take_all n l.bytes (omega arith) ∙ sym (take_all l.len l.bytes (omega arith)))
+    (sides l.len line_room)
 
 -- a loop adds what f makes of byte after byte, from a place on
 module _ (f : List ℕ → List ℕ) (join : (x y : List ℕ) → f (x ++ y) ≡ f x ++ f y) (a w : List ℕ) (from : ℕ) where

@@ -53,6 +53,13 @@ impl Line {
         len: 0,
     };
 
+    // What is said in it.
+    pub fn as_bytes(&self) -> &[u8]
+        ensures { result.now ≡ written self.now }
+    {
+        &self.bytes[..self.len.min(ROOM)]
+    }
+
     pub fn byte(self, b: u8) -> Line
         ensures { written result ≡ plus (written self) (b ∷ []) }
     {

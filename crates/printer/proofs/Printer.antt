@@ -1,30 +1,33 @@
 -- The printer's parts: rows, fields, items.
-use Prim.Native.Nat.{ℕ, zero, suc, ◌+◌, ◌-◌, ◌*◌, ◌≤◌, ◌<◌}
+use Prim.Native.Nat.{ℕ, suc, ◌+◌, ◌-◌, ◌*◌, ◌≤◌, ◌<◌}
 use mathlib.Core.Bool.{Bool, true, false}
 use mathlib.Core.Path.{◌≡◌, refl, sym, ap, ◌∙◌, subst}
 use mathlib.Core.List.{List, [], ◌∷◌, ◌++◌}
-use mathlib.Core.Logic.{⊎_elim}
 use native.Mathlib.Nat.{zero-add}
 use native.Mathlib.Numerals.{add-one}
 use native.Mathlib.Omega.{arith}
 use borrow.Author.Tests.{lt-ltb, le-ltb}
 use lib.Dec.{ltb}
-use lib.ListN.{length, take, drop, get_or, length-append, length-take, drop_of_length-le, get_or-eq_default}
+use lib.ListN.{length, take, drop, get_or, length-append, drop_of_length-le}
 use lib.Seq.{drop-cons}
 use Rattle.octets.specs.Bytes.{pick, put, part, chunks, Octets}
 use Rattle.octets.proofs.Put.{part-def, length_part, octets-part, put-nil, put-append}
 use Rattle.lists.proofs.Parts.{right-part}
-use Rattle.octets.proofs.Chunks.{sides, chunks-suc, chunks-add}
+use Rattle.octets.proofs.Chunks.{chunks-suc, chunks-add}
 use Rattle.rules.specs.declared.Step.{Step}
 use Rattle.rules.specs.Step.{step_bytes, step_at, unpack_step, pack_step}
-use Rattle.rules.specs.Calls.{steps_in, longest}
-use Rattle.rules.specs.Refusals.{malformed}
+use Rattle.rules.specs.Calls.{steps_in, longest, wrong_part}
 use Rattle.rules.specs.Internal.Well.{StepOk}
 use Rattle.rules.proofs.Keep.Run.{step_ok-unpack}
-use Rattle.notation.specs.Notation.{bytes, decimal, places, hex, group_text, raw, name_of, template_of, item_text, items_text, row_of, line_text, step_text, text, longest_line}
+use Rattle.notation.specs.Notation.{bytes, field_number, item_number, decimal, places, hex, group_text, name_of, template_of, item_text, items_text, row_of, line_text, step_text, text, longest_line}
 use Rattle.printer.specs.Internal.Fields.{field_of}
-use Rattle.printer.specs.Printing.{wrong_list, length_answer, no_room, print_answer, printed_out, printed_numbers}
-use Rattle.printer.specs.declared.Printed.TheVariants.{Length, Refused}
+use Rattle.printer.specs.Printing.{wrong_list, length_answer, no_room, print_answer, printed_out}
+use Rattle.std.proofs.Common.{Ok, Err, map}
+use Rattle.rules.specs.declared.refusals.Refusal.{Refusal}
+use Rattle.rules.specs.declared.refusals.Refusal.TheVariants.{WrongPart, WrongRoom}
+use Rattle.notation.specs.declared.Field.{Field}
+use Rattle.notation.specs.declared.Field.TheVariants.{Transactor, Other, Message, Value}
+use Rattle.notation.specs.declared.Item.{Item}
 use Rattle.lines.specs.declared.Line.{Line}
 use Rattle.lines.specs.Lines.{line_room, written, plus, Says}
 use Rattle.lines.proofs.Lining.{plus-plus, plus-empty, said-length, written-empty}
@@ -32,82 +35,35 @@ use Rattle.rules.proofs.Pack.Steps.{pack-unpack}
 use Rattle.notation.proofs.Rows.{row-known}
 use Rattle.notation.proofs.Sizes.{step-most, chunks-most}
 
--- ---- rows
+-- ---- items
 
-pub row-raw : (p : Step) (r : Bool) → r ≡ malformed p → r ≡ true → raw ≡ row_of p
-unfolding row_of
-row-raw p r e h =
-    let m : malformed p ≡ true = sym e ∙ h in
-    rw m
-
-pub row-kind : (p : Step) (r : Bool) → r ≡ malformed p → r ≡ false → p.kind ≡ row_of p
-unfolding row_of
-row-kind p r e h =
-    let m : malformed p ≡ false = sym e ∙ h in
-    rw m
-
--- ---- items by their numbers
-
-module _ (p : Step) (c : ℕ) where
-  pub field-1 : c ≡ 1 → p.transactor ≡ field_of p c
-  unfolding field_of
-  field-1 e = rw e
-
-  pub field-2 : c ≡ 2 → p.other ≡ field_of p c
-  unfolding field_of
-  field-2 e = rw e
-
-  pub field-3 : c ≡ 3 → p.message ≡ field_of p c
-  unfolding field_of
-  field-3 e = rw e
-
-  pub field-4 : c ≡ 4 → p.value ≡ field_of p c
-  unfolding field_of
-  field-4 e = rw e
-
-  pub item-group : c ≡ 5 → item_text p c ≡ group_text p.message
-  unfolding item_text
-  item-group e = rw e
-
-  pub item-to : c ≡ 6 → item_text p c ≡ bytes "to"
-  unfolding item_text
-  item-to e = rw e
-
-  pub item-text : c ≡ 7 → item_text p c ≡ bytes "text"
-  unfolding item_text
-  item-text e = rw e
-
-  pub item-whole : c ≡ 8 → item_text p c ≡ hex (pack_step p)
-  unfolding item_text
-  item-whole e = rw e
-
-pub item-field : (p : Step) (c : ℕ) → 0 < c → c < 5 → item_text p c ≡ decimal places (field_of p c)
+pub item-field : (p : Step) (f : Field) → item_text p (field_number f) ≡ decimal places (field_of p (field_number f))
 unfolding item_text field_of
-item-field p zero h l = absurd (omega arith)
-item-field p (suc zero) h l = refl
-item-field p (suc (suc zero)) h l = refl
-item-field p (suc (suc (suc zero))) h l = refl
-item-field p (suc (suc (suc (suc zero)))) h l = refl
-item-field p (suc (suc (suc (suc (suc c))))) h l = absurd (omega arith)
+item-field p Transactor = refl
+item-field p Other = refl
+item-field p Message = refl
+item-field p Value = refl
+
+pub item-words : (p : Step) → (item_text p 5 ≡ group_text p.message) × (item_text p 6 ≡ bytes "to") × (item_text p 7 ≡ bytes "text") × (item_text p 8 ≡ hex (pack_step p))
+unfolding item_text
+item-words p = (refl, refl, refl, refl)
 
 -- ---- the loop over a row's items
 
-module _ (p : Step) (a b : List ℕ) (row i : ℕ) (inv : plus b (items_text p (drop i (template_of row))) ≡ plus a (items_text p (template_of row))) where
-  pub items-all : b ≡ plus b [] → length (template_of row) ≤ i → b ≡ plus a (items_text p (template_of row))
+module _ (p : Step) (is : List Item) (i : ℕ) (a b : List ℕ) (inv : plus b (items_text p (map item_number (drop i is))) ≡ a) where
+  pub items-all : b ≡ plus b [] → length is ≤ i → b ≡ a
   unfolding items_text
   items-all z h =
-      let e : drop i (template_of row) ≡ [] = drop_of_length-le (template_of row) {i = i} h in
-      z ∙ subst (λ (t : List ℕ). plus b (items_text p t) ≡ plus a (items_text p (template_of row))) e inv
+      let e : drop i is ≡ [] = drop_of_length-le is {i = i} h in
+      z ∙ (rw e at inv)
 
-  pub items_more : (c d : List ℕ) (x : ℕ) → x ≡ get_or (template_of row) i 0 → (x ≡ 0 → ⊥) → c ≡ plus b (32 ∷ []) → d ≡ plus c (item_text p x)
-      → plus d (items_text p (drop (i + 1) (template_of row))) ≡ plus a (items_text p (template_of row))
+  pub items_more : i < length is → (x d : Item) → x ≡ get_or is i d → (c e : List ℕ) → c ≡ plus b (32 ∷ []) → e ≡ plus c (item_text p (item_number x))
+      → plus e (items_text p (map item_number (drop (i + 1) is))) ≡ a
   unfolding items_text
-  items_more c d x e n f g =
-      let t : List ℕ = template_of row in
-      let h : i < length t = ⊎_elim (λ (q : i < length t). q) (λ (q : length t ≤ i). absurd (n (e ∙ get_or-eq_default t 0 q))) (sides i (length t)) in
-      let k : drop i t ≡ x ∷ drop (suc i) t = drop-cons t i 0 h ∙ ap (λ (y : ℕ). y ∷ drop (suc i) t) (sym e) in
-      let s : plus b (items_text p (x ∷ drop (suc i) t)) ≡ plus a (items_text p t) = subst (λ (l : List ℕ). plus b (items_text p l) ≡ plus a (items_text p t)) k inv in
-      rw (add-one, g, f, plus-plus (plus b (32 ∷ [])) (item_text p x) (items_text p (drop (suc i) t)), plus-plus b (32 ∷ []) (item_text p x ++ items_text p (drop (suc i) t))) s
+  items_more h x d q c e f g =
+      let t : List ℕ = items_text p (map item_number (drop (suc i) is)) in
+      let s : plus b (32 ∷ (item_text p (item_number x) ++ t)) ≡ a = rw (drop-cons is i d h, ← q) at inv in
+      rw (add-one, g, f, plus-plus (plus b (32 ∷ [])) (item_text p (item_number x)) t, plus-plus b (32 ∷ []) (item_text p (item_number x) ++ t)) s
 
 -- ---- a line
 
@@ -188,15 +144,8 @@ right-list l e = omega (arith, (right-part l 0 (length l) e).short)
 
 -- ---- the text written line by line
 
-said-bytes : (r : Line) (x : List ℕ) → Says r x → take r.len r.bytes ≡ x
-unfolding written
-said-bytes r x s = s.is
-
-pub said-inside : (r : Line) (x : List ℕ) → Says r x → r.len ≤ length r.bytes
-said-inside r x s = omega (arith, s.len, ap length (said-bytes r x s), length-take r.len r.bytes)
-
-pub said-count : (r : Line) (x : List ℕ) → Says r x → r.len ≡ length (take r.len r.bytes)
-said-count r x s = s.len ∙ ap length (sym (said-bytes r x s))
+pub said-count : (r : Line) (x : List ℕ) → Says r x → r.len ≡ length (written r)
+said-count r x s = s.len ∙ ap length (sym s.is)
 
 pub put-start : (l out : List ℕ) → out ≡ put 0 (lines_to l 0) out
 unfolding lines_to chunks
@@ -216,14 +165,14 @@ module _ (l out : List ℕ) (i : ℕ) (r : Line) (s : Says r (step_text (unpack_
   unfolding step_at text lines_to
   room-line = omega (arith, lines-grow l (i + 1) (steps_in l) (omega arith), ap length (lines_to-suc l i), length-append (lines_to l i) (step_text (step_at l i)))
 
-  pub line-room : (at : ℕ) → at ≡ length (lines_to l i) → at + length (take r.len r.bytes) ≤ length out
-  line-room at e = omega (arith, room-line, ap length (said-bytes r (step_text (unpack_step (part (8 * i) step_bytes l))) s))
+  pub line-room : (at : ℕ) → at ≡ length (lines_to l i) → at + length (written r) ≤ length out
+  line-room at e = omega (arith, room-line, ap length s.is)
 
-  pub put-line : (at : ℕ) (out1 out2 : List ℕ) → at ≡ length (lines_to l i) → out1 ≡ put 0 (lines_to l i) out → out2 ≡ put at (take r.len r.bytes) out1 → out2 ≡ put 0 (lines_to l (i + 1)) out
+  pub put-line : (at : ℕ) (out1 out2 : List ℕ) → at ≡ length (lines_to l i) → out1 ≡ put 0 (lines_to l i) out → out2 ≡ put at (written r) out1 → out2 ≡ put 0 (lines_to l (i + 1)) out
   unfolding step_at
   put-line at out1 out2 e f g =
       let x : List ℕ = step_text (step_at l i) in
-      let k : take r.len r.bytes ≡ x = said-bytes r x s in
+      let k : written r ≡ x = s.is in
       g ∙ rw (k, e, f, lines_to-suc) (rw zero-add at (put-append 0 (lines_to l i) x out (omega (arith, room-line))))
 
 pub put_all : (l out out1 : List ℕ) (i : ℕ) → out1 ≡ put 0 (lines_to l i) out → i ≡ steps_in l → out1 ≡ put 0 (text l) out
@@ -232,35 +181,53 @@ put_all l out out1 i e f = e ∙ ap (λ (k : ℕ). put 0 (chunks k (λ i. step_t
 
 -- ---- answers
 
-pub length-wrong : (l : List ℕ) (r : Bool) → r ≡ wrong_list l → r ≡ true → Refused 17 ≡ length_answer l
-unfolding length_answer
-length-wrong l r e h =
-    let w : wrong_list l ≡ true = sym e ∙ h in
-    rw w
+module _ (l : List ℕ) where
+  pub length-wrong : wrong_part l 0 (length l) ≡ true → length_answer l ≡ Err WrongPart
+  unfolding length_answer wrong_list
+  length-wrong w = rw w
 
-pub length-right : (l : List ℕ) (r : Bool) (n : ℕ) → r ≡ wrong_list l → r ≡ false → n ≡ length (text l) → Length n ≡ length_answer l
-unfolding length_answer
-length-right l r n e h f =
-    let w : wrong_list l ≡ false = sym e ∙ h in
-    rw (w, f)
+  module _ (w : wrong_part l 0 (length l) ≡ false) where
+    pub right : wrong_list l ≡ false
+    unfolding wrong_list
+    right = w
 
-module _ (l out : List ℕ) (r : Bool) (e : r ≡ wrong_list l) where
-  pub print-wrong : r ≡ true → (printed_numbers (Refused 17) ≡ printed_numbers (print_answer l out)) × (out ≡ printed_out l out)
+    pub length-right : (n : ℕ) → n ≡ length (text l) → length_answer l ≡ Ok n
+    unfolding length_answer wrong_list
+    length-right n f = rw (w, f)
+
+-- the length is asked first
+answered-wrong : (l : List ℕ) (r : Refusal) → length_answer l ≡ Err r → (wrong_list l ≡ true) × (r ≡ WrongPart)
+unfolding length_answer
+answered-wrong l r = go (wrong_list l)
+  where
+    go : (t : Bool) → pick t (Err WrongPart) (Ok (length (text l))) ≡ Err r → (t ≡ true) × (r ≡ WrongPart)
+    go true e = (refl, cc)
+    go false e = absurd (cc)
+
+pub answered-right : (l : List ℕ) (n : ℕ) → length_answer l ≡ Ok n → (wrong_list l ≡ false) × (n ≡ length (text l))
+unfolding length_answer
+answered-right l n = go (wrong_list l)
+  where
+    go : (t : Bool) → pick t (Err WrongPart) (Ok (length (text l))) ≡ Ok n → (t ≡ false) × (n ≡ length (text l))
+    go true e = absurd (cc)
+    go false e = (refl, cc)
+
+module _ (l out : List ℕ) where
+  pub print-wrong : (r : Refusal) → length_answer l ≡ Err r → (Err r ≡ print_answer l out) × (out ≡ printed_out l out)
   unfolding print_answer printed_out
-  print-wrong h =
-      let w : wrong_list l ≡ true = sym e ∙ h in
-      (rw w, rw w)
+  print-wrong r e = let h = answered-wrong l r e in rw (h.0, h.1) (refl, refl)
 
-  pub print-full : (n : ℕ) → r ≡ false → n ≡ length (text l) → length out < n → (printed_numbers (Refused 18) ≡ printed_numbers (print_answer l out)) × (out ≡ printed_out l out)
-  unfolding print_answer printed_out no_room
-  print-full n h f k =
-      let w : wrong_list l ≡ false = sym e ∙ h in
-      let m : ltb (length out) (length (text l)) ≡ true = lt-ltb (length out) (length (text l)) (omega arith) in
-      (rw (w, m), rw (w, m))
+  module _ (n : ℕ) (e : length_answer l ≡ Ok n) where
+    pub print-full : length out < n → (Err WrongRoom ≡ print_answer l out) × (out ≡ printed_out l out)
+    unfolding print_answer printed_out no_room
+    print-full k =
+        let h = answered-right l n e in
+        let m : ltb (length out) (length (text l)) ≡ true = lt-ltb (length out) (length (text l)) (omega arith) in
+        rw (h.0, m) (refl, refl)
 
-  pub print-done : (n : ℕ) (after : List ℕ) → r ≡ false → n ≡ length (text l) → n ≤ length out → after ≡ put 0 (text l) out → (printed_numbers (Length n) ≡ printed_numbers (print_answer l out)) × (after ≡ printed_out l out)
-  unfolding print_answer printed_out no_room
-  print-done n after h f k g =
-      let w : wrong_list l ≡ false = sym e ∙ h in
-      let m : ltb (length out) (length (text l)) ≡ false = le-ltb (length out) (length (text l)) (omega arith) in
-      (rw (w, m, f), rw (w, m) g)
+    pub print-done : (after : List ℕ) → n ≤ length out → after ≡ put 0 (text l) out → (Ok n ≡ print_answer l out) × (after ≡ printed_out l out)
+    unfolding print_answer printed_out no_room
+    print-done after k g =
+        let h = answered-right l n e in
+        let m : ltb (length out) (length (text l)) ≡ false = le-ltb (length out) (length (text l)) (omega arith) in
+        rw (h.0, m) (ap Ok h.1, g)

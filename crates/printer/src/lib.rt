@@ -1,31 +1,25 @@
 // A list's canonical text.
 #![tactic(auto)]
 
-ghost use Rattle.std.specs.Prelude.{◌≡◌, ◌+◌, ◌≤◌, ◌<◌, false, [], length, ltb};
+ghost use Rattle.std.specs.Prelude.{◌≡◌, ◌+◌, ◌≤◌, ◌<◌, false, [], length, ltb, map};
 ghost use Rattle.octets.specs.Bytes.{pick, put, part};
 ghost use Rattle.rules.specs.Step.{step_bytes, step_at, unpack_step, pack_step};
 ghost use Rattle.rules.specs.Calls.{steps_in};
-ghost use Rattle.notation.specs.Notation.{name_of, template_of, item_text, items_text, row_of, step_text, text};
+ghost use Rattle.notation.specs.Notation.{template_of, field_number, item_number, item_text, items_text, row_of, step_text, text};
 ghost use Rattle.printer.specs.Internal.Fields.{field_of};
 ghost use Rattle.lines.specs.Lines.{written, plus, Says};
-ghost use Rattle.printer.specs.Printing.{wrong_list, length_answer, print_answer, printed_out, printed_numbers};
+ghost use Rattle.printer.specs.Printing.{wrong_list, length_answer, print_answer, printed_out};
 
 use lines::Line;
 use lists::packed;
-use rules::{Step, numbers};
+use notation::{Field, Item};
+use rules::Step;
+use rules::refusals::Refusal;
 
 // The row of a step that cannot be said in words.
 const RAW: u8 = 13;
 
-// What print and text_length answer.
-#[derive(Clone, Copy)]
-pub enum Printed {
-    // How many bytes the text has.
-    Length(usize),
-    // 17: the list is not whole steps, or over 8,192 bytes; 18: no room for the text.
-    Refused(u8),
-}
-
+#[tactic(auto, unfolding(notation::specs::Notation::row_of))]
 fn row_of(p: Step) -> u8
     ensures { result ≡ row_of p }
 {
@@ -35,47 +29,30 @@ fn row_of(p: Step) -> u8
     p.kind
 }
 
-fn name(l: Line, row: usize) -> Line
-    requires { row < 14 }
-    ensures { written result ≡ plus (written l) (name_of row) }
+// A field of the step.
+#[tactic(auto, unfolding(crate::specs::Internal::Fields::field_of))]
+fn field(p: Step, f: Field) -> u32
+    ensures { result ≡ field_of p (field_number f) }
 {
-    l.row(&kinds::LETTERS, 7, row)
+    match f {
+        Field::Transactor => p.transactor as u32,
+        Field::Other => p.other as u32,
+        Field::Message => p.message as u32,
+        Field::Value => p.value,
+    }
 }
 
-// A field of the step, by its number.
-fn field(p: Step, c: u8) -> u32
-    requires { (0 < c) × (c < 5) }
-    ensures { result ≡ field_of p c }
+fn item(l: Line, step: &[u8], p: Step, i: Item) -> Line
+    requires { step.now ≡ pack_step p }
+    ensures { written result ≡ plus (written l) (item_text p (item_number i)) }
 {
-    if c == 1 {
-        return p.transactor as u32;
+    match i {
+        Item::Number(f) => l.number(field(p, f)),
+        Item::Members => l.group(p.message),
+        Item::To => l.word(b"to"),
+        Item::Text => l.word(b"text"),
+        Item::Digits => l.hex(step),
     }
-    if c == 2 {
-        return p.other as u32;
-    }
-    if c == 3 {
-        return p.message as u32;
-    }
-    p.value
-}
-
-fn item(l: Line, step: &[u8], p: Step, c: u8) -> Line
-    requires { (0 < c) × (c ≤ 8) × (step.now ≡ pack_step p) }
-    ensures { written result ≡ plus (written l) (item_text p c) }
-{
-    if c == 5 {
-        return l.group(p.message);
-    }
-    if c == 6 {
-        return l.word(b"to");
-    }
-    if c == 7 {
-        return l.word(b"text");
-    }
-    if c == 8 {
-        return l.hex(step);
-    }
-    l.number(field(p, c))
 }
 
 // All that stands after the name, with a space before each.
@@ -84,14 +61,8 @@ fn items(l: Line, step: &[u8], p: Step, row: usize) -> Line
     ensures { written result ≡ plus (written l) (items_text p (template_of row)) }
 {
     let mut r = l;
-    let mut i: usize = 0;
-    while i < 5 {
-        let c = kinds::item_of(row, i);
-        if c == 0 {
-            return r;
-        }
-        r = item(r.byte(b' '), step, p, c);
-        i += 1;
+    for i in kinds::template_of(row) {
+        r = item(r.byte(b' '), step, p, *i);
     }
     r
 }
@@ -103,9 +74,8 @@ fn line_at(list: &[u8], at: usize) -> Line
 {
     let p = packed::decode(list, at);
     let row = row_of(p) as usize;
-    let end = at + 8;
-    let l = name(Line::EMPTY, row);
-    items(l, &list[at..end], p, row).byte(b'\n')
+    let l = Line::EMPTY.word(kinds::name_of(row));
+    items(l, &list[at..at + 8], p, row).byte(b'\n')
 }
 
 // The line of step i of a list, with its LF; empty past the last whole step.
@@ -118,27 +88,18 @@ pub fn step_line(list: &[u8], i: usize) -> Line
     line_at(list, 8 * i)
 }
 
-// Whether the list is not whole steps, or longer than a run takes.
-fn wrong(list: &[u8]) -> bool
-    ensures { result ≡ wrong_list list.now }
+// How many bytes the text has. 17: the list is not whole steps, or longer than a run takes.
+pub fn text_length(list: &[u8]) -> Result<usize, Refusal>
+    ensures { result ≡ length_answer list.now }
 {
-    lists::wrong_part(list, 0, list.len())
-}
-
-// How many bytes the text has.
-fn measure(list: &[u8]) -> usize
-    requires { wrong_list list.now ≡ false }
-    ensures { result ≡ length (text list.now) }
-{
-    let n = list.len() / 8;
-    let mut total: usize = 0;
-    let mut i: usize = 0;
-    while i < n {
-        let l = line_at(list, 8 * i);
-        total += l.len;
-        i += 1;
+    if lists::wrong_part(list, 0, list.len()) {
+        return Err(Refusal::WrongPart);
     }
-    total
+    let mut total: usize = 0;
+    for i in 0..list.len() / 8 {
+        total += line_at(list, 8 * i).len;
+    }
+    Ok(total)
 }
 
 // Writes the text from the start of out on.
@@ -146,40 +107,23 @@ fn put_text(list: &[u8], out: &mut [u8])
     requires { (wrong_list list.now ≡ false) × (length (text list.now) ≤ length out.old) }
     ensures { out.new ≡ put 0 (text list.now) out.old }
 {
-    let n = list.len() / 8;
     let mut at: usize = 0;
-    let mut i: usize = 0;
-    while i < n {
+    for i in 0..list.len() / 8 {
         let l = line_at(list, 8 * i);
-        let bytes = l.bytes;
-        let len = l.len;
-        octets::write(out, at, &bytes[..len]);
-        at += len;
-        i += 1;
+        octets::write(out, at, l.as_bytes());
+        at += l.len;
     }
 }
 
-// How many bytes the list's text has.
-pub fn text_length(list: &[u8]) -> Printed
-    ensures { printed_numbers result ≡ printed_numbers (length_answer list.now) }
+// Writes the list's text to out, and answers how many bytes it has: 17, and 18 where out has no room for it. A refusal leaves out untouched.
+pub fn print(list: &[u8], out: &mut [u8]) -> Result<usize, Refusal>
+    ensures answer { result ≡ print_answer list.now out.old }
+    ensures left { out.new ≡ printed_out list.now out.old }
 {
-    if wrong(list) {
-        return Printed::Refused(numbers::WRONG_PART);
-    }
-    Printed::Length(measure(list))
-}
-
-// Writes the list's text to out, and answers how many bytes it has. A refusal leaves out untouched.
-pub fn print(list: &[u8], out: &mut [u8]) -> Printed
-    ensures { (printed_numbers result ≡ printed_numbers (print_answer list.now out.old)) × (out.new ≡ printed_out list.now out.old) }
-{
-    if wrong(list) {
-        return Printed::Refused(numbers::WRONG_PART);
-    }
-    let n = measure(list);
+    let n = text_length(list)?;
     if out.len() < n {
-        return Printed::Refused(numbers::WRONG_ROOM);
+        return Err(Refusal::WrongRoom);
     }
     put_text(list, out);
-    Printed::Length(n)
+    Ok(n)
 }
