@@ -42,9 +42,3 @@ module _ {X : Type 0} (now : X → List ℕ) where
       go : (p : ℕ) (t : Bool) → nat_lt p (length bs) ≡ t → r ≡ cond t (Some p) None → length bs ≡ 14 → row_named w ≡ p → p ≤ length bs → MatchOption r (row_named w ≡ 14) (λ k. (k < 14) × (row_named w ≡ k))
       go p true h e n m l = let k = ltb-true p (length bs) h in rw e (omega arith, m)
       go p false h e n m l = let k = ltb-false p (length bs) h in rw e (omega arith)
-
-  pub row-at : (bs : List X) (ns : List (List ℕ)) (k : ℕ) (d : X) → map now bs ≡ ns → k < length ns → now (get_or bs k d) ≡ get_or ns k []
-  row-at bs ns k d e h =
-      let s : length bs ≡ length ns = sym (length-map bs now) ∙ ap length e in
-      let g : k < length bs = omega arith in
-      sym (rw (← e) (get_or-map now bs k d [] g))

@@ -6,8 +6,6 @@ use mathlib.Core.List.{List, [], ◌∷◌, ◌++◌, append_assoc, append-nil}
 use native.Mathlib.Nat.{zero-add}
 use native.Mathlib.Numerals.{add-one}
 use native.Mathlib.Omega.{arith}
-use borrow.Author.Tests.{ne_eqb}
-use lib.Dec.{eqb}
 use Prim.Native.Nat.{min}
 use mathlib.Core.Logic.{⊎_elim}
 use Rattle.octets.proofs.Chunks.{sides}
@@ -18,7 +16,7 @@ use Rattle.octets.proofs.Put.{part-def, part-front, part-suc, part-whole, length
 use Rattle.rules.specs.Refusals.{named, group_bits}
 use Rattle.notation.specs.Notation.{decimal, places, hex_digit, hex, members, group_text}
 use Rattle.lines.specs.Internal.Written.{Written}
-use Rattle.lines.specs.Lines.{Line, line_room, written, plus, Says, letters}
+use Rattle.lines.specs.Lines.{Line, line_room, written, plus, Says}
 use Rattle.lines.proofs.Putting.{decimal-places}
 use Rattle.notation.proofs.Sizes.{members-most}
 
@@ -150,33 +148,6 @@ pub member-none : (l : Line) → length l.bytes ≡ line_room → (g t : ℕ) (r
 member-none l z g t r e k =
     let n : named g t ≡ false = sym e ∙ k in
     rw n (plus_none l z)
-
--- ---- words in a table
-
-letters-append : (x y : List ℕ) → letters (x ++ y) ≡ letters x ++ letters y
-unfolding letters
-letters-append [] y = refl
-letters-append (b ∷ x) y = go (eqb b 0) (letters-append x y)
-  where
-    go : (t : Bool) → letters (x ++ y) ≡ letters x ++ letters y → pick t (letters (x ++ y)) (b ∷ letters (x ++ y)) ≡ pick t (letters x) (b ∷ letters x) ++ letters y
-    go true e = e
-    go false e = ap (λ (l : List ℕ). b ∷ l) e
-
-module _ (l : Line) (sized : length l.bytes ≡ line_room) where
-  pub letters-start : (w : List ℕ) (from : ℕ) → written l ≡ plus (written l) (letters (part from 0 w))
-  unfolding letters part
-  letters-start w from = plus_none l sized
-
-  pub letter-zero : (b : ℕ) → b ≡ 0 → written l ≡ plus (written l) (letters (b ∷ []))
-  unfolding letters
-  letter-zero b e = rw e (plus_none l sized)
-
-pub letter-some : (b : ℕ) → (b ≡ 0 → ⊥) → letters (b ∷ []) ≡ b ∷ []
-unfolding letters
-letter-some b n = rw (ne_eqb b 0 n)
-
-pub letters-more : (a w b c : List ℕ) (from i : ℕ) → b ≡ plus a (letters (part from i w)) → c ≡ plus b (letters (get_or w (from + i) 0 ∷ [])) → from + i < length w → c ≡ plus a (letters (part from (i + 1) w))
-letters-more a w b c from i e g h = plus-more letters letters-append a w from b c i e g h
 
 -- ---- a line without its first byte
 

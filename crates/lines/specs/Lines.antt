@@ -1,6 +1,5 @@
 -- A line that is being written: at most 256 bytes, held by value.
-use Rattle.std.specs.Prelude.{ℕ, ◌*◌, ◌≡◌, List, [], ◌∷◌, ◌++◌, eqb, length, take}
-use Rattle.octets.specs.Bytes.{pick, part}
+use Rattle.std.specs.Prelude.{ℕ, ◌≡◌, List, ◌++◌, length, take}
 pub use Rattle.lines.specs.declared.Line.{Line}
 
 -- the most bytes that a line holds: a step's has 45, a mark's no more than 210
@@ -19,13 +18,3 @@ plus a b = take line_room (a ++ b)
 pub record Says (l : Line) (x : List ℕ) : Type 0 where
   pub is : written l ≡ x
   pub len : l.len ≡ length x
-
--- ---- words in a table: rows of one width, with zeros for no letter
-
-unfoldable pub letters : List ℕ → List ℕ
-letters [] = []
-letters (b ∷ l) = pick (eqb b 0) (letters l) (b ∷ letters l)
-
--- row k of rows of w bytes
-unfoldable pub row_in : List ℕ → ℕ → ℕ → List ℕ
-row_in table w k = letters (part (w * k) w table)

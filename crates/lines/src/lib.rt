@@ -1,12 +1,12 @@
 // A line of text, byte by byte: words, numbers, groups, hexadecimal digits.
 #![tactic(auto)]
 
-ghost use Rattle.std.specs.Prelude.{◌≡◌, ◌+◌, ◌*◌, ◌≤◌, ◌<◌, [], ◌∷◌, length, drop};
+ghost use Rattle.std.specs.Prelude.{◌≡◌, ◌+◌, ◌≤◌, ◌<◌, [], ◌∷◌, length, drop};
 ghost use Rattle.octets.specs.Bytes.{pick};
 ghost use Rattle.rules.specs.Refusals.{named, group_bits};
 ghost use Rattle.lines.specs.Internal.Written.{Written};
 ghost use Rattle.notation.specs.Notation.{decimal, places, hex_digit, hex, members, group_text};
-ghost use Rattle.lines.specs.Lines.{line_room, written, plus, letters, row_in};
+ghost use Rattle.lines.specs.Lines.{line_room, written, plus};
 
 // Bytes of a line.
 pub const ROOM: usize = 256;
@@ -143,30 +143,5 @@ impl Line {
     {
         let named = Line::EMPTY.members(g);
         self.byte(b'{').rest(named).byte(b'}')
-    }
-
-    // A byte, unless it is zero.
-    fn letter(self, b: u8) -> Line
-        ensures { written result ≡ plus (written self) (letters (b ∷ [])) }
-    {
-        if b == 0 {
-            return self;
-        }
-        self.byte(b)
-    }
-
-    // Row k of a table of rows of width bytes, without the zeros in it.
-    pub fn row(self, table: &[u8], width: usize, k: usize) -> Line
-        requires { width * k + width ≤ length table.now }
-        ensures { written result ≡ plus (written self) (row_in table.now width k) }
-    {
-        let from = width * k;
-        let mut r = self;
-        let mut i: usize = 0;
-        while i < width {
-            r = r.letter(table[from + i]);
-            i += 1;
-        }
-        r
     }
 }

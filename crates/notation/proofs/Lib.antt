@@ -22,3 +22,4 @@ pub mod Alone
 pub mod Texts
 pub mod Numbered
 pub mod Firstly
+pub mod Tabled

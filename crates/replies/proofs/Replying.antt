@@ -2,17 +2,15 @@
 use Prim.Native.Nat.{ℕ, ◌+◌, ◌-◌, ◌*◌, ◌≤◌, ◌<◌}
 use mathlib.Core.Bool.{Bool, true, false}
 use mathlib.Core.Path.{◌≡◌, refl, sym, ap, ◌∙◌}
-use mathlib.Core.List.{List, [], ◌∷◌, ◌++◌}
+use mathlib.Core.List.{List, [], ◌++◌}
 use native.Mathlib.Omega.{arith}
-use borrow.Author.Tests.{leb-true, lt-ltb, le-ltb, le-leb, lt-leb, eq-eqb, ne_eqb}
+use borrow.Author.Tests.{leb-true, lt-ltb, le-ltb, eq-eqb, ne_eqb}
 use lib.Dec.{eqb, ltb, leb}
-use lib.ListN.{length, take, drop, length-append}
-use Rattle.octets.specs.Bytes.{◌and◌, ◌or◌, every, part}
+use lib.ListN.{length, take, drop, get_or, length-append}
+use Rattle.octets.specs.Bytes.{every, part}
 use Rattle.octets.proofs.Put.{part-def}
 use Rattle.octets.proofs.Tests.{pick-view}
 use Rattle.octets.proofs.Zero.{both, every-at}
-use Rattle.marks.specs.Incarnation.{same_list}
-use Rattle.marks.proofs.Tests.{same_list-test}
 use Rattle.rules.specs.declared.Step.{Step}
 use Rattle.rules.specs.declared.Reply.{Reply}
 use Rattle.rules.specs.Step.{step_bytes, step_at, unpack_step, unpack_reply, receive, not_ready}
@@ -21,59 +19,31 @@ use Rattle.notation.specs.Notation.{bytes, decimal, places, hex}
 use Rattle.refusal_words.specs.Words.{refusal_words}
 use Rattle.refusal_words.proofs.Wording.{words-short}
 use Rattle.lines.specs.declared.Line.{Line}
-use Rattle.lines.specs.Lines.{line_room, written, plus, Says, letters, row_in}
-use Rattle.replies.specs.Replies.{replies_transactor, replies_message, replies_value, outcome_of, field_text, fields_text, is_outcome, sentence_of, refusal_text, is_refused, reply_text, reply_text_at}
+use Rattle.lines.specs.Lines.{line_room, written, plus, Says}
+use Rattle.replies.specs.Replies.{replies_transactor, replies_message, replies_value, outcomes, outcome_of, field_text, fields_text, is_outcome, sentence_of, refusal_text, is_refused, reply_text, reply_text_at}
 use Rattle.notation.proofs.Numerals.{length-hex}
 use Rattle.lines.proofs.Putting.{decimal-places}
 use Rattle.lines.proofs.Lining.{plus_none, plus-two, plus-three, says-short, written-empty}
 
--- ---- the tables, by computation
+-- ---- the table, by computation
 
-abbrev pub outcomes_table : List ℕ
-outcomes_table =
-    100 ∷ 111 ∷ 110 ∷ 101 ∷ 0 ∷ 0 ∷ 0 ∷ 0 ∷ 0 ∷ 0 ∷ 0 ∷ 104 ∷ 101 ∷ 108 ∷ 100 ∷ 0 ∷ 0 ∷ 0 ∷ 0 ∷ 0 ∷ 0 ∷ 0 ∷ 100 ∷ 114 ∷ 111 ∷ 112 ∷ 112 ∷ 101 ∷ 100 ∷ 0 ∷ 0 ∷ 0 ∷ 0 ∷ 102 ∷ 97 ∷ 108 ∷ 108 ∷ 101 ∷ 110 ∷ 32 ∷ 98 ∷ 97 ∷ 99 ∷ 107 ∷ 118 ∷ 97 ∷ 110 ∷ 105 ∷ 115 ∷ 104 ∷ 101 ∷ 100 ∷ 0 ∷ 0 ∷ 0 ∷ 110 ∷ 111 ∷ 116 ∷ 32 ∷ 114 ∷ 101 ∷ 97 ∷ 100 ∷ 121 ∷ 0 ∷ 0 ∷ []
+outcomes-short : every 6 (λ k. leb (length (outcome_of k)) 11) ≡ true
+unfolding every outcome_of
+outcomes-short = refl
 
-outcomes-right : every 6 (λ k. same_list (row_in outcomes_table 11 k) (outcome_of k) and leb (length (outcome_of k)) 11) ≡ true
-unfolding every same_list row_in letters part outcome_of
-outcomes-right = refl
+outcome-short : (k : ℕ) → k < 6 → length (outcome_of k) ≤ 11
+outcome-short k h = leb-true (length (outcome_of k)) 11 (every-at (λ k. leb (length (outcome_of k)) 11) 6 k outcomes-short h)
 
-outcome-row : (k : ℕ) → k < 6 → (row_in outcomes_table 11 k ≡ outcome_of k) × (length (outcome_of k) ≤ 11)
-outcome-row k h =
-    let e = both _ _ (every-at (λ k. same_list (row_in outcomes_table 11 k) (outcome_of k) and leb (length (outcome_of k)) 11) 6 k outcomes-right h) in
-    ((same_list-test (row_in outcomes_table 11 k) (outcome_of k)).0 e.0, leb-true (length (outcome_of k)) 11 e.1)
+pub outcome-def : (k : ℕ) → outcome_of k ≡ get_or outcomes k []
+unfolding outcome_of
+outcome-def k = refl
 
 -- ---- the tests
 
--- a field that fits, by what tells whether the reply has it
-pub fit : {x u w : Bool} (n : ℕ) → x ≡ u or eqb n 0 → u ≡ w → x ≡ w or eqb n 0
-fit n e f = rw f at e
-
 module _ (k : ℕ) (r : Reply) where
-  abbrev transactor_fits : Bool
-  transactor_fits = replies_transactor k or eqb r.transactor 0
-
-  abbrev message_fits : Bool
-  message_fits = replies_message k or eqb r.message 0
-
-  pub outcome-high : not_ready < r.outcome → false ≡ is_outcome k r
-  unfolding is_outcome
-  outcome-high h = rw (lt-leb r.outcome not_ready h)
-
-  pub outcome-transactor : r.outcome ≤ not_ready → transactor_fits ≡ false → false ≡ is_outcome k r
-  unfolding is_outcome
-  outcome-transactor h e = rw (le-leb r.outcome not_ready h, e)
-
-  pub outcome-message : r.outcome ≤ not_ready → transactor_fits ≡ true → message_fits ≡ false → false ≡ is_outcome k r
-  unfolding is_outcome
-  outcome-message h e f = rw (le-leb r.outcome not_ready h, e, f)
-
-  pub outcome-value : (x : Bool) → r.outcome ≤ not_ready → transactor_fits ≡ true → message_fits ≡ true → x ≡ replies_value k r.outcome or eqb r.value 0 → x ≡ is_outcome k r
-  unfolding is_outcome
-  outcome-value x h e f g = rw (le-leb r.outcome not_ready h, e, f) g
-
   pub outcome-low : (x : Bool) → x ≡ is_outcome k r → x ≡ true → r.outcome ≤ not_ready
   unfolding is_outcome
-  outcome-low x e h = leb-true r.outcome not_ready (both (leb r.outcome not_ready) (transactor_fits and message_fits and (replies_value k r.outcome or eqb r.value 0)) (sym e ∙ h)).0
+  outcome-low x e h = leb-true r.outcome not_ready (both (leb r.outcome not_ready) _ (sym e ∙ h)).0
 
 -- ---- a reply's fields
 
@@ -145,13 +115,14 @@ refusal-short k n =
 -- ---- a reply
 
 module _ (k : ℕ) (b : List ℕ) (r : Reply) (is : r ≡ unpack_reply b) (l : Line) (sized : length l.bytes ≡ line_room) (x : Bool) (e : x ≡ is_outcome k r) where
-  pub outcome-says : (z m : List ℕ) → x ≡ true → z ≡ [] → m ≡ plus z (row_in outcomes_table 11 r.outcome) → written l ≡ plus m (fields_text k r) → Says l (reply_text k b)
+  pub outcome-says : (z m w : List ℕ) → x ≡ true → z ≡ [] → m ≡ plus z w → w ≡ get_or outcomes r.outcome [] → written l ≡ plus m (fields_text k r) → Says l (reply_text k b)
   unfolding reply_text
-  outcome-says z m h f g i =
-      let o = outcome-row r.outcome (omega (arith, outcome-low k r x e h)) in
+  outcome-says z m w h f g o i =
+      let j = outcome-short r.outcome (omega (arith, outcome-low k r x e h)) in
+      let n : m ≡ plus z (outcome_of r.outcome) = g ∙ ap (plus z) (o ∙ sym (outcome-def r.outcome)) in
       let t : is_outcome k r ≡ true = sym e ∙ h in
       let s : Says l (outcome_of r.outcome ++ fields_text k r) =
-      says-short l z (outcome_of r.outcome ++ fields_text k r) f (plus-two z m (written l) (outcome_of r.outcome) (fields_text k r) (rw o.0 at g) i) (omega (arith, length-append (outcome_of r.outcome) (fields_text k r), fields-short k r, o.1)) sized in
+      says-short l z (outcome_of r.outcome ++ fields_text k r) f (plus-two z m (written l) (outcome_of r.outcome) (fields_text k r) n i) (omega (arith, length-append (outcome_of r.outcome) (fields_text k r), fields-short k r, j)) sized in
       rw (← is, t) s
 
   module _ (no : x ≡ false) (y : Bool) (f : y ≡ is_refused r) where

@@ -10,86 +10,66 @@ ghost use Rattle.replies.specs.Replies.{replies_transactor, replies_message, rep
 use lines::Line;
 use lists::packed;
 use lists::refusals::is_refusal;
-use rules::{Reply, numbers};
+use rules::Reply;
+use rules::kinds::Kind;
+use rules::outcomes::Outcome;
+use rules::refusals::Refusal;
 
-// The outcomes, eleven bytes each.
-const OUTCOMES: [u8; 66] =
-    *b"done\0\0\0\0\0\0\0held\0\0\0\0\0\0\0dropped\0\0\0\0fallen backvanished\0\0\0not ready\0\0";
+const OUTCOMES: [&[u8]; 6] = [
+    b"done",
+    b"held",
+    b"dropped",
+    b"fallen back",
+    b"vanished",
+    b"not ready",
+];
 
+#[tactic(auto, unfolding(crate::specs::Replies::replies_transactor))]
 fn replies_transactor(kind: u8) -> bool
     ensures { result ≡ replies_transactor kind }
 {
-    kind <= numbers::FAIL
+    kind <= Kind::Fail.number()
 }
 
+#[tactic(auto, unfolding(crate::specs::Replies::replies_message))]
 fn replies_message(kind: u8) -> bool
     ensures { result ≡ replies_message kind }
 {
-    if kind == numbers::LETTER {
-        return true;
-    }
-    if kind == numbers::RECEIVE {
-        return true;
-    }
-    if kind == numbers::SEND {
-        return true;
-    }
-    kind == numbers::LOSE
+    kind == Kind::Letter.number()
+        || kind == Kind::Receive.number()
+        || kind == Kind::Send.number()
+        || kind == Kind::Lose.number()
 }
 
+#[tactic(auto, unfolding(crate::specs::Replies::replies_value))]
 fn replies_value(kind: u8, outcome: u8) -> bool
     ensures { result ≡ replies_value kind outcome }
 {
-    if outcome != numbers::DONE {
-        return false;
-    }
-    if kind == numbers::RECEIVE {
-        return true;
-    }
-    kind == numbers::READ
+    outcome == Outcome::Done.number()
+        && (kind == Kind::Receive.number() || kind == Kind::Read.number())
 }
 
-// Whether a field is one that the reply has, or zero.
-fn fits(used: bool, n: u32) -> bool
-    ensures { result ≡ used or eqb n 0 }
-{
-    if used {
-        return true;
-    }
-    n == 0
-}
-
+// Whether it is an outcome, with zero in every field that the reply does not have.
+#[tactic(auto, unfolding(crate::specs::Replies::is_outcome))]
 fn is_outcome(kind: u8, r: Reply) -> bool
     ensures { result ≡ is_outcome kind r }
 {
-    if numbers::NOT_READY < r.outcome {
-        return false;
-    }
-    if !fits(replies_transactor(kind), r.transactor as u32) {
-        return false;
-    }
-    if !fits(replies_message(kind), r.message as u32) {
-        return false;
-    }
-    fits(replies_value(kind, r.outcome), r.value)
+    r.outcome <= Outcome::NotReady.number()
+        && (replies_transactor(kind) || r.transactor == 0)
+        && (replies_message(kind) || r.message == 0)
+        && (replies_value(kind, r.outcome) || r.value == 0)
 }
 
+// Whether it is a refusal of a step, with zero in all fields.
+#[tactic(auto, unfolding(crate::specs::Replies::is_refused))]
 fn is_refused(r: Reply) -> bool
     ensures { result ≡ is_refused r }
 {
-    if !is_refusal(r.outcome) {
-        return false;
-    }
-    if numbers::UNRELATED < r.outcome {
-        return false;
-    }
-    if r.transactor != 0 {
-        return false;
-    }
-    if r.message != 0 {
-        return false;
-    }
-    r.value == 0
+    is_refusal(r.outcome)
+        && r.outcome <= Refusal::Unrelated.number()
+        && r.transactor == 0
+        && r.message == 0
+        && r.value == 0
 }
 
 // The word w and a number, if the reply has that field.
@@ -119,10 +99,10 @@ fn fields(l: Line, kind: u8, r: Reply) -> Line
 fn sentence(l: Line, kind: u8, n: u8) -> Line
     ensures { written result ≡ plus (written l) (sentence_of kind n) }
 {
-    if n != numbers::WRONG_STATUS {
+    if n != Refusal::WrongStatus.number() {
         return refusal_words::words(l, n);
     }
-    if kind != numbers::RECEIVE {
+    if kind != Kind::Receive.number() {
         return l.word(b"acting take not at work");
     }
     l.word(b"receiving take not idle")
@@ -142,14 +122,13 @@ fn reply_at(kind: u8, replies: &[u8], at: usize) -> Line
 {
     let r = packed::decode_reply(replies, at);
     if is_outcome(kind, r) {
-        let l = Line::EMPTY.row(&OUTCOMES, 11, r.outcome as usize);
+        let l = Line::EMPTY.word(OUTCOMES[r.outcome as usize]);
         return fields(l, kind, r);
     }
     if is_refused(r) {
         return refused(Line::EMPTY, kind, r.outcome);
     }
-    let end = at + 8;
-    Line::EMPTY.word(b"raw ").hex(&replies[at..end])
+    Line::EMPTY.word(b"raw ").hex(&replies[at..at + 8])
 }
 
 // The reply to step i of a list in words; empty past the last step or reply.

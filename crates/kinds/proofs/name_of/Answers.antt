@@ -1,6 +1,6 @@
 use Rattle.std.proofs.Common.{rules, List, ℕ, Bor}
 use Rattle.notation.specs.Notation.{name_of}
-use Rattle.kinds.proofs.Rows.{row-at}
+use Rattle.notation.proofs.Tabled.{row-at}
 use Rattle.kinds.proofs.name_of.Goals as goal
 
 pub returns : goal.returns

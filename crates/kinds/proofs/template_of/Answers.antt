@@ -1,7 +1,7 @@
 use Rattle.std.proofs.Common.{rules, List, map, Bor}
 use Rattle.notation.specs.Notation.{template_of, item_number}
 use Rattle.notation.specs.declared.Item.{Item}
-use Rattle.kinds.proofs.Rows.{row-at}
+use Rattle.notation.proofs.Tabled.{row-at}
 use Rattle.kinds.proofs.template_of.Goals as goal
 
 pub returns : goal.returns
