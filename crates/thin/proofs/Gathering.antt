@@ -35,9 +35,6 @@ put-before at n p q l e h =
 
 -- ---- one step, kept or not
 
-pub unplaced : {b : List ℕ} {i k : ℕ} {c : Bool} {l : List ℕ} → c ≡ false → Placed b i c k l k l
-unplaced {k = k} e = record { first = rw e (sym (sub-zero k)); bytes = rw e }
-
 pub placed : {b : List ℕ} {i k : ℕ} {c : Bool} {l l' : List ℕ} → c ≡ true
     → l' ≡ put (step_bytes * (k - 1)) (take (step_bytes * i + step_bytes - step_bytes * i) (drop (step_bytes * i) b)) l → Placed b i c k l (k - 1) l'
 placed {b} {i} {k} {c} {l} {l'} e f =

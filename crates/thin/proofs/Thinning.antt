@@ -1,15 +1,13 @@
 -- The pass: the run's answer and replies, and the steps that are kept by these.
-use Prim.Native.Nat.{ℕ, ◌+◌, ◌-◌, ◌*◌, ◌<◌}
+use Prim.Native.Nat.{ℕ, ◌-◌, ◌*◌, ◌<◌}
 use mathlib.Core.Bool.{true, false}
-use mathlib.Core.Path.{◌≡◌, refl, sym, ap, ◌∙◌}
+use mathlib.Core.Path.{◌≡◌, sym, ap, ◌∙◌}
 use mathlib.Core.List.{List, ◌++◌}
-use native.Mathlib.Numerals.{add-one}
 use native.Mathlib.Omega.{arith}
-use lib.ListN.{length, get_or, set}
-use lib.Seq.{take-suc, take-suc-set}
+use lib.ListN.{length}
 use borrow.Author.Tests.{eq-eqb, ne_eqb}
-use Rattle.octets.specs.Bytes.{part, zeros, Octets}
-use Rattle.octets.proofs.Put.{part-whole, length_part, octets-part}
+use Rattle.octets.specs.Bytes.{zeros, Octets}
+use Rattle.octets.proofs.Put.{length_part, octets-part}
 use Rattle.rules.specs.Layout.{base, image_bytes}
 use Rattle.rules.specs.State.{State}
 use Rattle.rules.specs.Step.{step_bytes}
@@ -40,21 +38,6 @@ module _ (img list : List ℕ) (start end : ℕ) (out : List ℕ) (long : length
   pub ran-no-room : wrong_part list start end ≡ false → (length out ≡ end - start → ⊥)
       → (18 ≡ run_answer base img list start end out) × (out ≡ run_replies base img list start end out)
   ran-no-room e n = let r = ran-18 base img list start end out long e n in (r.0, r.2)
-
--- no byte of the image, copied
-pub copy-none : (img copy : List ℕ) → part 0 0 copy ≡ part 0 0 img
-unfolding part
-copy-none img copy = refl
-
--- one more byte of the image, copied
-pub copy_more : (i : ℕ) (img copy : List ℕ) → part 0 i copy ≡ part 0 i img → i < length copy → i < length img
-    → part 0 (i + 1) (set copy i (get_or img i 0)) ≡ part 0 (i + 1) img
-unfolding part
-copy_more i img copy e h k = rw (add-one, take-suc-set copy i (get_or img i 0) h, take-suc img i 0 k, e)
-
--- the image, copied
-pub copied : (i : ℕ) (img copy : List ℕ) → part 0 i copy ≡ part 0 i img → length copy ≡ i → length img ≡ i → copy ≡ img
-copied i img copy e h k = sym (part-whole i copy h) ∙ e ∙ part-whole i img k
 
 -- as on the image, on the copy
 pub ran-copied : {img copy : List ℕ} (list : List ℕ) (start end : ℕ) (out : List ℕ) → copy ≡ img → {r : ℕ} {rs : List ℕ}

@@ -1,6 +1,7 @@
 -- Document 02, W12: "every step whose reply is 20 or more is left out, and so is a read whose map is emptied unused, by the rule below. The
 -- rest stand in their order, and the image is only read."
-use Rattle.std.specs.Prelude.{ℕ, zero, suc, ◌+◌, ◌-◌, ◌*◌, ◌≤◌, ◌<◌, Bool, true, false, not, ◌≡◌, List, [], ◌++◌, length, eqb}
+use Rattle.std.specs.Prelude.{ℕ, zero, suc, ◌+◌, ◌-◌, ◌*◌, ◌≤◌, ◌<◌, Bool, true, false, not, ◌≡◌, List, [], ◌++◌, length, eqb, Result, Ok, Err}
+use Rattle.rules.specs.declared.refusals.Refusal.{Refusal}
 use Rattle.octets.specs.Bytes.{pick, ◌and◌, ◌or◌, part, chunks, zeros}
 use Rattle.rules.specs.Layout.{Layout}
 use Rattle.rules.specs.State.{State}
@@ -90,6 +91,11 @@ thin_out y img list start end out =
 unfoldable pub thin_count : Layout → List ℕ → List ℕ → ℕ → ℕ → List ℕ → ℕ
 thin_count y img list start end out =
     pick (eqb (thin_refusal y img list start end out) 0) (kept_count y (unpack y img) (part_of list start end)) 0
+
+-- what is answered of it
+abbrev pub count_in : Result ℕ Refusal → ℕ
+count_in (Ok n) = n
+count_in (Err r) = 0
 
 -- ---- the same rule for theorems, sentence by sentence
 

@@ -9,7 +9,9 @@ ghost use Rattle.thin.specs.Internal.Gather.{Says, with, kept_by};
 use lists::groups::is_named;
 use lists::limits::TRANSACTORS;
 use lists::refusals::is_refusal;
-use rules::{Step, numbers};
+use rules::Step;
+use rules::kinds::Kind;
+use rules::outcomes::Outcome;
 
 // For each transactor, whether the next step that touches it empties its map.
 #[derive(Clone, Copy)]
@@ -20,27 +22,19 @@ pub struct Lookahead {
 fn acts(kind: u8) -> bool
     ensures { result ≡ refusals.acts kind }
 {
-    if kind < numbers::NEW {
-        return false;
-    }
-    kind <= numbers::FAIL
+    Kind::New.number() <= kind && kind <= Kind::Fail.number()
 }
 
 // Whether a step that touches a transactor empties its map.
+#[tactic(auto, unfolding(crate::specs::Thin::empties))]
 fn empties(p: Step, outcome: u8) -> bool
     ensures { result ≡ definitions.empties p outcome }
 {
-    let kind = p.kind;
-    if kind == numbers::FINISH {
-        return true;
+    match Kind::try_from(p.kind) {
+        Ok(Kind::Finish | Kind::Fall | Kind::Sign) => true,
+        Ok(Kind::Fail) => outcome != Outcome::Held.number(),
+        _ => false,
     }
-    if kind == numbers::FALL {
-        return true;
-    }
-    if kind == numbers::FAIL {
-        return outcome != numbers::HELD;
-    }
-    kind == numbers::SIGN
 }
 
 impl Lookahead {
@@ -53,12 +47,10 @@ impl Lookahead {
     fn with_group(mut self, group: u16) -> Lookahead
         ensures { Says (λ t. refusals.named group t or get_or self.emptied t false) result.emptied }
     {
-        let mut t: usize = 0;
-        while t < TRANSACTORS {
+        for t in 0..TRANSACTORS {
             if is_named(group, t) {
                 self.emptied[t] = true;
             }
-            t += 1;
         }
         self
     }
@@ -71,33 +63,26 @@ impl Lookahead {
         if is_refusal(outcome) {
             return self;
         }
-        let kind = p.kind;
-        if acts(kind) {
-            let t = p.transactor as usize;
-            self.emptied[t] = empties(p, outcome);
+        if acts(p.kind) {
+            self.emptied[p.transactor as usize] = empties(p, outcome);
             return self;
         }
-        if kind != numbers::SIGN {
+        if p.kind != Kind::Sign.number() {
             return self;
         }
-        if outcome != numbers::DONE {
+        if outcome != Outcome::Done.number() {
             return self;
         }
         self.with_group(p.message)
     }
 
     // Whether p, in front of these steps, is kept.
+    #[tactic(auto, unfolding(crate::specs::Internal::Gather::kept_by, crate::specs::Thin::not_refused))]
     pub fn keeps(self, p: Step, outcome: u8) -> bool
         requires { p.transactor < base.transactors }
         ensures { result ≡ kept_by p outcome self.emptied }
     {
-        if is_refusal(outcome) {
-            return false;
-        }
-        if p.kind != numbers::READ {
-            return true;
-        }
-        let t = p.transactor as usize;
-        !self.emptied[t]
+        !is_refusal(outcome)
+            && !(p.kind == Kind::Read.number() && self.emptied[p.transactor as usize])
     }
 }
