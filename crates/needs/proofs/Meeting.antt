@@ -1,12 +1,18 @@
 -- A volume tested by what its takes need, take by take.
-use Prim.Native.Nat.{ℕ}
+use Prim.Native.Nat.{ℕ, ◌≤◌, ◌<◌}
 use mathlib.Core.Bool.{Bool, true, false, not}
-use mathlib.Core.Path.{◌≡◌}
+use mathlib.Core.Path.{◌≡◌, refl, sym}
 use mathlib.Core.List.{List}
+use native.Mathlib.Omega.{arith}
 use lib.ListN.{get_or}
-use Rattle.octets.specs.Bytes.{◌or◌, every}
+use Rattle.std.proofs.Common.{Option, Some, None, MatchOption}
+use borrow.Author.Tests.{not-true}
+use Rattle.octets.specs.Bytes.{◌and◌, ◌or◌, every}
+use Rattle.octets.proofs.Tests.{never}
+use Rattle.octets.proofs.Zero.{both}
 use Rattle.rules.specs.Refusals.{group_bits, named}
-use Rattle.rules.specs.Internal.Closure.{inside, meets}
+use Rattle.rules.specs.Internal.Closure.{inside, meets, Closed}
+use Rattle.needs.specs.Internal.Asking.{Lacks}
 
 -- take t, if named, has what it needs
 unfoldable pub served : List ℕ → ℕ → ℕ → Bool
@@ -21,16 +27,20 @@ module _ (l : List ℕ) (v w : ℕ) where
   unfolding meets served
   meets-by i e = rw i e
 
-module _ (l : List ℕ) (w t : ℕ) where
-  pub served-unnamed : named w t ≡ false → not (served l w t) ≡ false
-  unfolding served
-  served-unnamed o = rw o
+-- ---- the first that lacks one
 
-  module _ (name : named w t ≡ true) where
-    pub served-met : inside (get_or l t 0) w ≡ true → not (served l w t) ≡ false
-    unfolding served
-    served-met i = rw (name, i)
+-- take t, which v names, needs one that v does not name
+unfoldable pub lacks_in : List ℕ → ℕ → ℕ → Bool
+lacks_in l v t = named v t and not (inside (get_or l t 0) v)
 
-    pub served-lacks : inside (get_or l t 0) w ≡ false → not (served l w t) ≡ true
-    unfolding served
-    served-lacks i = rw (name, i)
+pub lacking_first : (l : List ℕ) (v : ℕ) (r : Option ℕ)
+    → MatchOption r ((k : ℕ) → 0 ≤ k → k < group_bits → lacks_in l v k ≡ false) (λ i. (0 ≤ i) × (i < group_bits) × (lacks_in l v i ≡ true) × ((k : ℕ) → 0 ≤ k → k < i → lacks_in l v k ≡ false))
+    → MatchOption r (Closed l v) (Lacks l v)
+unfolding lacks_in Closed
+lacking_first l v None h = λ t b n. served_by (named v t) (inside (get_or l t 0) v) (h t (omega arith) b) n
+  where
+    served_by : (n i : Bool) → n and not i ≡ false → n ≡ true → i ≡ true
+    served_by true true e f = refl
+    served_by true false e f = never e
+    served_by false i e f = never (sym f)
+lacking_first l v (Some i) h = let b = both (named v i) (not (inside (get_or l i 0) v)) h.2 in record { below = h.1; member = b.0; lacks = not-true (inside (get_or l i 0) v) b.1 }

@@ -1,35 +1,29 @@
 // Groups, by what each transactor needs: the least with one of them, and how many are ready.
-ghost use Rattle.std.specs.Prelude.{◌≡◌, ◌<◌, get_or};
-ghost use Rattle.std.specs.Int.Bits.{bit_or};
+ghost use Rattle.std.specs.Prelude.{◌≡◌, ◌<◌, MatchOption};
 ghost use Rattle.rules.specs.Layout.{base};
-ghost use Rattle.rules.specs.Internal.Closure.{met_count, Closure};
+ghost use Rattle.rules.specs.Internal.Closure.{met_count, Closed, Closure};
+ghost use Rattle.needs.specs.Internal.Asking.{Lacks};
 
 use crate::meets;
 use image::layout::TRANSACTORS;
 use lists::groups::{Needs, is_inside, is_named};
 
-// The group, and whom transactor u needs.
-fn joined(needs: Needs, group: u16, u: usize) -> u16
-    requires { u < base.transactors }
-    ensures { result ≡ bit_or group (get_or needs.need u 0) }
+// The first transactor that the group names and that needs one it does not name.
+fn lacking(need: &[u16; 16], group: u16) -> Option<usize>
+    ensures { MatchOption result (Closed need.now group) (Lacks need.now group) }
 {
-    group | needs.need[u]
+    (0..TRANSACTORS).find(|u| is_named(group, *u) && !is_inside(need[*u], group))
 }
 
 // Transactor t, and whom a named one needs: added while one lacks somebody.
-pub fn closure(needs: Needs, t: usize) -> u16
+pub fn closure(need: &[u16; 16], t: usize) -> u16
     requires { t < base.transactors }
-    ensures { Closure needs.need t result }
+    ensures { Closure need.now t result }
 {
     let mut group = 1u16 << t;
-    let mut u: usize = 0;
-    while u < TRANSACTORS {
-        if is_named(group, u) && !is_inside(needs.need[u], group) {
-            group = joined(needs, group, u);
-            u = 0;
-        } else {
-            u += 1;
-        }
+    // No index is counted: each turn the group grows.
+    while let Some(u) = lacking(need, group) {
+        group |= need[u];
     }
     group
 }
@@ -43,6 +37,7 @@ pub fn count(needs: Needs, size: usize) -> usize
     let able = needs.able;
     let mut n: usize = 0;
     let mut group = able;
+    // No index is counted: each turn the group falls.
     while 0 < group {
         if u32::count_ones(group as u32) as usize == size && meets(needs, group) {
             n += 1;

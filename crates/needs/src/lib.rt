@@ -3,97 +3,92 @@
 
 pub mod closure;
 
-ghost use Rattle.std.specs.Prelude.{◌≡◌, ◌+◌, ◌≤◌, ◌<◌};
+ghost use Rattle.std.specs.Prelude.{◌≡◌, ◌+◌, ◌≤◌, ◌<◌, false, max, MatchOption};
 ghost use Rattle.rules.specs.Layout.{base, history_bytes, image_bytes};
 ghost use Rattle.rules.specs.Pack.{unpack};
 ghost use Rattle.rules.specs.Internal.Good.{Good};
 ghost use Rattle.rules.specs.Internal.Closure as definitions;
-ghost use Rattle.rules.specs.Internal.Closure.{Presents, Kept, asked_at, pair_asks, Row, Needed};
+ghost use Rattle.rules.specs.Internal.Closure.{Presents, Kept, asked_at, pair_asks, able, Row, Needed};
+ghost use Rattle.needs.specs.Internal.Asking.{asks_number};
 
 use group::{Present, checkpointed, in_group, is_full, presents};
 use image::layout::{CREATION, FIRST_TRANSACTOR, STATE, TRANSACTOR, TRANSACTORS};
 use lists::groups::{Needs, is_inside, is_named};
 use marks::History;
 
-// What a history asks of a group: nothing, that it names its transactor, or what no group has.
-const NOTHING: u8 = 0;
+// What a history asks of a group.
+#[derive(Clone, Copy, Debug, PartialEq, Eq)]
+enum Asks {
+    // Nothing.
+    Nothing,
+    // That it names the history's transactor.
+    Member,
+    // What no group has.
+    More,
+}
 
-const MEMBER: u8 = 1;
-
-const MORE: u8 = 2;
+impl Asks {
+    // The more of the two.
+    fn max(self, other: Asks) -> Asks
+        ensures { asks_number result ≡ max (asks_number self) (asks_number other) }
+    {
+        match (self, other) {
+            (Asks::More, _) | (_, Asks::More) => Asks::More,
+            (Asks::Member, _) | (_, Asks::Member) => Asks::Member,
+            (Asks::Nothing, Asks::Nothing) => Asks::Nothing,
+        }
+    }
+}
 
 // Every transactor.
 const ALL: u16 = 65535;
 
-// Of one transactor: whether it can be in a group that is ready, and whom it needs in it.
-#[derive(Clone, Copy)]
-struct Need {
-    need: u16,
-    able: bool,
-}
-
-impl Need {
-    // In no group that is ready.
-    const UNABLE: Need = Need {
-        need: 0,
-        able: false,
-    };
-}
-
 // What the history at at, if there is one, of transactor u asks of a group of stable ones. h is kept of u.
-fn asked(image: &[u8], stable: u16, at: usize, u: usize, h: History) -> u8
+fn asked(image: &[u8], stable: u16, at: usize, u: usize, h: History) -> Asks
     requires { Good image.now × (at + history_bytes base ≤ image_bytes base) × (u < base.transactors) × Kept (unpack base image.now) stable u h }
-    ensures { result ≡ asked_at base image.now stable at u }
+    ensures { asks_number result ≡ asked_at base image.now stable at u }
 {
     if !packed_histories::present(image, at) {
-        return NOTHING;
+        return Asks::Nothing;
     }
     if in_group(image, stable, at, u, h) {
-        return MEMBER;
+        return Asks::Member;
     }
     if checkpointed(image, stable, at, u, h) {
-        return NOTHING;
+        return Asks::Nothing;
     }
-    MORE
+    Asks::More
 }
 
 // What the entries u of the state and creation maps of transactor t ask: the more of the two.
-fn pair_asks(image: &[u8], stable: u16, t: usize, u: usize, h: History) -> u8
+fn pair_asks(image: &[u8], stable: u16, t: usize, u: usize, h: History) -> Asks
     requires { Good image.now × (t < base.transactors) × (u < base.transactors) × Kept (unpack base image.now) stable u h }
-    ensures { result ≡ pair_asks base image.now stable t u }
+    ensures { asks_number result ≡ pair_asks base image.now stable t u }
 {
     let at = FIRST_TRANSACTOR + TRANSACTOR * t;
     let state = asked(image, stable, at + STATE + marks::SIZE * u, u, h);
     let creation = asked(image, stable, at + CREATION + marks::SIZE * u, u, h);
-    if state < creation {
-        return creation;
-    }
-    state
+    state.max(creation)
 }
 
-// What transactor t needs: left at the first entry that asks for more than a group has.
-fn need_of(image: &[u8], kept: Present, t: usize) -> Need
+// Whom transactor t needs of a group that is ready: left at the first entry that asks for more than a group has. None if it is in no such
+// group.
+fn need_of(image: &[u8], kept: Present, t: usize) -> Option<u16>
     requires { Good image.now × Presents base (unpack base image.now) 65535 kept.own kept.stable × (t < base.transactors) }
-    ensures { Row base image.now kept.stable t result.need result.able }
+    ensures { MatchOption result (able base image.now kept.stable t ≡ false) (Row base image.now kept.stable t) }
 {
-    if !is_named(kept.stable, t) {
-        return Need::UNABLE;
-    }
-    if is_full(image, t) {
-        return Need::UNABLE;
+    if !is_named(kept.stable, t) || is_full(image, t) {
+        return None;
     }
     let mut need: u16 = 0;
-    let mut u: usize = 0;
-    while u < TRANSACTORS {
-        let h = kept.own[u];
-        let asks = pair_asks(image, kept.stable, t, u, h);
-        if asks == MORE {
-            return Need::UNABLE;
+    for u in 0..TRANSACTORS {
+        match pair_asks(image, kept.stable, t, u, kept.own[u]) {
+            Asks::Nothing => {}
+            Asks::Member => need += 1u16 << u,
+            Asks::More => return None,
         }
-        need += (asks as u16) << u;
-        u += 1;
     }
-    Need { need, able: true }
+    Some(need)
 }
 
 // What all need, with the own histories kept.
@@ -104,14 +99,11 @@ pub fn needs_of(image: &[u8]) -> Needs
     let kept = presents(image, ALL);
     let mut list = [0u16; 16];
     let mut able: u16 = 0;
-    let mut t: usize = 0;
-    while t < TRANSACTORS {
-        let n = need_of(image, kept, t);
-        list[t] = n.need;
-        if n.able {
+    for t in 0..TRANSACTORS {
+        if let Some(need) = need_of(image, kept, t) {
+            list[t] = need;
             able += 1u16 << t;
         }
-        t += 1;
     }
     Needs { need: list, able }
 }
@@ -120,15 +112,6 @@ pub fn needs_of(image: &[u8]) -> Needs
 pub fn meets(needs: Needs, group: u16) -> bool
     ensures { result ≡ definitions.meets needs.need needs.able group }
 {
-    if !is_inside(group, needs.able) {
-        return false;
-    }
-    let mut t: usize = 0;
-    while t < TRANSACTORS {
-        if is_named(group, t) && !is_inside(needs.need[t], group) {
-            return false;
-        }
-        t += 1;
-    }
-    true
+    is_inside(group, needs.able)
+        && (0..TRANSACTORS).all(|t| !is_named(group, t) || is_inside(needs.need[t], group))
 }

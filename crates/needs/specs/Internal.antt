@@ -1,0 +1,2 @@
+-- What the contracts of internal functions cite.
+pub mod Asking
