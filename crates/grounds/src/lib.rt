@@ -1,10 +1,11 @@
 // What rests on what, for a caller that asks: who rests on a transactor's present incarnation (document 01: a take's present life).
 #![tactic(auto)]
 
-ghost use Rattle.std.specs.Prelude.{◌≡◌, ◌+◌, ◌≤◌, ◌<◌};
+ghost use Rattle.std.specs.Prelude.{ℕ, ◌≡◌, ◌+◌, ◌≤◌, ◌<◌};
 ghost use Rattle.marks.specs.History.{Roomy};
 ghost use Rattle.marks.specs.Packed.{history_in};
 ghost use Rattle.rules.specs.Layout.{base, history_bytes, image_bytes};
+ghost use Rattle.rules.specs.Refusals.{named};
 ghost use Rattle.rules.specs.Pack.{waiting_in, unpack};
 ghost use Rattle.rules.specs.ReadyGroups.{how_many};
 ghost use Rattle.rules.specs.Dependents.{rests_at, works_at, carries_at, group_of, through_at, dependents_of};
@@ -17,19 +18,16 @@ use image::layout::{
     TRANSACTORS, own_at,
 };
 use image::{head, messages};
-use lists::groups::Needs;
 use packed_histories::in_place;
-use rules::{Dependents, numbers};
+use rules::Dependents;
+use rules::statuses::Status;
 
 // Whether there is a history at at of the present incarnation of transactor t.
 fn holds(image: &[u8], at: usize, t: usize) -> bool
     requires { Good image.now × (at + history_bytes base ≤ image_bytes base) × (t < base.transactors) × Roomy base.places (history_in base.width base.places image.now at) }
     ensures { result ≡ present_at base image.now at t }
 {
-    if !packed_histories::present(image, at) {
-        return false;
-    }
-    in_place::same_in(image, at, own_at(t))
+    packed_histories::present(image, at) && in_place::same_in(image, at, own_at(t))
 }
 
 // Whether transactor u is live and has it in its state or creation map.
@@ -37,16 +35,10 @@ fn rests(image: &[u8], t: usize, u: usize) -> bool
     requires { Good image.now × (t < base.transactors) × (u < base.transactors) }
     ensures { result ≡ rests_at (unpack base image.now) t u }
 {
-    if !is_live(image, u) {
-        return false;
-    }
     let at = FIRST_TRANSACTOR + TRANSACTOR * u;
     let state = at + STATE + marks::SIZE * t;
-    if holds(image, state, t) {
-        return true;
-    }
     let creation = at + CREATION + marks::SIZE * t;
-    holds(image, creation, t)
+    is_live(image, u) && (holds(image, state, t) || holds(image, creation, t))
 }
 
 // Whether transactor u is busy and has it in its behaviour map.
@@ -54,13 +46,11 @@ fn works(image: &[u8], t: usize, u: usize) -> bool
     requires { Good image.now × (t < base.transactors) × (u < base.transactors) }
     ensures { result ≡ works_at (unpack base image.now) t u }
 {
-    let status = head::status(image, u);
-    if status != numbers::BUSY {
-        return false;
+    let behaviour = FIRST_TRANSACTOR + TRANSACTOR * u + BEHAVIOUR + marks::SIZE * t;
+    match head::status(image, u) {
+        Status::Busy => holds(image, behaviour, t),
+        _ => false,
     }
-    let at = FIRST_TRANSACTOR + TRANSACTOR * u;
-    let behaviour = at + BEHAVIOUR + marks::SIZE * t;
-    holds(image, behaviour, t)
 }
 
 // Whether the message in place k has it in its map.
@@ -73,20 +63,26 @@ fn carries(image: &[u8], t: usize, k: usize) -> bool
     holds(image, entry, t)
 }
 
+// The group of the transactors of which it holds.
+pub fn members_where<F: Fn(usize) -> bool>(holds: F) -> u16
+    requires { (t : ℕ) → t < base.transactors → F.pre holds t }
+    ensures { (t : ℕ) → t < base.transactors → F.post holds t (named result t) }
+{
+    let mut group: u16 = 0;
+    for t in 0..TRANSACTORS {
+        if holds(t) {
+            group += 1u16 << t;
+        }
+    }
+    group
+}
+
 // All that are live and rest on it.
 fn resting(image: &[u8], t: usize) -> u16
     requires { Good image.now × (t < base.transactors) }
     ensures { result ≡ group_of base.transactors (rests_at (unpack base image.now) t) }
 {
-    let mut group: u16 = 0;
-    let mut u: usize = 0;
-    while u < TRANSACTORS {
-        if rests(image, t, u) {
-            group += 1u16 << u;
-        }
-        u += 1;
-    }
-    group
+    members_where(|u| rests(image, t, u))
 }
 
 // All that are busy with it.
@@ -94,49 +90,33 @@ fn unfinished(image: &[u8], t: usize) -> u16
     requires { Good image.now × (t < base.transactors) }
     ensures { result ≡ group_of base.transactors (works_at (unpack base image.now) t) }
 {
-    let mut group: u16 = 0;
-    let mut u: usize = 0;
-    while u < TRANSACTORS {
-        if works(image, t, u) {
-            group += 1u16 << u;
-        }
-        u += 1;
-    }
-    group
+    members_where(|u| works(image, t, u))
 }
 
-// How many of the n messages that wait have it.
-fn carried(image: &[u8], t: usize, n: usize) -> u16
-    requires { Good image.now × (t < base.transactors) × (n ≡ waiting_in base image.now) × (n ≤ base.messages) }
-    ensures { result ≡ how_many n (carries_at (unpack base image.now) t) }
+// How many of the messages that wait have it.
+fn carried(image: &[u8], t: usize) -> u16
+    requires { Good image.now × (t < base.transactors) }
+    ensures { result ≡ how_many (waiting_in base image.now) (carries_at (unpack base image.now) t) }
 {
     let mut count: u16 = 0;
-    let mut k: usize = 0;
-    while k < n {
+    for k in 0..messages::waiting(image) {
         if carries(image, t, k) {
             count += 1;
         }
-        k += 1;
     }
     count
 }
 
-// Who rests on each, in its place: a list for the closure of `needs`, which takes whom each needs, too.
-pub fn all_resting(image: &[u8]) -> Needs
+// Who rests on each, in its place.
+pub fn all_resting(image: &[u8]) -> [u16; 16]
     requires { Good image.now }
-    ensures { Listed base (unpack base image.now) base.transactors result.need }
+    ensures { Listed base (unpack base image.now) base.transactors result }
 {
     let mut list = [0u16; 16];
-    let mut u: usize = 0;
-    while u < TRANSACTORS {
-        let group = resting(image, u);
-        list[u] = group;
-        u += 1;
+    for (u, group) in list.iter_mut().enumerate() {
+        *group = resting(image, u);
     }
-    Needs {
-        need: list,
-        able: 0,
-    }
+    list
 }
 
 // Who rests on the present incarnation of transactor t, who is busy with it, and how many messages carry it; who rests on it through
@@ -145,11 +125,10 @@ pub fn dependents_of(image: &[u8], t: usize, through: u16) -> Dependents
     requires { Good image.now × (t < base.transactors) × (through ≡ group_of base.transactors (through_at (unpack base image.now) base.transactors t)) }
     ensures { result ≡ dependents_of base (unpack base image.now) t }
 {
-    let n = messages::waiting(image);
     Dependents {
         resting: resting(image, t),
         through,
         unfinished: unfinished(image, t),
-        carried: carried(image, t, n),
+        carried: carried(image, t),
     }
 }
