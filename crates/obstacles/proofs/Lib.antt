@@ -1,1 +1,2 @@
 pub mod Blocking
+pub mod Seeking
