@@ -1,18 +1,19 @@
 -- What is in the way, as the code tests it.
-use Prim.Native.Nat.{ℕ, ◌≤◌, ◌<◌}
+use Prim.Native.Nat.{ℕ, ◌<◌}
 use mathlib.Core.Bool.{Bool, true, false, not}
-use mathlib.Core.Path.{◌≡◌, refl, sym, ap, ◌∙◌}
+use mathlib.Core.Path.{◌≡◌, refl, sym, ap, ◌∙◌, subst}
 use mathlib.Core.List.{List}
+use native.Mathlib.Omega.{arith}
 use lib.Dec.{ltb}
 use lib.ListN.{get_or}
-use borrow.Author.Tests.{eq-eqb, ne_eqb, lt-ltb, le-ltb}
+use borrow.Author.Tests.{lt-ltb, le-ltb}
+use Rattle.std.specs.Prelude.{Option, Some, None, is_some, cond}
 use Rattle.octets.specs.Bytes.{pick, ◌and◌, ◌or◌}
 use Rattle.marks.specs.declared.History.{History}
 use Rattle.maps.specs.declared.DependenceMap.{DependenceMap}
 use Rattle.maps.specs.Map.{history_at}
 use Rattle.rules.specs.declared.Obstacle.{Obstacle}
-use Rattle.rules.specs.declared.Obstacle.TheVariants as obstacle
-use Rattle.rules.specs.declared.Impediment.TheVariants.{Nothing, Hopeless, Exhausted, Unstable}
+use Rattle.rules.specs.declared.Impediment.TheVariants.{Hopeless, Exhausted, Unstable}
 use Rattle.rules.specs.Layout.{Layout}
 use Rattle.rules.specs.State.{State, Transactor, transactor_at, own_history, place_from}
 use Rattle.rules.specs.Refusals.{named}
@@ -22,9 +23,10 @@ use Rattle.rules.specs.Obstacle.{blocks_in, ground_of, entry_obstacle}
 use Rattle.rules.specs.Impediment.{is_withdrawn, withdrawn_in, withdrawn_by, lost_ground, impedes_at, lowest_for, next_at, impediment_of}
 use Rattle.rules.specs.Internal.Guards.{is_full}
 use Rattle.rules.proofs.Groups.Dependents.{in_group}
-use Rattle.obstacles.specs.Internal.Marks.{is_nothing}
+use Rattle.rules.proofs.Groups.Impediments.{in-way}
+use Rattle.image.specs.Internal.Search.{Found}
+use Rattle.image.proofs.Search.{First}
 use Rattle.impediments.specs.Internal.Ways.{Reached}
-use Rattle.obstacles.proofs.Blocking.{ground-one}
 
 -- ---- marks of withdrawn lives
 
@@ -34,47 +36,39 @@ module _ (s : State) (v c u : ℕ) (all : named v u ≡ true) where
   unfolding blocks_in entry_ready withdrawn_in is_withdrawn
   blocks-withdrawn m = rw all
 
-  either : (a b : Bool) (g h : Obstacle) → is_nothing g ≡ false → is_nothing h ≡ false → not (is_nothing (pick a g (pick b h obstacle.Nothing))) ≡ a or b
-  either true b g h e f = ap not e
-  either false true g h e f = ap not f
-  either false false g h e f = refl
+  some_or : (a b : Bool) (g h : Obstacle) → is_some (pick a (Some g) (pick b (Some h) None)) ≡ a or b
+  some_or true b g h = refl
+  some_or false true g h = refl
+  some_or false false g h = refl
 
-  pub entry-withdrawn : {o : Obstacle} → o ≡ entry_obstacle s v c u → not (is_nothing o) ≡ withdrawn_by s c u
+  pub entry-withdrawn : {o : Option Obstacle} → o ≡ entry_obstacle s v c u → is_some o ≡ withdrawn_by s c u
   unfolding entry_obstacle withdrawn_by
   entry-withdrawn e =
       let of : DependenceMap → Obstacle = λ m. ground_of s c u (history_at m u) in
       let x : Transactor = transactor_at s c in
-      ap (λ (o : Obstacle). not (is_nothing o)) e
+      ap (λ (o : Option Obstacle). is_some o) e
       ∙ rw (blocks-withdrawn x.state, blocks-withdrawn x.creation)
-      (either (withdrawn_in s x.state u) (withdrawn_in s x.creation u) (of x.state) (of x.creation) (ground-one s c u (history_at x.state u)) (ground-one s c u (history_at x.creation u)))
+      (some_or (withdrawn_in s x.state u) (withdrawn_in s x.creation u) (of x.state) (of x.creation))
 
--- ---- the first of them
+-- ---- the three tests
+
+-- a place is found exactly if it is one of the n
+found-some : (p n : ℕ) (r : Option ℕ) → Found p n r → is_some r ≡ ltb p n
+found-some p n None f = sym (le-ltb p n (omega (arith, f)))
+found-some p n (Some k) f = sym (lt-ltb p n (omega (arith, f.0, f.1)))
 
 module _ (y : Layout) (s : State) (c : ℕ) where
-  pub lost-found : {u : ℕ} → (u ≡ place_from (withdrawn_by s c) 0 y.transactors) × (u ≤ y.transactors) → (u ≡ lost_ground y s c) × (u ≤ y.transactors)
-  unfolding lost_ground
-  lost-found p = p
-
-  -- ---- the three tests
-
-  pub impedes-hopeless : {kind n : ℕ} → kind ≡ 1 → n ≡ lost_ground y s c → ltb n y.transactors ≡ impedes_at y s kind c
+  pub impedes-hopeless : (r : Option ℕ) → Found (lost_ground y s c) y.transactors r → is_some r ≡ impedes_at y s 1 c
   unfolding impedes_at
-  impedes-hopeless {kind} e q = rw (eq-eqb kind 1 e) (ap (λ (k : ℕ). ltb k y.transactors) q)
+  impedes-hopeless r f = found-some (lost_ground y s c) y.transactors r f
 
-  module _ {kind : ℕ} (n1 : kind ≡ 1 → ⊥) where
-    pub impedes-exhausted : kind ≡ 2 → is_full s c ≡ impedes_at y s kind c
-    unfolding impedes_at is_full
-    impedes-exhausted e = rw (ne_eqb kind 1 n1, eq-eqb kind 2 e)
+  pub impedes-exhausted : is_full s c ≡ impedes_at y s 2 c
+  unfolding impedes_at is_full
+  impedes-exhausted = refl
 
-    pub impedes-unstable : (kind ≡ 2 → ⊥) → (h : History) → h ≡ own_history c (transactor_at s c) → not h.stable ≡ impedes_at y s kind c
-    unfolding impedes_at
-    impedes-unstable n2 h e = rw (ne_eqb kind 1 n1, ne_eqb kind 2 n2) (ap (λ (z : History). not z.stable) e)
-
-pub unnamed-way : (a b : Bool) → a ≡ false → false ≡ a and b
-unnamed-way a b e = rw e
-
-pub named-way : (a b : Bool) → a ≡ true → b ≡ a and b
-named-way a b e = rw e
+  pub impedes-unstable : (h : History) → h ≡ own_history c (transactor_at s c) → not h.stable ≡ impedes_at y s 3 c
+  unfolding impedes_at
+  impedes-unstable h e = ap (λ (z : History). not z.stable) e
 
 -- ---- the lowest of them
 
@@ -83,16 +77,32 @@ unfoldable pub in_way : Layout → State → ℕ → ℕ → ℕ → Bool
 in_way y s kind t c = through_at s y.transactors c t and impedes_at y s kind c
 
 module _ (y : Layout) (s : State) (kind t : ℕ) where
-  pub way-is : {rows nexts : List ℕ} → Reached y s y.transactors t rows nexts → (c : ℕ) → c < y.transactors → t < y.transactors → {row : ℕ} → row ≡ get_or rows c 0
-      → {b : Bool} → b ≡ named row t and impedes_at y s kind c → b ≡ in_way y s kind t c
+  pub way-is : {rows nexts : List ℕ} → Reached y s y.transactors t rows nexts → (c : ℕ) → c < y.transactors → t < y.transactors
+      → {b : Bool} → b ≡ cond (named (get_or rows c 0) t) (impedes_at y s kind c) false → b ≡ in_way y s kind t c
   unfolding in_way
-  way-is r c h l {row} e q =
-      let i : named row t ≡ through_at s y.transactors c t = ap (λ (x : ℕ). named x t) (e ∙ r.through.is c h) ∙ in_group y.transactors (through_at s y.transactors c) t l in
+  way-is {rows} r c h l q =
+      let i : named (get_or rows c 0) t ≡ through_at s y.transactors c t = ap (λ (x : ℕ). named x t) (r.through.is c h) ∙ in_group y.transactors (through_at s y.transactors c) t l in
       q ∙ rw i
 
-  pub lowest-found : {c : ℕ} → (c ≡ place_from (in_way y s kind t) 0 y.transactors) × (c ≤ y.transactors) → (c ≡ lowest_for y s kind t) × (c ≤ y.transactors)
+  -- as the code tests the rows
+  pub rows-first : {rows nexts : List ℕ} → Reached y s y.transactors t rows nexts → t < y.transactors → (r : Option ℕ)
+      → First (λ c. cond (named (get_or rows c 0) t) (impedes_at y s kind c) false) y.transactors r → First (in_way y s kind t) y.transactors r
+  rows-first q l None h = λ k a b. sym (way-is q k b l (sym (h k a b)))
+  rows-first q l (Some i) h = (h.0, h.1, sym (way-is q i h.1 l (sym h.2)), λ k a b. sym (way-is q k (omega (arith, h.1)) l (sym (h.3 k a b))))
+
+  pub lowest-found : (r : Option ℕ) → Found (place_from (in_way y s kind t) 0 y.transactors) y.transactors r → Found (lowest_for y s kind t) y.transactors r
   unfolding lowest_for in_way
-  lowest-found p = p
+  lowest-found r p = p
+
+pub lost-found : (y : Layout) (s : State) (c : ℕ) (r : Option ℕ) → Found (place_from (withdrawn_by s c) 0 y.transactors) y.transactors r → Found (lost_ground y s c) y.transactors r
+unfolding lost_ground
+lost-found y s c r p = p
+
+-- of a take that is in the way as hopeless a lost ground is found
+pub lost-some : (y : Layout) (s : State) (t c : ℕ) → c ≡ lowest_for y s 1 t → c < y.transactors → (r : Option ℕ) → Found (lost_ground y s c) y.transactors r → is_some r ≡ true
+lost-some y s t c e h r f =
+    let w : impedes_at y s 1 (lowest_for y s 1 t) ≡ true = (in-way y s 1 t (subst (λ (k : ℕ). k < y.transactors) e h)).1 in
+    impedes-hopeless y s c r f ∙ ap (impedes_at y s 1) e ∙ w
 
 -- ---- the answer
 
@@ -100,34 +110,30 @@ module _ (y : Layout) (s : State) (t : ℕ) {rows nexts : List ℕ} (r : Reached
   next-is : {c x k : ℕ} → x ≡ get_or nexts c 0 → c ≡ k → c < y.transactors → x ≡ next_at s y.transactors k t
   next-is {c} e q h = e ∙ r.next.is c h ∙ ap (λ (z : ℕ). next_at s y.transactors z t) q
 
-  module _ {c : ℕ} (e1 : c ≡ lowest_for y s 1 t) where
-    pub answer-hopeless : {u x : ℕ} → c < y.transactors → u ≡ lost_ground y s c → x ≡ get_or nexts c 0 → Hopeless c u x ≡ impediment_of y s t
+  pub answer-hopeless : {c u x : ℕ} → c ≡ lowest_for y s 1 t → c < y.transactors → u ≡ lost_ground y s c → x ≡ get_or nexts c 0 → Some (Hopeless c u x) ≡ impediment_of y s t
+  unfolding impediment_of
+  answer-hopeless {c} {u} {x} e1 h q p =
+      let f : u ≡ lost_ground y s (lowest_for y s 1 t) = q ∙ ap (lost_ground y s) e1 in
+      let g : x ≡ next_at s y.transactors (lowest_for y s 1 t) t = next-is p e1 h in
+      rw (ap (λ (k : ℕ). ltb k y.transactors) (sym e1) ∙ lt-ltb c y.transactors h) (λ i. Some (Hopeless (e1 i) (f i) (g i)))
+
+  off : {k : ℕ} → k ≡ y.transactors → ltb k y.transactors ≡ false
+  off {k} e = le-ltb k y.transactors (omega arith)
+
+  module _ (n1 : lowest_for y s 1 t ≡ y.transactors) where
+    pub answer-exhausted : {d x : ℕ} → d ≡ lowest_for y s 2 t → d < y.transactors → x ≡ get_or nexts d 0 → Some (Exhausted d x) ≡ impediment_of y s t
     unfolding impediment_of
-    answer-hopeless {u} {x} h q p =
-        let f : u ≡ lost_ground y s (lowest_for y s 1 t) = q ∙ ap (lost_ground y s) e1 in
-        let g : x ≡ next_at s y.transactors (lowest_for y s 1 t) t = next-is p e1 h in
-        rw (ap (λ (k : ℕ). ltb k y.transactors) (sym e1) ∙ lt-ltb c y.transactors h) (λ i. Hopeless (e1 i) (f i) (g i))
+    answer-exhausted {d} {x} e2 h p =
+        let g : x ≡ next_at s y.transactors (lowest_for y s 2 t) t = next-is p e2 h in
+        rw (off n1, ap (λ (k : ℕ). ltb k y.transactors) (sym e2) ∙ lt-ltb d y.transactors h) (λ i. Some (Exhausted (e2 i) (g i)))
 
-    module _ (n1 : y.transactors ≤ c) {d : ℕ} (e2 : d ≡ lowest_for y s 2 t) where
-      one-off : ltb (lowest_for y s 1 t) y.transactors ≡ false
-      one-off = ap (λ (k : ℕ). ltb k y.transactors) (sym e1) ∙ le-ltb c y.transactors n1
-
-      pub answer-exhausted : {x : ℕ} → d < y.transactors → x ≡ get_or nexts d 0 → Exhausted d x ≡ impediment_of y s t
+    module _ (n2 : lowest_for y s 2 t ≡ y.transactors) where
+      pub answer-unstable : {e x : ℕ} → e ≡ lowest_for y s 3 t → e < y.transactors → x ≡ get_or nexts e 0 → Some (Unstable e x) ≡ impediment_of y s t
       unfolding impediment_of
-      answer-exhausted {x} h p =
-          let g : x ≡ next_at s y.transactors (lowest_for y s 2 t) t = next-is p e2 h in
-          rw (one-off, ap (λ (k : ℕ). ltb k y.transactors) (sym e2) ∙ lt-ltb d y.transactors h) (λ i. Exhausted (e2 i) (g i))
+      answer-unstable {e} {x} e3 h p =
+          let g : x ≡ next_at s y.transactors (lowest_for y s 3 t) t = next-is p e3 h in
+          rw (off n1, off n2, ap (λ (k : ℕ). ltb k y.transactors) (sym e3) ∙ lt-ltb e y.transactors h) (λ i. Some (Unstable (e3 i) (g i)))
 
-      module _ (n2 : y.transactors ≤ d) {e : ℕ} (e3 : e ≡ lowest_for y s 3 t) where
-        two-off : ltb (lowest_for y s 2 t) y.transactors ≡ false
-        two-off = ap (λ (k : ℕ). ltb k y.transactors) (sym e2) ∙ le-ltb d y.transactors n2
-
-        pub answer-unstable : {x : ℕ} → e < y.transactors → x ≡ get_or nexts e 0 → Unstable e x ≡ impediment_of y s t
-        unfolding impediment_of
-        answer-unstable {x} h p =
-            let g : x ≡ next_at s y.transactors (lowest_for y s 3 t) t = next-is p e3 h in
-            rw (one-off, two-off, ap (λ (k : ℕ). ltb k y.transactors) (sym e3) ∙ lt-ltb e y.transactors h) (λ i. Unstable (e3 i) (g i))
-
-        pub answer-nothing : y.transactors ≤ e → Nothing ≡ impediment_of y s t
-        unfolding impediment_of
-        answer-nothing h = rw (one-off, two-off, ap (λ (k : ℕ). ltb k y.transactors) (sym e3) ∙ le-ltb e y.transactors h)
+      pub answer-nothing : lowest_for y s 3 t ≡ y.transactors → None ≡ impediment_of y s t
+      unfolding impediment_of
+      answer-nothing n3 = rw (off n1, off n2, off n3)

@@ -1,2 +1,2 @@
-mod Impeding
-mod Reaching
+pub mod Impeding
+pub mod Reaching

@@ -1,2 +1,3 @@
 -- What the contracts of internal functions cite.
+pub mod Manners
 pub mod Ways

@@ -11,7 +11,7 @@ ghost use Rattle.impediments.specs.Internal.Ways.{Filled, first_row, itself, wid
 
 use grounds::all_resting;
 use image::layout::TRANSACTORS;
-use lists::groups::{Needs, is_named};
+use lists::groups::is_named;
 
 // For each transactor: who rests on it, and the next one on a chain to it.
 #[derive(Clone, Copy)]
@@ -27,10 +27,7 @@ fn wider(row: u16, other: u16, k: usize) -> u16
     requires { k < base.transactors }
     ensures { result ≡ pick (named row k) (bit_or row other) row }
 {
-    if is_named(row, k) {
-        return row | other;
-    }
-    row
+    if is_named(row, k) { row | other } else { row }
 }
 
 // The first if the row names transactor t, else the second.
@@ -38,24 +35,18 @@ fn kept(row: u16, t: usize, first: u8, second: u8) -> u8
     requires { t < base.transactors }
     ensures { result ≡ pick (named row t) first second }
 {
-    if is_named(row, t) {
-        return first;
-    }
-    second
+    if is_named(row, t) { first } else { second }
 }
 
 // Whoever rests on it directly, and itself; it is the next.
-fn direct(resting: Needs) -> Reach
-    ensures { Filled (first_row resting.need) base.transactors result.through × Filled itself base.transactors result.next }
+fn direct(resting: [u16; 16]) -> Reach
+    ensures { Filled (first_row resting) base.transactors result.through × Filled itself base.transactors result.next }
 {
     let mut through = [0u16; 16];
     let mut next = [0u8; 16];
-    let mut c: usize = 0;
-    while c < TRANSACTORS {
-        let row = resting.need[c];
-        through[c] = row | (1u16 << c);
+    for c in 0..TRANSACTORS {
+        through[c] = resting[c] | (1u16 << c);
         next[c] = c as u8;
-        c += 1;
     }
     Reach { through, next }
 }
@@ -69,13 +60,10 @@ fn one_more(reach: Reach, t: usize, k: usize) -> Reach
     let mut next = [0u8; 16];
     let by = reach.through[k];
     let other = reach.next[k];
-    let mut c: usize = 0;
-    while c < TRANSACTORS {
+    for c in 0..TRANSACTORS {
         let row = reach.through[c];
-        let own = reach.next[c];
         through[c] = wider(row, by, k);
-        next[c] = kept(row, t, own, other);
-        c += 1;
+        next[c] = kept(row, t, reach.next[c], other);
     }
     Reach { through, next }
 }
@@ -85,12 +73,9 @@ pub fn reach_of(image: &[u8], t: usize) -> Reach
     requires { Good image.now × (t < base.transactors) }
     ensures { Reached base (unpack base image.now) base.transactors t result.through result.next }
 {
-    let resting = all_resting(image);
-    let mut reach = direct(resting);
-    let mut k: usize = 0;
-    while k < TRANSACTORS {
+    let mut reach = direct(all_resting(image));
+    for k in 0..TRANSACTORS {
         reach = one_more(reach, t, k);
-        k += 1;
     }
     reach
 }
