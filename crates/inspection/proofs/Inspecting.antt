@@ -6,7 +6,7 @@ use mathlib.Core.List.{List, [], ◌∷◌, ◌++◌, append-nil}
 use native.Mathlib.Numerals.{add-one}
 use native.Mathlib.Omega.{arith}
 use borrow.Author.Tests.{lt-ltb, le-ltb, le-leb, lt-leb, ne_eqb, eq-eqb}
-use lib.Dec.{eqb, ltb, leb}
+use lib.Dec.{eqb, ltb}
 use lib.ListN.{length, drop, get_or, length-append, length-drop}
 use Rattle.octets.specs.Bytes.{pick, part, chunks}
 use Rattle.octets.specs.Numbers.{of_be}
@@ -26,7 +26,15 @@ use Rattle.lines.specs.Lines.{line_room, written, plus, Says}
 use Rattle.lines.proofs.Putting.{decimal-places}
 use Rattle.lines.proofs.Lining.{plus-two, plus-three, plus-empty, said-length, says-short, written-empty}
 use Rattle.image.specs.Internal.Addresses.{map_at}
-use Rattle.inspection.specs.Inspection.{piece, entries_text, list_text, incarnation_text, history_text, entry_text, values_text, status_text, transactor_text, map_text, transactor_line, message_text, message_line, limits_text, counters_text, line_text, inspect_refusal, ended, inspected}
+use Rattle.std.proofs.Common.{Ok, Err, Some, None}
+use Rattle.rules.specs.Numbers.{refusal_number, status_number}
+use Rattle.rules.specs.declared.statuses.Status.{Status}
+use Rattle.rules.specs.declared.statuses.Status.TheVariants.{Unused, Idle, Busy, Annihilated}
+use Rattle.rules.proofs.Refused.{refused}
+use Rattle.rules.specs.Layout.{image_bytes}
+use Rattle.form.proofs.Unsound.{sound-long}
+use Rattle.rules.specs.declared.refusals.Refusal.{Refusal}
+use Rattle.inspection.specs.Inspection.{piece, entries_text, list_text, incarnation_text, history_text, entry_text, values_text, status_text, transactor_text, map_text, transactor_line, message_text, message_line, limits_text, counters_text, line_text, inspect_refusal, ended, inspected, Inspects}
 
 -- ---- pieces
 
@@ -159,6 +167,26 @@ module _ (name img : List ℕ) (at u : ℕ) (below : u < 16) where
       let w : written l ≡ plus z x = plus-two z c (written l) (piece name u ++ (32 ∷ []) ++ history_text h) (10 ∷ []) (plus-three z a b c (piece name u) (32 ∷ []) (history_text h) p q s) t in
       let m : length x < line_room = omega (arith, length-append (piece name u ++ (32 ∷ []) ++ history_text h) (10 ∷ []), length-append (piece name u ++ (32 ∷ [])) (history_text h), length-append (piece name u) (32 ∷ []), piece-short name u, history-short h (count_low (part (at + 33 * u) 33 img) h f)) in
       rw (k, y) (says-short l z x g w m sized)
+
+-- ---- statuses
+
+pub not-unused : (s : Status) → (s ≡ Unused → ⊥) → status_number s ≡ 0 → ⊥
+not-unused Unused n e = n refl
+not-unused Idle n e = absurd (omega arith)
+not-unused Busy n e = absurd (omega arith)
+not-unused Annihilated n e = absurd (omega arith)
+
+pub not-idle : (s : Status) → (s ≡ Idle → ⊥) → status_number s ≡ 1 → ⊥
+not-idle Unused n e = absurd (omega arith)
+not-idle Idle n e = n refl
+not-idle Busy n e = absurd (omega arith)
+not-idle Annihilated n e = absurd (omega arith)
+
+pub not-annihilated : (s : Status) → (s ≡ Annihilated → ⊥) → status_number s ≡ 3 → ⊥
+not-annihilated Unused n e = absurd (omega arith)
+not-annihilated Idle n e = absurd (omega arith)
+not-annihilated Busy n e = absurd (omega arith)
+not-annihilated Annihilated n e = n refl
 
 -- ---- a take
 
@@ -297,42 +325,25 @@ refusal_is : (img : List ℕ) → image_refusal base img ≡ inspect_refusal img
 unfolding image_refusal inspect_refusal
 refusal_is img = refl
 
-module _ (img : List ℕ) (n r : ℕ) (is : r ≡ inspect_refusal img) where
-  ends-refused : (bs : List ℕ) → (r ≡ 0 → ⊥) → (true ≡ ended img n) × Says (record { bytes = bs; len = 0 }) (inspected img n)
-  unfolding ended inspected
-  ends-refused bs h =
-      let e : eqb (inspect_refusal img) 0 ≡ false = ne_eqb (inspect_refusal img) 0 (λ (f : inspect_refusal img ≡ 0). h (is ∙ f)) in
-      (rw e, rw e (says_nothing bs))
-
-  ends-past : (bs : List ℕ) → r ≡ 0 → 1330 ≤ n → (true ≡ ended img n) × Says (record { bytes = bs; len = 0 }) (inspected img n)
-  unfolding ended inspected
-  ends-past bs h k =
-      let e : eqb (inspect_refusal img) 0 ≡ true = eq-eqb (inspect_refusal img) 0 (sym is ∙ h) in
-      let f : leb 1330 n ≡ true = le-leb 1330 n k in
-      (rw (e, f), rw (e, f) (says_nothing bs))
-
-  goes_on : (l : Line) → r ≡ 0 → n < 1330 → Says l (line_text (unpack base img) n) → (false ≡ ended img n) × Says l (inspected img n)
-  unfolding ended inspected
-  goes_on l h k s =
-      let e : eqb (inspect_refusal img) 0 ≡ true = eq-eqb (inspect_refusal img) 0 (sym is ∙ h) in
-      let f : leb 1330 n ≡ false = lt-leb 1330 n k in
-      (rw (e, f), rw (e, f) s)
-
--- each answer of the call
 module _ (img : List ℕ) (n : ℕ) where
-  abbrev Answers : ℕ → Bool → Line → Type 0
-  Answers r end l = (r ≡ inspect_refusal img) × (end ≡ ended img n) × Says l (inspected img n)
+  pub inspect-refused : (r : Refusal) → refusal_number r ≡ image_refusal base img → Inspects img n (Err r)
+  unfolding ended
+  inspect-refused r e =
+      let f : refusal_number r ≡ inspect_refusal img = e ∙ refusal_is img in
+      let z : eqb (inspect_refusal img) 0 ≡ false = ne_eqb (inspect_refusal img) 0 (λ q. refused r (f ∙ q)) in
+      (f, rw z)
 
-  module _ (r : ℕ) (is : r ≡ image_refusal base img) where
-    abbrev refusal : r ≡ inspect_refusal img
-    refusal = is ∙ refusal_is img
+  module _ (e : 0 ≡ image_refusal base img) where
+    none : inspect_refusal img ≡ 0
+    none = sym (e ∙ refusal_is img)
 
-    pub answers-refused : (bs : List ℕ) → (r ≡ 0 → ⊥) → Answers r true (record { bytes = bs; len = 0 })
-    answers-refused bs h = let e = ends-refused img n r refusal bs h in (refusal, e.0, e.1)
+    pub inspect-end : 1330 ≤ n → Inspects img n (Ok None)
+    unfolding ended
+    inspect-end k = (none, rw (none, le-leb 1330 n k))
 
-    module _ (none : r ≡ 0) where
-      pub answers-end : (bs : List ℕ) → 1330 ≤ n → Answers 0 true (record { bytes = bs; len = 0 })
-      answers-end bs k = let e = ends-past img n r refusal bs none k in (sym none ∙ refusal, e.0, e.1)
+    pub inspect-line : (l : Line) → n < 1330 → Says l (line_text (unpack base img) n) → Inspects img n (Ok (Some l))
+    unfolding ended inspected
+    inspect-line l k s = (none, rw (none, lt-leb 1330 n k), rw (none, lt-leb 1330 n k) s)
 
-      pub answers-line : (l : Line) → n < 1330 → Says l (line_text (unpack base img) n) → Answers 0 false l
-      answers-line l k s = let e = goes_on img n r refusal l none k s in (sym none ∙ refusal, e.0, e.1)
+    pub inspect-long : length img ≡ image_bytes base
+    inspect-long = sound-long base img 0 e refl

@@ -1,5 +1,5 @@
 -- An image as text, over the state that it holds. Every take and parcel has its lines at fixed numbers; what is absent has none there.
-use Rattle.std.specs.Prelude.{ℕ, ◌+◌, ◌-◌, ◌*◌, ◌/◌, ◌%◌, Bool, not, List, [], ◌∷◌, ◌++◌, eqb, ltb, leb, length, drop, get_or}
+use Rattle.std.specs.Prelude.{ℕ, ◌+◌, ◌-◌, ◌*◌, ◌/◌, ◌%◌, ◌≡◌, Bool, true, false, not, Option, Some, None, Result, Ok, Err, List, [], ◌∷◌, ◌++◌, eqb, ltb, leb, length, drop, get_or}
 use Rattle.octets.specs.Bytes.{pick, ◌or◌, chunks}
 use Rattle.marks.specs.declared.History.{History}
 use Rattle.maps.specs.declared.DependenceMap.{DependenceMap}
@@ -10,6 +10,10 @@ use Rattle.rules.specs.Status.{unused, idle, annihilated}
 use Rattle.rules.specs.Pack.{unpack}
 use Rattle.rules.specs.Form.{well_formed}
 use Rattle.rules.specs.Calls.{wrong_length}
+use Rattle.rules.specs.Numbers.{refusal_number}
+use Rattle.rules.specs.declared.refusals.Refusal.{Refusal}
+use Rattle.lines.specs.declared.Line.{Line}
+use Rattle.lines.specs.Lines.{Says}
 use Rattle.notation.specs.Notation.{bytes, decimal, places}
 
 -- a word and a number
@@ -119,3 +123,9 @@ ended img n = not (eqb (inspect_refusal img) 0) or leb image_lines n
 -- nothing where it has ended
 unfoldable pub inspected : List ℕ → ℕ → List ℕ
 inspected img n = pick (ended img n) [] (line_text (unpack base img) n)
+
+-- what it answers: why it is refused, nothing where it has ended, or the line
+abbrev pub Inspects : List ℕ → ℕ → Result (Option Line) Refusal → Type 0
+Inspects img n (Err r) = (refusal_number r ≡ inspect_refusal img) × (ended img n ≡ true)
+Inspects img n (Ok None) = (inspect_refusal img ≡ 0) × (ended img n ≡ true)
+Inspects img n (Ok (Some l)) = (inspect_refusal img ≡ 0) × (ended img n ≡ false) × Says l (inspected img n)

@@ -3,10 +3,11 @@
 
 ghost use Rattle.std.specs.Prelude.{◌≡◌, ◌+◌, ◌≤◌, ◌<◌, length};
 ghost use Rattle.rules.specs.Layout.{base, image_bytes, map_bytes};
+ghost use Rattle.rules.specs.Numbers.{status_number};
 ghost use Rattle.rules.specs.State.{transactor_at, message_at};
 ghost use Rattle.rules.specs.Pack.{unpack, unpack_dependences, waiting_in};
 ghost use Rattle.lines.specs.Lines.{written, plus, Says};
-ghost use Rattle.inspection.specs.Inspection.{piece, entries_text, list_text, incarnation_text, history_text, entry_text, values_text, status_text, transactor_text, map_text, transactor_line, message_text, message_line, limits_text, counters_text, line_text, inspect_refusal, ended, inspected, image_lines, message_lines};
+ghost use Rattle.inspection.specs.Inspection.{piece, entries_text, list_text, incarnation_text, history_text, entry_text, values_text, status_text, transactor_text, map_text, transactor_line, message_text, message_line, limits_text, counters_text, line_text, Inspects, image_lines, message_lines};
 
 use image::layout::{
     BEHAVIOUR, CREATION, FIRST_TRANSACTOR, SAVED, STATE, TRANSACTOR, VALUE, map_at,
@@ -14,7 +15,8 @@ use image::layout::{
 use image::{head, limits, messages};
 use lines::Line;
 use marks::History;
-use rules::numbers;
+use rules::refusals::Refusal;
+use rules::statuses::Status;
 
 // Lines of a take, of a parcel, and of an image; where those of takes and of parcels begin.
 const TRANSACTOR_LINES: usize = 49;
@@ -26,14 +28,6 @@ const FIRST_TRANSACTOR_LINE: usize = 2;
 const FIRST_MESSAGE_LINE: usize = FIRST_TRANSACTOR_LINE + TRANSACTOR_LINES * 16;
 
 pub const LINES: usize = FIRST_MESSAGE_LINE + MESSAGE_LINES * 32;
-
-// What a call answers: the refusal or 0, whether there are no more lines, and the line, which is empty where nothing is to be said.
-#[derive(Clone, Copy)]
-pub struct Inspected {
-    pub refusal: u8,
-    pub end: bool,
-    pub line: Line,
-}
 
 // A word and a number.
 fn put(l: Line, w: &[u8], n: u32) -> Line
@@ -49,13 +43,9 @@ fn entries(h: History) -> Line
     requires { h.count ≤ 15 }
     ensures { (written result ≡ entries_text h) × (result.len ≤ 165) }
 {
-    let n = h.count as usize;
     let mut r = Line::EMPTY;
-    let mut i: usize = 0;
-    while i < n {
-        let entry = h.checkpoints[i];
-        r = r.byte(b',').number(entry as u32);
-        i += 1;
+    for i in 0..h.count as usize {
+        r = r.byte(b',').number(h.checkpoints[i] as u32);
     }
     r
 }
@@ -106,41 +96,26 @@ fn entry(image: &[u8], at: usize, name: &[u8], u: usize) -> Line
 
 // ---- takes
 
-// The text of transactor t.
-fn value_of(image: &[u8], t: usize) -> u32
-    requires { (length image.now ≡ image_bytes base) × (t < base.transactors) }
-    ensures { result ≡ (transactor_at (unpack base image.now) t).value }
-{
-    octets::load32(image, FIRST_TRANSACTOR + TRANSACTOR * t + VALUE)
-}
-
-// Its saved text.
-fn saved_of(image: &[u8], t: usize) -> u32
-    requires { (length image.now ≡ image_bytes base) × (t < base.transactors) }
-    ensures { result ≡ (transactor_at (unpack base image.now) t).saved }
-{
-    octets::load32(image, FIRST_TRANSACTOR + TRANSACTOR * t + SAVED)
-}
-
+// The text of transactor t, and its saved text.
 fn put_values(l: Line, image: &[u8], t: usize) -> Line
     requires { (length image.now ≡ image_bytes base) × (t < base.transactors) }
     ensures { written result ≡ plus (written l) (values_text (transactor_at (unpack base image.now) t)) }
 {
-    let saved = saved_of(image, t);
-    put(l.number(value_of(image, t)), b", saved ", saved).byte(b'\n')
+    let at = FIRST_TRANSACTOR + TRANSACTOR * t;
+    let value = octets::load32(image, at + VALUE);
+    let saved = octets::load32(image, at + SAVED);
+    put(l.number(value), b", saved ", saved).byte(b'\n')
 }
 
-fn status(l: Line, image: &[u8], t: usize, status: u8) -> Line
-    requires { (length image.now ≡ image_bytes base) × (t < base.transactors) × (status ≡ (transactor_at (unpack base image.now) t).status) }
+fn put_status(l: Line, image: &[u8], t: usize, status: Status) -> Line
+    requires { (length image.now ≡ image_bytes base) × (t < base.transactors) × (status_number status ≡ (transactor_at (unpack base image.now) t).status) }
     ensures { written result ≡ plus (written l) (status_text (transactor_at (unpack base image.now) t)) }
 {
-    if status == numbers::ANNIHILATED {
-        return l.word(b": vanished\n");
+    match status {
+        Status::Annihilated => l.word(b": vanished\n"),
+        Status::Idle => put_values(l.word(b": idle, text "), image, t),
+        _ => put_values(l.word(b": at work, text "), image, t),
     }
-    if status == numbers::IDLE {
-        return put_values(l.word(b": idle, text "), image, t);
-    }
-    put_values(l.word(b": at work, text "), image, t)
 }
 
 // The first line of take t.
@@ -148,11 +123,11 @@ fn transactor_head(image: &[u8], t: usize) -> Line
     requires { (length image.now ≡ image_bytes base) × (t < base.transactors) }
     ensures { Says result (transactor_text t (transactor_at (unpack base image.now) t)) }
 {
-    let is = head::status(image, t);
-    if is == numbers::UNUSED {
+    let status = head::status(image, t);
+    if let Status::Unused = status {
         return Line::EMPTY;
     }
-    status(put(Line::EMPTY, b"take ", t as u32), image, t, is)
+    put_status(put(Line::EMPTY, b"take ", t as u32), image, t, status)
 }
 
 // The mark of take u in map m of take t: 0 state, 1 creation, 2 behaviour.
@@ -161,13 +136,11 @@ fn transactor_map(image: &[u8], t: usize, m: usize, u: usize) -> Line
     ensures { Says result (map_text (transactor_at (unpack base image.now) t) m u) }
 {
     let at = FIRST_TRANSACTOR + TRANSACTOR * t;
-    if m == 0 {
-        return entry(image, at + STATE, b"  state: take ", u);
+    match m {
+        0 => entry(image, at + STATE, b"  state: take ", u),
+        1 => entry(image, at + CREATION, b"  creation: take ", u),
+        _ => entry(image, at + BEHAVIOUR, b"  behaviour: take ", u),
     }
-    if m == 1 {
-        return entry(image, at + CREATION, b"  creation: take ", u);
-    }
-    entry(image, at + BEHAVIOUR, b"  behaviour: take ", u)
 }
 
 fn transactor_line(image: &[u8], t: usize, j: usize) -> Line
@@ -257,30 +230,13 @@ fn line_of(image: &[u8], n: usize) -> Line
     message_line(image, i / MESSAGE_LINES, i % MESSAGE_LINES)
 }
 
-// Line n of the image's text, with its LF, n from 0 on; empty where there is nothing to be said. The refusal, 16 or 19, or 0; refused or
-// past the last line it has ended, and the line is empty.
-pub fn image_line(image: &[u8], n: usize) -> Inspected
-    ensures { (result.refusal ≡ inspect_refusal image.now) × (result.end ≡ ended image.now n) × Says result.line (inspected image.now n) }
+// Line n of the image's text, with its LF, n from 0 on; empty where there is nothing to be said, none past the last line. 16, 19.
+pub fn image_line(image: &[u8], n: usize) -> Result<Option<Line>, Refusal>
+    ensures { Inspects image.now n result }
 {
-    let refusal = form::image_refusal(image);
-    if refusal != 0 {
-        return Inspected {
-            refusal,
-            end: true,
-            line: Line::EMPTY,
-        };
-    }
+    form::check_image(image)?;
     if LINES <= n {
-        return Inspected {
-            refusal: 0,
-            end: true,
-            line: Line::EMPTY,
-        };
+        return Ok(None);
     }
-    let line = line_of(image, n);
-    Inspected {
-        refusal: 0,
-        end: false,
-        line,
-    }
+    Ok(Some(line_of(image, n)))
 }
