@@ -18,9 +18,7 @@ ghost use Rattle.inspection.specs.Inspection.{inspected};
 ghost use Rattle.notation_c.specs.Interface.{given_by, given_for, given_out, image_given, parsed_as};
 
 use lines::Line;
-use notation::Parsed;
-use printer::Printed;
-use rules::numbers;
+use rules::refusals::Refusal;
 
 // How many bytes were written, and the refusal or 0.
 #[repr(C)]
@@ -30,39 +28,29 @@ pub struct Given {
     pub refusal: u8,
 }
 
-fn told(p: Printed) -> Given
-    ensures { result ≡ given_by (printed_numbers p) }
+fn told(answer: Result<usize, Refusal>) -> Given
+    ensures { result ≡ given_by (printed_numbers answer) }
 {
-    match p {
-        Printed::Length(n) => Given {
-            length: n,
-            refusal: 0,
-        },
-        Printed::Refused(n) => Given {
+    match answer {
+        Ok(length) => Given { length, refusal: 0 },
+        Err(refusal) => Given {
             length: 0,
-            refusal: n,
+            refusal: refusal.number(),
         },
     }
 }
 
 // Writes the line to the front of out; 18 where it has no room.
 fn give(l: Line, out: &mut [u8]) -> Given
-    requires { l.len ≡ length (written l) }
-    ensures { (result ≡ given_for (written l) out.old) × (out.new ≡ given_out (written l) out.old) }
+    ensures answer { result ≡ given_for (written l) out.old }
+    ensures left { out.new ≡ given_out (written l) out.old }
 {
-    let n = l.len;
-    let bytes = l.bytes;
-    if out.len() < n {
-        return Given {
-            length: 0,
-            refusal: numbers::WRONG_ROOM,
-        };
+    let bytes = l.as_bytes();
+    if out.len() < bytes.len() {
+        return told(Err(Refusal::WrongRoom));
     }
-    octets::write(out, 0, &bytes[..n]);
-    Given {
-        length: n,
-        refusal: 0,
-    }
+    octets::write(out, 0, bytes);
+    told(Ok(bytes.len()))
 }
 
 // How long the list's text is: 17.
@@ -105,12 +93,11 @@ pub extern "C" fn notation_reply(list: &[u8], replied: &[u8], i: usize, out: &mu
 pub extern "C" fn notation_image(image: &[u8], n: usize, out: &mut [u8]) -> Given
     ensures { (result ≡ image_given image.now n out.old) × (out.new ≡ given_out (inspected image.now n) out.old) }
 {
-    let r = inspection::image_line(image, n);
-    let refusal = r.refusal;
-    if refusal != 0 {
-        return Given { length: 0, refusal };
+    match inspection::image_line(image, n) {
+        Ok(Some(line)) => give(line, out),
+        Ok(None) => told(Ok(0)),
+        Err(refusal) => told(Err(refusal)),
     }
-    give(r.line, out)
 }
 
 // Writes the packed steps of a text: how many. At a fault 0, and no byte of out is changed; line, column and what was expected are lent
@@ -127,20 +114,16 @@ pub extern "C" fn notation_parse(
         × (out.new ≡ written_of (read (length out.old) text.now) out.old) }
 {
     match parser::parse(text, out) {
-        Parsed::Steps(n) => {
+        Ok(n) => {
             *line = 0;
             *column = 0;
             *expected = 0;
             n
         }
-        Parsed::Fault {
-            line: l,
-            column: c,
-            expected: e,
-        } => {
-            *line = l;
-            *column = c;
-            *expected = faults::number_of(e);
+        Err(fault) => {
+            *line = fault.line;
+            *column = fault.column;
+            *expected = fault.expected.number();
             0
         }
     }
