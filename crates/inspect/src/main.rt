@@ -8,19 +8,16 @@ use std::io;
 
 // Line n, or why there is none; answers whether to go on.
 fn line(to: &impl Print, image: &[u8], n: usize) -> io::Result<bool> {
-    let r = inspection::image_line(image, n);
-    let refusal = r.refusal;
-    if refusal != 0 {
-        writing::show(
-            to,
-            Line::EMPTY
-                .word(b"refused ")
-                .number(refusal as u32)
-                .byte(b'\n'),
-        )?;
-        return Ok(false);
+    match inspection::image_line(image, n) {
+        Ok(Some(line)) => writing::show(to, line),
+        Ok(None) => Ok(false),
+        Err(refusal) => {
+            let number = u32::from(refusal.number());
+            let words = Line::EMPTY.word(b"refused ").number(number).byte(b'\n');
+            writing::show(to, words)?;
+            Ok(false)
+        }
     }
-    writing::show(to, r.line)
 }
 
 fn lines(to: &impl Print, image: &[u8]) -> io::Result<()> {
