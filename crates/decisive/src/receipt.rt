@@ -5,13 +5,14 @@ ghost use Rattle.rules.specs.Layout.{base};
 ghost use Rattle.rules.specs.State.{transactor_at, message_at};
 ghost use Rattle.rules.specs.Rules.{known, message_unrelated};
 ghost use Rattle.rules.specs.Pack.{waiting_in, unpack};
-ghost use Rattle.rules.specs.Internal.Good.{Good};
+ghost use Rattle.image.specs.Formed.{state_in};
 ghost use Rattle.rules.specs.Numbers.{outcome_number, refusal_in};
 ghost use Rattle.decisive.specs.Decision.{DecisionPromise, decision_in};
 ghost use Rattle.decisive.specs.Internal.Judging.{judged_in, falls_by, settled_by, judged_by, judged_of};
 
 use crate::Decision;
 use group::own;
+use image::formed::Formed;
 use image::layout::{CREATION, FIRST_TRANSACTOR, STATE, TRANSACTOR, map_at};
 use image::{head, messages};
 use lists::{limits, refusals};
@@ -29,9 +30,9 @@ fn told(outcome: Outcome, transactor: usize) -> Decision
 }
 
 // The fall of transactor t, since its history of transactor u is superseded: 28 where it was checkpointed and is at the last incarnation.
-fn falls(image: &[u8], t: usize, u: usize) -> Result<Decision, Refusal>
-    requires { Good image.now × (t < base.transactors) }
-    ensures { judged_in result ≡ falls_by base t (transactor_at (unpack base image.now) t) u }
+fn falls(image: &Formed<'_>, t: usize, u: usize) -> Result<Decision, Refusal>
+    requires { t < base.transactors }
+    ensures { judged_in result ≡ falls_by base t (transactor_at (state_in image.now) t) u }
 {
     let h = own(image, t);
     if h.count == 0 {
@@ -44,9 +45,9 @@ fn falls(image: &[u8], t: usize, u: usize) -> Result<Decision, Refusal>
 }
 
 // Of a message that is not superseded: whether the receiver is.
-fn settled(image: &[u8], t: usize, receiver: Option<usize>) -> Result<Decision, Refusal>
-    requires { Good image.now × (t < base.transactors) }
-    ensures { judged_in result ≡ settled_by base t (transactor_at (unpack base image.now) t) (answer_of receiver) }
+fn settled(image: &Formed<'_>, t: usize, receiver: Option<usize>) -> Result<Decision, Refusal>
+    requires { t < base.transactors }
+    ensures { judged_in result ≡ settled_by base t (transactor_at (state_in image.now) t) (answer_of receiver) }
 {
     let Some(u) = receiver else {
         return Ok(told(Outcome::Done, 0));
@@ -55,22 +56,22 @@ fn settled(image: &[u8], t: usize, receiver: Option<usize>) -> Result<Decision, 
 }
 
 // The map of the message in place k and what transactor t rests on, compared.
-fn compared(image: &[u8], t: usize, k: usize) -> Comparisons
-    requires { Good image.now × (t < base.transactors) × (k < waiting_in base image.now) × (k < base.messages) }
-    ensures { (result.unrelated ≡ message_unrelated base (transactor_at (unpack base image.now) t) (message_at (unpack base image.now) k))
-        × (answer_of result.packed ≡ first_superseded base.transactors (message_at (unpack base image.now) k).dependences (known base (transactor_at (unpack base image.now) t)))
-        × (answer_of result.own ≡ first_superseded base.transactors (known base (transactor_at (unpack base image.now) t)) (message_at (unpack base image.now) k).dependences) }
+fn compared(image: &Formed<'_>, t: usize, k: usize) -> Comparisons
+    requires { (t < base.transactors) × (k < waiting_in base image.now.bytes.now) × (k < base.messages) }
+    ensures { (result.unrelated ≡ message_unrelated base (transactor_at (state_in image.now) t) (message_at (state_in image.now) k))
+        × (answer_of result.packed ≡ first_superseded base.transactors (message_at (state_in image.now) k).dependences (known base (transactor_at (state_in image.now) t)))
+        × (answer_of result.own ≡ first_superseded base.transactors (known base (transactor_at (state_in image.now) t)) (message_at (state_in image.now) k).dependences) }
 {
     let at = FIRST_TRANSACTOR + TRANSACTOR * t;
     let state = at + STATE;
     let creation = at + CREATION;
-    transactor::receipt::compared(image, state, creation, map_at(k))
+    transactor::receipt::compared(image.bytes, state, creation, map_at(k))
 }
 
 // The message in place k, addressed to transactor t, which is idle: 31, 28, or the decision.
-fn judge(image: &[u8], t: usize, k: usize) -> Result<Decision, Refusal>
-    requires { Good image.now × (t < base.transactors) × (k < waiting_in base image.now) × (k < base.messages) }
-    ensures { judged_in result ≡ judged_by base t (transactor_at (unpack base image.now) t) (message_at (unpack base image.now) k) }
+fn judge(image: &Formed<'_>, t: usize, k: usize) -> Result<Decision, Refusal>
+    requires { (t < base.transactors) × (k < waiting_in base image.now.bytes.now) × (k < base.messages) }
+    ensures { judged_in result ≡ judged_by base t (transactor_at (state_in image.now) t) (message_at (state_in image.now) k) }
 {
     let answers = compared(image, t, k);
     if answers.unrelated {
@@ -83,16 +84,15 @@ fn judge(image: &[u8], t: usize, k: usize) -> Result<Decision, Refusal>
 }
 
 // The message with this number: 24, 22, 23, or as judged.
-fn judge_numbered(image: &[u8], number: usize) -> Result<Decision, Refusal>
-    requires { Good image.now }
-    ensures { judged_in result ≡ judged_of base (unpack base image.now) number }
+fn judge_numbered(image: &Formed<'_>, number: usize) -> Result<Decision, Refusal>
+    ensures { judged_in result ≡ judged_of base (state_in image.now) number }
 {
-    let n = messages::waiting(image);
-    let Some(k) = messages::place_numbered(image, n, number) else {
+    let n = messages::waiting(image.bytes);
+    let Some(k) = messages::place_numbered(image.bytes, n, number) else {
         return Err(Refusal::NotWaiting);
     };
-    let t = messages::addressee(image, k);
-    refusals::receiver(head::status(image, t).number())?;
+    let t = messages::addressee(image.bytes, k);
+    refusals::receiver(head::status(image.bytes, t).number())?;
     judge(image, t, k)
 }
 
@@ -101,6 +101,6 @@ fn judge_numbered(image: &[u8], number: usize) -> Result<Decision, Refusal>
 pub fn decide(image: &[u8], number: usize) -> Result<Decision, Refusal>
     ensures { DecisionPromise base image.now number (refusal_in result) (decision_in result) }
 {
-    form::check_image(image)?;
-    judge_numbered(image, number)
+    let formed = form::check_image(image)?;
+    judge_numbered(&formed, number)
 }

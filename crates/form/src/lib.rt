@@ -1,7 +1,7 @@
 // Whether an image is well-formed, transactor by transactor, message by message; and what a call refuses any image for (16, 19), and a query (21, 22).
 #![tactic(auto)]
 
-ghost use Rattle.std.specs.Prelude.{◌≡◌, ◌/◌, ◌<◌, length, get_or};
+ghost use Rattle.std.specs.Prelude.{IfOk, ◌≡◌, ◌/◌, ◌<◌, length, get_or};
 ghost use Rattle.octets.specs.Bytes.{every};
 ghost use Rattle.rules.specs.Layout.{base, transactor_address, image_bytes};
 ghost use Rattle.rules.specs.Pack.{waiting_in, unpack};
@@ -15,6 +15,7 @@ use image::layout::{
     BEHAVIOUR, BLANK, CREATION, DEPENDENCES, FIRST_MESSAGE, FIRST_TRANSACTOR, IMAGE, LIMITS_BLANK,
     MESSAGE, MESSAGES, NUMBER, SAVED, STATE, TRANSACTOR, TRANSACTORS, own_at,
 };
+use image::formed::Formed;
 use image::{head, limits, messages};
 use rules::refusals::Refusal;
 use rules::statuses::Status;
@@ -195,9 +196,10 @@ pub fn formed(s: &[u8]) -> bool
     front.transactors_formed() && front.messages_formed()
 }
 
-// Whether a call takes an image: refused as 16 or 19 if not.
-pub fn check_image(s: &[u8]) -> Result<(), Refusal>
-    ensures { refusal_in result ≡ image_refusal base s.now }
+// The image, lent as one that is well-formed; or what a call refuses any image for, 16 or 19.
+pub fn check_image(s: &[u8]) -> Result<Formed<'_>, Refusal>
+    ensures refused { refusal_in result ≡ image_refusal base s.now }
+    ensures lent { IfOk result (λ f. f.bytes.now ≡ s.now) }
 {
     if s.len() != IMAGE {
         return Err(Refusal::WrongLength);
@@ -205,13 +207,15 @@ pub fn check_image(s: &[u8]) -> Result<(), Refusal>
     if !formed(s) {
         return Err(Refusal::IllFormed);
     }
-    Ok(())
+    Ok(Formed { bytes: s })
 }
 
 // The same of a query about one transactor, which is also refused as 21 or 22.
-pub fn check_query(image: &[u8], transactor: usize) -> Result<(), Refusal>
-    ensures { refusal_in result ≡ query_refusal base image.now transactor }
+pub fn check_query(image: &[u8], transactor: usize) -> Result<Formed<'_>, Refusal>
+    ensures refused { refusal_in result ≡ query_refusal base image.now transactor }
+    ensures lent { IfOk result (λ f. f.bytes.now ≡ image.now) }
 {
-    check_image(image)?;
-    head::check(image, transactor)
+    let formed = check_image(image)?;
+    head::check(image, transactor)?;
+    Ok(formed)
 }

@@ -2,7 +2,7 @@
 // playing it on a copy; what a step sees is told by its kind, its fields and the image.
 #![tactic(auto)]
 
-ghost use Rattle.std.specs.Prelude.{◌≡◌, not, ◌<◌, eqb, length};
+ghost use Rattle.std.specs.Prelude.{IfOk, ◌≡◌, not, ◌<◌, eqb, length};
 ghost use Rattle.octets.specs.Bytes.{◌and◌};
 ghost use Rattle.rules.specs.Layout.{base, image_bytes};
 ghost use Rattle.rules.specs.State.{transactor_at};
@@ -14,11 +14,12 @@ ghost use Rattle.rules.specs.Pack.{pack, unpack};
 ghost use Rattle.rules.specs.Numbers.{refusal_in};
 ghost use Rattle.rules.specs.Promises.{IndependentPromise};
 ghost use Rattle.rules.specs.Internal.Well.{StepOk};
-ghost use Rattle.rules.specs.Internal.Good.{Good};
+ghost use Rattle.image.specs.Formed.{state_in};
 ghost use Rattle.independence.specs.Answer.{is_independent};
 ghost use Rattle.independence.specs.Internal.Footprint as footprint;
 
 use group::own;
+use image::formed::Formed;
 use image::layout::{CREATION, FIRST_TRANSACTOR, IMAGE, STATE, TRANSACTOR, TRANSACTORS};
 use image::{head, limits, messages};
 use lists::groups::is_named;
@@ -61,12 +62,11 @@ fn signs(p: Step) -> bool
 // ---- transactors
 
 // To whom the waiting message with this number is addressed.
-fn receiver(image: &[u8], number: u16) -> Option<usize>
-    requires { Good image.now }
-    ensures { result ≡ footprint.receiver_of (unpack base image.now) number }
+fn receiver(image: &Formed<'_>, number: u16) -> Option<usize>
+    ensures { result ≡ footprint.receiver_of (state_in image.now) number }
 {
-    let k = messages::place_of(image, messages::waiting(image), number)?;
-    Some(messages::addressee(image, k))
+    let k = messages::place_of(image.bytes, messages::waiting(image.bytes), number)?;
+    Some(messages::addressee(image.bytes, k))
 }
 
 // Whether the step sees transactor t whole; so many are opened, and that one would receive.
@@ -96,11 +96,10 @@ fn touches(p: Step, opened: usize, to: Option<usize>, t: usize) -> bool
 
 // Whether both see some transactor whole.
 #[tactic(auto, unfolding(crate::specs::Internal::Footprint::transactors_meet))]
-fn transactors_meet(image: &[u8], p: Step, q: Step) -> bool
-    requires { Good image.now }
-    ensures { result ≡ footprint.transactors_meet base (unpack base image.now) p q }
+fn transactors_meet(image: &Formed<'_>, p: Step, q: Step) -> bool
+    ensures { result ≡ footprint.transactors_meet base (state_in image.now) p q }
 {
-    let opened = usize::from(head::opened(image));
+    let opened = usize::from(head::opened(image.bytes));
     let first = receiver(image, p.message);
     let second = receiver(image, q.message);
     (0..TRANSACTORS).any(|t| touches(p, opened, first, t) && touches(q, opened, second, t))
@@ -146,23 +145,22 @@ fn messages_meet(next: u16, full: bool, p: Step, q: Step) -> bool
 
 // Whether p opens the transactor to which q is addressed, or they meet in a message or in the room for one.
 #[tactic(auto, unfolding(crate::specs::Internal::Footprint::heads_meet))]
-fn heads_meet(image: &[u8], p: Step, q: Step) -> bool
-    requires { Good image.now }
-    ensures { result ≡ footprint.heads_meet (unpack base image.now) p q }
+fn heads_meet(image: &Formed<'_>, p: Step, q: Step) -> bool
+    ensures { result ≡ footprint.heads_meet (state_in image.now) p q }
 {
     if opens(p) {
-        return addresses(q, head::opened(image));
+        return addresses(q, head::opened(image.bytes));
     }
-    let full = usize::from(limits::messages(image)) <= messages::waiting(image);
-    messages_meet(head::next(image), full, p, q)
+    let full = usize::from(limits::messages(image.bytes)) <= messages::waiting(image.bytes);
+    messages_meet(head::next(image.bytes), full, p, q)
 }
 
 // ---- lists of checkpoints
 
 // Whether the own history of transactor t has another list in the copy.
-fn relisted(image: &[u8], copy: &[u8], t: usize) -> bool
-    requires { Good image.now × Good copy.now × (t < base.transactors) }
-    ensures { result ≡ footprint.relisted (unpack base image.now) (unpack base copy.now) t }
+fn relisted(image: &Formed<'_>, copy: &Formed<'_>, t: usize) -> bool
+    requires { t < base.transactors }
+    ensures { result ≡ footprint.relisted (state_in image.now) (state_in copy.now) t }
 {
     let mut before = own(image, t);
     let mut after = own(copy, t);
@@ -173,29 +171,29 @@ fn relisted(image: &[u8], copy: &[u8], t: usize) -> bool
 }
 
 // Whether transactor t has a history of transactor u in its state or creation map.
-fn has_history(image: &[u8], t: usize, u: usize) -> bool
-    requires { Good image.now × (t < base.transactors) × (u < base.transactors) }
-    ensures { result ≡ clauses.has_mark (transactor_at (unpack base image.now) t) u }
+fn has_history(image: &Formed<'_>, t: usize, u: usize) -> bool
+    requires { (t < base.transactors) × (u < base.transactors) }
+    ensures { result ≡ clauses.has_mark (transactor_at (state_in image.now) t) u }
 {
     let at = FIRST_TRANSACTOR + TRANSACTOR * t;
     let state = at + STATE + marks::SIZE * u;
     let creation = at + CREATION + marks::SIZE * u;
-    packed_histories::present(image, state) || packed_histories::present(image, creation)
+    packed_histories::present(image.bytes, state)
+        || packed_histories::present(image.bytes, creation)
 }
 
 // Whether one that the group names has.
-fn have_history(image: &[u8], group: u16, u: usize) -> bool
-    requires { Good image.now × (u < base.transactors) }
-    ensures { result ≡ footprint.has_marks (unpack base image.now) group u }
+fn have_history(image: &Formed<'_>, group: u16, u: usize) -> bool
+    requires { u < base.transactors }
+    ensures { result ≡ footprint.has_marks (state_in image.now) group u }
 {
     (0..TRANSACTORS).any(|t| is_named(group, t) && has_history(image, t, u))
 }
 
 // Whether q, a signing, looks at the checkpoints of a transactor that has another list in the copy.
 #[tactic(auto, unfolding(crate::specs::Internal::Footprint::lists_meet))]
-fn lists_meet(image: &[u8], copy: &[u8], q: Step) -> bool
-    requires { Good image.now × Good copy.now }
-    ensures { result ≡ footprint.lists_meet base (unpack base image.now) (unpack base copy.now) q }
+fn lists_meet(image: &Formed<'_>, copy: &Formed<'_>, q: Step) -> bool
+    ensures { result ≡ footprint.lists_meet base (state_in image.now) (state_in copy.now) q }
 {
     signs(q)
         && (0..TRANSACTORS).any(|t| relisted(image, copy, t) && have_history(image, q.message, t))
@@ -204,12 +202,12 @@ fn lists_meet(image: &[u8], copy: &[u8], q: Step) -> bool
 // ---- two steps
 
 // Plays the step on a copy of the image: its outcome or refusal.
-fn play(image: &[u8], copy: &mut [u8], p: Step) -> u8
-    requires { Good image.now × (length copy.old ≡ image_bytes base) × StepOk p }
-    ensures { (result ≡ (step_of base (unpack base image.now) p).reply.outcome) × (copy.new ≡ pack base (step_of base (unpack base image.now) p).state) }
+fn play(image: &Formed<'_>, copy: &mut [u8], p: Step) -> u8
+    requires { (length copy.old ≡ image_bytes base) × StepOk p }
+    ensures { (result ≡ (step_of base (state_in image.now) p).reply.outcome) × (copy.new ≡ pack base (step_of base (state_in image.now) p).state) }
 {
-    octets::write(copy, 0, image);
-    let mut waiting = messages::waiting(image);
+    octets::write(copy, 0, image.bytes);
+    let mut waiting = messages::waiting(image.bytes);
     let r = steps::step(copy, &mut waiting, p);
     r.outcome
 }
@@ -227,17 +225,16 @@ fn leaves(p: Step, outcome: u8) -> bool
 }
 
 // Whether p, which has this outcome, changes a transactor that q sees whole.
-fn changes_meet(image: &[u8], p: Step, q: Step, outcome: u8) -> bool
-    requires { Good image.now }
-    ensures { result ≡ not (footprint.leaves_by p outcome) and footprint.transactors_meet base (unpack base image.now) p q }
+fn changes_meet(image: &Formed<'_>, p: Step, q: Step, outcome: u8) -> bool
+    ensures { result ≡ not (footprint.leaves_by p outcome) and footprint.transactors_meet base (state_in image.now) p q }
 {
     !leaves(p, outcome) && transactors_meet(image, p, q)
 }
 
 // Whether q sees something that p changes. The copy is for the play.
-fn meets(image: &[u8], copy: &mut [u8], p: Step, q: Step) -> bool
-    requires { Good image.now × (length copy.old ≡ image_bytes base) × StepOk p }
-    ensures { (result ≡ footprint.meets base (unpack base image.now) p q) × (length copy.new ≡ image_bytes base) }
+fn meets(image: &Formed<'_>, copy: &mut [u8], p: Step, q: Step) -> bool
+    requires { (length copy.old ≡ image_bytes base) × StepOk p }
+    ensures { (result ≡ footprint.meets base (state_in image.now) p q) × (length copy.new ≡ image_bytes base) }
 {
     if fields::malformed(q) {
         return false;
@@ -252,13 +249,15 @@ fn meets(image: &[u8], copy: &mut [u8], p: Step, q: Step) -> bool
     if changes_meet(image, p, q, outcome) {
         return true;
     }
-    lists_meet(image, copy, q)
+    let played = Formed { bytes: copy };
+    lists_meet(image, &played, q)
 }
 
-// 16, 17 for a step that has not eight bytes, 19.
+// The image, lent as one that is well-formed; or 16, 17 for a step that has not eight bytes, 19.
 #[tactic(auto, unfolding(rules::specs::Independent::independent_refusal))]
-fn check(image: &[u8], first: &[u8], second: &[u8]) -> Result<(), Refusal>
-    ensures { refusal_in result ≡ clauses.independent_refusal base image.now first.now second.now }
+fn check<'a>(image: &'a [u8], first: &[u8], second: &[u8]) -> Result<Formed<'a>, Refusal>
+    ensures refused { refusal_in result ≡ clauses.independent_refusal base image.now first.now second.now }
+    ensures lent { IfOk result (λ f. f.bytes.now ≡ image.now) }
 {
     if image.len() != IMAGE {
         return Err(Refusal::WrongLength);
@@ -269,7 +268,7 @@ fn check(image: &[u8], first: &[u8], second: &[u8]) -> Result<(), Refusal>
     if !form::formed(image) {
         return Err(Refusal::IllFormed);
     }
-    Ok(())
+    Ok(Formed { bytes: image })
 }
 
 // Whether the two packed steps are independent on the image: whether neither sees what the other changes. Refused as 16, 17 for a step that has
@@ -277,12 +276,12 @@ fn check(image: &[u8], first: &[u8], second: &[u8]) -> Result<(), Refusal>
 pub fn independent(image: &[u8], first: &[u8], second: &[u8]) -> Result<bool, Refusal>
     ensures { IndependentPromise base image.now first.now second.now (refusal_in result) (is_independent result) }
 {
-    check(image, first, second)?;
+    let formed = check(image, first, second)?;
     let p = packed::decode(first, 0);
     let q = packed::decode(second, 0);
     let mut copy = [0u8; IMAGE];
-    if meets(image, &mut copy, p, q) {
+    if meets(&formed, &mut copy, p, q) {
         return Ok(false);
     }
-    Ok(!meets(image, &mut copy, q, p))
+    Ok(!meets(&formed, &mut copy, q, p))
 }

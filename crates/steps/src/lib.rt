@@ -15,6 +15,7 @@ ghost use Rattle.steps.specs.Internal.Stepped.{Stepped, Asked, Counted, reply_of
 ghost use Rattle.rules.specs.Internal.Guards.{busy_in, room_in};
 ghost use Rattle.transactor.specs.Internal.Effects.{open_bytes};
 
+use image::formed::Formed;
 use image::layout::{FIRST_TRANSACTOR, OPENED, TRANSACTOR};
 use image::{head, limits, messages};
 use lists::{fields, refusals};
@@ -206,8 +207,9 @@ fn sign(image: &mut [u8], p: Step) -> Result<Reply, Refusal>
     ensures { Stepped image.old p (reply_of result) image.new }
 {
     let group = p.message;
-    group::check(image, group)?;
-    if !group::ready(image, group) {
+    let formed = Formed { bytes: image };
+    group::check(&formed, group)?;
+    if !group::ready(&formed, group) {
         return Ok(answered(Outcome::NotReady.number()));
     }
     group::checkpoint(image, group);

@@ -12,18 +12,24 @@ use Rattle.form.proofs.check_query.Goals as goal
 refused : (r : Refusal) → refusal_number r ≡ 0 → ⊥
 refused r e = grind arith
 
-pub returns-in_err-check_image : goal.returns-in_err-check_image
-returns-in_err-check_image c =
+pub returns-in_err-formed-clause-refused : goal.returns-in_err-formed-clause-refused
+returns-in_err-formed-clause-refused c =
     let p = err_from_is_err_and c.from_residual.result c.from_residual.ensures.1 in
     rw (p.1, p.2)
-    (image-refused base _ _ c.in_err-check_image.ensures (λ (n : ℕ). n ≡ query_refusal base c.args.image.now c.args.transactor) (query-16 base _ _) (query-19 base _ _) (refused c.in_err-check_image.field-0.0))
+    (image-refused base _ _ c.in_err-formed.ensures.refused (λ (n : ℕ). n ≡ query_refusal base c.args.image.now c.args.transactor) (query-16 base _ _) (query-19 base _ _) (refused c.in_err-formed.field-0.0))
 
 pub check-requires : goal.check-requires
 check-requires c =
-    let e = c.in_ok-check_image.ensures in
+    let e = c.in_ok-formed.ensures.refused in
     (sound-long base _ _ e refl, few-opened base _ (sound-not base _ _ e refl))
 
-pub returns : goal.returns
-returns c =
-    let e = c.in_ok-check_image.ensures in
-    c.check.ensures ∙ query-acting base _ _ (sound-long base _ _ e refl) (sound-not base _ _ e refl)
+pub returns-in_err-check-clause-refused : goal.returns-in_err-check-clause-refused
+returns-in_err-check-clause-refused c =
+    let e = c.in_ok-formed.ensures.refused in
+    let p = err_from_is_err_and c.from_residual-in_err-check.result c.from_residual-in_err-check.ensures.1 in
+    rw (p.1, p.2) c.in_err-check.ensures ∙ query-acting base _ _ (sound-long base _ _ e refl) (sound-not base _ _ e refl)
+
+pub returns-clause-refused : goal.returns-clause-refused
+returns-clause-refused c =
+    let e = c.in_ok-formed.ensures.refused in
+    c.in_ok-check.ensures ∙ query-acting base _ _ (sound-long base _ _ e refl) (sound-not base _ _ e refl)

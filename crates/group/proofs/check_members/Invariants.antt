@@ -6,4 +6,4 @@ use Rattle.group.proofs.Blocking.{Blocking}
 use Rattle.group.proofs.check_members.Given as goal
 
 abbrev pub invariant-loop-t : goal.invariant-loop-t
-invariant-loop-t l = Blocking (unpack base l.image) l.group l.t (refusal_in l.full)
+invariant-loop-t l = Blocking (unpack base l.image.bytes.now) l.group l.t (refusal_in l.full)

@@ -5,4 +5,4 @@ use Rattle.group.proofs.Presenting.{Presented}
 use Rattle.group.proofs.presents.Given as goal
 
 abbrev pub invariant-loop-t : goal.invariant-loop-t
-invariant-loop-t l = Presented base (unpack base l.image) l.group l.t l.present l.stable
+invariant-loop-t l = Presented base (unpack base l.image.bytes.now) l.group l.t l.present l.stable

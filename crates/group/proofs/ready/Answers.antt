@@ -1,6 +1,7 @@
 -- All are stable, or the answer is no; then each entry in its turn.
 use Rattle.std.proofs.Common.{not, refl, sym, ap, ◌∙◌, rules}
 use Rattle.octets.proofs.Zero.{held_none, held_more}
+use Rattle.image.proofs.Lent.{good_in}
 use Rattle.rules.specs.Layout.{base}
 use Rattle.rules.proofs.Groups.Ready.{ready-end, ready-unnamed, present-stable, present-unstable, ready-named, ready-unmet}
 use Rattle.group.proofs.Presenting.{kept-named}
@@ -20,7 +21,7 @@ loop-u-init c = record { pairs = held_none _ _; ok = c.named.invariant.ok }
 
 pub kept_ready-requires : goal.kept_ready-requires
 kept_ready-requires c =
-    (search rules, search rules, search rules, kept-named base _ _ c.presents-kept.ensures c.if-kept-group.false c.requires.well _ (search rules))
+    (search rules, search rules, kept-named base _ _ c.presents-kept.ensures c.if-kept-group.false (good_in c.args.image.now).well _ (search rules))
 
 pub loop-u-preserved : goal.loop-u-preserved
 loop-u-preserved c = record { pairs = held_more c.loop-u.invariant.pairs (search rules) (ap not (sym c.kept_ready.ensures ∙ c.if-not-kept_ready.false)); ok = c.loop-u.invariant.ok }

@@ -8,7 +8,7 @@ use Rattle.rules.proofs.Groups.Ready.{named_ready}
 use Rattle.group.proofs.ready.Given as goal
 
 abbrev pub invariant-named : goal.invariant-named
-invariant-named l = record { named : Held (named_ready base (unpack base l.image) l.group) base.transactors l.t; ok : l.ok ≡ true }
+invariant-named l = record { named : Held (named_ready base (unpack base l.image.bytes.now) l.group) base.transactors l.t; ok : l.ok ≡ true }
 
 abbrev pub invariant-loop-u : goal.invariant-loop-u
-invariant-loop-u l = record { pairs : Held (pair_ready base l.image l.group l.t) base.transactors l.u; ok : l.ok ≡ true }
+invariant-loop-u l = record { pairs : Held (pair_ready base l.image.bytes.now l.group l.t) base.transactors l.u; ok : l.ok ≡ true }

@@ -15,5 +15,5 @@ use Rattle.independence.proofs.have_history.Goals as goal
 pub returns : goal.returns
 unfolding has_marks any_named
 returns c =
-    let P : ℕ → Bool = λ t. named c.args.group t and has_mark (transactor_at (unpack base c.args.image.now) t) c.args.u in
+    let P : ℕ → Bool = λ t. named c.args.group t and has_mark (transactor_at (unpack base c.args.image.now.bytes.now) t) c.args.u in
     any_from_yields_List P _ _ c.any.result c.any.ensures.ran (YieldsList-from_range 0 16 16 refl refl) (λ x b q k. search (rules, tests)) ∙ any-ranged P 16

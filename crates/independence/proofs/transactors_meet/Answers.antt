@@ -13,5 +13,5 @@ use Rattle.independence.proofs.transactors_meet.Goals as goal
 pub returns : goal.returns
 unfolding transactors_meet
 returns c =
-    let P : ℕ → Bool = λ t. touches_in (unpack base c.args.image.now) c.args.p t and touches_in (unpack base c.args.image.now) c.args.q t in
+    let P : ℕ → Bool = λ t. touches_in (unpack base c.args.image.now.bytes.now) c.args.p t and touches_in (unpack base c.args.image.now.bytes.now) c.args.q t in
     any_from_yields_List P _ _ c.any.result c.any.ensures.ran (YieldsList-from_range 0 16 16 refl refl) (λ x b q k. (search (rules, tests), touch-turn _ _ _ _ _ _ _ _ c.opened.ensures c.receiver-first.ensures c.receiver-second.ensures (search (rules, tests)))) ∙ any-ranged P 16

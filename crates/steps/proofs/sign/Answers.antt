@@ -5,7 +5,11 @@ use Rattle.steps.proofs.Refused.{not_none, told}
 use Rattle.rules.proofs.ByKind.Guards.{state-room}
 use Rattle.steps.proofs.Images.{sign-refused, sign-unready, sign-done}
 use Rattle.rules.specs.Rules.{answer}
+use Rattle.image.proofs.Lent.{formed-good}
 use Rattle.steps.proofs.sign.Goals as goal
+
+pub invariant_of-formed : goal.invariant_of-formed
+invariant_of-formed c = record { octets = search rules; long = c.requires.good.long; formed = formed-good c.requires.good }
 
 pub returns-in_err-check : goal.returns-in_err-check
 returns-in_err-check c =

@@ -6,7 +6,7 @@ pub returns : goal.returns
 returns c =
     let said = c.compared.ensures in
     let p = c.requires in (
-      read-unrelated _ _ p.1 _ p.2 (rw c.map_at.ensures at said.unrelated),
-      read-message _ _ p.1 _ p.2 (rw c.map_at.ensures at said.packed),
-      read-receiver _ _ p.1 _ p.2 (rw c.map_at.ensures at said.own),
+      read-unrelated _ _ p.0 _ p.1 (rw c.map_at.ensures at said.unrelated),
+      read-message _ _ p.0 _ p.1 (rw c.map_at.ensures at said.packed),
+      read-receiver _ _ p.0 _ p.1 (rw c.map_at.ensures at said.own),
     )
