@@ -7,13 +7,14 @@ ghost use Rattle.std.specs.Prelude.{◌≡◌, ◌<◌};
 ghost use Rattle.rules.specs.Layout.{base};
 ghost use Rattle.rules.specs.Pack.{unpack};
 ghost use Rattle.rules.specs.Impediment.{withdrawn_by, lost_ground, impedes_at, lowest_for, impediment_of};
-ghost use Rattle.rules.specs.Internal.Good.{Good};
+ghost use Rattle.image.specs.Formed.{state_in};
 ghost use Rattle.image.specs.Internal.Search.{Found};
 ghost use Rattle.impediments.specs.Internal.Manners.{manner_number};
 ghost use Rattle.impediments.specs.Internal.Ways.{Reached};
 
 use crate::ways::{Reach, reach_of};
 use group::{is_full, own};
+use image::formed::Formed;
 use image::layout::TRANSACTORS;
 use lists::groups::is_named;
 use obstacles::entry;
@@ -34,25 +35,25 @@ enum Manner {
 const ALL: u16 = 65535;
 
 // Whether transactor c has such a history of transactor u in its state or creation map.
-fn superseded(image: &[u8], c: usize, u: usize) -> bool
-    requires { Good image.now × (c < base.transactors) × (u < base.transactors) }
-    ensures { result ≡ withdrawn_by (unpack base image.now) c u }
+fn superseded(image: &Formed<'_>, c: usize, u: usize) -> bool
+    requires { (c < base.transactors) × (u < base.transactors) }
+    ensures { result ≡ withdrawn_by (state_in image.now) c u }
 {
     entry(image, ALL, c, u).is_some()
 }
 
 // The first transactor of which c has such a history.
-fn lost_ground(image: &[u8], c: usize) -> Option<usize>
-    requires { Good image.now × (c < base.transactors) }
-    ensures { Found (lost_ground base (unpack base image.now) c) base.transactors result }
+fn lost_ground(image: &Formed<'_>, c: usize) -> Option<usize>
+    requires { c < base.transactors }
+    ensures { Found (lost_ground base (state_in image.now) c) base.transactors result }
 {
     (0..TRANSACTORS).find(|u| superseded(image, c, *u))
 }
 
 // Whether transactor c is in the way in this manner.
-fn impedes(image: &[u8], manner: Manner, c: usize) -> bool
-    requires { Good image.now × (c < base.transactors) }
-    ensures { result ≡ impedes_at base (unpack base image.now) (manner_number manner) c }
+fn impedes(image: &Formed<'_>, manner: Manner, c: usize) -> bool
+    requires { c < base.transactors }
+    ensures { result ≡ impedes_at base (state_in image.now) (manner_number manner) c }
 {
     match manner {
         Manner::Hopeless => lost_ground(image, c).is_some(),
@@ -62,17 +63,17 @@ fn impedes(image: &[u8], manner: Manner, c: usize) -> bool
 }
 
 // The lowest transactor that t rests on, as its row says, and that is in the way in this manner.
-fn lowest(image: &[u8], reach: Reach, manner: Manner, t: usize) -> Option<usize>
-    requires { Good image.now × (t < base.transactors) × Reached base (unpack base image.now) base.transactors t reach.through reach.next }
-    ensures { Found (lowest_for base (unpack base image.now) (manner_number manner) t) base.transactors result }
+fn lowest(image: &Formed<'_>, reach: Reach, manner: Manner, t: usize) -> Option<usize>
+    requires { (t < base.transactors) × Reached base (state_in image.now) base.transactors t reach.through reach.next }
+    ensures { Found (lowest_for base (state_in image.now) (manner_number manner) t) base.transactors result }
 {
     (0..TRANSACTORS).find(|c| is_named(reach.through[*c], t) && impedes(image, manner, *c))
 }
 
 // What is in the way of every group with transactor t, or none exactly if one could be checkpointed. Who rests on each is handed in.
-pub fn impediment_in(image: &[u8], reach: Reach, t: usize) -> Option<Impediment>
-    requires { Good image.now × (t < base.transactors) × Reached base (unpack base image.now) base.transactors t reach.through reach.next }
-    ensures { result ≡ impediment_of base (unpack base image.now) t }
+pub fn impediment_in(image: &Formed<'_>, reach: Reach, t: usize) -> Option<Impediment>
+    requires { (t < base.transactors) × Reached base (state_in image.now) base.transactors t reach.through reach.next }
+    ensures { result ≡ impediment_of base (state_in image.now) t }
 {
     if let Some(c) = lowest(image, reach, Manner::Hopeless, t) {
         let support = lost_ground(image, c).unwrap();
@@ -88,9 +89,9 @@ pub fn impediment_in(image: &[u8], reach: Reach, t: usize) -> Option<Impediment>
 }
 
 // The same; who rests on each is worked out.
-pub fn impediment_of(image: &[u8], t: usize) -> Option<Impediment>
-    requires { Good image.now × (t < base.transactors) }
-    ensures { result ≡ impediment_of base (unpack base image.now) t }
+pub fn impediment_of(image: &Formed<'_>, t: usize) -> Option<Impediment>
+    requires { t < base.transactors }
+    ensures { result ≡ impediment_of base (state_in image.now) t }
 {
     let reach = reach_of(image, t);
     impediment_in(image, reach, t)

@@ -6,10 +6,11 @@ ghost use Rattle.octets.specs.Bytes.{pick};
 ghost use Rattle.rules.specs.Layout.{base};
 ghost use Rattle.rules.specs.Refusals.{named};
 ghost use Rattle.rules.specs.Pack.{unpack};
-ghost use Rattle.rules.specs.Internal.Good.{Good};
+ghost use Rattle.image.specs.Formed.{state_in};
 ghost use Rattle.impediments.specs.Internal.Ways.{Filled, first_row, itself, wider_row, kept_next, Reached};
 
 use grounds::all_resting;
+use image::formed::Formed;
 use image::layout::TRANSACTORS;
 use lists::groups::is_named;
 
@@ -69,9 +70,9 @@ fn one_more(reach: Reach, t: usize, k: usize) -> Reach
 }
 
 // With all to pass through.
-pub fn reach_of(image: &[u8], t: usize) -> Reach
-    requires { Good image.now × (t < base.transactors) }
-    ensures { Reached base (unpack base image.now) base.transactors t result.through result.next }
+pub fn reach_of(image: &Formed<'_>, t: usize) -> Reach
+    requires { t < base.transactors }
+    ensures { Reached base (state_in image.now) base.transactors t result.through result.next }
 {
     let mut reach = direct(all_resting(image));
     for k in 0..TRANSACTORS {

@@ -6,12 +6,13 @@ pub mod closure;
 ghost use Rattle.std.specs.Prelude.{◌≡◌, ◌+◌, ◌≤◌, ◌<◌, false, max, MatchOption};
 ghost use Rattle.rules.specs.Layout.{base, history_bytes, image_bytes};
 ghost use Rattle.rules.specs.Pack.{unpack};
-ghost use Rattle.rules.specs.Internal.Good.{Good};
+ghost use Rattle.image.specs.Formed.{state_in};
 ghost use Rattle.rules.specs.Internal.Closure as definitions;
 ghost use Rattle.rules.specs.Internal.Closure.{Presents, Kept, asked_at, pair_asks, able, Row, Needed};
 ghost use Rattle.needs.specs.Internal.Asking.{asks_number};
 
 use group::{Present, checkpointed, in_group, is_full, presents};
+use image::formed::Formed;
 use image::layout::{CREATION, FIRST_TRANSACTOR, STATE, TRANSACTOR, TRANSACTORS};
 use lists::groups::{Needs, is_inside, is_named};
 use marks::History;
@@ -44,11 +45,11 @@ impl Asks {
 const ALL: u16 = 65535;
 
 // What the history at at, if there is one, of transactor u asks of a group of stable ones. h is kept of u.
-fn asked(image: &[u8], stable: u16, at: usize, u: usize, h: History) -> Asks
-    requires { Good image.now × (at + history_bytes base ≤ image_bytes base) × (u < base.transactors) × Kept (unpack base image.now) stable u h }
-    ensures { asks_number result ≡ asked_at base image.now stable at u }
+fn asked(image: &Formed<'_>, stable: u16, at: usize, u: usize, h: History) -> Asks
+    requires { (at + history_bytes base ≤ image_bytes base) × (u < base.transactors) × Kept (state_in image.now) stable u h }
+    ensures { asks_number result ≡ asked_at base image.now.bytes.now stable at u }
 {
-    if !packed_histories::present(image, at) {
+    if !packed_histories::present(image.bytes, at) {
         return Asks::Nothing;
     }
     if in_group(image, stable, at, u, h) {
@@ -61,9 +62,9 @@ fn asked(image: &[u8], stable: u16, at: usize, u: usize, h: History) -> Asks
 }
 
 // What the entries u of the state and creation maps of transactor t ask: the more of the two.
-fn pair_asks(image: &[u8], stable: u16, t: usize, u: usize, h: History) -> Asks
-    requires { Good image.now × (t < base.transactors) × (u < base.transactors) × Kept (unpack base image.now) stable u h }
-    ensures { asks_number result ≡ pair_asks base image.now stable t u }
+fn pair_asks(image: &Formed<'_>, stable: u16, t: usize, u: usize, h: History) -> Asks
+    requires { (t < base.transactors) × (u < base.transactors) × Kept (state_in image.now) stable u h }
+    ensures { asks_number result ≡ pair_asks base image.now.bytes.now stable t u }
 {
     let at = FIRST_TRANSACTOR + TRANSACTOR * t;
     let state = asked(image, stable, at + STATE + marks::SIZE * u, u, h);
@@ -73,9 +74,9 @@ fn pair_asks(image: &[u8], stable: u16, t: usize, u: usize, h: History) -> Asks
 
 // Whom transactor t needs of a group that is ready: left at the first entry that asks for more than a group has. None if it is in no such
 // group.
-fn need_of(image: &[u8], kept: Present, t: usize) -> Option<u16>
-    requires { Good image.now × Presents base (unpack base image.now) 65535 kept.own kept.stable × (t < base.transactors) }
-    ensures { MatchOption result (able base image.now kept.stable t ≡ false) (Row base image.now kept.stable t) }
+fn need_of(image: &Formed<'_>, kept: Present, t: usize) -> Option<u16>
+    requires { Presents base (state_in image.now) 65535 kept.own kept.stable × (t < base.transactors) }
+    ensures { MatchOption result (able base image.now.bytes.now kept.stable t ≡ false) (Row base image.now.bytes.now kept.stable t) }
 {
     if !is_named(kept.stable, t) || is_full(image, t) {
         return None;
@@ -92,9 +93,8 @@ fn need_of(image: &[u8], kept: Present, t: usize) -> Option<u16>
 }
 
 // What all need, with the own histories kept.
-pub fn needs_of(image: &[u8]) -> Needs
-    requires { Good image.now }
-    ensures { Needed base image.now result.need result.able }
+pub fn needs_of(image: &Formed<'_>) -> Needs
+    ensures { Needed base image.now.bytes.now result.need result.able }
 {
     let kept = presents(image, ALL);
     let mut list = [0u16; 16];

@@ -5,4 +5,4 @@ use Rattle.rules.specs.Internal.Held.{Listed}
 use Rattle.grounds.proofs.all_resting.Given as goal
 
 abbrev pub invariant-loop-u : goal.invariant-loop-u
-invariant-loop-u l = Listed base (unpack base l.image) l.u l.group-items
+invariant-loop-u l = Listed base (unpack base l.image.bytes.now) l.u l.group-items

@@ -7,4 +7,4 @@ use Rattle.rules.specs.Dependents.{carries_at}
 use Rattle.grounds.proofs.carried.Given as goal
 
 abbrev pub invariant-loop-k : goal.invariant-loop-k
-invariant-loop-k l = (l.count ≡ how_many l.k (carries_at (unpack base l.image) l.t)) × (l.count ≤ l.k)
+invariant-loop-k l = (l.count ≡ how_many l.k (carries_at (unpack base l.image.bytes.now) l.t)) × (l.count ≤ l.k)

@@ -1,4 +1,5 @@
 -- No history, or one to compare with the own one, where it stands.
+use Rattle.image.proofs.Lent.{good_in}
 use Rattle.std.proofs.Common.{rules, not, sym, ap, ◌∙◌}
 use Rattle.rules.specs.Layout.{base}
 use Rattle.rules.proofs.Pack.Loads.{read_history}
@@ -9,7 +10,7 @@ use Rattle.grounds.proofs.holds.Goals as goal
 pub same_in-requires : goal.same_in-requires
 same_in-requires c =
     let p = c.requires in
-    (search rules, search rules, p.3, rw c.own_at.ensures (room-state _ p.0 _ p.2 _ p.2))
+    (search rules, search rules, p.2, rw c.own_at.ensures (room-state _ (good_in c.args.image.now) _ p.1 _ p.1))
 
 pub returns-then-present : goal.returns-then-present
 returns-then-present c =

@@ -1,4 +1,5 @@
 -- In the behaviour map of one that is busy.
+use Rattle.image.proofs.Lent.{good_in}
 use Rattle.std.proofs.Common.{rules, refl, sym, ◌≡◌, ◌∙◌, ap, ℕ, false, eqb}
 use Rattle.rules.specs.Layout.{base}
 use Rattle.rules.specs.Status.{busy}
@@ -16,10 +17,10 @@ other Busy d = absurd (d refl)
 other Annihilated d = refl
 
 pub holds-requires : goal.holds-requires
-holds-requires c = let p = c.requires in (p.0, search rules, p.1, room-behaviour _ p.0 _ p.1 _ p.2)
+holds-requires c = let p = c.requires in (search rules, p.0, room-behaviour _ (good_in c.args.image.now) _ p.0 _ p.1)
 
 pub returns-in-Busy : goal.returns-in-Busy
-returns-in-Busy c = c.holds.ensures ∙ works-busy base _ _ c.requires.1 _ c.requires.2 (ap (λ (n : ℕ). eqb n busy) (sym c.in-Busy.ensures))
+returns-in-Busy c = c.holds.ensures ∙ works-busy base _ _ c.requires.0 _ c.requires.1 (ap (λ (n : ℕ). eqb n busy) (sym c.in-Busy.ensures))
 
 pub returns-in_default : goal.returns-in_default
-returns-in_default c = works-idle base _ _ c.requires.1 _ c.requires.2 (ap (λ (n : ℕ). eqb n busy) (sym c.status.ensures) ∙ other _ c.in_default.not-Busy)
+returns-in_default c = works-idle base _ _ c.requires.0 _ c.requires.1 (ap (λ (n : ℕ). eqb n busy) (sym c.status.ensures) ∙ other _ c.in_default.not-Busy)

@@ -5,4 +5,4 @@ use Rattle.impediments.proofs.Impeding.{entry-withdrawn}
 use Rattle.impediments.proofs.superseded.Goals as goal
 
 pub returns : goal.returns
-returns c = c.is_some.ensures ∙ entry-withdrawn _ _ _ _ (named-all 16 _ c.requires.2) c.entry.ensures
+returns c = c.is_some.ensures ∙ entry-withdrawn _ _ _ _ (named-all 16 _ c.requires.1) c.entry.ensures

@@ -5,6 +5,7 @@ use Rattle.rules.specs.Refusals.{group_bits}
 use Rattle.rules.proofs.Bits.{shifted}
 use Rattle.rules.proofs.Groups.Ready.{kept-stable}
 use Rattle.rules.proofs.Groups.Needs.{Rowed, rowed-none, rowed-off, rowed-past, rowed-more, able-unnamed, able-full, able-off, row-met}
+use Rattle.image.proofs.Lent.{good_in}
 use Rattle.needs.proofs.need_of.Goals as goal
 use Rattle.needs.proofs.need_of.Goals.{then-not-is_named-via-then-not-is_named, then-not-is_named-via-else-not-is_named+then-is_full, in-Nothing, in-Member}
 
@@ -18,7 +19,7 @@ pub loop-u-init : goal.loop-u-init
 loop-u-init c = rowed-none base _ _ _
 
 pub pair_asks-requires : goal.pair_asks-requires
-pair_asks-requires c = let p = c.requires in (p.0, p.2, c.loop-u-test.true, kept-stable base _ _ p.1 p.0.well _ c.loop-u-test.true)
+pair_asks-requires c = let p = c.requires in (p.1, c.loop-u-test.true, kept-stable base _ _ p.0 (good_in c.args.image.now).well _ c.loop-u-test.true)
 
 pub returns-in-More : goal.returns-in-More
 returns-in-More c = able-off base _ _ _ (rowed-off c.loop-u.invariant c.loop-u-test.true c.in-More.ensures)

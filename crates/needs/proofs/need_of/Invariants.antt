@@ -4,4 +4,4 @@ use Rattle.rules.proofs.Groups.Needs.{Rowed}
 use Rattle.needs.proofs.need_of.Given as goal
 
 abbrev pub invariant-loop-u : goal.invariant-loop-u
-invariant-loop-u l = Rowed base l.image l.kept.stable l.t l.u l.need
+invariant-loop-u l = Rowed base l.image.bytes.now l.kept.stable l.t l.u l.need

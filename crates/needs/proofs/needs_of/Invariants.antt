@@ -4,4 +4,4 @@ use Rattle.rules.proofs.Groups.Needs.{Gathered}
 use Rattle.needs.proofs.needs_of.Given as goal
 
 abbrev pub invariant-loop-t : goal.invariant-loop-t
-invariant-loop-t l = Gathered base l.image l.kept.stable l.t l.list l.able
+invariant-loop-t l = Gathered base l.image.bytes.now l.kept.stable l.t l.list l.able

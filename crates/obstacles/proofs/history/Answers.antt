@@ -1,4 +1,5 @@
 -- One test after the other.
+use Rattle.image.proofs.Lent.{good_in}
 use Rattle.std.proofs.Common.{rules, not, sym, ap, ◌∙◌}
 use Rattle.rules.specs.Layout.{base}
 use Rattle.rules.proofs.Pack.Loads.{read_history}
@@ -7,7 +8,7 @@ use Rattle.obstacles.proofs.Blocking.{mark-absent, mark-dead, mark-member, mark-
 use Rattle.obstacles.proofs.history.Goals as goal
 
 pub same_in-requires : goal.same_in-requires
-same_in-requires c = let p = c.requires in (search rules, search rules, p.4, rw c.own_at-present.ensures (room-state _ p.0 _ p.2 _ p.2))
+same_in-requires c = let p = c.requires in (search rules, search rules, p.3, rw c.own_at-present.ensures (room-state _ (good_in c.args.image.now) _ p.1 _ p.1))
 
 pub returns-then-not-present : goal.returns-then-not-present
 returns-then-not-present c = mark-absent base _ _ _ _ _ (ap not (sym c.present.ensures ∙ c.if-not-present.true))

@@ -12,4 +12,4 @@ returns-then-not-is_named c = map-unnamed base _ _ _ (sym c.is_named.ensures ∙
 pub returns : goal.returns
 returns c =
     map-named base _ _ _ (sym c.is_named.ensures ∙ c.if-not-is_named.false)
-    (sought (entry_obstacle (unpack base c.args.image.now) c.args.group c.args.t) 16 _ _ refl (λ x b q k. (search (rules, tests), search (rules, tests))) c.find_map.result c.find_map.ensures.runs)
+    (sought (entry_obstacle (unpack base c.args.image.now.bytes.now) c.args.group c.args.t) 16 _ _ refl (λ x b q k. (search (rules, tests), search (rules, tests))) c.find_map.result c.find_map.ensures.runs)

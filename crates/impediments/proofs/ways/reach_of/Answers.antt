@@ -5,4 +5,4 @@ pub loop-k-init : goal.loop-k-init
 loop-k-init c = let d = c.direct-reach.ensures in reached-first _ c.all_resting.ensures d.0 d.1
 
 pub loop-k-preserved : goal.loop-k-preserved
-loop-k-preserved c = let d = c.one_more-reach.ensures in reached-more c.loop-k.invariant c.loop-k-test.true c.requires.1 d.0 d.1
+loop-k-preserved c = let d = c.one_more-reach.ensures in reached-more c.loop-k.invariant c.loop-k-test.true c.requires d.0 d.1

@@ -5,4 +5,4 @@ use Rattle.impediments.specs.Internal.Ways.{Reached}
 use Rattle.impediments.proofs.ways.reach_of.Given as goal
 
 abbrev pub invariant-loop-k : goal.invariant-loop-k
-invariant-loop-k l = Reached base (unpack base l.image) l.k l.t l.reach.through l.reach.next
+invariant-loop-k l = Reached base (unpack base l.image.bytes.now) l.k l.t l.reach.through l.reach.next
