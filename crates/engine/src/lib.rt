@@ -36,8 +36,8 @@ fn receive(list: &[u8], replies: &[u8], i: usize, x: Operands, p: Step) -> Resul
         list,
         replies,
         i,
-        p.message as usize,
-        slot.addressee as usize,
+        usize::from(p.message),
+        usize::from(slot.addressee),
     );
     turns::receive(x, p, c.dropped, c.rolls)
 }

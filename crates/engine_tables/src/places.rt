@@ -29,7 +29,7 @@ pub fn place(next: u16, p: Step) -> usize
 fn within(n: u16) -> usize
     ensures { result ≡ placed n }
 {
-    min(n as usize, NUMBERS)
+    min(usize::from(n), NUMBERS)
 }
 
 // Whose row a step looks at, by the slot that it looks at.
@@ -38,7 +38,7 @@ pub fn subject(p: Step, slot: Slot) -> usize
     ensures { result ≡ subject_of p slot }
 {
     if p.kind == Kind::Receive.number() {
-        return slot.addressee as usize;
+        return usize::from(slot.addressee);
     }
-    p.transactor as usize
+    usize::from(p.transactor)
 }

@@ -3,6 +3,7 @@
 // Document 01: a take, without its maps.
 #[derive(Clone, Copy)]
 pub struct Row {
+    // The number of a Status, as the refusals over plain numbers, which the ledger asks too, take it.
     pub status: u8,
     // frozen
     pub stable: bool,

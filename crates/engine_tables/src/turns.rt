@@ -111,7 +111,7 @@ fn opening(x: Operands, value: u32) -> Turn
         reply: reply(Outcome::Done.number(), register.opened, 0, 0),
         operands: Operands {
             register: register.with_opened(),
-            at: register.opened as usize,
+            at: usize::from(register.opened),
             row: effects::opened(value),
             slot: x.slot,
         },

@@ -44,6 +44,7 @@ fn receipt(w: Told) -> Event
     }
 }
 
+// A step that moves nothing is an event too, and no None: the walk looks at an event once, by one table of jumps.
 #[tactic(auto, unfolding(engine_chains::specs::Internal::Words::event_words, engine_chains::specs::Internal::Words::local_words))]
 pub fn event(p: Step, w: Told) -> Event
     ensures { result ≡ event_words p w }

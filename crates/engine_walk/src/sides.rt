@@ -14,14 +14,14 @@ const RIGHT: u16 = 2;
 fn followed(l: &[u16], n: u16) -> u16
     ensures { result ≡ get_or l.now n 0 }
 {
-    l.get(n as usize).copied().unwrap_or(0)
+    l.get(usize::from(n)).copied().unwrap_or(0)
 }
 
 // Message n is followed on the sides v from here on. By the index: of a slice's `get_mut` a proof learns no element.
 fn follow(l: &mut [u16], n: u16, v: u16)
     ensures { l.new ≡ set l.old n v }
 {
-    let at = n as usize;
+    let at = usize::from(n);
     if at < l.len() {
         l[at] = v;
     }

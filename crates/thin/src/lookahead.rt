@@ -64,7 +64,7 @@ impl Lookahead {
             return self;
         }
         if acts(p.kind) {
-            self.emptied[p.transactor as usize] = empties(p, outcome);
+            self.emptied[usize::from(p.transactor)] = empties(p, outcome);
             return self;
         }
         if p.kind != Kind::Sign.number() {
@@ -83,6 +83,6 @@ impl Lookahead {
         ensures { result ≡ kept_by p outcome self.emptied }
     {
         !is_refusal(outcome)
-            && !(p.kind == Kind::Read.number() && self.emptied[p.transactor as usize])
+            && !(p.kind == Kind::Read.number() && self.emptied[usize::from(p.transactor)])
     }
 }

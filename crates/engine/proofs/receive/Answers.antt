@@ -23,10 +23,10 @@ returns-then-slot c =
 pub receipt-c-requires : goal.receipt-c-requires
 receipt-c-requires c =
     let a = c.requires.0 in
-    (a.walkable, a.waits (receipt-waits _ _ (sym c.in_ok-receipt.ensures)), receiver-below a c.requires.2)
+    rw (c.from.ensures, c.from-2.ensures) (a.walkable, a.waits (receipt-waits _ _ (sym c.in_ok-receipt.ensures)), receiver-below a c.requires.2)
 
 pub returns : goal.returns
 returns c =
     let r = c.requires in
-    let w = c.receipt-c.ensures in
+    let w = rw (c.from.ensures, c.from-2.ensures) at c.receipt-c.ensures in
     advance-receive _ _ _ _ _ _ r.0.within r.2 _ _ w.0 w.1 c.receive-2.ensures

@@ -7,7 +7,7 @@ pub returns-then-is_refusal : goal.returns-then-is_refusal
 returns-then-is_refusal c = with-refused _ _ _ (search rules) (leb-true 20 _ (sym c.if-is_refusal.ensures))
 
 pub returns-then-acts : goal.returns-then-acts
-returns-then-acts c = with-action _ _ _ (search rules) (leb-false 20 _ (sym c.if-is_refusal.ensures)) (sym c.if-acts.ensures) (search rules) _ c.empties.ensures
+returns-then-acts c = rw c.from.ensures (with-action _ _ _ (search rules) (leb-false 20 _ (sym c.if-is_refusal.ensures)) (sym c.if-acts.ensures) (search rules) _ c.empties.ensures)
 
 pub returns-then-p-number : goal.returns-then-p-number
 returns-then-p-number c = with-other _ _ _ (search rules) (sym c.if-acts.ensures) (λ (e : c.args.p.kind ≡ 12). c.if-p-number.true (e ∙ sym c.number.ensures))
