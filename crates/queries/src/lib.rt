@@ -1,8 +1,11 @@
 // What can be asked of an image besides document 01's calls; the image is only read.
 #![tactic(auto)]
 
+ghost use Rattle.std.specs.Prelude.{false};
+ghost use Rattle.std.specs.Result.{result_unwrap_or};
 ghost use Rattle.rules.specs.Layout.{base};
-ghost use Rattle.rules.specs.Groups.{group_number};
+ghost use Rattle.rules.specs.Numbers.{refusal_in, answer_in};
+ghost use Rattle.rules.specs.Dependents.{no_dependents};
 ghost use Rattle.rules.specs.Obstacle.{obstacle_numbers};
 ghost use Rattle.rules.specs.Impediment.{impediment_numbers};
 ghost use Rattle.rules.specs.Promises.{SmallestPromise, HeardPromise, CountPromise, DependentsPromise, ObstaclePromise, ImpedimentPromise};
@@ -13,118 +16,74 @@ use impediments::impediment_of;
 use lists::groups;
 use needs::{closure, needs_of};
 use obstacles::obstacle_of;
-use rules::{Dependents, Grouped, Impediment, Obstacle, numbers};
+use rules::refusals::Refusal;
+use rules::{Dependents, Impediment, Obstacle};
 
-// The smallest group with the transactor that could be checkpointed now, or none exactly if there is none. The lent number takes
-// the refusal, 16, 19, 21 or 22, or 0; refused, none.
-pub fn smallest_group(image: &[u8], transactor: usize, refusal: &mut u8) -> Grouped
-    ensures { SmallestPromise base image.now transactor refusal.new (group_number result) }
+// The smallest group with the transactor that could be checkpointed now, or none exactly if there is none. Refused as 16, 19, 21 or 22.
+pub fn smallest_group(image: &[u8], transactor: usize) -> Result<Option<u16>, Refusal>
+    ensures { SmallestPromise base image.now transactor (refusal_in result) (answer_in result) }
 {
-    let number = form::query_refusal(image, transactor);
-    *refusal = number;
-    if number != 0 {
-        return Grouped::NoGroup;
-    }
+    form::check_query(image, transactor)?;
     let needs = needs_of(image);
-    let group = closure::closure(needs, transactor);
+    let group = closure::closure(&needs.need, transactor);
     if groups::is_inside(group, needs.able) {
-        return Grouped::Group(group);
+        return Ok(Some(group));
     }
-    Grouped::NoGroup
+    Ok(None)
 }
 
-// How many groups of that many transactors could be checkpointed now. The lent number takes the refusal, 16, 19 or 34, or 0; refused, 0.
-pub fn ready_count(image: &[u8], size: usize, refusal: &mut u8) -> usize
-    ensures { CountPromise base image.now size refusal.new result }
+// How many groups of that many transactors could be checkpointed now. Refused as 16, 19 or 34.
+pub fn ready_count(image: &[u8], size: usize) -> Result<usize, Refusal>
+    ensures { CountPromise base image.now size (refusal_in result) (result_unwrap_or result 0) }
 {
-    let r = form::image_refusal(image);
-    if r != 0 {
-        *refusal = r;
-        return 0;
+    form::check_image(image)?;
+    if size < 1 || TRANSACTORS < size {
+        return Err(Refusal::WrongSize);
     }
-    if size < 1 {
-        *refusal = numbers::WRONG_SIZE;
-        return 0;
-    }
-    if TRANSACTORS < size {
-        *refusal = numbers::WRONG_SIZE;
-        return 0;
-    }
-    *refusal = 0;
-    closure::count(needs_of(image), size)
+    Ok(closure::count(needs_of(image), size))
 }
 
-// Document 02, W4, "all heard frozen": whether every entry of the transactor's state and creation maps but its own is stable. The
-// lent number takes the refusal, 16, 19, 21 or 22, or 0; refused, no.
-pub fn all_heard_stable(image: &[u8], transactor: usize, refusal: &mut u8) -> bool
-    ensures { HeardPromise base image.now transactor refusal.new result }
+// Document 02, W4, "all heard frozen": whether every entry of the transactor's state and creation maps but its own is stable. Refused as 16, 19,
+// 21 or 22.
+pub fn all_heard_stable(image: &[u8], transactor: usize) -> Result<bool, Refusal>
+    ensures { HeardPromise base image.now transactor (refusal_in result) (result_unwrap_or result false) }
 {
-    let number = form::query_refusal(image, transactor);
-    *refusal = number;
-    if number != 0 {
-        return false;
-    }
+    form::check_query(image, transactor)?;
     let at = FIRST_TRANSACTOR + TRANSACTOR * transactor;
     if !stability::others_stable(image, at + STATE, transactor) {
-        return false;
+        return Ok(false);
     }
-    stability::others_stable(image, at + CREATION, transactor)
+    Ok(stability::others_stable(image, at + CREATION, transactor))
 }
 
 // Who rests on the transactor's present incarnation, directly and through others, who is busy with it, and how many waiting messages carry
-// it. The lent number takes the refusal, 16, 19, 21 or 22, or 0; refused, nothing.
-pub fn dependents(image: &[u8], transactor: usize, refusal: &mut u8) -> Dependents
-    ensures { DependentsPromise base image.now transactor refusal.new result }
+// it. Refused as 16, 19, 21 or 22.
+pub fn dependents(image: &[u8], transactor: usize) -> Result<Dependents, Refusal>
+    ensures { DependentsPromise base image.now transactor (refusal_in result) (result_unwrap_or result no_dependents) }
 {
-    let number = form::query_refusal(image, transactor);
-    *refusal = number;
-    if number != 0 {
-        return Dependents {
-            resting: 0,
-            through: 0,
-            unfinished: 0,
-            carried: 0,
-        };
-    }
-    let through = closure::closure(all_resting(image), transactor);
-    dependents_of(image, transactor, through)
+    form::check_query(image, transactor)?;
+    let through = closure::closure(&all_resting(image), transactor);
+    Ok(dependents_of(image, transactor, through))
 }
 
-// So many groups are there: a number from here on names a transactor that no session opens.
-const GROUPS: usize = 65536;
-
-// Why the group can't be checkpointed now; nothing exactly if it can. The lent number takes the refusal, 16, 19, or what the signing would get,
-// 29, 21, 22 or 30, or 0; refused, nothing.
-pub fn obstacle(image: &[u8], members: usize, refusal: &mut u8) -> Obstacle
-    ensures { ObstaclePromise base image.now members refusal.new (obstacle_numbers result) }
+// Why the group can't be checkpointed now; none exactly if it can. Refused as 16, 19, or as the signing would be, 29, 21, 22 or 30: a number
+// past the 16 bits of a group names a transactor that no session opens.
+pub fn obstacle(image: &[u8], members: usize) -> Result<Option<Obstacle>, Refusal>
+    ensures { ObstaclePromise base image.now members (refusal_in result) (obstacle_numbers (result_unwrap_or result None)) }
 {
-    let r = form::image_refusal(image);
-    if r != 0 {
-        *refusal = r;
-        return Obstacle::Nothing;
-    }
-    if GROUPS <= members {
-        *refusal = numbers::UNOPENED;
-        return Obstacle::Nothing;
-    }
-    let group = members as u16;
-    let number = group::refusal(image, group);
-    *refusal = number;
-    if number != 0 {
-        return Obstacle::Nothing;
-    }
-    obstacle_of(image, group)
+    form::check_image(image)?;
+    let Ok(group) = u16::try_from(members) else {
+        return Err(Refusal::Unopened);
+    };
+    group::check(image, group)?;
+    Ok(obstacle_of(image, group))
 }
 
-// Why no group with the transactor could be checkpointed now, and the next transactor on a chain to the one that is in the way; nothing exactly
-// if smallest_group has one. The lent number takes the refusal, 16, 19, 21 or 22, or 0; refused, nothing.
-pub fn impediment(image: &[u8], transactor: usize, refusal: &mut u8) -> Impediment
-    ensures { ImpedimentPromise base image.now transactor refusal.new (impediment_numbers result) }
+// Why no group with the transactor could be checkpointed now, and the next transactor on a chain to the one that is in the way; none exactly
+// if smallest_group has one. Refused as 16, 19, 21 or 22.
+pub fn impediment(image: &[u8], transactor: usize) -> Result<Option<Impediment>, Refusal>
+    ensures { ImpedimentPromise base image.now transactor (refusal_in result) (impediment_numbers (result_unwrap_or result None)) }
 {
-    let number = form::query_refusal(image, transactor);
-    *refusal = number;
-    if number != 0 {
-        return Impediment::Nothing;
-    }
-    impediment_of(image, transactor)
+    form::check_query(image, transactor)?;
+    Ok(impediment_of(image, transactor))
 }
