@@ -6,13 +6,13 @@ use mathlib.Core.List.{List, [], ◌∷◌, ◌++◌}
 use native.Mathlib.Numerals.{add-one}
 use native.Mathlib.Omega.{arith}
 use lib.Dec.{eqb, leb}
-use lib.ListN.{length, get_or, take, drop, length-append, length-drop}
+use Rattle.std.specs.Prelude.{Option, Some, None}
+use lib.ListN.{length, take, drop, length-append, length-drop}
 use borrow.Author.Tests.{eq-eqb, ne_eqb, lt-ltb, le-ltb}
 use Rattle.octets.specs.Bytes.{pick, ◌and◌, put, chunks, zeros}
 use Rattle.octets.specs.Numbers.{be}
 use Rattle.octets.proofs.Put.{put-def, put-append, put-nil, put_whole}
 use Rattle.octets.proofs.Zero.{length-zeros, zeros-is, all_zero-drop, all_zero-zeros}
-use Rattle.octets.proofs.Tests.{pick-view}
 use Rattle.rules.specs.Layout.{base, last_number}
 use Rattle.rules.specs.Status.{idle}
 use Rattle.rules.specs.State.{State, transactor_at, own_history}
@@ -30,6 +30,8 @@ use Rattle.rules.specs.Plan.{waking, receipt, freezing, to_freeze, to_wake, step
 use Rattle.impediments.specs.Internal.Ways.{Reached}
 use Rattle.rules.proofs.Groups.Dependents.{in_group, names-end}
 use Rattle.rules.proofs.Pack.Steps.{length-pack_step}
+use Rattle.plans.specs.declared.Task.{Task}
+use Rattle.plans.specs.declared.Task.TheVariants.{Freeze, Wake}
 use Rattle.plans.specs.Internal.Written.{row_names, task_of, tasked, next_number, Written, Planned}
 
 -- ---- one take
@@ -42,11 +44,22 @@ packed k t m = refl
 length_three : (c n : ℕ) → length (pack_step (waking c) ++ pack_step (receipt n) ++ pack_step (freezing c)) ≡ 24
 length_three c n = rw (length-append (pack_step (waking c) ++ pack_step (receipt n)) (pack_step (freezing c)), length-append (pack_step (waking c)) (pack_step (receipt n)), length-pack_step (waking c), length-pack_step (receipt n), length-pack_step (freezing c))
 
-pub tasked-short : (k c n : ℕ) → length (tasked k c n) ≤ 24
-unfolding tasked
-tasked-short k c n =
-    pick-view (λ (l : List ℕ). length l ≤ 24) (eqb k 0) _ _ (λ e. omega arith) λ e0.
-    pick-view (λ (l : List ℕ). length l ≤ 24) (eqb k 1) _ _ (λ e. omega (arith, length-pack_step (freezing c))) (λ e1. omega (arith, length_three c n))
+pub tasked-short : (k : Option Task) (c n : ℕ) → length (tasked k c n) ≤ 24
+tasked-short None c n = omega arith
+tasked-short (Some Freeze) c n = omega (arith, length-pack_step (freezing c))
+tasked-short (Some Wake) c n = omega (arith, length_three c n)
+
+-- a letter is sent
+wakes : Option Task → Bool
+wakes (Some Wake) = true
+wakes (Some Freeze) = false
+wakes None = false
+
+next-wakes : (k : Option Task) (n : ℕ) → next_number k n ≡ pick (wakes k) (n + 1) n
+unfolding wakes
+next-wakes None n = refl
+next-wakes (Some Freeze) n = refl
+next-wakes (Some Wake) n = refl
 
 module _ (s : State) (g c : ℕ) where
   -- the four cases
@@ -60,59 +73,55 @@ module _ (s : State) (g c : ℕ) where
       go false b = none
 
   pub task-tasked : tasked (task_of s g c) c (s.next + how_many c (to_wake s g)) ≡ steps_for s g c
-  unfolding tasked task_of steps_for
-  task-tasked = go-task (λ a b. pick (eqb (pick a (pick b 2 1) 0) 0) []
-      (pick (eqb (pick a (pick b 2 1) 0) 1) (pack_step (freezing c)) (pack_step (waking c) ++ pack_step (receipt (s.next + how_many c (to_wake s g))) ++ pack_step (freezing c)))
+  unfolding task_of steps_for
+  task-tasked = go-task (λ a b. tasked (pick a (Some (pick b Wake Freeze)) None) c (s.next + how_many c (to_wake s g))
       ≡ pick a (pick b (pack_step (waking c) ++ pack_step (receipt (s.next + how_many c (to_wake s g))) ++ pack_step (freezing c)) (pack_step (freezing c))) []) refl refl refl
 
-  pub task-wakes : eqb (task_of s g c) 2 ≡ to_wake s g c
-  unfolding task_of
-  task-wakes = go-task (λ a b. eqb (pick a (pick b 2 1) 0) 2 ≡ b) refl refl refl
+  task-wakes : wakes (task_of s g c) ≡ to_wake s g c
+  unfolding task_of wakes
+  task-wakes = go-task (λ a b. wakes (pick a (Some (pick b Wake Freeze)) None) ≡ b) refl refl refl
 
   pub task-number : next_number (task_of s g c) (s.next + how_many c (to_wake s g)) ≡ s.next + how_many (c + 1) (to_wake s g)
-  unfolding next_number how_many
-  task-number = rw task-wakes (go (to_wake s g c) ∙ ap (λ (i : ℕ). s.next + how_many i (to_wake s g)) {x = suc c} {y = c + 1} (omega arith))
+  unfolding how_many
+  task-number = next-wakes (task_of s g c) (s.next + how_many c (to_wake s g)) ∙ rw task-wakes (go (to_wake s g c) ∙ ap (λ (i : ℕ). s.next + how_many i (to_wake s g)) {x = suc c} {y = c + 1} (omega arith))
     where
       go : (b : Bool) → pick b (s.next + how_many c (to_wake s g) + 1) (s.next + how_many c (to_wake s g)) ≡ s.next + (how_many c (to_wake s g) + pick b 1 0)
       go true = omega arith
       go false = omega arith
 
   -- by the code's tests
-  pub task-unnamed : named g c ≡ false → 0 ≡ task_of s g c
+  pub task-unnamed : named g c ≡ false → None ≡ task_of s g c
   unfolding task_of to_freeze
   task-unnamed e = rw e
 
-  pub task-frozen : named g c ≡ true → (own_history c (transactor_at s c)).stable ≡ true → 0 ≡ task_of s g c
+  pub task-frozen : named g c ≡ true → (own_history c (transactor_at s c)).stable ≡ true → None ≡ task_of s g c
   unfolding task_of to_freeze
   task-frozen e f = rw (e, f)
 
   module _ (e : named g c ≡ true) (f : (own_history c (transactor_at s c)).stable ≡ false) where
-    pub task-wake : (transactor_at s c).status ≡ idle → 2 ≡ task_of s g c
+    pub task-wake : (transactor_at s c).status ≡ idle → Some Wake ≡ task_of s g c
     unfolding task_of to_freeze to_wake
     task-wake i = rw (e, f, eq-eqb (transactor_at s c).status idle i)
 
-    pub task-freeze : ((transactor_at s c).status ≡ idle → ⊥) → 1 ≡ task_of s g c
+    pub task-freeze : ((transactor_at s c).status ≡ idle → ⊥) → Some Freeze ≡ task_of s g c
     unfolding task_of to_freeze to_wake
     task-freeze i = rw (e, f, ne_eqb (transactor_at s c).status idle i)
 
 -- ---- the steps of a task
 
 module _ (at c n : ℕ) (l : List ℕ) where
-  pub tasked-none : (k : ℕ) → k ≡ 0 → Written (tasked k c n) at l l at
-  unfolding tasked
-  tasked-none k e = rw e (record { is = put-nil at l; ends = omega arith })
+  pub tasked-none : Written (tasked None c n) at l l at
+  tasked-none = record { is = put-nil at l; ends = omega arith }
 
-  pub tasked-freeze : (k : ℕ) → (k ≡ 0 → ⊥) → k ≡ 1 → (l' : List ℕ) → l' ≡ put at (pack_step (freezing c)) l → Written (tasked k c n) at l l' (at + 8)
-  unfolding tasked
-  tasked-freeze k d e l' f = rw e (record { is = f; ends = ap (λ (i : ℕ). at + i) (sym (length-pack_step (freezing c))) })
+  pub tasked-freeze : (l' : List ℕ) → l' ≡ put at (pack_step (freezing c)) l → Written (tasked (Some Freeze) c n) at l l' (at + 8)
+  tasked-freeze l' f = record { is = f; ends = ap (λ (i : ℕ). at + i) (sym (length-pack_step (freezing c))) }
 
-  pub tasked-wake : (k : ℕ) → (k ≡ 0 → ⊥) → (k ≡ 1 → ⊥) → at + 24 ≤ length l → (l1 l2 l3 : List ℕ) → l1 ≡ put at (pack_step (waking c)) l → l2 ≡ put (at + 8) (pack_step (receipt n)) l1 → l3 ≡ put (at + 2 * 8) (pack_step (freezing c)) l2
-      → Written (tasked k c n) at l l3 (at + 3 * 8)
-  unfolding tasked
-  tasked-wake k d e h l1 l2 l3 f1 f2 f3 = rw (ne_eqb k 0 d, ne_eqb k 1 e) (record {
+  pub tasked-wake : at + 24 ≤ length l → (l1 l2 l3 : List ℕ) → l1 ≡ put at (pack_step (waking c)) l → l2 ≡ put (at + 8) (pack_step (receipt n)) l1 → l3 ≡ put (at + 2 * 8) (pack_step (freezing c)) l2
+      → Written (tasked (Some Wake) c n) at l l3 (at + 3 * 8)
+  tasked-wake h l1 l2 l3 f1 f2 f3 = record {
     is = f3 ∙ three;
     ends = ap (λ (i : ℕ). at + i) (sym (length_three c n));
-  })
+  }
     where
       a : length (pack_step (waking c)) ≡ 8
       a = length-pack_step (waking c)
@@ -148,7 +157,7 @@ pub stored-none : (s : State) (g : ℕ) (l : List ℕ) (n : ℕ) → n ≡ s.nex
 unfolding chunks how_many
 stored-none s g l n e = record { written = record { is = put-nil 0 l; ends = refl }; short = omega arith; number = e ∙ omega arith }
 
-pub stored_more : {s : State} {g c : ℕ} {l l' l'' : List ℕ} {at at' n n' k : ℕ} → Stored s g c l l' at n → c < 16 → length l ≡ 392 → k ≡ task_of s g c → Written (tasked k c n) at l' l'' at' → at' ≤ at + 24 → n' ≡ next_number k n
+pub stored_more : {s : State} {g c : ℕ} {l l' l'' : List ℕ} {at at' n n' : ℕ} {k : Option Task} → Stored s g c l l' at n → c < 16 → length l ≡ 392 → k ≡ task_of s g c → Written (tasked k c n) at l' l'' at' → at' ≤ at + 24 → n' ≡ next_number k n
     → Stored s g (c + 1) l l'' at' n'
 unfolding chunks
 stored_more {s} {g} {c} {l} {l'} {l''} {at} {at'} {n} {n'} {k} p h long e w q f = record {
@@ -158,17 +167,14 @@ stored_more {s} {g} {c} {l} {l'} {l''} {at} {at'} {n} {n'} {k} p h long e w q f 
     ends = w.ends ∙ omega (arith, p.written.ends, ap length is-steps, length-append (chunks c (steps_for s g)) (steps_for s g c));
   });
   short = omega (arith, p.short);
-  number = f ∙ ap (λ (i : ℕ). next_number i n) e ∙ ap (next_number (task_of s g c)) p.number ∙ task-number s g c;
+  number = f ∙ ap (λ (i : Option Task). next_number i n) e ∙ ap (next_number (task_of s g c)) p.number ∙ task-number s g c;
 }
   where
     is-steps : tasked k c n ≡ steps_for s g c
-    is-steps = ap (λ (i : ℕ). tasked i c n) e ∙ ap (tasked (task_of s g c) c) p.number ∙ task-tasked s g c
+    is-steps = ap (λ (i : Option Task). tasked i c n) e ∙ ap (tasked (task_of s g c) c) p.number ∙ task-tasked s g c
 
     short-steps : length (steps_for s g c) ≤ 24
     short-steps = subst (λ (b : List ℕ). length b ≤ 24) is-steps (tasked-short k c n)
-
-pub stored-all : {s : State} {g c : ℕ} {l l' : List ℕ} {at m : ℕ} → Stored s g c l l' at m → c ≤ 16 → 16 ≤ c → Written (chunks base.transactors (steps_for s g)) 0 l l' at
-stored-all {s} {g} {c} {l} {l'} {at} p h k = subst (λ (i : ℕ). Written (chunks i (steps_for s g)) 0 l l' at) {x = c} {y = 16} (omega arith) p.written
 
 -- ---- the whole
 
@@ -211,28 +217,27 @@ module _ (s : State) (g : ℕ) where
 
 -- ---- as the code comes by them
 
-pub next-wake : (k n : ℕ) → k ≡ 2 → n + 1 ≡ next_number k n
-unfolding next_number
-next-wake k n e = rw e
-
-pub next-other : (k n : ℕ) → (k ≡ 2 → ⊥) → n ≡ next_number k n
-unfolding next_number
-next-other k n d = rw (ne_eqb k 2 d)
-
 pub stored-step : (k t m at : ℕ) (l l' : List ℕ) → l' ≡ put at ((16 * k + t) % 256 ∷ 0 ∷ m / 256 % 256 ∷ m % 256 ∷ 0 ∷ 0 ∷ 0 ∷ 0 ∷ []) l
     → l' ≡ put at (pack_step (record { kind = k; transactor = t; other = 0; zero = 0; message = m; value = 0 })) l
 stored-step k t m at l l' e = e ∙ ap (λ (b : List ℕ). put at b l) (packed k t m)
 
-module _ (s : State) (g c k : ℕ) (is : k ≡ task_of s g c) where
-  pub wake-on : k ≡ 2 → to_wake s g c ≡ true
-  wake-on e = sym (task-wakes s g c) ∙ eq-eqb (task_of s g c) 2 (sym is ∙ e)
+module _ (s : State) (g c : ℕ) (k : Option Task) (is : k ≡ task_of s g c) where
+  pub wake-on : k ≡ Some Wake → to_wake s g c ≡ true
+  unfolding wakes
+  wake-on e = sym (task-wakes s g c) ∙ ap wakes (sym is ∙ e)
 
-  pub wake-off : (k ≡ 2 → ⊥) → to_wake s g c ≡ false
-  wake-off d = sym (task-wakes s g c) ∙ ne_eqb (task_of s g c) 2 (λ (e : task_of s g c ≡ 2). d (is ∙ e))
+  pub wake-off : (k ≡ Some Wake → ⊥) → to_wake s g c ≡ false
+  unfolding wakes
+  wake-off d = sym (task-wakes s g c) ∙ ap wakes (sym is) ∙ off k d
+    where
+      off : (k : Option Task) → (k ≡ Some Wake → ⊥) → wakes k ≡ false
+      off None d = refl
+      off (Some Freeze) d = refl
+      off (Some Wake) d = absurd (d refl)
 
-pub letters-end : (s : State) (g n c : ℕ) → n ≡ how_many c (to_wake s g) → c ≤ 16 → 16 ≤ c → n ≡ letters base s g
+pub letters-is : (s : State) (g n : ℕ) → n ≡ how_many base.transactors (to_wake s g) → n ≡ letters base s g
 unfolding letters
-letters-end s g n c e h l = let q : c ≡ 16 = omega arith in e ∙ ap (λ (i : ℕ). how_many i (to_wake s g)) q
+letters-is s g n e = e
 
 -- ---- whether the letters fit
 
@@ -255,15 +260,7 @@ module _ (s : State) (g n : ℕ) (is : n ≡ letters base s g) where
 
 -- ---- the volume
 
-pub row_is : (rows : List ℕ) (t c row : ℕ) → row ≡ get_or rows c 0 → named row t ≡ row_names rows t c
-unfolding row_names
-row_is rows t c row e = ap (λ (x : ℕ). named x t) e
-
--- all rows are looked at
-pub rows_end : {f : ℕ → Bool} {n u v : ℕ} → Names f u v → u ≤ n → n ≤ u → Names f n v
-rows_end {f} {n} {u} {v} k h l = let e : u ≡ n = omega arith in subst (λ (i : ℕ). Names f i v) e k
-
--- and they are the rows of who rests on each
+-- the rows of who rests on each
 pub resting-group-is : (s : State) (t : ℕ) {rows nexts : List ℕ} → Reached base s base.transactors t rows nexts → t < base.transactors → (v : ℕ) → Names (row_names rows t) base.transactors v
     → v ≡ resting_volume base s t
 unfolding resting_volume row_names

@@ -4,8 +4,10 @@
 #![tactic(auto)]
 
 ghost use Rattle.std.specs.Prelude.{◌≡◌, ◌+◌, ◌*◌, ◌≤◌, ◌<◌, length};
+ghost use Rattle.std.specs.Result.{result_unwrap_or};
 ghost use Rattle.octets.specs.Bytes.{put, chunks, zeros};
 ghost use Rattle.rules.specs.Layout.{base};
+ghost use Rattle.rules.specs.Numbers.{kind_number, refusal_in};
 ghost use Rattle.rules.specs.Pack.{unpack};
 ghost use Rattle.rules.specs.Step.{pack_step};
 ghost use Rattle.rules.specs.Plan.{letters, letters_fit, steps_for, steps_to_sign, mendable, plan_bytes};
@@ -14,6 +16,7 @@ ghost use Rattle.rules.specs.Internal.Closure.{Names};
 ghost use Rattle.rules.specs.Internal.Good.{Good};
 ghost use Rattle.plans.specs.Internal.Written.{row_names, task_of, tasked, next_number, Written, Planned};
 
+use grounds::members_where;
 use group::own;
 use image::layout::TRANSACTORS;
 use image::{head, limits, messages};
@@ -21,27 +24,31 @@ use impediments::impediment_in;
 use impediments::ways::{Reach, reach_of};
 use lists::STEP;
 use lists::groups::is_named;
-use rules::{Impediment, numbers};
+use rules::Impediment;
+use rules::kinds::Kind;
+use rules::refusals::Refusal;
+use rules::statuses::Status;
 
 // Bytes of a plan: three steps for each transactor, and the signing.
 pub const PLAN: usize = 392;
 
-// The tasks; 0 is none. The first: the transactor is at work, and a freeze is enough.
-const FREEZE: u8 = 1;
-
-// The second: the transactor is idle. A letter and its receipt put it to work, and then it is frozen.
-const WAKE: u8 = 2;
+// What is to be done with a transactor.
+#[derive(Clone, Copy, Debug, PartialEq, Eq)]
+enum Task {
+    // It is at work, and a freeze is enough.
+    Freeze,
+    // It is idle: a letter and its receipt put it to work, and then it is frozen.
+    Wake,
+}
 
 // Whether what is in the way, if anything is, can be mended by further steps: a withdrawn life in some map
 // (hopeless) and a transactor that has all its signings (exhausted) can't.
-fn is_mendable(o: Impediment) -> bool
+fn is_mendable(o: Option<Impediment>) -> bool
     ensures { result ≡ mendable o }
 {
     match o {
-        Impediment::Nothing => true,
-        Impediment::Hopeless(_, _, _) => false,
-        Impediment::Exhausted(_, _) => false,
-        Impediment::Unstable(_, _) => true,
+        None | Some(Impediment::Unstable(_, _)) => true,
+        Some(Impediment::Hopeless(_, _, _) | Impediment::Exhausted(_, _)) => false,
     }
 }
 
@@ -51,35 +58,21 @@ fn resting_group(reach: Reach, t: usize) -> u16
     requires { t < base.transactors }
     ensures { Names (row_names reach.through t) base.transactors result }
 {
-    let mut group: u16 = 0;
-    let mut c: usize = 0;
-    while c < TRANSACTORS {
-        let row = reach.through[c];
-        if is_named(row, t) {
-            group += 1u16 << c;
-        }
-        c += 1;
-    }
-    group
+    members_where(|c| is_named(reach.through[c], t))
 }
 
 // The task for transactor c: none if it is not in the group, or frozen already.
-fn task(image: &[u8], group: u16, c: usize) -> u8
+fn task_for(image: &[u8], group: u16, c: usize) -> Option<Task>
     requires { Good image.now × (c < base.transactors) }
     ensures { result ≡ task_of (unpack base image.now) group c }
 {
-    if !is_named(group, c) {
-        return 0;
+    if !is_named(group, c) || own(image, c).stable {
+        return None;
     }
-    let h = own(image, c);
-    if h.stable {
-        return 0;
+    match head::status(image, c) {
+        Status::Idle => Some(Task::Wake),
+        _ => Some(Task::Freeze),
     }
-    let status = head::status(image, c);
-    if status == numbers::IDLE {
-        return WAKE;
-    }
-    FREEZE
 }
 
 // How many of the group have to be woken, by a letter each.
@@ -88,13 +81,10 @@ fn count_letters(image: &[u8], group: u16) -> u16
     ensures { (result ≡ letters base (unpack base image.now) group) × (result ≤ base.transactors) }
 {
     let mut n: u16 = 0;
-    let mut c: usize = 0;
-    while c < TRANSACTORS {
-        let k = task(image, group, c);
-        if k == WAKE {
+    for c in 0..TRANSACTORS {
+        if let Some(Task::Wake) = task_for(image, group, c) {
             n += 1;
         }
-        c += 1;
     }
     n
 }
@@ -112,9 +102,8 @@ fn letters_fit(image: &[u8], group: u16) -> bool
     if n == 0 {
         return true;
     }
-    let waiting = messages::waiting(image);
     let most = limits::messages(image) as usize;
-    if most <= waiting {
+    if most <= messages::waiting(image) {
         return false;
     }
     let next = head::next(image) as u32;
@@ -122,11 +111,11 @@ fn letters_fit(image: &[u8], group: u16) -> bool
 }
 
 // Writes the step with these fields at byte `at`; its other fields are zero.
-fn store(out: &mut [u8], at: usize, kind: u8, transactor: u8, message: u32)
+fn store(out: &mut [u8], at: usize, kind: Kind, transactor: u8, message: u32)
     requires { at + 8 ≤ length out.old }
-    ensures { out.new ≡ put at (pack_step (record { kind = kind; transactor = transactor; other = 0; zero = 0; message = message; value = 0 })) out.old }
+    ensures { out.new ≡ put at (pack_step (record { kind = kind_number kind; transactor = transactor; other = 0; zero = 0; message = message; value = 0 })) out.old }
 {
-    let first = 16 * (kind as u32) + transactor as u32;
+    let first = 16 * (kind.number() as u32) + transactor as u32;
     let b = [
         (first % 256) as u8,
         0,
@@ -140,35 +129,39 @@ fn store(out: &mut [u8], at: usize, kind: u8, transactor: u8, message: u32)
     octets::write(out, at, &b);
 }
 
-// Writes the steps of task k for transactor c from byte `at` on, and says where they end. If a letter is
+// Writes the steps of the task for transactor c from byte `at` on, and says where they end. If a letter is
 // among them, `number` is the one that it will have.
-fn store_task(out: &mut [u8], at: usize, k: u8, c: usize, number: u32) -> usize
+fn store_task(out: &mut [u8], at: usize, task: Option<Task>, c: usize, number: u32) -> usize
     requires { (at + 24 ≤ length out.old) × (c < base.transactors) }
-    ensures { Written (tasked k c number) at out.old out.new result × (result ≤ at + 24) }
+    ensures { Written (tasked task c number) at out.old out.new result × (result ≤ at + 24) }
 {
-    if k == 0 {
+    let Some(task) = task else {
         return at;
-    }
+    };
     let transactor = c as u8;
-    if k == FREEZE {
-        store(out, at, numbers::FREEZE, transactor, 0);
-        return at + STEP;
+    match task {
+        Task::Freeze => {
+            store(out, at, Kind::Freeze, transactor, 0);
+            at + STEP
+        }
+        Task::Wake => {
+            store(out, at, Kind::Letter, transactor, 0);
+            store(out, at + STEP, Kind::Receive, 0, number);
+            store(out, at + 2 * STEP, Kind::Freeze, transactor, 0);
+            at + 3 * STEP
+        }
     }
-    store(out, at, numbers::LETTER, transactor, 0);
-    store(out, at + STEP, numbers::RECEIVE, 0, number);
-    store(out, at + 2 * STEP, numbers::FREEZE, transactor, 0);
-    at + 3 * STEP
 }
 
-// The number that the next letter will have, after task k: only waking sends one.
-fn number_after(k: u8, number: u32) -> u32
+// The number that the next letter will have, after the task: only waking sends one.
+fn number_after(task: Option<Task>, number: u32) -> u32
     requires { number < 70000 }
-    ensures { (result ≡ next_number k number) × (result ≤ number + 1) }
+    ensures { (result ≡ next_number task number) × (result ≤ number + 1) }
 {
-    if k == WAKE {
-        return number + 1;
+    match task {
+        Some(Task::Wake) => number + 1,
+        _ => number,
     }
-    number
 }
 
 // Writes the steps of the tasks for all transactors of the group, the lowest first, and says where they end.
@@ -178,12 +171,10 @@ fn store_tasks(image: &[u8], group: u16, out: &mut [u8]) -> usize
 {
     let mut number = head::next(image) as u32;
     let mut at: usize = 0;
-    let mut c: usize = 0;
-    while c < TRANSACTORS {
-        let k = task(image, group, c);
-        at = store_task(out, at, k, c, number);
-        number = number_after(k, number);
-        c += 1;
+    for c in 0..TRANSACTORS {
+        let task = task_for(image, group, c);
+        at = store_task(out, at, task, c, number);
+        number = number_after(task, number);
     }
     at
 }
@@ -198,33 +189,26 @@ fn store_plan(image: &[u8], group: u16, out: &mut [u8]) -> usize
         return 0;
     }
     let at = store_tasks(image, group, out);
-    store(out, at, numbers::SIGN, 0, group as u32);
+    store(out, at, Kind::Sign, 0, group as u32);
     at / STEP + 1
 }
 
 // Writes the steps after which the transactor is checkpointed with all that it rests on, and zeros after
 // them; the answer is how many steps. It is 0 exactly if `impediment` on the same image says hopeless or
-// exhausted, or, where it says anything else, if there is no room for a letter that is needed. The lent number
-// takes the refusal, 16, 19, 21, 22 or 18, or 0; refused, no byte of out is changed and the answer is 0.
-pub fn plan(image: &[u8], transactor: usize, out: &mut [u8], refusal: &mut u8) -> usize
-    ensures { PlanPromise base image.now transactor out.old refusal.new out.new result }
+// exhausted, or, where it says anything else, if there is no room for a letter that is needed. Refused as
+// 16, 19, 21, 22 or 18, and then no byte of out is changed.
+pub fn plan(image: &[u8], transactor: usize, out: &mut [u8]) -> Result<usize, Refusal>
+    ensures { PlanPromise base image.now transactor out.old (refusal_in result) out.new (result_unwrap_or result 0) }
 {
-    let number = form::query_refusal(image, transactor);
-    if number != 0 {
-        *refusal = number;
-        return 0;
-    }
+    form::check_query(image, transactor)?;
     if out.len() != PLAN {
-        *refusal = numbers::WRONG_ROOM;
-        return 0;
+        return Err(Refusal::WrongRoom);
     }
-    *refusal = 0;
     octets::clear(out, 0, PLAN);
     let reach = reach_of(image, transactor);
-    let o = impediment_in(image, reach, transactor);
-    if !is_mendable(o) {
-        return 0;
+    if !is_mendable(impediment_in(image, reach, transactor)) {
+        return Ok(0);
     }
     let group = resting_group(reach, transactor);
-    store_plan(image, group, out)
+    Ok(store_plan(image, group, out))
 }
