@@ -46,7 +46,6 @@ pub fn last_receipt(x: Row, dropped: bool, rolls: bool) -> bool
 }
 
 // Whether some named transactor is not stable.
-#[tactic(auto, unfolding(crate::specs::Internal::Guards::any_unstable))]
 pub fn unstable(rows: [Row; 16], group: u16) -> bool
     ensures { result ≡ any_unstable (row_at rows) group }
 {
