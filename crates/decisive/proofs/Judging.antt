@@ -70,13 +70,6 @@ module _ (t : ℕ) (x : Transactor) (u : ℕ) {h : History} (e : h ≡ own_histo
 
 -- ---- by the two answers
 
-module _ (y : Layout) (t : ℕ) (x : Transactor) where
-  pub by-none : (q : RustOption ℕ) → q ≡ None → {r : Judged} → r ≡ told_by done 0 → r ≡ settled_by y t x (answer_of q)
-  by-none q e f = rw e f
-
-  pub by-receiver : (q : RustOption ℕ) {v : ℕ} → q ≡ Some v → {r : Judged} → r ≡ falls_by y t x v → r ≡ settled_by y t x (answer_of q)
-  by-receiver q e f = rw e f
-
 -- take t, and the parcel in place k that waits
 module _ (img : List ℕ) (t : ℕ) (below : t < base.transactors) (k : ℕ) (waits : k < waiting_in base img) where
   abbrev packed_deps : DependenceMap

@@ -14,7 +14,7 @@ use Rattle.octets.proofs.Zero.{zeros-is, every-none, every-same}
 use Rattle.octets.proofs.Chunks.{step, put-none, put-more, put-chunk}
 use Rattle.marks.specs.declared.History.{History}
 use Rattle.marks.specs.History.{initial_history}
-use Rattle.marks.specs.Packed.{history_size, pack_history, unpack_history, present_in, formed_history}
+use Rattle.marks.specs.Packed.{history_size, pack_history, unpack_history, present_in}
 use Rattle.marks.proofs.Packed.{length-pack_history}
 use Rattle.maps.specs.declared.DependenceMap.{DependenceMap}
 use Rattle.maps.specs.Map.{held_at, history_at, empty_map, with_entry, is_empty, Sized}
@@ -27,22 +27,9 @@ use Rattle.maps.proofs.Packed.{length-pack_entry_at, held-unpack, history-unpack
 
 module _ (w l : ℕ) where
   module _ (at : ℕ) (p : Bool) (h : History) (b b' : List ℕ) where
-    pub put-held : p ≡ true → b' ≡ put at (pack_history w l h) b → b' ≡ put at (pack_entry w l p h) b
-    unfolding pack_entry
-    put-held e f = rw e f
-
     pub put-absent : p ≡ false → b' ≡ put at (zeros (history_size w l)) b → b' ≡ put at (pack_entry w l p h) b
     unfolding pack_entry
     put-absent e f = rw e f
-
-module _ (w c : ℕ) (known : Bool) (b : List ℕ) where
-  pub entry_known : known ≡ true → formed_history w c b ≡ formed_entry w c known b
-  unfolding formed_entry
-  entry_known e = rw e
-
-  pub entry-unknown : known ≡ false → all_zero b ≡ formed_entry w c known b
-  unfolding formed_entry
-  entry-unknown e = rw e
 
 -- ---- a map is stored entry by entry
 
