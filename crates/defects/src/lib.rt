@@ -5,10 +5,10 @@ ghost use Rattle.std.specs.Prelude.{◌≡◌, ℕ, ◌/◌, ◌<◌, length, ge
 ghost use Rattle.rules.specs.Layout.{base, transactor_address, image_bytes};
 ghost use Rattle.rules.specs.Pack.{waiting_in, unpack};
 ghost use Rattle.image.specs.Internal.Addresses.{own_at};
-ghost use Rattle.form.specs.Internal.Tests.{Headed};
 ghost use Rattle.rules.specs.Numbers.{status_number};
 ghost use Rattle.defects.specs.Defect.{clause_number, told_refusal, told_defect, front_defect, behaviour_defect, saved_right_at, live_defect, transactor_defect, least_number, waiting_defect, message_defect, first_of, Finds, defect_of, DefectPromise};
 
+use form::Front;
 use image::layout::{
     BEHAVIOUR, BLANK, CREATION, DEPENDENCES, FIRST_MESSAGE, FIRST_TRANSACTOR, IMAGE, LIMITS_BLANK,
     MESSAGE, MESSAGES, MOST_MESSAGES, MOST_TRANSACTORS, NUMBER, OPENED, SAVED, STATE, TRANSACTOR,
@@ -63,7 +63,7 @@ fn fails(at: usize, clause: Clause) -> Option<Defect>
 
 // The head and the limits, of which n messages that wait are within theirs.
 #[tactic(auto, unfolding(crate::specs::Defect::front_defect, rules::specs::Form::limits_zero))]
-fn front(s: &[u8], n: usize) -> Option<Defect>
+fn head_defect(s: &[u8], n: usize) -> Option<Defect>
     requires { (length s.now ≡ image_bytes base) × (n ≡ waiting_in base s.now) }
     ensures { result ≡ front_defect base s.now }
 {
@@ -93,15 +93,16 @@ fn front(s: &[u8], n: usize) -> Option<Defect>
 
 // The behaviour map of transactor t, idle or at work.
 #[tactic(auto, unfolding(crate::specs::Defect::behaviour_defect, rules::specs::Form::map_formed))]
-fn behaviour(s: &[u8], t: usize, status: Status, opened: usize, limit: u8) -> Option<Defect>
-    requires { Headed s.now opened limit × (t < base.transactors) × (status_number status ≡ get_or s.now (transactor_address base t) 0 / 64) }
-    ensures { result ≡ behaviour_defect base s.now t }
+fn behaviour(front: &Front<'_>, t: usize, status: Status) -> Option<Defect>
+    requires below { t < base.transactors }
+    requires stored { status_number status ≡ get_or front.now.bytes.now (transactor_address base t) 0 / 64 }
+    ensures { result ≡ behaviour_defect base front.now.bytes.now t }
 {
     let at = FIRST_TRANSACTOR + TRANSACTOR * t + BEHAVIOUR;
     match status {
-        Status::Idle if octets::all_zero(s, at, maps::SIZE) => None,
+        Status::Idle if octets::all_zero(front.bytes, at, maps::SIZE) => None,
         Status::Idle => fails(at, Clause::IdleBehaviour),
-        _ if packed_maps::formed(s, at, opened, limit) => None,
+        _ if packed_maps::formed(front.bytes, at, front.opened, front.limit) => None,
         _ => fails(at, Clause::WrongMap),
     }
 }
@@ -118,50 +119,51 @@ fn saved_right(s: &[u8], t: usize, own: usize) -> bool
 
 // A transactor, idle or at work.
 #[tactic(auto, unfolding(crate::specs::Defect::live_defect, rules::specs::Form::map_formed))]
-fn live(s: &[u8], t: usize, status: Status, opened: usize, limit: u8) -> Option<Defect>
-    requires { Headed s.now opened limit × (t < base.transactors) × (status_number status ≡ get_or s.now (transactor_address base t) 0 / 64) }
-    ensures { result ≡ live_defect base s.now t }
+fn live(front: &Front<'_>, t: usize, status: Status) -> Option<Defect>
+    requires below { t < base.transactors }
+    requires stored { status_number status ≡ get_or front.now.bytes.now (transactor_address base t) 0 / 64 }
+    ensures { result ≡ live_defect base front.now.bytes.now t }
 {
     let at = FIRST_TRANSACTOR + TRANSACTOR * t;
-    if !packed_maps::formed(s, at + STATE, opened, limit) {
+    if !packed_maps::formed(front.bytes, at + STATE, front.opened, front.limit) {
         return fails(at + STATE, Clause::WrongMap);
     }
-    if !packed_maps::formed(s, at + CREATION, opened, limit) {
+    if !packed_maps::formed(front.bytes, at + CREATION, front.opened, front.limit) {
         return fails(at + CREATION, Clause::WrongMap);
     }
     let own = own_at(t);
-    if !packed_histories::present(s, own) {
+    if !packed_histories::present(front.bytes, own) {
         return fails(own, Clause::NoOwnHistory);
     }
-    if !saved_right(s, t, own) {
+    if !saved_right(front.bytes, t, own) {
         return fails(at + SAVED, Clause::SavedValue);
     }
-    behaviour(s, t, status, opened, limit)
+    behaviour(front, t, status)
 }
 
 // One transactor, where opened are opened and a list may have limit entries.
 #[tactic(auto, unfolding(crate::specs::Defect::transactor_defect))]
-fn transactor(s: &[u8], t: usize, opened: usize, limit: u8) -> Option<Defect>
-    requires { Headed s.now opened limit × (t < base.transactors) }
-    ensures { result ≡ transactor_defect base s.now t }
+fn transactor(front: &Front<'_>, t: usize) -> Option<Defect>
+    requires { t < base.transactors }
+    ensures { result ≡ transactor_defect base front.now.bytes.now t }
 {
     let at = FIRST_TRANSACTOR + TRANSACTOR * t;
-    if opened <= t {
-        if !octets::all_zero(s, at, TRANSACTOR) {
+    if front.opened <= t {
+        if !octets::all_zero(front.bytes, at, TRANSACTOR) {
             return fails(at, Clause::TransactorZeros);
         }
         return None;
     }
-    let first = s[at];
+    let first = front.bytes[at];
     if first % 64 != 0 {
         return fails(at, Clause::TransactorZeros);
     }
     let status = Status::of(first);
     match status {
         Status::Unused => fails(at, Clause::WrongStatus),
-        Status::Annihilated if octets::all_zero(s, at + 1, TRANSACTOR - 1) => None,
+        Status::Annihilated if octets::all_zero(front.bytes, at + 1, TRANSACTOR - 1) => None,
         Status::Annihilated => fails(at + 1, Clause::OverStatus),
-        Status::Idle | Status::Busy => live(s, t, status, opened, limit),
+        Status::Idle | Status::Busy => live(front, t, status),
     }
 }
 
@@ -180,27 +182,27 @@ fn least(s: &[u8], k: usize) -> usize
 
 // Place k, in which a message waits.
 #[tactic(auto, unfolding(crate::specs::Defect::waiting_defect, rules::specs::Form::map_formed))]
-fn waits(s: &[u8], k: usize, opened: usize, next: u16, limit: u8) -> Option<Defect>
-    requires { Headed s.now opened limit × (k < base.messages) × (next ≡ (unpack base s.now).next) }
-    ensures { result ≡ waiting_defect base s.now k }
+fn waits(front: &Front<'_>, k: usize) -> Option<Defect>
+    requires { k < base.messages }
+    ensures { result ≡ waiting_defect base front.now.bytes.now k }
 {
     let at = FIRST_MESSAGE + MESSAGE * k;
-    let first = s[at];
+    let first = front.bytes[at];
     if first / 16 != 8 {
         return fails(at, Clause::PlaceZeros);
     }
     let to = (first % 16) as usize;
-    if opened <= to {
+    if front.opened <= to {
         return fails(at, Clause::ToUnopened);
     }
-    let number = octets::load16(s, at + NUMBER);
-    if next <= number {
+    let number = octets::load16(front.bytes, at + NUMBER);
+    if front.next <= number {
         return fails(at + NUMBER, Clause::OverNext);
     }
-    if (number as usize) < least(s, k) {
+    if (number as usize) < least(front.bytes, k) {
         return fails(at + NUMBER, Clause::OutOfOrder);
     }
-    if !packed_maps::formed(s, at + DEPENDENCES, opened, limit) {
+    if !packed_maps::formed(front.bytes, at + DEPENDENCES, front.opened, front.limit) {
         return fails(at + DEPENDENCES, Clause::WrongMap);
     }
     None
@@ -208,18 +210,18 @@ fn waits(s: &[u8], k: usize, opened: usize, next: u16, limit: u8) -> Option<Defe
 
 // Place k, of which the first n wait.
 #[tactic(auto, unfolding(crate::specs::Defect::message_defect))]
-fn message(s: &[u8], k: usize, n: usize, opened: usize, next: u16, limit: u8) -> Option<Defect>
-    requires { Headed s.now opened limit × (k < base.messages) × (n ≡ waiting_in base s.now) × (next ≡ (unpack base s.now).next) }
-    ensures { result ≡ message_defect base s.now k }
+fn message(front: &Front<'_>, k: usize) -> Option<Defect>
+    requires { k < base.messages }
+    ensures { result ≡ message_defect base front.now.bytes.now k }
 {
     let at = FIRST_MESSAGE + MESSAGE * k;
-    if k < n {
-        return waits(s, k, opened, next, limit);
+    if k < front.waiting {
+        return waits(front, k);
     }
-    if octets::all_zero(s, at, MESSAGE) {
+    if octets::all_zero(front.bytes, at, MESSAGE) {
         return None;
     }
-    if s[at] < 128 {
+    if front.bytes[at] < 128 {
         return fails(at, Clause::PlaceZeros);
     }
     fails(at, Clause::Gap)
@@ -239,34 +241,37 @@ fn first_of<F: Fn(usize) -> Option<Defect>>(n: usize, part: F) -> Option<Defect>
     None
 }
 
-fn transactors(s: &[u8], opened: usize, limit: u8) -> Option<Defect>
-    requires { Headed s.now opened limit }
-    ensures { result ≡ first_of (transactor_defect base s.now) 0 base.transactors }
+fn transactors(front: &Front<'_>) -> Option<Defect>
+    ensures { result ≡ first_of (transactor_defect base front.now.bytes.now) 0 base.transactors }
 {
-    first_of(TRANSACTORS, |t| transactor(s, t, opened, limit))
+    first_of(TRANSACTORS, |t| transactor(front, t))
 }
 
-fn all_messages(s: &[u8], n: usize, opened: usize, next: u16, limit: u8) -> Option<Defect>
-    requires { Headed s.now opened limit × (n ≡ waiting_in base s.now) × (next ≡ (unpack base s.now).next) }
-    ensures { result ≡ first_of (message_defect base s.now) 0 base.messages }
+fn all_messages(front: &Front<'_>) -> Option<Defect>
+    ensures { result ≡ first_of (message_defect base front.now.bytes.now) 0 base.messages }
 {
-    first_of(MESSAGES, |k| message(s, k, n, opened, next, limit))
+    first_of(MESSAGES, |k| message(front, k))
 }
 
 fn defect_of(s: &[u8]) -> Option<Defect>
     requires { length s.now ≡ image_bytes base }
     ensures { result ≡ defect_of base s.now }
 {
-    let n = messages::waiting(s);
-    if let Some(d) = front(s, n) {
+    let waiting = messages::waiting(s);
+    if let Some(d) = head_defect(s, waiting) {
         return Some(d);
     }
-    let opened = usize::from(head::opened(s));
-    let limit = limits::checkpoints(s);
-    if let Some(d) = transactors(s, opened, limit) {
+    let front = Front {
+        bytes: s,
+        waiting,
+        opened: usize::from(head::opened(s)),
+        next: head::next(s),
+        limit: limits::checkpoints(s),
+    };
+    if let Some(d) = transactors(&front) {
         return Some(d);
     }
-    all_messages(s, n, opened, head::next(s), limit)
+    all_messages(&front)
 }
 
 // The first clause of the form that fails, and where, or nothing where the image is well-formed. Refused as 16.

@@ -6,4 +6,4 @@ use Rattle.defects.specs.Defect.{message_defect}
 use Rattle.defects.proofs.all_messages.Goals as goal
 
 pub returns : goal.returns
-returns c = c.first_of.ensures (message_defect base c.args.s.now) (λ k d h p. search (rules, tests))
+returns c = c.first_of.ensures (message_defect base c.args.front.now.bytes.now) (λ k d h p. search (rules, tests))
