@@ -106,6 +106,7 @@ fn start(support: u16, found: u16, allowed: u16) -> Walker
 }
 
 // The receipt of message n by transactor t, after i steps: the message is followed on the left, state and creation of t on the right.
+// List, replies and i go from call to call as three and not as a struct: the contracts would still name each of them.
 pub fn receipt(list: &[u8], replies: &[u8], i: usize, n: usize, t: usize) -> Compared
     requires { Walkable list.now replies.now i × (n < 1024) × (t < 16) }
     ensures { (result.dropped ≡ (receipt_back list.now replies.now i n t).left_is_superseded)
