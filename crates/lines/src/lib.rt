@@ -36,6 +36,7 @@ fn put_decimal(out: &mut [u8], at: usize, k: usize, n: u32) -> usize
     end + 1
 }
 
+#[tactic(auto, unfolding(notation::specs::Notation::hex_digit))]
 fn hex_digit(n: u8) -> u8
     requires { n < 16 }
     ensures { result ≡ hex_digit n }

@@ -14,6 +14,7 @@ pub struct Needs {
 }
 
 // Whether the group names transactor t.
+#[tactic(auto, unfolding(rules::specs::Refusals::named))]
 pub fn is_named(group: u16, t: usize) -> bool
     requires { t < base.transactors }
     ensures { result ≡ named group t }
@@ -25,10 +26,7 @@ pub fn is_named(group: u16, t: usize) -> bool
 pub fn names_from(group: u16, n: usize) -> bool
     ensures { result ≡ any_named group (leb n) }
 {
-    if TRANSACTORS <= n {
-        return false;
-    }
-    group >> n != 0
+    n < TRANSACTORS && group >> n != 0
 }
 
 // Whether the group names no one but members.
