@@ -8,16 +8,16 @@ ghost use Rattle.std.specs.Result.{result_unwrap_or};
 ghost use Rattle.octets.specs.Bytes.{put, chunks, zeros};
 ghost use Rattle.rules.specs.Layout.{base};
 ghost use Rattle.rules.specs.Numbers.{kind_number, refusal_in};
-ghost use Rattle.rules.specs.Pack.{unpack};
 ghost use Rattle.rules.specs.Step.{pack_step};
 ghost use Rattle.rules.specs.Plan.{letters, letters_fit, steps_for, steps_to_sign, mendable, plan_bytes};
 ghost use Rattle.rules.specs.Promises.{PlanPromise};
 ghost use Rattle.rules.specs.Internal.Closure.{Names};
-ghost use Rattle.rules.specs.Internal.Good.{Good};
+ghost use Rattle.image.specs.Formed.{state_in};
 ghost use Rattle.plans.specs.Internal.Written.{row_names, task_of, tasked, next_number, Written, Planned};
 
 use grounds::members_where;
 use group::own;
+use image::formed::Formed;
 use image::layout::TRANSACTORS;
 use image::{head, limits, messages};
 use impediments::impediment_in;
@@ -62,23 +62,22 @@ fn resting_group(reach: Reach, t: usize) -> u16
 }
 
 // The task for transactor c: none if it is not in the group, or frozen already.
-fn task_for(image: &[u8], group: u16, c: usize) -> Option<Task>
-    requires { Good image.now × (c < base.transactors) }
-    ensures { result ≡ task_of (unpack base image.now) group c }
+fn task_for(image: &Formed<'_>, group: u16, c: usize) -> Option<Task>
+    requires { c < base.transactors }
+    ensures { result ≡ task_of (state_in image.now) group c }
 {
     if !is_named(group, c) || own(image, c).stable {
         return None;
     }
-    match head::status(image, c) {
+    match head::status(image.bytes, c) {
         Status::Idle => Some(Task::Wake),
         _ => Some(Task::Freeze),
     }
 }
 
 // How many of the group have to be woken, by a letter each.
-fn count_letters(image: &[u8], group: u16) -> u16
-    requires { Good image.now }
-    ensures { (result ≡ letters base (unpack base image.now) group) × (result ≤ base.transactors) }
+fn count_letters(image: &Formed<'_>, group: u16) -> u16
+    ensures { (result ≡ letters base (state_in image.now) group) × (result ≤ base.transactors) }
 {
     let mut n: u16 = 0;
     for c in 0..TRANSACTORS {
@@ -94,19 +93,18 @@ const LAST_NUMBER: u32 = 65535;
 
 // Whether there is room for the letters: one place among those that wait, since each letter is received
 // before the next one is sent, and a number for each.
-fn letters_fit(image: &[u8], group: u16) -> bool
-    requires { Good image.now }
-    ensures { result ≡ letters_fit base (unpack base image.now) group }
+fn letters_fit(image: &Formed<'_>, group: u16) -> bool
+    ensures { result ≡ letters_fit base (state_in image.now) group }
 {
     let n = count_letters(image, group);
     if n == 0 {
         return true;
     }
-    let most = limits::messages(image) as usize;
-    if most <= messages::waiting(image) {
+    let most = limits::messages(image.bytes) as usize;
+    if most <= messages::waiting(image.bytes) {
         return false;
     }
-    let next = head::next(image) as u32;
+    let next = head::next(image.bytes) as u32;
     next + n as u32 <= LAST_NUMBER
 }
 
@@ -165,11 +163,11 @@ fn number_after(task: Option<Task>, number: u32) -> u32
 }
 
 // Writes the steps of the tasks for all transactors of the group, the lowest first, and says where they end.
-fn store_tasks(image: &[u8], group: u16, out: &mut [u8]) -> usize
-    requires { Good image.now × (length out.old ≡ plan_bytes base) }
-    ensures { Written (chunks base.transactors (steps_for (unpack base image.now) group)) 0 out.old out.new result × (result ≤ 384) }
+fn store_tasks(image: &Formed<'_>, group: u16, out: &mut [u8]) -> usize
+    requires { length out.old ≡ plan_bytes base }
+    ensures { Written (chunks base.transactors (steps_for (state_in image.now) group)) 0 out.old out.new result × (result ≤ 384) }
 {
-    let mut number = head::next(image) as u32;
+    let mut number = head::next(image.bytes) as u32;
     let mut at: usize = 0;
     for c in 0..TRANSACTORS {
         let task = task_for(image, group, c);
@@ -181,9 +179,9 @@ fn store_tasks(image: &[u8], group: u16, out: &mut [u8]) -> usize
 
 // Writes the whole plan for the group, the signing behind the tasks, and says how many steps it has; none
 // if there is no room for a letter that it needs.
-fn store_plan(image: &[u8], group: u16, out: &mut [u8]) -> usize
-    requires { Good image.now × (out.old ≡ zeros (plan_bytes base)) }
-    ensures { Planned (steps_to_sign base (unpack base image.now) group) out.new result }
+fn store_plan(image: &Formed<'_>, group: u16, out: &mut [u8]) -> usize
+    requires { out.old ≡ zeros (plan_bytes base) }
+    ensures { Planned (steps_to_sign base (state_in image.now) group) out.new result }
 {
     if !letters_fit(image, group) {
         return 0;
@@ -200,15 +198,15 @@ fn store_plan(image: &[u8], group: u16, out: &mut [u8]) -> usize
 pub fn plan(image: &[u8], transactor: usize, out: &mut [u8]) -> Result<usize, Refusal>
     ensures { PlanPromise base image.now transactor out.old (refusal_in result) out.new (result_unwrap_or result 0) }
 {
-    form::check_query(image, transactor)?;
+    let formed = form::check_query(image, transactor)?;
     if out.len() != PLAN {
         return Err(Refusal::WrongRoom);
     }
     octets::clear(out, 0, PLAN);
-    let reach = reach_of(image, transactor);
-    if !is_mendable(impediment_in(image, reach, transactor)) {
+    let reach = reach_of(&formed, transactor);
+    if !is_mendable(impediment_in(&formed, reach, transactor)) {
         return Ok(0);
     }
     let group = resting_group(reach, transactor);
-    Ok(store_plan(image, group, out))
+    Ok(store_plan(&formed, group, out))
 }

@@ -23,8 +23,8 @@ use rules::{Dependents, Impediment, Obstacle};
 pub fn smallest_group(image: &[u8], transactor: usize) -> Result<Option<u16>, Refusal>
     ensures { SmallestPromise base image.now transactor (refusal_in result) (answer_in result) }
 {
-    form::check_query(image, transactor)?;
-    let needs = needs_of(image);
+    let formed = form::check_query(image, transactor)?;
+    let needs = needs_of(&formed);
     let group = closure::closure(&needs.need, transactor);
     if groups::is_inside(group, needs.able) {
         return Ok(Some(group));
@@ -36,11 +36,11 @@ pub fn smallest_group(image: &[u8], transactor: usize) -> Result<Option<u16>, Re
 pub fn ready_count(image: &[u8], size: usize) -> Result<usize, Refusal>
     ensures { CountPromise base image.now size (refusal_in result) (result_unwrap_or result 0) }
 {
-    form::check_image(image)?;
+    let formed = form::check_image(image)?;
     if size < 1 || TRANSACTORS < size {
         return Err(Refusal::WrongSize);
     }
-    Ok(closure::count(needs_of(image), size))
+    Ok(closure::count(needs_of(&formed), size))
 }
 
 // Document 02, W4, "all heard frozen": whether every entry of the transactor's state and creation maps but its own is stable. Refused as 16, 19,
@@ -61,9 +61,9 @@ pub fn all_heard_stable(image: &[u8], transactor: usize) -> Result<bool, Refusal
 pub fn dependents(image: &[u8], transactor: usize) -> Result<Dependents, Refusal>
     ensures { DependentsPromise base image.now transactor (refusal_in result) (result_unwrap_or result no_dependents) }
 {
-    form::check_query(image, transactor)?;
-    let through = closure::closure(&all_resting(image), transactor);
-    Ok(dependents_of(image, transactor, through))
+    let formed = form::check_query(image, transactor)?;
+    let through = closure::closure(&all_resting(&formed), transactor);
+    Ok(dependents_of(&formed, transactor, through))
 }
 
 // Why the group can't be checkpointed now; none exactly if it can. Refused as 16, 19, or as the signing would be, 29, 21, 22 or 30: a number
@@ -71,12 +71,12 @@ pub fn dependents(image: &[u8], transactor: usize) -> Result<Dependents, Refusal
 pub fn obstacle(image: &[u8], members: usize) -> Result<Option<Obstacle>, Refusal>
     ensures { ObstaclePromise base image.now members (refusal_in result) (obstacle_numbers (result_unwrap_or result None)) }
 {
-    form::check_image(image)?;
+    let formed = form::check_image(image)?;
     let Ok(group) = u16::try_from(members) else {
         return Err(Refusal::Unopened);
     };
-    group::check(image, group)?;
-    Ok(obstacle_of(image, group))
+    group::check(&formed, group)?;
+    Ok(obstacle_of(&formed, group))
 }
 
 // Why no group with the transactor could be checkpointed now, and the next transactor on a chain to the one that is in the way; none exactly
@@ -84,6 +84,6 @@ pub fn obstacle(image: &[u8], members: usize) -> Result<Option<Obstacle>, Refusa
 pub fn impediment(image: &[u8], transactor: usize) -> Result<Option<Impediment>, Refusal>
     ensures { ImpedimentPromise base image.now transactor (refusal_in result) (impediment_numbers (result_unwrap_or result None)) }
 {
-    form::check_query(image, transactor)?;
-    Ok(impediment_of(image, transactor))
+    let formed = form::check_query(image, transactor)?;
+    Ok(impediment_of(&formed, transactor))
 }

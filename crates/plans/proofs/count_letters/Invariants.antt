@@ -7,4 +7,4 @@ use Rattle.rules.specs.Plan.{to_wake}
 use Rattle.plans.proofs.count_letters.Given as goal
 
 abbrev pub invariant-loop-c : goal.invariant-loop-c
-invariant-loop-c l = (l.n ≡ how_many l.c (to_wake (unpack base l.image) l.group)) × (l.n ≤ l.c)
+invariant-loop-c l = (l.n ≡ how_many l.c (to_wake (unpack base l.image.bytes.now) l.group)) × (l.n ≤ l.c)

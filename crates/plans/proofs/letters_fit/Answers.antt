@@ -10,8 +10,8 @@ returns-then-n-eq0 c = fit_none _ _ _ c.count_letters-n.ensures.0 c.if-n-eq0.tru
 
 pub returns-then-most-waiting : goal.returns-then-most-waiting
 returns-then-most-waiting c =
-    fit-full _ _ _ c.count_letters-n.ensures.0 c.if-n-eq0.false (omega (arith, c.messages-most.ensures, c.waiting.ensures.0, unpack-waiting base c.args.image.now, c.if-most-waiting.true))
+    fit-full _ _ _ c.count_letters-n.ensures.0 c.if-n-eq0.false (omega (arith, c.messages-most.ensures, c.waiting.ensures.0, unpack-waiting base c.args.image.now.bytes.now, c.if-most-waiting.true))
 
 pub returns : goal.returns
 returns c =
-    fit-numbers _ _ _ c.count_letters-n.ensures.0 c.if-n-eq0.false (omega (arith, c.messages-most.ensures, c.waiting.ensures.0, unpack-waiting base c.args.image.now, c.if-most-waiting.false)) _ c.next-next.ensures
+    fit-numbers _ _ _ c.count_letters-n.ensures.0 c.if-n-eq0.false (omega (arith, c.messages-most.ensures, c.waiting.ensures.0, unpack-waiting base c.args.image.now.bytes.now, c.if-most-waiting.false)) _ c.next-next.ensures

@@ -2,30 +2,25 @@
 -- who rests on it through others.
 use Rattle.std.proofs.Common.{rules, refl, sym}
 use Rattle.std.proofs.lemmas.Result.{err_from_is_err_and}
-use Rattle.octets.proofs.Put.{octets-of}
 use Rattle.rules.specs.Layout.{base}
-use Rattle.rules.proofs.Good.{good-formed}
 use Rattle.rules.proofs.Refused.{refused}
 use Rattle.rules.proofs.Calls.Query.{query-accepted}
 use Rattle.rules.proofs.Groups.Dependents.{dependents-refused, dependents-0}
 use Rattle.rules.proofs.Groups.Through.{closure-through}
 use Rattle.queries.proofs.dependents.Goals as goal
 
-pub returns-in_err-check_query : goal.returns-in_err-check_query
-returns-in_err-check_query c =
+pub returns-in_err-formed : goal.returns-in_err-formed
+returns-in_err-formed c =
     let p = err_from_is_err_and c.from_residual.result c.from_residual.ensures.1 in
-    rw (p.1, p.2) (dependents-refused base _ _ _ c.in_err-check_query.ensures (refused c.in_err-check_query.field-0.0))
-
-pub all_resting-requires : goal.all_resting-requires
-all_resting-requires c = let a = query-accepted base _ _ (sym c.in_ok-check_query.ensures) in good-formed _ a.long (octets-of _ c.type_inv.image) a.formed
+    rw (p.1, p.2) (dependents-refused base _ _ _ c.in_err-formed.ensures.refused (refused c.in_err-formed.field-0.0))
 
 pub closure-through-requires : goal.closure-through-requires
-closure-through-requires c = (query-accepted base _ _ (sym c.in_ok-check_query.ensures)).below
+closure-through-requires c = (query-accepted base _ _ (sym c.in_ok-formed.ensures.refused)).below
 
 pub dependents_of-requires : goal.dependents_of-requires
 dependents_of-requires c =
-    let a = query-accepted base _ _ (sym c.in_ok-check_query.ensures) in
-    (good-formed _ a.long (octets-of _ c.type_inv.image) a.formed, a.below, closure-through _ base refl c.all_resting.ensures a.below (search rules) c.closure-through.ensures)
+    let a = query-accepted base _ _ (sym c.in_ok-formed.ensures.refused) in
+    (a.below, closure-through _ base refl c.all_resting.ensures a.below (search rules) c.closure-through.ensures)
 
 pub returns : goal.returns
-returns c = dependents-0 base _ _ _ c.in_ok-check_query.ensures refl _ c.dependents_of.ensures
+returns c = dependents-0 base _ _ _ c.in_ok-formed.ensures.refused refl _ (rw c.in_ok-formed.ensures.lent at c.dependents_of.ensures)

@@ -11,18 +11,15 @@ use Rattle.form.proofs.Unsound.{image-refused, sound-long, sound-formed, sound-n
 use Rattle.queries.proofs.ready_count.Goals as goal
 use Rattle.queries.proofs.ready_count.Goals.{then-size-lt1-via-then-size-lt1, then-size-lt1-via-else-size-lt1+then-size-gt-TRANSACTORS}
 
-pub returns-in_err-check_image : goal.returns-in_err-check_image
-returns-in_err-check_image c =
+pub returns-in_err-formed : goal.returns-in_err-formed
+returns-in_err-formed c =
     let p = err_from_is_err_and c.from_residual.result c.from_residual.ensures.1 in
-    rw (p.1, p.2) (image-refused base _ _ c.in_err-check_image.ensures (λ (n : ℕ). (n ≡ ready_refusal base c.args.image.now c.args.size) × (0 ≡ ready_answer base c.args.image.now c.args.size))
-    (ready-16 base _ _) (ready-19 base _ _) (refused c.in_err-check_image.field-0.0))
-
-pub needs_of-requires : goal.needs_of-requires
-needs_of-requires c = let e = c.in_ok-check_image.ensures in good-formed _ (sound-long base _ _ e refl) (octets-of _ c.type_inv.image) (sound-formed base _ _ e refl)
+    rw (p.1, p.2) (image-refused base _ _ c.in_err-formed.ensures.refused (λ (n : ℕ). (n ≡ ready_refusal base c.args.image.now c.args.size) × (0 ≡ ready_answer base c.args.image.now c.args.size))
+    (ready-16 base _ _) (ready-19 base _ _) (refused c.in_err-formed.field-0.0))
 
 pub returns-then-size-lt1 : goal.returns-then-size-lt1
 returns-then-size-lt1 c =
-    let e = c.in_ok-check_image.ensures in
+    let e = c.in_ok-formed.ensures.refused in
     elim c.then-size-lt1.branch [
       | then-size-lt1-via-then-size-lt1 w ↦ ready-low base _ _ (sound-long base _ _ e refl) (sound-not base _ _ e refl) (search rules)
       | then-size-lt1-via-else-size-lt1+then-size-gt-TRANSACTORS w ↦ ready-high base _ _ (sound-long base _ _ e refl) (sound-not base _ _ e refl) (search rules) (search rules)
@@ -30,6 +27,6 @@ returns-then-size-lt1 c =
 
 pub returns : goal.returns
 returns c =
-    let e = c.in_ok-check_image.ensures in
+    let e = c.in_ok-formed.ensures.refused in
     ready-0 base _ _ (sound-long base _ _ e refl) (sound-not base _ _ e refl) (search rules) (search rules)
-    (good-formed _ (sound-long base _ _ e refl) (octets-of _ c.type_inv.image) (sound-formed base _ _ e refl)).well refl c.needs_of.ensures _ c.count.ensures
+    (good-formed _ (sound-long base _ _ e refl) (octets-of _ c.type_inv.image) (sound-formed base _ _ e refl)).well refl (rw c.in_ok-formed.ensures.lent at c.needs_of.ensures) _ c.count.ensures

@@ -10,24 +10,21 @@ use Rattle.rules.proofs.Calls.Query.{query-accepted}
 use Rattle.rules.proofs.Groups.Smallest.{grouped-refused, grouped-none, grouped-some}
 use Rattle.queries.proofs.smallest_group.Goals as goal
 
-pub returns-in_err-check_query : goal.returns-in_err-check_query
-returns-in_err-check_query c =
+pub returns-in_err-formed : goal.returns-in_err-formed
+returns-in_err-formed c =
     let p = err_from_is_err_and c.from_residual.result c.from_residual.ensures.1 in
-    rw (p.1, p.2) (grouped-refused base _ _ _ c.in_err-check_query.ensures (refused c.in_err-check_query.field-0.0))
-
-pub needs_of-needs-requires : goal.needs_of-needs-requires
-needs_of-needs-requires c = let a = query-accepted base _ _ (sym c.in_ok-check_query.ensures) in good-formed _ a.long (octets-of _ c.type_inv.image) a.formed
+    rw (p.1, p.2) (grouped-refused base _ _ _ c.in_err-formed.ensures.refused (refused c.in_err-formed.field-0.0))
 
 pub closure-group-requires : goal.closure-group-requires
-closure-group-requires c = (query-accepted base _ _ (sym c.in_ok-check_query.ensures)).below
+closure-group-requires c = (query-accepted base _ _ (sym c.in_ok-formed.ensures.refused)).below
 
 pub returns-then-is_inside : goal.returns-then-is_inside
 unfolding bound
 returns-then-is_inside c =
-    let a = query-accepted base _ _ (sym c.in_ok-check_query.ensures) in
-    grouped-some base _ _ _ c.in_ok-check_query.ensures refl (good-formed _ a.long (octets-of _ c.type_inv.image) a.formed).well refl c.needs_of-needs.ensures _ c.closure-group.ensures _ c.is_inside.ensures (search rules) c.if-is_inside.true
+    let a = query-accepted base _ _ (sym c.in_ok-formed.ensures.refused) in
+    grouped-some base _ _ _ c.in_ok-formed.ensures.refused refl (good-formed _ a.long (octets-of _ c.type_inv.image) a.formed).well refl (rw c.in_ok-formed.ensures.lent at c.needs_of-needs.ensures) _ c.closure-group.ensures _ c.is_inside.ensures (search rules) c.if-is_inside.true
 
 pub returns : goal.returns
 returns c =
-    let a = query-accepted base _ _ (sym c.in_ok-check_query.ensures) in
-    grouped-none base _ _ _ c.in_ok-check_query.ensures refl (good-formed _ a.long (octets-of _ c.type_inv.image) a.formed).well refl c.needs_of-needs.ensures _ c.closure-group.ensures _ c.is_inside.ensures c.if-is_inside.false
+    let a = query-accepted base _ _ (sym c.in_ok-formed.ensures.refused) in
+    grouped-none base _ _ _ c.in_ok-formed.ensures.refused refl (good-formed _ a.long (octets-of _ c.type_inv.image) a.formed).well refl (rw c.in_ok-formed.ensures.lent at c.needs_of-needs.ensures) _ c.closure-group.ensures _ c.is_inside.ensures c.if-is_inside.false
