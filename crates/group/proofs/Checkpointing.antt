@@ -34,10 +34,6 @@ module _ (img : List ℕ) (good : Good img) (g : ℕ) where
   checkpointed-none = rw up_to-none (sym good.back)
 
   module _ (t : ℕ) (l : List ℕ) (is : l ≡ checkpointed_to img g t) where
-    pub checkpointed-long : length l ≡ length img
-    unfolding checkpointed_to
-    checkpointed-long = ap length is ∙ length-pack base (up_to s (checkpoint_at base s g) t) ∙ sym good.long
-
     pub checkpointed-all : t ≡ base.transactors → l ≡ pack base (checkpoint_group base s g)
     unfolding checkpointed_to checkpoint_group
     checkpointed-all e = is ∙ ap (checkpointed_to img g) e ∙ ap (pack base) (up_to-all base s (checkpoint_at base s g) (unpack-many base img))

@@ -26,7 +26,8 @@ pub fn waiting(image: &[u8]) -> usize
         .unwrap_or(MESSAGES)
 }
 
-// The place of the message with this number, among the n that wait.
+// The place of the message with this number, among the n that wait. Inlined, its search would step all that callers make of the place.
+#[inline(never)]
 pub fn place_numbered(image: &[u8], n: usize, number: usize) -> Option<usize>
     requires { (length image.now ≡ image_bytes base) × (n ≡ waiting_in base image.now) × (n ≤ base.messages) }
     ensures { Found (place_of (unpack base image.now) number) n result }
