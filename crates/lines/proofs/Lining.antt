@@ -12,12 +12,10 @@ use Rattle.octets.proofs.Chunks.{sides}
 use lib.ListN.{length, take, drop, get_or, set, length-append, length-take}
 use lib.Seq.{take_all, take_at, take-suc-set, length-take-le}
 use Rattle.octets.specs.Bytes.{pick, part}
-use Rattle.octets.proofs.Put.{part-def, part-front, part-suc, part-whole, length-put, front-put}
+use Rattle.octets.proofs.Put.{part-def, part-front, part-suc, part-whole}
 use Rattle.rules.specs.Refusals.{named, group_bits}
 use Rattle.notation.specs.Notation.{decimal, places, hex_digit, hex, members, group_text}
-use Rattle.lines.specs.Internal.Written.{Written}
 use Rattle.lines.specs.Lines.{Line, line_room, written, plus, Says}
-use Rattle.lines.proofs.Putting.{decimal-places}
 use Rattle.notation.proofs.Sizes.{members-most}
 
 cut_again : (n : ℕ) (x c : List ℕ) → take n (take n x ++ c) ≡ take n (x ++ c)
@@ -83,19 +81,6 @@ word_more a w b c i e g h = plus-more (λ x. x) (λ x y. refl) a w 0 b c i e (rw
 
 pub plus-all : (f : List ℕ → List ℕ) (a w b : List ℕ) (i : ℕ) → b ≡ plus a (f (part 0 i w)) → i ≡ length w → b ≡ plus a (f w)
 plus-all f a w b i e g = e ∙ ap (λ (x : List ℕ). plus a (f x)) (part-whole i w (sym g))
-
--- ---- numbers: the digits, written into zeros
-pub digits-said : (a c l l' : List ℕ) (n end : ℕ) → Written l l' 0 (decimal places n) end → length l ≡ 10 → c ≡ plus a (take end l') → c ≡ plus a (decimal places n)
-digits-said a c l l' n end w h e =
-    let d : List ℕ = decimal places n in
-    let k = decimal-places places n in
-    let f : take end l' ≡ d = rw (w.is, w.ends) (front-put 0 d l (omega arith)) in
-    e ∙ ap (plus a) f
-
-pub digits-inside : (l l' : List ℕ) (n end : ℕ) → Written l l' 0 (decimal places n) end → length l ≡ 10 → end ≤ length l'
-digits-inside l l' n end w h =
-    let k = decimal-places places n in
-    omega (arith, w.ends, ap length w.is, length-put 0 (decimal places n) l (omega arith))
 
 -- ---- hexadecimal digits
 

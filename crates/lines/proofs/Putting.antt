@@ -1,15 +1,13 @@
 -- is_whole written one after the other.
-use Prim.Native.Nat.{ℕ, zero, suc, ◌+◌, ◌-◌, ◌/◌, ◌%◌, ◌≤◌, ◌<◌}
-use mathlib.Core.Path.{◌≡◌, refl, sym, subst}
+use Prim.Native.Nat.{ℕ, zero, suc, ◌+◌, ◌*◌, ◌/◌, ◌%◌, ◌^◌, ◌≤◌, ◌<◌}
+use mathlib.Core.Path.{◌≡◌, sym, subst}
 use mathlib.Core.Logic.{⊎_elim}
-use mathlib.Core.List.{List, [], ◌∷◌}
-use native.Mathlib.Nat.{add-zero, mod-eq_of_lt}
+use mathlib.Core.List.{List, [], ◌∷◌, ◌++◌}
+use native.Mathlib.Nat.{mod-eq_of_lt, pow-suc}
 use native.Mathlib.Omega.{arith}
-use lib.ListN.{length, set, length-append}
+use lib.ListN.{length, length-append}
 use Rattle.octets.proofs.Chunks.{sides}
-use Rattle.octets.proofs.Put.{put-nil, put_one, put-snoc}
-use Rattle.notation.specs.Notation.{decimal}
-use Rattle.lines.specs.Internal.Written.{Written}
+use Rattle.notation.specs.Notation.{decimal, places}
 use Rattle.notation.proofs.Numerals.{decimal-low, decimal-high}
 
 -- no more digits than places
@@ -21,33 +19,19 @@ decimal-places (suc k) n = ⊎_elim
     (λ (h : 10 ≤ n). subst (λ (l : List ℕ). length l ≤ suc k) (sym (decimal-high k n h)) (omega (arith, length-append (decimal k (n / 10)) ((48 + n % 10) ∷ []), decimal-places k (n / 10))))
     (sides n 10)
 
-module _ (l : List ℕ) (at n : ℕ) where
-  pub written_none : (k : ℕ) → k ≡ 0 → Written l l at (decimal k n) at
-  unfolding decimal
-  written_none zero e = record { is = put-nil at l; ends = sym (add-zero at) }
-  written_none (suc k) e = absurd (omega arith)
+-- a number's digits are those of its tenth and one more
+digits-more : (j n : ℕ) → n < 10 ^ suc j → decimal (suc (suc j)) n ≡ decimal (suc j) n
+digits-more zero n h = rw (decimal-low 1 n h, decimal-low 0 n h)
+digits-more (suc j) n h = ⊎_elim
+    (λ (l : n < 10). rw (decimal-low (suc (suc j)) n l, decimal-low (suc j) n l))
+    (λ (l : 10 ≤ n).
+    let p : 10 ^ suc (suc j) ≡ 10 ^ suc j * 10 = pow-suc 10 (suc j) in
+    let q : decimal (suc (suc j)) (n / 10) ≡ decimal (suc j) (n / 10) = digits-more j (n / 10) (omega arith) in
+    rw (decimal-high (suc (suc j)) n l, decimal-high (suc j) n l, q))
+    (sides n 10)
 
-  pub written_one : (k : ℕ) → (k ≡ 0 → ⊥) → n < 10 → at + k ≤ length l → Written l (set l at (48 + n % 256)) at (decimal k n) (at + 1)
-  written_one zero z h b = absurd (z refl)
-  written_one (suc k) z h b =
-      let m : n % 256 ≡ n = mod-eq_of_lt (omega arith) in
-      subst (λ (d : List ℕ). Written l (set l at (48 + n % 256)) at d (at + 1)) (sym (decimal-low k n h))
-      (record { is = rw m (sym (put_one at (48 + n) l (omega arith))); ends = refl })
+pub number-low : (n : ℕ) → n < 10 → decimal places n ≡ (48 + n % 10) ∷ []
+number-low n h = let m : n % 10 ≡ n = mod-eq_of_lt h in rw m (decimal-low 9 n h)
 
-  pub written-more : (k : ℕ) (l' : List ℕ) (end : ℕ) → (k ≡ 0 → ⊥) → 10 ≤ n → at + k ≤ length l → Written l l' at (decimal (k - 1) (n / 10)) end
-      → Written l (set l' end (48 + n % 10)) at (decimal k n) (end + 1)
-  written-more zero l' end z h b w = absurd (z refl)
-  written-more (suc k) l' end z h b w =
-      let d : List ℕ = decimal k (n / 10) in
-      let j : suc k - 1 ≡ k = omega arith in
-      let v : Written l l' at d end = subst (λ (x : ℕ). Written l l' at (decimal x (n / 10)) end) j w in
-      let p = decimal-places k (n / 10) in
-      subst (λ (x : List ℕ). Written l (set l' end (48 + n % 10)) at x (end + 1)) (sym (decimal-high k n h))
-      (record {
-        is = rw v.ends (put-snoc at (length d) (48 + n % 10) d l l' v.is refl (omega arith));
-        ends = omega (arith, v.ends, length-append d ((48 + n % 10) ∷ []));
-      })
-
--- where the digits end is inside
-pub written-inside : (l l' : List ℕ) (at k n end : ℕ) → Written l l' at (decimal k n) end → end ≤ at + k
-written-inside l l' at k n end w = omega (arith, w.ends, decimal-places k n)
+pub number-high : (n : ℕ) → 10 ≤ n → n < 4294967296 → decimal places n ≡ decimal places (n / 10) ++ ((48 + n % 10) ∷ [])
+number-high n h b = rw (decimal-high 9 n h, digits-more 8 (n / 10) (omega arith))

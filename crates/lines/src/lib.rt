@@ -4,7 +4,6 @@
 ghost use Rattle.std.specs.Prelude.{◌≡◌, ◌+◌, ◌≤◌, ◌<◌, [], ◌∷◌, length, drop};
 ghost use Rattle.octets.specs.Bytes.{pick};
 ghost use Rattle.rules.specs.Refusals.{named, group_bits};
-ghost use Rattle.lines.specs.Internal.Written.{Written};
 ghost use Rattle.notation.specs.Notation.{decimal, places, hex_digit, hex, members, group_text};
 ghost use Rattle.lines.specs.Lines.{line_room, written, plus};
 
@@ -17,23 +16,6 @@ pub const ROOM: usize = 256;
 pub struct Line {
     pub bytes: [u8; 256],
     pub len: usize,
-}
-
-// Writes n in decimal from at on, in at most k places, and answers where it ends.
-fn put_decimal(out: &mut [u8], at: usize, k: usize, n: u32) -> usize
-    requires { at + k ≤ length out.old }
-    ensures { Written out.old out.new at (decimal k n) result }
-{
-    if k == 0 {
-        return at;
-    }
-    if n < 10 {
-        out[at] = 48 + (n % 256) as u8;
-        return at + 1;
-    }
-    let end = put_decimal(out, at, k - 1, n / 10);
-    out[end] = 48 + (n % 10) as u8;
-    end + 1
 }
 
 #[tactic(auto, unfolding(notation::specs::Notation::hex_digit))]
@@ -84,12 +66,15 @@ impl Line {
         r
     }
 
+    // n in decimal.
     pub fn number(self, n: u32) -> Line
         ensures { written result ≡ plus (written self) (decimal places n) }
     {
-        let mut digits = [0u8; 10];
-        let end = put_decimal(&mut digits, 0, 10, n);
-        self.word(&digits[..end])
+        let last = b'0' + (n % 10) as u8;
+        if n < 10 {
+            return self.byte(last);
+        }
+        self.number(n / 10).byte(last)
     }
 
     // Two hexadecimal digits for each byte of b.
