@@ -9,6 +9,7 @@ use native.Mathlib.Omega.{arith}
 use lib.ListN.{length}
 use lib.Dec.{eqb, leb}
 use borrow.Author.Tests.{eq-eqb, ne_eqb, eqb-true, le-leb, lt-leb, lt-ltb}
+use Rattle.rules.proofs.Refused.{refused}
 use Rattle.octets.specs.Bytes.{pick, ◌and◌}
 use Rattle.octets.proofs.Chunks.{sides}
 use Rattle.marks.specs.declared.History.{History}
@@ -34,9 +35,6 @@ use Rattle.decisive.specs.declared.Decision.{Decision}
 use Rattle.decisive.specs.Decision.{decider, decision_of, receiving, decision_refusal, undecided, decision_answer, DecisionPromise}
 use Rattle.decisive.specs.Internal.Judging.{Judged, refused_by, told_by, falls_by, settled_by, found_by, judged_by, judged_of}
 use Rattle.decisive.proofs.Decisions.{outcome_by, decision-as}
-
-positive : (r : Refusal) → refusal_number r ≡ 0 → ⊥
-positive r e = grind arith
 
 -- ---- a fall
 
@@ -217,7 +215,7 @@ module _ (img : List ℕ) (n k : ℕ) (place : k ≡ place_of (unpack base img) 
       pub number-refused : (r : Refusal) → refusal_number r ≡ receiver_refusal st → refused_by (refusal_number r) ≡ judged_of base s n
       unfolding judged_of
       number-refused r f =
-          let h : refusal_number r ≡ 0 → ⊥ = positive r in
+          let h : refusal_number r ≡ 0 → ⊥ = refused r in
           let z : refusal base s (receiving n) ≡ refusal_number r =
           refusal-to ∙ first_taken (receiver_refusal (transactor_at s t).status) (refusal_idle t) (refusal_number r) (asked f) h in
           rw (z, ne_eqb (refusal_number r) 0 h)
@@ -238,7 +236,7 @@ module _ (img : List ℕ) (n : ℕ) where
   decide-refused r is = image-refused base img (refusal_number r) is (λ (z : ℕ). DecisionPromise base img n z undecided)
       (λ h. let e = wrong-length base img h in (rw e refl, rw e refl))
       (λ h e. let l = right-length base img h in (rw (l, e) refl, rw (l, e) refl))
-      (positive r)
+      (refused r)
 
   pub decide-judged : 0 ≡ image_refusal base img → {j : Judged} → j ≡ judged_of base (unpack base img) n → DecisionPromise base img n j.refusal j.decision
   unfolding decision_refusal decision_answer judged_of

@@ -11,11 +11,11 @@ ghost use Rattle.rules.specs.Internal.Guards.{image_refusal};
 ghost use Rattle.rules.specs.Numbers.{status_number, refusal_in};
 ghost use Rattle.form.specs.Internal.Tests.{Headed, formed_own_at, formed_live_at, formed_transactor_at, least_at, formed_message_at, formed_front};
 
+use image::formed::Formed;
 use image::layout::{
     BEHAVIOUR, BLANK, CREATION, DEPENDENCES, FIRST_MESSAGE, FIRST_TRANSACTOR, IMAGE, LIMITS_BLANK,
     MESSAGE, MESSAGES, NUMBER, SAVED, STATE, TRANSACTOR, TRANSACTORS, own_at,
 };
-use image::formed::Formed;
 use image::{head, limits, messages};
 use rules::refusals::Refusal;
 use rules::statuses::Status;

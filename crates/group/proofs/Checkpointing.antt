@@ -15,7 +15,7 @@ use Rattle.rules.specs.Pack.{pack_transactor, pack_transactor_at, pack, unpack_t
 use Rattle.rules.specs.Internal.Well.{TransactorOk}
 use Rattle.rules.specs.Internal.Good.{Good, GoodPart}
 use Rattle.rules.specs.Internal.Guards.{Room}
-use Rattle.rules.proofs.Pack.Sizes.{length-pack_transactor, length-pack}
+use Rattle.rules.proofs.Pack.Sizes.{length-pack_transactor}
 use Rattle.rules.proofs.Pack.Stores.{up_to, up_to-none, up_to-after, up_to-kept, up_to-all, pack-up_to}
 use Rattle.rules.proofs.Pack.Loads.{unpack-many}
 use Rattle.rules.proofs.Pack.RoundTrip.{unpack-pack_transactor, transactor_part-pack}

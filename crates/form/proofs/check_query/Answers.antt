@@ -1,16 +1,12 @@
 -- Those of the image, and then as an acting transactor is refused.
-use Rattle.std.proofs.Common.{◌≡◌, ℕ, ◌∙◌, refl, arith}
+use Rattle.rules.proofs.Refused.{refused}
+use Rattle.std.proofs.Common.{◌≡◌, ℕ, ◌∙◌, refl}
 use Rattle.std.proofs.lemmas.Result.{err_from_is_err_and}
-use Rattle.rules.specs.declared.refusals.Refusal.{Refusal}
-use Rattle.rules.specs.Numbers.{refusal_number}
 use Rattle.rules.specs.Layout.{base}
 use Rattle.rules.specs.Calls.{query_refusal}
 use Rattle.rules.proofs.Calls.Query.{few-opened, query-16, query-19, query-acting}
 use Rattle.form.proofs.Unsound.{image-refused, sound-long, sound-not}
 use Rattle.form.proofs.check_query.Goals as goal
-
-refused : (r : Refusal) → refusal_number r ≡ 0 → ⊥
-refused r e = grind arith
 
 pub returns-in_err-formed-clause-refused : goal.returns-in_err-formed-clause-refused
 returns-in_err-formed-clause-refused c =

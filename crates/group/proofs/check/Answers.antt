@@ -1,14 +1,10 @@
 -- Those of the group alone, and then those of its members.
-use Rattle.std.proofs.Common.{◌≡◌, ℕ, refl, ap, ◌∙◌, arith}
+use Rattle.rules.proofs.Refused.{refused}
+use Rattle.std.proofs.Common.{ℕ, refl, ap, ◌∙◌}
 use Rattle.std.proofs.lemmas.Result.{err_from_is_err_and}
 use Rattle.rules.specs.Internal.Guards.{names_refusal}
 use Rattle.rules.proofs.ByKind.Guards.{group-names, group-named}
-use Rattle.rules.specs.declared.refusals.Refusal.{Refusal}
-use Rattle.rules.specs.Numbers.{refusal_number}
 use Rattle.group.proofs.check.Goals as goal
-
-refused : (r : Refusal) → refusal_number r ≡ 0 → ⊥
-refused r e = grind arith
 
 pub returns-in_err-group : goal.returns-in_err-group
 returns-in_err-group c =

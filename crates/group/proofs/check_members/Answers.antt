@@ -1,4 +1,5 @@
 -- Each answer of a member is one of its three cases.
+use Rattle.rules.proofs.Refused.{refused}
 use Rattle.std.proofs.Common.{◌≡◌, refl, sym, ap, ◌∙◌, arith, rules}
 use Rattle.rules.proofs.ByKind.Guards.{roomy-first, roomy-end, roomy-unnamed, roomy-gone, roomy-full, roomy-more}
 use Rattle.group.proofs.Blocking.{member-in}
@@ -9,9 +10,6 @@ use denote.Enum.Bare.{same_true, same_false}
 use Rattle.rules.specs.contracts.refusals.Refusal.{the_type}
 use Rattle.group.proofs.check_members.Goals as goal
 use Rattle.group.proofs.check_members.Goals.{then-is_named+in-Err+else-eq, then-is_named+in_default, else-is_named}
-
-refused : (r : Refusal) → refusal_number r ≡ 0 → ⊥
-refused r e = grind arith
 
 other : (r : Refusal) → (r ≡ Gone → ⊥) → refusal_number r ≡ 22 → ⊥
 other r n e = grind arith
