@@ -2,7 +2,6 @@
 #![tactic(auto)]
 
 pub mod kinds;
-pub mod numbers;
 pub mod outcomes;
 pub mod refusals;
 pub mod statuses;
