@@ -91,6 +91,7 @@ pub fn ramp() -> [u8; 64]
 }
 
 // Whether the REST bytes from at on but the first used are zero: one test of a fixed length, whatever is used.
+#[inline(always)]
 fn rest_zero(s: &[u8], at: usize, used: usize, ramp: &[u8]) -> bool
     requires { (at + rest_size width places ≤ length s.now) × (used ≤ rest_size width places) × (ramp.now ≡ ramp_of (rest_size width places)) }
     ensures { result ≡ all_zero (part (at + used) (rest_size width places - used) s.now) }
