@@ -52,7 +52,8 @@ pub fn unstable(rows: [Row; 16], group: u16) -> bool
     (0..TRANSACTORS).any(|t| is_named(group, t) && !rows[t].stable)
 }
 
-// 22, or else 30, of the named transactors.
+// 22, or else 30, of the named transactors. group::check_members asks an image: one function with two closures would have each caller prove
+// what its closures require and name, no plainer.
 fn blocked(rows: [Row; 16], most: u8, group: u16) -> Result<(), Refusal>
     ensures { refusal_in result ≡ named_guard most (row_at rows) group }
 {

@@ -88,7 +88,7 @@ pub fn answered(x: Operands, turn: Result<Turn, Refusal>) -> Turn
     }
 }
 
-// The same of a signing.
+// The same of a signing. Beside answered: the two build another value, and share `reply`.
 pub fn group_answered(rows: [Row; 16], turn: Result<GroupTurn, Refusal>) -> GroupTurn
     ensures { result ≡ group_turn_in rows turn }
 {

@@ -92,7 +92,7 @@ pub fn append(image: &mut [u8], n: usize, to: u8, value: u32, t: usize)
     octets::store16(image, NEXT, number + 1);
 }
 
-// The same of a message whose map is empty.
+// The same of a message whose map is empty. Beside append: that one reads the sender's three maps, and a closure over the lent image is no plainer.
 pub fn append_empty(image: &mut [u8], n: usize, to: u8, value: u32)
     requires { Good image.old × (n ≡ waiting_in base image.old) × (n < base.messages) × (to < 16) × ((unpack base image.old).next < last_number) }
     ensures { image.new ≡ pack base (with_message (unpack base image.old) to value (no_dependences base)) }

@@ -13,7 +13,7 @@ use rules::Step;
 use rules::kinds::Kind;
 use rules::outcomes::Outcome;
 
-// For each transactor, whether the next step that touches it empties its map.
+// For each transactor, whether the next step that touches it empties its map. Flags and no word: an entry is set by the transactor's number.
 #[derive(Clone, Copy)]
 pub struct Lookahead {
     pub emptied: [bool; 16],

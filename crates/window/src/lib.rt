@@ -33,7 +33,7 @@ fn rollback(replies: &[u8], i: usize) -> usize
     usize::from(outcome == Outcome::FallenBack.number() || outcome == Outcome::Vanished.number())
 }
 
-// How many of the first n replies have outcome 3 or 4.
+// How many of the first n replies have outcome 3 or 4. A `for` and no chain: the laws of the count speak of places.
 fn first(replies: &[u8], n: usize) -> usize
     requires { (step_bytes * n ≤ length replies.now) × (length replies.now ≤ longest) }
     ensures { result ≡ rollbacks replies.now 0 n }
