@@ -11,7 +11,7 @@ ghost use Rattle.lines.specs.Lines.{line_room, written, plus};
 pub const ROOM: usize = 256;
 
 // A line by value: what is said in it are the first len bytes. It takes no more than it has room for, so that no function that adds
-// to it asks for room.
+// to it asks for room. Bytes beside their length, and no Display, which writes to a writer that may fail: the ledger's libraries have no heap.
 #[derive(Clone, Copy)]
 pub struct Line {
     pub bytes: [u8; 256],

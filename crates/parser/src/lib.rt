@@ -90,6 +90,7 @@ fn read_lines(text: &[u8], most: usize, out: &mut [u8], write: bool) -> Result<u
     let mut from: usize = 0;
     let mut at: usize = 0;
     let mut line: usize = 1;
+    // From line to line, not byte by byte: a split at each LF would give one line more behind the last one.
     while from < text.len() {
         let end = find(text, from, b'\n');
         let free = STEP <= most - at;
