@@ -1,7 +1,7 @@
 -- What an accepted offer says of the image, and the numbers that stand for answers.
 use Prim.Native.Nat.{ℕ, ◌+◌, ◌<◌}
 use mathlib.Core.Bool.{Bool, true, false, not}
-use mathlib.Core.Path.{◌≡◌, refl, sym, subst, ◌∙◌}
+use mathlib.Core.Path.{◌≡◌, refl, sym, ◌∙◌}
 use mathlib.Core.List.{List, []}
 use mathlib.Core.Option.{Option, none, some}
 use native.Mathlib.Omega.{arith}
@@ -10,14 +10,17 @@ use lib.ListN.{length}
 use lib.Dec.{eqb}
 use Rattle.octets.specs.Bytes.{pick, part, Octets}
 use Rattle.octets.specs.Numbers.{bound}
-use Rattle.rules.specs.declared.Offered.{Offered}
-use Rattle.rules.specs.declared.Grouped.{Grouped}
+use Rattle.std.specs.Prelude.{Option as Maybe, Some, None, Result, Ok, Err}
+use Rattle.std.specs.Option.{unwrap_or}
+use Rattle.std.specs.Result.{result_unwrap_or}
+use Rattle.rules.specs.declared.refusals.Refusal.{Refusal}
+use Rattle.rules.specs.Numbers.{answer_in}
 use Rattle.rules.specs.Layout.{Layout, base, image_bytes, message_address, dependences_at, map_bytes}
 use Rattle.rules.specs.State.{place_of}
 use Rattle.rules.specs.Pack.{unpack}
 use Rattle.rules.specs.Form.{well_formed}
-use Rattle.rules.specs.Calls.{wrong_length, query_refusal, offered_number, Offers, waiting, show_refusal, shown}
-use Rattle.rules.specs.Groups.{group_number, Smallest, smallest}
+use Rattle.rules.specs.Calls.{wrong_length, query_refusal, Offers, waiting, show_refusal, shown}
+use Rattle.rules.specs.Groups.{Smallest, smallest}
 use Rattle.ledger.specs.Internal.Shown.{shown_at}
 use Rattle.rules.proofs.Bits.{named-zero}
 use Rattle.rules.proofs.Form.State.{formed-state}
@@ -58,8 +61,10 @@ module _ (img : List ℕ) where
     stands none f = f
     stands (some n) f = let h : n ≡ no_message → ⊥ = λ d. omega (arith, offered-below n f) in rw (ne_eqb n no_message h) f
 
-    pub answered : {a b : Offered} → a ≡ b → Offers base img t (offered_number a) → Offers base img t (offered_by (number_of (offered_number b)))
-    answered {a} e f = subst (λ (b : Offered). Offers base img t (offered_by (number_of (offered_number b)))) e (stands (offered_number a) f)
+    pub answered : (call : Result (Maybe ℕ) Refusal) → Offers base img t (answer_in call) → Offers base img t (offered_by (unwrap_or (result_unwrap_or call None) no_message))
+    answered (Ok (Some n)) f = stands (some n) f
+    answered (Ok None) f = stands none f
+    answered (Err r) f = stands none f
 
   -- ---- smallest group
 
@@ -72,8 +77,10 @@ module _ (img : List ℕ) where
         let h : v ≡ 0 → ⊥ = λ d. never (sym c.contains ∙ rw d (named-zero t)) in
         rw (ne_eqb v 0 h) (smallest r c l)
 
-    pub named : {a b : Grouped} → a ≡ b → Smallest base img t (group_number a) → Smallest base img t (group_of (group_bits_of (group_number b)))
-    named {a} e f = subst (λ (b : Grouped). Smallest base img t (group_of (group_bits_of (group_number b)))) e (grouped (group_number a) f)
+    pub named : (call : Result (Maybe ℕ) Refusal) → Smallest base img t (answer_in call) → Smallest base img t (group_of (unwrap_or (result_unwrap_or call None) 0))
+    named (Ok (Some v)) f = grouped (some v) f
+    named (Ok None) f = grouped none f
+    named (Err r) f = grouped none f
 
   -- ---- show
 

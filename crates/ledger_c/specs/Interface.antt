@@ -1,6 +1,7 @@
 -- How the answers of offer, smallest group, all heard frozen, obstacle, impediment, actor and show are put in numbers.
 use Rattle.std.specs.Prelude.{ℕ, ◌+◌, ◌*◌, Bool, true, false, List, eqb}
 use Rattle.std.proofs.Math.Option.{Option, none, some}
+use Rattle.std.specs.Prelude as std
 use Rattle.octets.specs.Bytes.{pick}
 use Rattle.rules.specs.Layout.{Layout, message_address, dependences_at, map_bytes}
 use Rattle.rules.specs.State.{place_of}
@@ -55,7 +56,7 @@ abbrev pub cause_numbers : Cause → ImpedimentNumbers
 cause_numbers r = record { kind = r.kind; transactor = r.transactor; support = r.support; next = r.next }
 
 -- The numbers that stand for an answer of actor.
-abbrev pub acting_for : Actor → Acting
+abbrev pub acting_for : std.Option Actor → Acting
 acting_for a = record { kind = (actor_numbers a).kind; takes = (actor_numbers a).takes }
 
 -- The bytes of the image that hold a waiting parcel's map: where they start, and how many. Refused: an empty part.

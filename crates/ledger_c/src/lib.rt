@@ -3,8 +3,10 @@
 #![tactic(auto)]
 
 ghost use Rattle.std.specs.Prelude.{◌≡◌};
+ghost use Rattle.std.specs.Result.{result_unwrap_or};
 ghost use Rattle.rules.specs.Layout.{base, limits_of};
 ghost use Rattle.rules.specs.Calls.{query_refusal, show_refusal};
+ghost use Rattle.rules.specs.Numbers.{refusal_in};
 ghost use Rattle.rules.specs.Promises.{BeginPromise, RunPromise, OfferPromise, SmallestPromise, CountPromise, DependentsPromise, ObstaclePromise, ImpedimentPromise, PlanPromise};
 ghost use Rattle.rules.specs.Heard.{heard_answer};
 ghost use Rattle.actors.specs.Actor.{actor_refusal, actor_answer};
@@ -15,7 +17,8 @@ ghost use Rattle.window.specs.Window.{window_refusal, worst_window};
 ghost use Rattle.ledger_c.specs.Interface.{version, offered_by, group_of, number_for, reason_numbers, cause_numbers, acting_for, shown_part};
 
 use actors::Actor;
-use rules::{Dependents, Grouped, Impediment, Obstacle, Offered};
+use rules::refusals::Refusal;
+use rules::{Dependents, Impediment, Obstacle};
 use window::Worst;
 
 // The number that stands for no message.
@@ -75,6 +78,33 @@ pub struct Acting {
     pub takes: usize,
 }
 
+// The number of a refusal, or 0.
+fn number(call: Result<(), Refusal>) -> u8
+    ensures { result ≡ refusal_in call }
+{
+    match call {
+        Ok(()) => 0,
+        Err(r) => r.number(),
+    }
+}
+
+// What a call answers; the lent number takes its refusal, or 0; refused, none.
+fn told<A: Copy>(call: Result<A, Refusal>, refusal: &mut u8, none: A) -> A
+    ensures number { refusal.new ≡ refusal_in call }
+    ensures answer { result ≡ result_unwrap_or call none }
+{
+    match call {
+        Ok(answer) => {
+            *refusal = 0;
+            answer
+        }
+        Err(r) => {
+            *refusal = r.number();
+            none
+        }
+    }
+}
+
 // The version of this library.
 #[unsafe(no_mangle)]
 pub extern "C" fn ledger_version() -> u32
@@ -94,7 +124,7 @@ pub extern "C" fn ledger_begin(
 ) -> u8
     ensures { BeginPromise base (limits_of transactors messages checkpoints) image.old result image.new }
 {
-    ledger::begin(image, transactors, messages, checkpoints)
+    number(ledger::begin(image, transactors, messages, checkpoints))
 }
 
 // Runs the steps of the list from start up to end, and writes a reply for each: 0, or 16, 17, 18, 19 with no byte changed.
@@ -108,7 +138,7 @@ pub extern "C" fn ledger_run(
 ) -> u8
     ensures { RunPromise base image.old list.now start end replies.old result image.new replies.new }
 {
-    ledger::run(image, list, start, end, replies)
+    number(ledger::run(image, list, start, end, replies))
 }
 
 // The lowest number of a waiting message addressed to the transactor, or NONE exactly if there is none. The lent number takes
@@ -117,10 +147,7 @@ pub extern "C" fn ledger_run(
 pub extern "C" fn ledger_offer(image: &[u8], transactor: usize, refusal: &mut u8) -> u16
     ensures { OfferPromise base image.now transactor refusal.new (offered_by result) }
 {
-    let Offered::Message(n) = ledger::offer(image, transactor, refusal) else {
-        return NONE;
-    };
-    n
+    told(ledger::offer(image, transactor), refusal, None).unwrap_or(NONE)
 }
 
 // The smallest group with the transactor that could be checkpointed now, or 0 exactly if there is none. The lent number takes
@@ -129,10 +156,7 @@ pub extern "C" fn ledger_offer(image: &[u8], transactor: usize, refusal: &mut u8
 pub extern "C" fn ledger_smallest_group(image: &[u8], transactor: usize, refusal: &mut u8) -> u16
     ensures { SmallestPromise base image.now transactor refusal.new (group_of result) }
 {
-    let Grouped::Group(group) = queries::smallest_group(image, transactor, refusal) else {
-        return 0;
-    };
-    group
+    told(queries::smallest_group(image, transactor), refusal, None).unwrap_or(0)
 }
 
 // How many groups of that many transactors could be checkpointed now. The lent number takes the refusal, 16, 19 or 34, or 0; refused, 0.
@@ -140,7 +164,7 @@ pub extern "C" fn ledger_smallest_group(image: &[u8], transactor: usize, refusal
 pub extern "C" fn ledger_ready_count(image: &[u8], size: usize, refusal: &mut u8) -> usize
     ensures { CountPromise base image.now size refusal.new result }
 {
-    queries::ready_count(image, size, refusal)
+    told(queries::ready_count(image, size), refusal, 0)
 }
 
 // 1 exactly if every entry of the transactor's state and creation maps but its own is stable, else 0. The lent number takes the
@@ -149,10 +173,11 @@ pub extern "C" fn ledger_ready_count(image: &[u8], size: usize, refusal: &mut u8
 pub extern "C" fn ledger_all_heard_stable(image: &[u8], transactor: usize, refusal: &mut u8) -> u8
     ensures { (refusal.new ≡ query_refusal base image.now transactor) × (result ≡ number_for (heard_answer base image.now transactor)) }
 {
-    if queries::all_heard_stable(image, transactor, refusal) {
-        return 1;
-    }
-    0
+    u8::from(told(
+        queries::all_heard_stable(image, transactor),
+        refusal,
+        false,
+    ))
 }
 
 // Who rests on the transactor's present incarnation, directly and through others, who is busy with it, and how many waiting messages carry
@@ -161,7 +186,13 @@ pub extern "C" fn ledger_all_heard_stable(image: &[u8], transactor: usize, refus
 pub extern "C" fn ledger_dependents(image: &[u8], transactor: usize, refusal: &mut u8) -> Dependents
     ensures { DependentsPromise base image.now transactor refusal.new result }
 {
-    queries::dependents(image, transactor, refusal)
+    let none = Dependents {
+        resting: 0,
+        through: 0,
+        unfinished: 0,
+        carried: 0,
+    };
+    told(queries::dependents(image, transactor), refusal, none)
 }
 
 // Why the group can't be checkpointed now; all are 0 exactly if it can. The lent number takes the refusal, 16, 19, or what the signing would
@@ -170,23 +201,23 @@ pub extern "C" fn ledger_dependents(image: &[u8], transactor: usize, refusal: &m
 pub extern "C" fn ledger_obstacle(image: &[u8], members: usize, refusal: &mut u8) -> Reason
     ensures { ObstaclePromise base image.now members refusal.new (reason_numbers result) }
 {
-    match queries::obstacle(image, members, refusal) {
-        Obstacle::Nothing => Reason {
+    match told(queries::obstacle(image, members), refusal, None) {
+        None => Reason {
             kind: 0,
             transactor: 0,
             support: 0,
         },
-        Obstacle::Unstable(t) => Reason {
+        Some(Obstacle::Unstable(t)) => Reason {
             kind: 1,
             transactor: t,
             support: 0,
         },
-        Obstacle::Outside(t, u) => Reason {
+        Some(Obstacle::Outside(t, u)) => Reason {
             kind: 2,
             transactor: t,
             support: u,
         },
-        Obstacle::SupersededOrAnnihilated(t, u) => Reason {
+        Some(Obstacle::SupersededOrAnnihilated(t, u)) => Reason {
             kind: 3,
             transactor: t,
             support: u,
@@ -200,26 +231,26 @@ pub extern "C" fn ledger_obstacle(image: &[u8], members: usize, refusal: &mut u8
 pub extern "C" fn ledger_impediment(image: &[u8], transactor: usize, refusal: &mut u8) -> Cause
     ensures { ImpedimentPromise base image.now transactor refusal.new (cause_numbers result) }
 {
-    match queries::impediment(image, transactor, refusal) {
-        Impediment::Nothing => Cause {
+    match told(queries::impediment(image, transactor), refusal, None) {
+        None => Cause {
             kind: 0,
             transactor: 0,
             support: 0,
             next: 0,
         },
-        Impediment::Hopeless(c, u, x) => Cause {
+        Some(Impediment::Hopeless(c, u, x)) => Cause {
             kind: HOPELESS,
             transactor: c,
             support: u,
             next: x,
         },
-        Impediment::Exhausted(c, x) => Cause {
+        Some(Impediment::Exhausted(c, x)) => Cause {
             kind: EXHAUSTED,
             transactor: c,
             support: 0,
             next: x,
         },
-        Impediment::Unstable(c, x) => Cause {
+        Some(Impediment::Unstable(c, x)) => Cause {
             kind: NOT_STABLE,
             transactor: c,
             support: 0,
@@ -234,19 +265,19 @@ pub extern "C" fn ledger_impediment(image: &[u8], transactor: usize, refusal: &m
 pub extern "C" fn ledger_actor(image: &[u8], step: &[u8], refusal: &mut u8) -> Acting
     ensures { (refusal.new ≡ actor_refusal base image.now step.now) × (result ≡ acting_for (actor_answer base image.now step.now)) }
 {
-    match actors::for_whom(image, step, refusal) {
-        Actor::Nobody => Acting { kind: 0, takes: 0 },
-        Actor::House => Acting {
+    match told(actors::for_whom(image, step), refusal, None) {
+        None => Acting { kind: 0, takes: 0 },
+        Some(Actor::House) => Acting {
             kind: HOUSE,
             takes: 0,
         },
-        Actor::One(t) => Acting {
+        Some(Actor::One(t)) => Acting {
             kind: ONE,
             takes: 1usize << t,
         },
-        Actor::Group(members) => Acting {
+        Some(Actor::Group(members)) => Acting {
             kind: GROUP,
-            takes: members as usize,
+            takes: usize::from(members),
         },
     }
 }
@@ -256,11 +287,17 @@ pub extern "C" fn ledger_actor(image: &[u8], step: &[u8], refusal: &mut u8) -> A
 pub extern "C" fn ledger_fault(image: &[u8], at: &mut usize, clause: &mut u8) -> u8
     ensures { (result ≡ defect_refusal base image.now) × (at.new ≡ (defect_answer base image.now).at) × (clause.new ≡ (defect_answer base image.now).clause) }
 {
-    let mut refusal: u8 = 0;
-    let d = defects::first_defect(image, &mut refusal);
-    *at = d.at;
-    *clause = d.clause;
-    refusal
+    *at = 0;
+    *clause = 0;
+    match defects::first_defect(image) {
+        Ok(None) => 0,
+        Ok(Some(d)) => {
+            *at = d.at;
+            *clause = d.clause.number();
+            Refusal::IllFormed.number()
+        }
+        Err(r) => r.number(),
+    }
 }
 
 // Writes the steps after which the transactor is checkpointed with all that it rests on, each answered with 0, and zeros after them: how many
@@ -275,7 +312,7 @@ pub extern "C" fn ledger_plan(
 ) -> usize
     ensures { PlanPromise base image.now transactor out.old refusal.new out.new result }
 {
-    plans::plan(image, transactor, out, refusal)
+    told(plans::plan(image, transactor, out), refusal, 0)
 }
 
 // Writes the short list of the steps from start up to end, with zeros after it: how many steps are kept. The lent number takes the
@@ -293,7 +330,7 @@ pub extern "C" fn ledger_thin(
         × (out.new ≡ thin_out base image.now list.now start end out.old)
         × (result ≡ thin_count base image.now list.now start end out.old) }
 {
-    thin::thin(image, list, start, end, out, refusal)
+    told(thin::thin(image, list, start, end, out), refusal, 0)
 }
 
 // The part of the image that holds a waiting message's map. The lent number takes the refusal, 16, 19 or 24, or 0; refused, an
@@ -302,16 +339,21 @@ pub extern "C" fn ledger_thin(
 pub extern "C" fn ledger_show(image: &[u8], number: usize, refusal: &mut u8) -> Part
     ensures { (refusal.new ≡ show_refusal base image.now number) × (result ≡ shown_part base image.now number) }
 {
-    let offset = ledger::shown_at(image, number, refusal);
-    if *refusal != 0 {
-        return Part {
-            offset: 0,
-            length: 0,
-        };
-    }
-    Part {
-        offset,
-        length: maps::SIZE,
+    match ledger::shown_at(image, number) {
+        Ok(offset) => {
+            *refusal = 0;
+            Part {
+                offset,
+                length: maps::SIZE,
+            }
+        }
+        Err(r) => {
+            *refusal = r.number();
+            Part {
+                offset: 0,
+                length: 0,
+            }
+        }
     }
 }
 
@@ -321,7 +363,7 @@ pub extern "C" fn ledger_forward(source: &[u8], target: &mut [u8]) -> u8
     ensures { (result ≡ forward_answer source.now target.old)
         × (target.new ≡ forward_image source.now target.old) }
 {
-    convert::forward(source, target)
+    number(convert::forward(source, target))
 }
 
 // Writes an image in the old form, 22,132 bytes: 0, or 16, 19, 32 with no byte changed.
@@ -330,7 +372,7 @@ pub extern "C" fn ledger_back(source: &[u8], target: &mut [u8]) -> u8
     ensures { (result ≡ back_answer source.now target.old)
         × (target.new ≡ back_image source.now target.old) }
 {
-    convert::back(source, target)
+    number(convert::back(source, target))
 }
 
 // The greatest count of outcomes 3 and 4 over every window of width successive replies, and the place of the first window that has
@@ -339,5 +381,6 @@ pub extern "C" fn ledger_back(source: &[u8], target: &mut [u8]) -> u8
 pub extern "C" fn ledger_worst_window(replies: &[u8], width: usize, refusal: &mut u8) -> Worst
     ensures { (refusal.new ≡ window_refusal replies.now width) × (result ≡ worst_window replies.now width) }
 {
-    window::worst_window(replies, width, refusal)
+    let none = Worst { count: 0, place: 0 };
+    told(window::worst_window(replies, width), refusal, none)
 }
