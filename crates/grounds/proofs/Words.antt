@@ -17,9 +17,8 @@ use Rattle.rules.specs.Pack.{waiting_in, unpack}
 use Rattle.rules.specs.ReadyGroups.{how_many}
 use Rattle.rules.specs.Dependents.{rests_at, works_at, carries_at, group_of, through_at, dependents_of}
 use Rattle.rules.specs.Internal.Held.{Listed}
-use Rattle.rules.specs.Refusals.{group_bits, named}
-use Rattle.rules.specs.Internal.Closure.{Names}
-use Rattle.rules.proofs.Bits.{named-add, named_past, add-fits, one-fits, word_fits}
+use Rattle.rules.specs.Refusals.{named}
+use Rattle.rules.proofs.Bits.{named-add, named_past, add-fits, one-fits}
 use Rattle.rules.proofs.Groups.Dependents.{names-group}
 use Rattle.rules.proofs.Pack.Loads.{unpack-waiting}
 
@@ -38,18 +37,9 @@ pub record Marked (P : ℕ → Bool → Type 0) (t v : ℕ) : Type 0 where
   pub bits : v < 2 ^ t
   pub answers : (u : ℕ) → u < t → P u (named v u)
 
-pub marked-none : (P : ℕ → Bool → Type 0) → Marked P 0 0
-marked-none P = record { bits = omega arith; answers = λ u h. absurd (omega arith) }
-
 module _ {P : ℕ → Bool → Type 0} {t v : ℕ} (marked : Marked P t v) where
-  names : Names (named v) t v
-  names = record { bits = marked.bits; exactly = λ u h. refl }
-
   past : named v t ≡ false
   past = named_past v t t marked.bits (omega arith)
-
-  pub marked-fits : t < group_bits → (b : ℕ) → b ≡ 2 ^ t → v + b < 2 ^ group_bits
-  marked-fits = word_fits names
 
   pub marked-on : (b : ℕ) → b ≡ 2 ^ t → P t true → Marked P (t + 1) (v + b)
   marked-on b bit p = rw bit (record {

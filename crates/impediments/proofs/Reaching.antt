@@ -28,13 +28,7 @@ pub record Filling (f : ℕ → ℕ) (n u : ℕ) (l : List ℕ) : Type 0 where
   pub long : length l ≡ n
   pub filled : Filled f u l
 
-pub filling-none : (f : ℕ → ℕ) (n : ℕ) (l : List ℕ) → length l ≡ n → Filling f n 0 l
-filling-none f n l e = record { within = omega arith; long = e; filled = record { is = λ c h. absurd (omega arith) } }
-
 module _ {f : ℕ → ℕ} {n u : ℕ} {l : List ℕ} (k : Filling f n u l) where
-  pub filling-end : n ≤ u → Filled f n l
-  filling-end h = record { is = λ c b. k.filled.is c (omega arith) }
-
   pub filling-more : u < n → (r : ℕ) → r ≡ f u → Filling f n (u + 1) (set l u r)
   filling-more below r e = record { within = omega arith; long = length-set l u r ∙ k.long; filled = record { is = is } }
     where
@@ -50,12 +44,6 @@ module _ {f : ℕ → ℕ} {n u : ℕ} {l : List ℕ} (k : Filling f n u l) wher
 pub record Both (f g : ℕ → ℕ) (n u : ℕ) (l m : List ℕ) : Type 0 where
   pub first : Filling f n u l
   pub second : Filling g n u m
-
-pub pick-on : (c : Bool) (x y : ℕ) → c ≡ true → x ≡ pick c x y
-pick-on c x y e = rw e
-
-pub pick-off : (c : Bool) (x y : ℕ) → c ≡ false → y ≡ pick c x y
-pick-off c x y e = rw e
 
 -- ---- the rows
 
@@ -126,6 +114,3 @@ module _ {y : Layout} {s : State} where
       through = record { is = λ c h. f.is c h ∙ wider-is c h };
       next = record { is = λ c h. g.is c h ∙ kept-is c h };
     })
-
-  pub reached-end : {k t : ℕ} {rows nexts : List ℕ} → Reached y s k t rows nexts → k ≤ y.transactors → y.transactors ≤ k → Reached y s y.transactors t rows nexts
-  reached-end {k} {t} {rows} {nexts} r h l = let e : k ≡ y.transactors = omega arith in subst (λ (i : ℕ). Reached y s i t rows nexts) e r
