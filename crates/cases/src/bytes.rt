@@ -6,10 +6,7 @@ ghost use Rattle.octets.specs.Bytes.{every};
 pub fn get(s: &[u8], at: usize) -> u8
     ensures { result ≡ get_or s.now at 0 }
 {
-    if at < s.len() {
-        return s[at];
-    }
-    0
+    s.get(at).copied().unwrap_or(0)
 }
 
 // Writes a byte, if it stands there.
@@ -21,37 +18,25 @@ pub fn set(s: &mut [u8], at: usize, b: usize)
     }
 }
 
-// Every byte is b.
-pub(crate) fn fill(s: &mut [u8], b: usize) {
-    for i in 0..s.len() {
-        set(s, i, b);
-    }
-}
-
-// The first bytes are those of from.
+// The first bytes are those of from, and zeros follow.
 pub(crate) fn copy(s: &mut [u8], from: &[u8]) {
-    for i in 0..s.len() {
-        set(s, i, get(from, i) as usize);
-    }
+    let n = s.len().min(from.len());
+    s[..n].copy_from_slice(&from[..n]);
+    s[n..].fill(0);
 }
 
 // Whether the first bytes are those of start.
 pub fn starts_with(s: &[u8], start: &[u8]) -> bool
     ensures { result ≡ every (length start.now) (λ i. eqb (get_or s.now i 0) (get_or start.now i 0)) }
 {
-    for i in 0..start.len() {
-        if get(s, i) != start[i] {
-            return false;
-        }
-    }
-    true
+    (0..start.len()).all(|i| get(s, i) == start[i])
 }
 
 // The number of so many bytes from at on.
 pub(crate) fn packed(s: &[u8], at: usize, width: usize) -> usize {
     let mut n: usize = 0;
     for k in 0..width {
-        n = n % 16777216 * 256 + get(s, at % 4294967296 + k % 4) as usize;
+        n = n % 16777216 * 256 + usize::from(get(s, at % 4294967296 + k % 4));
     }
     n
 }

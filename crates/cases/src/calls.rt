@@ -1,18 +1,19 @@
 // Operations that call the ledger: begin, the questions, show, and the form of an image. To add one, give it a function here and its
 // letter to play, and a row to the table of vectors.
-use crate::print::{BAD, COMPARE, PRINTED, SILENT};
+use crate::print::Left;
 use crate::{bytes, numbers, print};
-use decisive::receipt;
-use rules::{Grouped, Impediment, Obstacle, Offered};
+use decisive::{Decision, receipt};
+use rules::refusals::Refusal;
+use rules::{Dependents, Impediment, Obstacle};
 use std::io;
 
 // n: a fresh session with the greatest limits.
-fn fresh(image: &mut [u8]) -> u8 {
-    bytes::fill(image, 0);
-    if ledger::begin(image, 16, 32, 15) != 0 {
-        return BAD;
+fn fresh(image: &mut [u8]) -> Left {
+    image.fill(0);
+    match ledger::begin(image, 16, 32, 15) {
+        Ok(()) => Left::Silent,
+        Err(_) => Left::Bad,
     }
-    SILENT
 }
 
 // b: begin on the image as it is, with these limits.
@@ -22,171 +23,130 @@ fn begin(
     transactors: usize,
     messages: usize,
     checkpoints: usize,
-) -> io::Result<u8> {
+) -> io::Result<Left> {
     let answer = ledger::begin(image, transactors, messages, checkpoints);
-    print::number(to, answer as usize)?;
-    Ok(COMPARE)
+    print::refusal(to, &answer)?;
+    Ok(Left::Compare)
 }
 
 // What a run of an empty list answers.
-fn form(image: &mut [u8]) -> u8 {
+fn form(image: &mut [u8]) -> Result<(), Refusal> {
     let mut none = [0u8; 0];
     ledger::run(image, &[], 0, 0, &mut none)
 }
 
 // f: the same with one byte changed, which is then changed back.
-fn changed(to: &impl Print, image: &mut [u8], at: usize, b: usize) -> io::Result<u8> {
-    let old = bytes::get(image, at) as usize;
+fn changed(to: &impl Print, image: &mut [u8], at: usize, b: usize) -> io::Result<Left> {
+    let old = usize::from(bytes::get(image, at));
     bytes::set(image, at, b);
     let answer = form(image);
     bytes::set(image, at, old);
-    print::number(to, answer as usize)?;
-    Ok(PRINTED)
+    print::refusal(to, &answer)?;
+    Ok(Left::Printed)
 }
 
 // A refusal, and a number or none.
-fn found(to: &impl Print, refusal: u8, n: u16) -> io::Result<u8> {
-    print::number(to, refusal as usize)?;
-    print::number(to, n as usize)?;
-    Ok(PRINTED)
-}
-
-fn none(to: &impl Print, refusal: u8) -> io::Result<u8> {
-    print::number(to, refusal as usize)?;
-    print::text(to, b" none")?;
-    Ok(PRINTED)
-}
-
-// o
-fn offer(to: &impl Print, image: &[u8], t: usize) -> io::Result<u8> {
-    let mut refusal: u8 = 99;
-    let o = ledger::offer(image, t, &mut refusal);
-    match o {
-        Offered::Message(m) => found(to, refusal, m),
-        Offered::Nothing => none(to, refusal),
-    }
-}
-
-// g
-fn smallest(to: &impl Print, image: &[u8], t: usize) -> io::Result<u8> {
-    let mut refusal: u8 = 99;
-    let g = queries::smallest_group(image, t, &mut refusal);
-    match g {
-        Grouped::Group(m) => found(to, refusal, m),
-        Grouped::NoGroup => none(to, refusal),
-    }
+fn found(to: &impl Print, answer: Result<Option<u16>, Refusal>) -> io::Result<Left> {
+    print::refusal(to, &answer)?;
+    match answer {
+        Ok(Some(n)) => print::number(to, usize::from(n)),
+        Ok(None) | Err(_) => to.print(" none"),
+    }?;
+    Ok(Left::Printed)
 }
 
 // q
-fn ready(to: &impl Print, image: &[u8], size: usize) -> io::Result<u8> {
-    let mut refusal: u8 = 99;
-    let n = queries::ready_count(image, size, &mut refusal);
-    print::number(to, refusal as usize)?;
-    print::number(to, n)?;
-    Ok(PRINTED)
+fn ready(to: &impl Print, image: &[u8], size: usize) -> io::Result<Left> {
+    let answer = queries::ready_count(image, size);
+    print::refusal(to, &answer)?;
+    print::number(to, answer.unwrap_or(0))?;
+    Ok(Left::Printed)
 }
 
 // a
-fn heard(to: &impl Print, image: &[u8], t: usize) -> io::Result<u8> {
-    let mut refusal: u8 = 99;
-    let yes = queries::all_heard_stable(image, t, &mut refusal);
-    print::number(to, refusal as usize)?;
-    print::truth(to, yes)?;
-    Ok(PRINTED)
+fn heard(to: &impl Print, image: &[u8], t: usize) -> io::Result<Left> {
+    let answer = queries::all_heard_stable(image, t);
+    print::refusal(to, &answer)?;
+    print::truth(to, answer.unwrap_or(false))?;
+    Ok(Left::Printed)
 }
 
+const NOBODY: Dependents = Dependents {
+    resting: 0,
+    through: 0,
+    unfinished: 0,
+    carried: 0,
+};
+
 // h: the refusal, and the four numbers.
-fn dependents(to: &impl Print, image: &[u8], t: usize) -> io::Result<u8> {
-    let mut refusal: u8 = 99;
-    let d = queries::dependents(image, t, &mut refusal);
-    print::number(to, refusal as usize)?;
-    print::number(to, d.resting as usize)?;
-    print::number(to, d.through as usize)?;
-    print::number(to, d.unfinished as usize)?;
-    print::number(to, d.carried as usize)?;
-    Ok(PRINTED)
+fn dependents(to: &impl Print, image: &[u8], t: usize) -> io::Result<Left> {
+    let answer = queries::dependents(image, t);
+    print::refusal(to, &answer)?;
+    let d = answer.unwrap_or(NOBODY);
+    print!(to; " {} {} {} {}", d.resting, d.through, d.unfinished, d.carried)?;
+    Ok(Left::Printed)
 }
 
 // y: the refusal, and what keeps the group from being signed, in the documents' words.
-fn obstacle(to: &impl Print, image: &[u8], group: usize) -> io::Result<u8> {
-    let mut refusal: u8 = 99;
-    let o = queries::obstacle(image, group, &mut refusal);
-    print::number(to, refusal as usize)?;
-    match o {
-        Obstacle::Nothing => print::text(to, b" none"),
-        Obstacle::Unstable(t) => named(to, b" not frozen", t),
-        Obstacle::Outside(t, u) => pair(to, b" outside", t, u),
-        Obstacle::SupersededOrAnnihilated(t, u) => pair(to, b" withdrawn", t, u),
+fn obstacle(to: &impl Print, image: &[u8], group: usize) -> io::Result<Left> {
+    let answer = queries::obstacle(image, group);
+    print::refusal(to, &answer)?;
+    match answer {
+        Ok(None) | Err(_) => to.print(" none"),
+        Ok(Some(Obstacle::Unstable(t))) => print!(to; " not frozen {t}"),
+        Ok(Some(Obstacle::Outside(t, u))) => print!(to; " outside {t} {u}"),
+        Ok(Some(Obstacle::SupersededOrAnnihilated(t, u))) => print!(to; " withdrawn {t} {u}"),
     }?;
-    Ok(PRINTED)
-}
-
-fn named(to: &impl Print, what: &[u8], t: u8) -> io::Result<()> {
-    print::text(to, what)?;
-    print::number(to, t as usize)
-}
-
-fn pair(to: &impl Print, what: &[u8], t: u8, u: u8) -> io::Result<()> {
-    named(to, what, t)?;
-    print::number(to, u as usize)
+    Ok(Left::Printed)
 }
 
 // e: the refusal, and what is in the way of every group with the transactor, in the documents' words.
-fn impediment(to: &impl Print, image: &[u8], t: usize) -> io::Result<u8> {
-    let mut refusal: u8 = 99;
-    let i = queries::impediment(image, t, &mut refusal);
-    print::number(to, refusal as usize)?;
-    match i {
-        Impediment::Nothing => print::text(to, b" none"),
-        Impediment::Hopeless(c, u, next) => triple(to, b" hopeless", c, u, next),
-        Impediment::Exhausted(c, next) => pair(to, b" no signing left", c, next),
-        Impediment::Unstable(c, next) => pair(to, b" not frozen", c, next),
+fn impediment(to: &impl Print, image: &[u8], t: usize) -> io::Result<Left> {
+    let answer = queries::impediment(image, t);
+    print::refusal(to, &answer)?;
+    match answer {
+        Ok(None) | Err(_) => to.print(" none"),
+        Ok(Some(Impediment::Hopeless(c, u, next))) => print!(to; " hopeless {c} {u} {next}"),
+        Ok(Some(Impediment::Exhausted(c, next))) => print!(to; " no signing left {c} {next}"),
+        Ok(Some(Impediment::Unstable(c, next))) => print!(to; " not frozen {c} {next}"),
     }?;
-    Ok(PRINTED)
+    Ok(Left::Printed)
 }
 
 // D: the refusal, the outcome that the receipt of the message would reply, and the transactor whose histories decide it.
-fn decision(to: &impl Print, image: &[u8], number: usize) -> io::Result<u8> {
-    let mut refusal: u8 = 99;
-    let d = receipt::decide(image, number, &mut refusal);
-    print::number(to, refusal as usize)?;
-    print::number(to, d.outcome)?;
-    print::number(to, d.transactor)?;
-    Ok(PRINTED)
-}
-
-fn triple(to: &impl Print, what: &[u8], t: u8, u: u8, next: u8) -> io::Result<()> {
-    pair(to, what, t, u)?;
-    print::number(to, next as usize)
+fn decision(to: &impl Print, image: &[u8], number: usize) -> io::Result<Left> {
+    let answer = receipt::decide(image, number);
+    print::refusal(to, &answer)?;
+    let d = answer.unwrap_or(Decision {
+        outcome: 0,
+        transactor: 0,
+    });
+    print!(to; " {} {}", d.outcome, d.transactor)?;
+    Ok(Left::Printed)
 }
 
 // F: the six numbers of the field that byte at belongs to.
-fn field(to: &impl Print, at: usize) -> io::Result<u8> {
+fn field(to: &impl Print, at: usize) -> io::Result<Left> {
     let f = fields::field_at(at);
-    print::number(to, f.kind as usize)?;
-    print::number(to, f.holder as usize)?;
-    print::number(to, f.map as usize)?;
-    print::number(to, f.support as usize)?;
-    print::number(to, f.entry as usize)?;
-    print::number(to, f.byte as usize)?;
-    Ok(PRINTED)
+    print!(to; " {} {} {} {} {} {}", f.kind, f.holder, f.map, f.support, f.entry, f.byte)?;
+    Ok(Left::Printed)
 }
 
 // w: the refusal, how many bytes are shown, and one of them.
-fn show(to: &impl Print, image: &[u8], number: usize, at: usize) -> io::Result<u8> {
+fn show(to: &impl Print, image: &[u8], number: usize, at: usize) -> io::Result<Left> {
     let mut refusal: u8 = 99;
     let m = ledger::show(image, number, &mut refusal);
-    print::number(to, refusal as usize)?;
-    print::number(to, m.len())?;
-    print::number(to, bytes::get(m, at) as usize)?;
-    Ok(PRINTED)
+    let shown = m.len();
+    let b = bytes::get(m, at);
+    print!(to; " {refusal} {shown} {b}")?;
+    Ok(Left::Printed)
 }
 
 // Those that leave the image as it is.
-fn ask(to: &impl Print, op: u8, image: &[u8], a: usize, b: usize) -> io::Result<u8> {
+fn ask(to: &impl Print, op: u8, image: &[u8], a: usize, b: usize) -> io::Result<Left> {
     match op {
-        b'o' => offer(to, image, a),
-        b'g' => smallest(to, image, a),
+        b'o' => found(to, ledger::offer(image, a)),
+        b'g' => found(to, queries::smallest_group(image, a)),
         b'q' => ready(to, image, a),
         b'a' => heard(to, image, a),
         b'h' => dependents(to, image, a),
@@ -198,7 +158,7 @@ fn ask(to: &impl Print, op: u8, image: &[u8], a: usize, b: usize) -> io::Result<
     }
 }
 
-pub(crate) fn play(to: &impl Print, image: &mut [u8], n: &[u8]) -> io::Result<u8> {
+pub(crate) fn play(to: &impl Print, image: &mut [u8], n: &[u8]) -> io::Result<Left> {
     let op = bytes::get(n, 0);
     let a = numbers::at(n, 1);
     let b = numbers::at(n, 2);

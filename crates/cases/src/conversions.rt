@@ -1,7 +1,8 @@
 // Operations that carry the image from the old form to the ledger's, or back: the image has another length afterwards.
-use crate::print::COMPARE;
+use crate::print::Left;
 use crate::{bytes, numbers, print};
 use image::layout::IMAGE;
+use rules::refusals::Refusal;
 use std::io;
 
 // The longest destination that a script asks for.
@@ -13,11 +14,11 @@ fn untouched(s: &[u8]) -> bool {
 }
 
 // j, k: the image forward or back.
-fn carried(op: u8, image: &[u8], target: &mut [u8]) -> u8 {
-    if op == b'j' {
-        return convert::forward(image, target);
+fn carried(op: u8, image: &[u8], target: &mut [u8]) -> Result<(), Refusal> {
+    match op {
+        b'j' => convert::forward(image, target),
+        _ => convert::back(image, target),
     }
-    convert::back(image, target)
 }
 
 // Into a destination of which every byte is 255. Prints the answer, and whether the destination changed.
@@ -28,11 +29,11 @@ fn converted(
     target: &mut [u8],
     number: usize,
 ) -> io::Result<bool> {
-    bytes::fill(target, 255);
+    target.fill(255);
     let answer = carried(op, image, target);
-    print::number(to, answer as usize)?;
-    print::finish(to, COMPARE, untouched(target), number)?;
-    Ok(answer == 0)
+    print::refusal(to, &answer)?;
+    print::finish(to, Left::Compare, untouched(target), number)?;
+    Ok(answer.is_ok())
 }
 
 // From the image of length old at the front of space into the first bytes of other, and back to space if the answer is 0. Gives the
@@ -46,11 +47,7 @@ fn moved(
     number: usize,
 ) -> io::Result<usize> {
     let length = numbers::at(n, 1);
-    if space.len() < old {
-        print::bad(to, number)?;
-        return Ok(old);
-    }
-    if other.len() < length {
+    if space.len() < old || other.len() < length {
         print::bad(to, number)?;
         return Ok(old);
     }

@@ -1,7 +1,7 @@
 // Histories, packed in the image: what the crate marks decides.
 ghost use Rattle.std.specs.Prelude.{◌<◌, ◌≤◌};
 
-use crate::print::{BAD, PRINTED, SILENT};
+use crate::print::Left;
 use crate::{bytes, numbers, print};
 use lists::limits::LAST;
 use marks::{History, Relation};
@@ -12,7 +12,7 @@ fn history(n: &[u8]) -> History {
     let mut h = History::INITIAL;
     h.stable = numbers::at(n, 2) != 0;
     h.incarnation = (numbers::at(n, 3) % 65536) as u16;
-    h.count = ((numbers::count(n) + 13) % 16) as u8;
+    h.count = ((numbers::count(n).unwrap_or(0) + 13) % 16) as u8;
     for k in 0..marks::PLACES {
         h.checkpoints[k] = (numbers::at(n, k + 4) % 65536) as u16;
     }
@@ -20,15 +20,15 @@ fn history(n: &[u8]) -> History {
 }
 
 // Stores a history from at on.
-fn store(image: &mut [u8], at: usize, h: History) -> u8
+fn store(image: &mut [u8], at: usize, h: History) -> Left
     requires { at < 4294967296 }
 {
     let n = h.count as usize;
     if image.len() < at + marks::SIZE || marks::PLACES < n {
-        return BAD;
+        return Left::Bad;
     }
     packed_histories::store(h, image, at);
-    SILENT
+    Left::Silent
 }
 
 // The history from at on; the initial one past the end.
@@ -56,7 +56,7 @@ fn advanced(op: u8, h: History) -> History {
     h
 }
 
-fn advance(op: u8, image: &mut [u8], at: usize) -> u8
+fn advance(op: u8, image: &mut [u8], at: usize) -> Left
     requires { at < 4294967296 }
 {
     let h = load(image, at);
@@ -64,7 +64,7 @@ fn advance(op: u8, image: &mut [u8], at: usize) -> u8
 }
 
 // N: the newer of the histories at a and b, from at on.
-fn newer(image: &mut [u8], a: usize, b: usize, at: usize) -> u8
+fn newer(image: &mut [u8], a: usize, b: usize, at: usize) -> Left
     requires { (a < 4294967296) × (b < 4294967296) × (at < 4294967296) }
 {
     let x = load(image, a);
@@ -110,7 +110,7 @@ fn relation(x: History, y: History) -> usize {
     x.compare(y).number() as usize
 }
 
-fn pair(to: &impl Print, op: u8, image: &[u8], a: usize, b: usize) -> io::Result<u8>
+fn pair(to: &impl Print, op: u8, image: &[u8], a: usize, b: usize) -> io::Result<Left>
     requires { (a < 4294967296) × (b < 4294967296) }
 {
     let x = load(image, a);
@@ -120,7 +120,7 @@ fn pair(to: &impl Print, op: u8, image: &[u8], a: usize, b: usize) -> io::Result
     } else {
         print::truth(to, related(op, x, y))?;
     }
-    Ok(PRINTED)
+    Ok(Left::Printed)
 }
 
 // W, P, Q: whether the bytes from at on are well-formed, a history is present in them, and it is frozen.
@@ -137,14 +137,14 @@ fn told(op: u8, image: &[u8], at: usize) -> bool
     }
 }
 
-fn ask(to: &impl Print, op: u8, image: &[u8], at: usize) -> io::Result<u8>
+fn ask(to: &impl Print, op: u8, image: &[u8], at: usize) -> io::Result<Left>
     requires { at < 4294967296 }
 {
     print::truth(to, told(op, image, at))?;
-    Ok(PRINTED)
+    Ok(Left::Printed)
 }
 
-pub(crate) fn play(to: &impl Print, image: &mut [u8], n: &[u8]) -> io::Result<u8> {
+pub(crate) fn play(to: &impl Print, image: &mut [u8], n: &[u8]) -> io::Result<Left> {
     let op = bytes::get(n, 0);
     let a = numbers::at(n, 1);
     let b = numbers::at(n, 2);

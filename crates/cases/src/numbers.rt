@@ -1,65 +1,35 @@
 // The numbers of a line, which is given up to its label: a letter, and numbers of at most nine digits, after one space each.
-ghost use Rattle.std.specs.Prelude.{◌≤◌, ◌<◌};
+ghost use Rattle.std.specs.Prelude.{◌≤◌, ◌<◌, IfSome};
 
-use crate::{bytes, print};
+use crate::bytes;
+use crate::print::Left;
 
-// How many numbers a line has that is not understood.
-pub const WRONG: usize = 60;
+// More numbers than an operation takes.
+const MANY: usize = 60;
 
-fn is_digit(c: u8) -> bool {
-    48 <= c && c <= 57
-}
-
-// How many bytes may follow up to the number's end, and one: 10 at a space before a digit; 0 where the byte c, before next, is out
+// How many bytes may follow up to the number's end, and one: 10 at a space before a digit; nothing where the byte c, before next, is out
 // of place.
-fn left_after(left: usize, c: u8, next: u8) -> usize {
-    if c == b' ' && is_digit(next) {
-        return 10;
+fn left_after(left: usize, c: u8, next: u8) -> Option<usize> {
+    if c == b' ' && next.is_ascii_digit() {
+        return Some(10);
     }
-    if is_digit(c) && 0 < left {
-        return left - 1;
+    if c.is_ascii_digit() && 1 < left {
+        return Some(left - 1);
     }
-    0
+    None
 }
 
-// 1 or 0.
-fn one_if(yes: bool) -> usize
-    ensures { result ≤ 1 }
-{
-    if yes {
-        return 1;
-    }
-    0
-}
-
-// How many they are.
-pub(crate) fn count(n: &[u8]) -> usize
-    ensures { result ≤ 60 }
+// How many they are, if the line is understood.
+pub(crate) fn count(n: &[u8]) -> Option<usize>
+    ensures { IfSome result (λ k. k < 60) }
 {
     let mut found: usize = 0;
     let mut left: usize = 1;
     for i in 1..n.len() {
-        left = left_after(left, n[i], bytes::get(n, i + 1));
-        if left == 0 {
-            return WRONG;
-        }
-        found += one_if(left == 10);
+        left = left_after(left, n[i], bytes::get(n, i + 1))?;
+        found += usize::from(left == 10);
     }
-    if WRONG < found {
-        return WRONG;
-    }
-    found
-}
-
-// The number with a further digit, if the digit is one of its own.
-fn extended(n: usize, c: u8, own: bool) -> usize
-    requires { n < 4294967296 }
-    ensures { result < 4294967296 }
-{
-    if own {
-        return n % 100000000 * 10 + (c % 16) as usize;
-    }
-    n
+    if found < MANY { Some(found) } else { None }
 }
 
 // Number k of a line, from 1 on; 0 past the last.
@@ -70,21 +40,27 @@ pub(crate) fn at(n: &[u8], k: usize) -> usize
     let mut found: usize = 0;
     for i in 1..n.len() {
         let c = n[i];
-        found += one_if(c == b' ');
-        value = extended(value, c, found == k);
+        if c == b' ' {
+            found += 1;
+        }
+        if found == k {
+            value = value % 100000000 * 10 + usize::from(c % 16);
+        }
     }
     value
 }
 
 // The numbers after the first stand from the place that this gives on.
-pub(crate) fn put(s: &mut [u8], n: &[u8]) -> u8 {
+pub(crate) fn put(s: &mut [u8], n: &[u8]) -> Left {
     let from = at(n, 1);
-    let end = count(n);
+    let Some(end) = count(n) else {
+        return Left::Bad;
+    };
     if s.len() + 1 < from + end {
-        return print::BAD;
+        return Left::Bad;
     }
     for k in 1..end {
         bytes::set(s, from + (k - 1), at(n, k + 1));
     }
-    print::SILENT
+    Left::Silent
 }

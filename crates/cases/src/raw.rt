@@ -1,20 +1,20 @@
 // Bytes of the image, by hand.
 ghost use Rattle.std.specs.Prelude.{◌<◌};
 
-use crate::print::{BAD, PRINTED, SILENT};
+use crate::print::Left;
 use crate::{bytes, numbers, print};
 use std::io;
 
 // i: an image of one byte.
-fn filled(image: &mut [u8], b: usize) -> u8 {
-    bytes::fill(image, b);
-    SILENT
+fn filled(image: &mut [u8], b: usize) -> Left {
+    image.fill((b % 256) as u8);
+    Left::Silent
 }
 
 // z: whether all bytes are zero.
-fn zero(to: &impl Print, image: &[u8]) -> io::Result<u8> {
+fn zero(to: &impl Print, image: &[u8]) -> io::Result<Left> {
     print::truth(to, octets::all_zero(image, 0, image.len()))?;
-    Ok(PRINTED)
+    Ok(Left::Printed)
 }
 
 // v: a number of so many bytes, divided by a number and modulo another, if these are given.
@@ -25,35 +25,35 @@ fn number(
     width: usize,
     by: usize,
     modulo: usize,
-) -> io::Result<u8>
+) -> io::Result<Left>
     requires { (at < 4294967296) × (width < 4294967296) }
 {
     if image.len() < at + width {
-        return Ok(BAD);
+        return Ok(Left::Bad);
     }
     let mut x = bytes::packed(image, at, width);
     if 0 < by {
-        x = x / by;
+        x /= by;
     }
     if 0 < modulo {
-        x = x % modulo;
+        x %= modulo;
     }
     print::number(to, x)?;
-    Ok(PRINTED)
+    Ok(Left::Printed)
 }
 
 // x: so many bytes from at on.
-fn row(to: &impl Print, image: &[u8], at: usize, count: usize) -> io::Result<u8>
+fn row(to: &impl Print, image: &[u8], at: usize, count: usize) -> io::Result<Left>
     requires { (at < 4294967296) × (count < 4294967296) }
 {
     if image.len() < at + count {
-        return Ok(BAD);
+        return Ok(Left::Bad);
     }
     print::row(to, image, at, count)?;
-    Ok(PRINTED)
+    Ok(Left::Printed)
 }
 
-pub(crate) fn play(to: &impl Print, image: &mut [u8], n: &[u8]) -> io::Result<u8> {
+pub(crate) fn play(to: &impl Print, image: &mut [u8], n: &[u8]) -> io::Result<Left> {
     let op = bytes::get(n, 0);
     let a = numbers::at(n, 1);
     let b = numbers::at(n, 2);

@@ -1,7 +1,8 @@
 // Operations that run steps, one or a list, by the ledger or by the engine, or thin a list.
-use crate::print::{BAD, CHANGED, COMPARE, PRINTED, SILENT};
+use crate::print::Left;
 use crate::{bytes, numbers, print};
 use std::io;
+use window::Worst;
 
 // The longest list, and the most replies.
 pub const LIST: usize = 8208;
@@ -24,12 +25,12 @@ fn packed(n: &[u8]) -> [u8; 8] {
 }
 
 // s, r: runs a step so often.
-fn repeat(image: &mut [u8], list: &[u8], times: usize) -> u8 {
+fn repeat(image: &mut [u8], list: &[u8], times: usize) -> Left {
     let mut replies = [0u8; 8];
     for _ in 0..times {
-        ledger::run(image, list, 0, 8, &mut replies);
+        let _ = ledger::run(image, list, 0, 8, &mut replies);
     }
-    SILENT
+    Left::Silent
 }
 
 fn reply(to: &impl Print, r: &[u8]) -> io::Result<()> {
@@ -40,11 +41,11 @@ fn reply(to: &impl Print, r: &[u8]) -> io::Result<()> {
 }
 
 // c: runs a step, and prints its reply.
-fn step(to: &impl Print, image: &mut [u8], list: &[u8]) -> io::Result<u8> {
+fn step(to: &impl Print, image: &mut [u8], list: &[u8]) -> io::Result<Left> {
     let mut replies = [0u8; 8];
-    ledger::run(image, list, 0, 8, &mut replies);
+    let _ = ledger::run(image, list, 0, 8, &mut replies);
     reply(to, &replies)?;
-    Ok(COMPARE)
+    Ok(Left::Compare)
 }
 
 // Runs a part of a list, with zeros for the replies; prints the answer.
@@ -55,13 +56,13 @@ fn run(
     start: usize,
     end: usize,
     replies: &mut [u8],
-) -> io::Result<u8> {
+) -> io::Result<Left> {
     let answer = ledger::run(image, list, start, end, replies);
-    print::number(to, answer as usize)?;
+    print::refusal(to, &answer)?;
     if octets::all_zero(replies, 0, replies.len()) {
-        return Ok(COMPARE);
+        return Ok(Left::Compare);
     }
-    Ok(CHANGED)
+    Ok(Left::Changed)
 }
 
 // The short list of a part, in a buffer of which every byte was 255: prints the refusal, how many steps are kept, and so many bytes of the
@@ -74,19 +75,18 @@ fn thinned(
     end: usize,
     out: &mut [u8],
     shown: usize,
-) -> io::Result<u8> {
-    bytes::fill(out, 255);
-    let mut refusal: u8 = 255;
-    let kept = thin::thin(image, list, start, end, out, &mut refusal);
-    print::number(to, refusal as usize)?;
-    print::number(to, kept)?;
+) -> io::Result<Left> {
+    out.fill(255);
+    let kept = thin::thin(image, list, start, end, out);
+    print::refusal(to, &kept)?;
+    print::number(to, kept.unwrap_or(0))?;
     print::row(to, out, 0, shown)?;
-    Ok(PRINTED)
+    Ok(Left::Printed)
 }
 
 // The engine on a whole list, with replies of which every byte was 255: prints the answer, and so many bytes of the replies.
-fn chained(to: &impl Print, list: &[u8], replies: &mut [u8], n: &[u8]) -> io::Result<u8> {
-    bytes::fill(replies, 255);
+fn chained(to: &impl Print, list: &[u8], replies: &mut [u8], n: &[u8]) -> io::Result<Left> {
+    replies.fill(255);
     let answer = engine::play(
         list,
         replies,
@@ -94,9 +94,9 @@ fn chained(to: &impl Print, list: &[u8], replies: &mut [u8], n: &[u8]) -> io::Re
         numbers::at(n, 2),
         numbers::at(n, 3),
     );
-    print::number(to, answer as usize)?;
+    print::refusal(to, &answer)?;
     print::row(to, replies, 0, numbers::at(n, 6))?;
-    Ok(PRINTED)
+    Ok(Left::Printed)
 }
 
 // Runs or thins a part, or plays the whole list by the engine.
@@ -106,7 +106,7 @@ fn listed(
     list: &[u8],
     buffer: &mut [u8],
     n: &[u8],
-) -> io::Result<u8> {
+) -> io::Result<Left> {
     let start = numbers::at(n, 1);
     let end = numbers::at(n, 2);
     let op = bytes::get(n, 0);
@@ -125,42 +125,39 @@ fn part(
     n: &[u8],
     length: usize,
     room: usize,
-) -> io::Result<u8> {
-    if list.len() < length {
-        return Ok(BAD);
-    }
-    if LIST < room {
-        return Ok(BAD);
+) -> io::Result<Left> {
+    if list.len() < length || LIST < room {
+        return Ok(Left::Bad);
     }
     let mut buffer = [0u8; LIST];
     listed(to, image, &list[..length], &mut buffer[..room], n)
 }
 
 // m: puts a step in the list.
-fn put(list: &mut [u8], n: &[u8]) -> u8 {
+fn put(list: &mut [u8], n: &[u8]) -> Left {
     let at = numbers::at(n, 6);
     if list.len() < at + 8 {
-        return BAD;
+        return Left::Bad;
     }
     octets::store32(list, at, head(n));
     octets::store32(list, at + 4, numbers::at(n, 5) as u32);
-    SILENT
+    Left::Silent
 }
 
 // t: the worst window of a list of so many bytes of replies.
-fn worst(to: &impl Print, list: &[u8], length: usize, width: usize) -> io::Result<u8> {
+fn worst(to: &impl Print, list: &[u8], length: usize, width: usize) -> io::Result<Left> {
     if list.len() < length {
-        return Ok(BAD);
+        return Ok(Left::Bad);
     }
-    let mut refusal: u8 = 99;
-    let w = window::worst_window(&list[..length], width, &mut refusal);
-    print::number(to, refusal as usize)?;
+    let answer = window::worst_window(&list[..length], width);
+    print::refusal(to, &answer)?;
+    let w = answer.unwrap_or(Worst { count: 0, place: 0 });
     print::number(to, w.count)?;
     print::number(to, w.place)?;
-    Ok(PRINTED)
+    Ok(Left::Printed)
 }
 
-fn steps(to: &impl Print, op: u8, image: &mut [u8], n: &[u8]) -> io::Result<u8> {
+fn steps(to: &impl Print, op: u8, image: &mut [u8], n: &[u8]) -> io::Result<Left> {
     let list = packed(n);
     match op {
         b's' => Ok(repeat(image, &list, 1)),
@@ -170,13 +167,12 @@ fn steps(to: &impl Print, op: u8, image: &mut [u8], n: &[u8]) -> io::Result<u8> 
 }
 
 // Plays an operation: the image, the list that lines build, and the line up to its label.
-pub(crate) fn play(to: &impl Print, image: &mut [u8], list: &mut [u8], n: &[u8]) -> io::Result<u8> {
+pub(crate) fn play(to: &impl Print, image: &mut [u8], list: &mut [u8], n: &[u8]) -> io::Result<Left> {
     let op = bytes::get(n, 0);
     match op {
         b'l' => Ok(numbers::put(list, n)),
         b'm' => Ok(put(list, n)),
-        b'u' => part(to, image, list, n, numbers::at(n, 3), numbers::at(n, 4)),
-        b'd' => part(to, image, list, n, numbers::at(n, 3), numbers::at(n, 4)),
+        b'u' | b'd' => part(to, image, list, n, numbers::at(n, 3), numbers::at(n, 4)),
         b'G' => part(to, image, list, n, numbers::at(n, 4), numbers::at(n, 5)),
         b't' => worst(to, list, numbers::at(n, 1), numbers::at(n, 2)),
         _ => steps(to, op, image, n),

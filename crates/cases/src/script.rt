@@ -1,4 +1,6 @@
 // A script, played line by line.
+use crate::forms::Group;
+use crate::print::Left;
 use crate::{
     bytes, calls, conversions, dependences, forms, histories, lines, numbers, print, raw, runs,
 };
@@ -8,32 +10,28 @@ use std::io;
 // The bytes of an image, and of the longest that a script asks for.
 pub const ROOM: usize = IMAGE + 1;
 
-// The operations: each letter, the least and the most numbers that it takes, from 0 on, its group, and a space. (B is 18, H is 24.)
-const FORMS: [u8; 220] =
-    *b"n00c i22b b33c z00b p2Hb v24b x22b f22c s55r r66r c55r l2Hr m66r u44r d55r G66r t22r o11c g11c q11c a11c h11c y11c e11c D11c F11c w22c j11v k11v H3Bh Z11h R11h K11h N33h S22h C22h I22h T22h W11h P11h Q11h J33m E11m M33m ";
-
 // Plays an operation of a group: bytes, histories, maps, calls, runs.
 fn operation(
     to: &impl Print,
-    group: u8,
+    group: Option<Group>,
     image: &mut [u8],
     list: &mut [u8],
     n: &[u8],
-) -> io::Result<u8> {
+) -> io::Result<Left> {
     match group {
-        b'b' => raw::play(to, image, n),
-        b'h' => histories::play(to, image, n),
-        b'm' => dependences::play(to, image, n),
-        b'c' => calls::play(to, image, n),
-        b'r' => runs::play(to, image, list, n),
-        _ => Ok(print::BAD),
+        Some(Group::Bytes) => raw::play(to, image, n),
+        Some(Group::Histories) => histories::play(to, image, n),
+        Some(Group::Maps) => dependences::play(to, image, n),
+        Some(Group::Calls) => calls::play(to, image, n),
+        Some(Group::Runs) => runs::play(to, image, list, n),
+        Some(Group::Conversions) | None => Ok(Left::Bad),
     }
 }
 
 // Plays an operation on the image, and prints what it left to print.
 fn perform(
     to: &impl Print,
-    group: u8,
+    group: Option<Group>,
     image: &mut [u8],
     list: &mut [u8],
     n: &[u8],
@@ -64,8 +62,8 @@ fn numbered(
     n: &[u8],
     number: usize,
 ) -> io::Result<usize> {
-    let group = forms::group(&FORMS, n);
-    if group == b'v' {
+    let group = forms::group_of(n);
+    if let Some(Group::Conversions) = group {
         return conversions::play(to, space, old, n, number);
     }
     let length = image_length(n, old);
@@ -79,8 +77,7 @@ fn numbered(
 
 // Whether a line has an operation.
 fn skipped(s: &[u8]) -> bool {
-    let op = bytes::get(s, 0);
-    op == 0 || op == b'#'
+    matches!(bytes::get(s, 0), 0 | b'#')
 }
 
 // Plays a line, and gives the image's length from then on.
@@ -95,21 +92,16 @@ fn line(
     if skipped(s) {
         return Ok(old);
     }
-    let end = lines::numbers_end(s);
-    print::label(to, lines::label(s, end))?;
-    numbered(to, space, list, old, &s[..end], number)
+    let (n, label) = lines::parts(s);
+    print::label(to, label)?;
+    numbered(to, space, list, old, n, number)
 }
 
 // Plays all lines, one after the other.
 pub fn play(to: &impl Print, space: &mut [u8], list: &mut [u8], s: &[u8]) -> io::Result<()> {
     let mut old: usize = 0;
-    let mut number: usize = 1;
-    let mut at: usize = 0;
-    while at < s.len() {
-        let end = lines::line_end(s, at);
-        old = line(to, space, list, old, &s[at..end], number)?;
-        at = end + 1;
-        number += 1;
+    for (i, ended) in s.split_inclusive(|b| *b == b'\n').enumerate() {
+        old = line(to, space, list, old, lines::without_end(ended), i + 1)?;
     }
     Ok(())
 }

@@ -5,8 +5,8 @@
 // The lines of the file stdout were not made by this program: they were written by hand.
 #![tactic(auto)]
 
-use cases::lines::line_end;
-use cases::{bytes, print};
+use cases::lines::without_end;
+use cases::print;
 use lines::Line;
 use notation::Fault;
 use std::io;
@@ -20,19 +20,19 @@ const LIST: usize = 80;
 
 const BEFORE: u8 = 238;
 
-fn byte_of(c: u8) -> usize {
+fn byte_of(c: u8) -> u8 {
     match c {
-        b'/' => 10,
-        b'^' => 9,
-        b'~' => 13,
-        _ => c as usize,
+        b'/' => b'\n',
+        b'^' => b'\t',
+        b'~' => b'\r',
+        _ => c,
     }
 }
 
 // The case as a text.
 fn decode(text: &mut [u8], line: &[u8]) {
-    for i in 0..line.len() {
-        bytes::set(text, i, byte_of(line[i]));
+    for (byte, c) in text.iter_mut().zip(line) {
+        *byte = byte_of(*c);
     }
 }
 
@@ -50,9 +50,8 @@ fn tell(to: &impl Print, fault: Fault) -> io::Result<()> {
 
 // Whether the list is as it was.
 fn compare(to: &impl Print, list: &[u8]) -> io::Result<()> {
-    let before = [BEFORE; LIST];
-    if !bytes::starts_with(list, &before) {
-        print::text(to, b", list changed")?;
+    if list != [BEFORE; LIST].as_slice() {
+        to.print(", list changed")?;
     }
     Ok(())
 }
@@ -69,10 +68,7 @@ fn play(to: &impl Print, text: &[u8], list: &mut [u8]) -> io::Result<()> {
 
 fn case(to: &impl Print, line: &[u8]) -> io::Result<()> {
     let n = line.len();
-    if TEXT < n {
-        return Ok(());
-    }
-    if bytes::get(line, 0) == b'=' {
+    if TEXT < n || line.starts_with(b"=") {
         return Ok(());
     }
     let mut text = [0u8; TEXT];
@@ -80,16 +76,13 @@ fn case(to: &impl Print, line: &[u8]) -> io::Result<()> {
     let mut list = [BEFORE; LIST];
     print::label(to, line)?;
     play(to, &text[..n], &mut list)?;
-    print::text(to, b"\n")
+    to.print("\n")
 }
 
 // One case after the other.
 fn cases(to: &impl Print, s: &[u8]) -> io::Result<()> {
-    let mut at: usize = 0;
-    while at < s.len() {
-        let end = line_end(s, at);
-        case(to, &s[at..end])?;
-        at = end + 1;
+    for line in s.split_inclusive(|b| *b == b'\n') {
+        case(to, without_end(line))?;
     }
     Ok(())
 }

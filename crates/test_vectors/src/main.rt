@@ -3,7 +3,7 @@
 // lines of the file stdout were not made by this program: they come from the documents, by hand, or from an independent model.
 //
 // To add a case, add its line to stdin and what it should print to stdout: no proof changes. To add an operation, write its function
-// in the crate cases, with its letter in the play of its group, and give it a row of script::FORMS.
+// in the crate cases, with its letter in the play of its group, and give it a row of forms::FORMS.
 #![tactic(auto)]
 
 use cases::{runs, script};

@@ -1,16 +1,12 @@
--- A byte that differs, and one that is the same.
-use Rattle.std.proofs.Common.{rules}
-use Rattle.octets.proofs.Zero.{held_none}
-use Rattle.cases.proofs.Past.{other_byte, same_byte}
+-- Byte by byte.
+use Rattle.std.proofs.Common.{rules, arith, refl, ◌∙◌, ℕ, Bool, eqb, length, get_or}
+use Rattle.std.proofs.lemmas.Iterator.{YieldsList-from_range}
+use Rattle.std.proofs.lemmas.Iterator.Search.{all_from_yields_List}
+use borrow.Author.Tests.{tests}
+use Rattle.octets.proofs.Ranges.{all-ranged}
 use Rattle.cases.proofs.bytes.starts_with.Goals as goal
 
-pub loop-i-init : goal.loop-i-init
-loop-i-init c = held_none _ _
-
-pub returns-then-get-start : goal.returns-then-get-start
-returns-then-get-start c =
-    other_byte c.args.s.now c.args.start.now c.loop-i.i c.get.result c.loop-i.invariant (search rules) c.get.ensures c.if-get-start.true
-
-pub loop-i-preserved : goal.loop-i-preserved
-loop-i-preserved c =
-    same_byte c.args.s.now c.args.start.now c.loop-i.i c.get.result c.loop-i.invariant (search rules) c.get.ensures c.if-get-start.false
+pub returns : goal.returns
+returns c =
+    let P : ℕ → Bool = λ i. eqb (get_or c.args.s.now i 0) (get_or c.args.start.now i 0) in
+    all_from_yields_List P _ _ c.all.result c.all.ensures.ran (YieldsList-from_range 0 (length c.args.start.now) (length c.args.start.now) refl (omega arith)) (λ x b q k. search (rules, tests)) ∙ all-ranged P (length c.args.start.now)
