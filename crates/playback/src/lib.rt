@@ -6,7 +6,7 @@ ghost use Rattle.std.specs.Prelude.{◌+◌, ◌*◌, ◌^◌, ◌≤◌, ◌<�
 
 use image::layout::IMAGE;
 use itoa::Buffer;
-use lists::LONGEST;
+use lists::{LONGEST, packed};
 use std::io;
 use std::io::Read;
 
@@ -44,24 +44,17 @@ fn put_number(out: &mut [u8], at: usize, n: u64, after: u8) -> usize
     at + k + 1
 }
 
-fn wide(x: u8) -> u64 {
-    x as u64
-}
-
 // Writes the line of the reply at from; answers the place after it.
 fn put_line(out: &mut [u8], at: usize, step: u64, replies: &[u8], from: usize) -> usize
     requires { (at + 105 ≤ length out.old) × (from + 8 ≤ length replies.now) }
     ensures { result ≤ at + 105 }
 {
-    let outcome = wide(replies[from]);
-    let transactor = wide(replies[from + 1]);
-    let message = octets::load16(replies, from + 2);
-    let value = octets::load32(replies, from + 4);
+    let r = packed::decode_reply(replies, from);
     let a = put_number(out, at, step, b' ');
-    let b = put_number(out, a, outcome, b' ');
-    let c = put_number(out, b, transactor, b' ');
-    let d = put_number(out, c, message as u64, b' ');
-    put_number(out, d, value as u64, b'\n')
+    let b = put_number(out, a, u64::from(r.outcome), b' ');
+    let c = put_number(out, b, u64::from(r.transactor), b' ');
+    let d = put_number(out, c, u64::from(r.message), b' ');
+    put_number(out, d, u64::from(r.value), b'\n')
 }
 
 // Writes the lines of the first n replies, to the steps after those done; answers the place after them.
@@ -89,7 +82,7 @@ fn play(
     requires { (length replies.old ≤ 8192) × (length out.old ≡ 107520) × (done + 1024 < 2 ^ 64) }
 {
     let end = replies.len();
-    ledger::run(image, list, 0, end, replies);
+    let _ = ledger::run(image, list, 0, end, replies);
     let k = put_lines(out, replies, end / 8, done);
     to.write_all(&out[..k])
 }
@@ -127,7 +120,7 @@ pub fn replay(rt: &(impl Input + Print)) -> io::Result<()> {
     let mut from = rt.reader();
     let mut space = [0u8; IMAGE];
     let image: &mut [u8] = &mut space;
-    ledger::begin(image, 16, 32, 15);
+    let _ = ledger::begin(image, 16, 32, 15);
     for parts in 0..PARTS {
         if !turn(&mut from, rt, image, STEPS * parts)? {
             break;
