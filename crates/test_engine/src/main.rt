@@ -8,8 +8,6 @@
 // independent model of documents 01 and 02 gave the replies to the same lists.
 #![tactic(auto)]
 
-ghost use Rattle.std.specs.Prelude.{◌≤◌, ◌<◌};
-
 use image::layout::IMAGE;
 use lists::STEP;
 use std::io;
@@ -22,42 +20,25 @@ const LIST: usize = 8192;
 
 const LIMITS: usize = 8;
 
-fn print(to: &impl Print, n: u64, after: &str) -> io::Result<()> {
-    print!(to; "{n}{after}")
-}
-
-// 1 if the outcome or refusal is from low up to high, else 0.
-fn within(outcome: u8, low: u8, high: u8) -> u64
-    ensures { result ≤ 1 }
-{
-    if low <= outcome && outcome < high {
-        return 1;
-    }
-    0
-}
-
 // How many replies have an outcome or a refusal from low up to high.
-fn count(replies: &[u8], low: u8, high: u8) -> u64 {
-    let mut n: u64 = 0;
-    for i in 0..replies.len() / STEP {
-        n += within(replies[STEP * i], low, high);
-    }
-    n
+fn count(replies: &[u8], low: u8, high: u8) -> usize {
+    replies
+        .iter()
+        .step_by(STEP)
+        .filter(|outcome| low <= **outcome && **outcome < high)
+        .count()
 }
 
 // The first byte at which they differ, or the length of the shorter.
 fn difference(a: &[u8], b: &[u8]) -> usize {
-    let end = a.len().min(b.len());
-    for i in 0..end {
-        if a[i] != b[i] {
-            return i;
-        }
-    }
-    end
+    a.iter()
+        .zip(b)
+        .position(|(x, y)| *x != *y)
+        .unwrap_or(a.len().min(b.len()))
 }
 
 fn share(to: &impl Print, replies: &[u8], low: u8, high: u8, after: &str) -> io::Result<()> {
-    print(to, count(replies, low, high), after)
+    print!(to; "{}{after}", count(replies, low, high))
 }
 
 fn outcomes(to: &impl Print, replies: &[u8]) -> io::Result<()> {
@@ -75,21 +56,7 @@ fn verdict(to: &impl Print, replies: &[u8], others: &[u8]) -> io::Result<()> {
     if at == replies.len() && at == others.len() {
         return to.println("all replies equal");
     }
-    to.print("they differ at step ")?;
-    print(to, (at / STEP) as u64 + 1, "\n")
-}
-
-fn title(
-    to: &impl Print,
-    transactors: usize,
-    messages: usize,
-    checkpoints: usize,
-    steps: usize,
-) -> io::Result<()> {
-    print(to, transactors as u64, " ")?;
-    print(to, messages as u64, " ")?;
-    print(to, checkpoints as u64, ": ")?;
-    print(to, steps as u64, " steps, ")
+    print!(to; "they differ at step {}\n", at / STEP + 1)
 }
 
 // One list, by both. The rooms for the replies differ, so that a refused list is not taken for equal replies.
@@ -103,27 +70,22 @@ fn play(
     let mut image = [0u8; IMAGE];
     let mut replies = [255u8; LIST];
     let mut others = [254u8; LIST];
-    ledger::begin(&mut image, transactors, messages, checkpoints);
-    ledger::run(&mut image, list, 0, list.len(), &mut replies);
-    engine::play(list, &mut others, transactors, messages, checkpoints);
+    let _ = ledger::begin(&mut image, transactors, messages, checkpoints);
+    let _ = ledger::run(&mut image, list, 0, list.len(), &mut replies);
+    let _ = engine::play(list, &mut others, transactors, messages, checkpoints);
     outcomes(to, &replies)?;
     verdict(to, &replies, &others)
-}
-
-fn wide(x: u8) -> usize
-    ensures { result < 256 }
-{
-    x as usize
 }
 
 // The next list of the input, with these limits.
 fn play_with(from: &mut impl Read, to: &impl Print, limits: &[u8; LIMITS]) -> io::Result<()> {
     let mut list = [0u8; LIST];
     reading::read_full(from, &mut list)?;
-    let transactors = wide(limits[0]);
-    let messages = wide(limits[1]);
-    let checkpoints = wide(limits[2]);
-    title(to, transactors, messages, checkpoints, list.len() / STEP)?;
+    let transactors = usize::from(limits[0]);
+    let messages = usize::from(limits[1]);
+    let checkpoints = usize::from(limits[2]);
+    let steps = list.len() / STEP;
+    print!(to; "{transactors} {messages} {checkpoints}: {steps} steps, ")?;
     play(to, &list, transactors, messages, checkpoints)
 }
 

@@ -23,24 +23,14 @@ const PARTS: usize = 80;
 
 const INPUT: usize = PART * PARTS;
 
-fn wide(x: u8) -> u32
-    ensures { result < 256 }
-{
-    x as u32
-}
-
 fn adler32(s: &[u8]) -> u32 {
     let mut a: u32 = 1;
     let mut b: u32 = 0;
     for x in s {
-        a = (a + wide(*x)) % 65521;
+        a = (a + u32::from(*x)) % 65521;
         b = (b + a) % 65521;
     }
     b * 65536 + a
-}
-
-fn print(to: &impl Print, n: u64, after: &str) -> io::Result<()> {
-    print!(to; "{n}{after}")
 }
 
 // The line of step, which the last reply answers.
@@ -49,13 +39,12 @@ fn line(to: &impl Print, step: u64, replies: &[u8], image: &[u8]) -> io::Result<
         return Ok(());
     }
     let at = replies.len() - 8;
-    print(to, step, " ")?;
-    print(to, wide(replies[at]) as u64, " ")?;
-    print(to, wide(replies[at + 1]) as u64, " ")?;
-    print(to, octets::load16(replies, at + 2) as u64, " ")?;
-    print(to, octets::load32(replies, at + 4) as u64, " ")?;
-    print(to, adler32(replies) as u64, " ")?;
-    print(to, adler32(image) as u64, "\n")
+    let outcome = replies[at];
+    let transactor = replies[at + 1];
+    let message = octets::load16(replies, at + 2);
+    let value = octets::load32(replies, at + 4);
+    print!(to; "{step} {outcome} {transactor} {message} {value} ")?;
+    print!(to; "{} {}\n", adler32(replies), adler32(image))
 }
 
 // Before the first part of a session: a fresh image, of every fourth session with number 65,280 next.
@@ -63,7 +52,7 @@ fn begin(image: &mut [u8], i: usize) {
     if i % SESSION != 0 {
         return;
     }
-    ledger::begin(image, 16, 32, 15);
+    let _ = ledger::begin(image, 16, 32, 15);
     if i / SESSION % 4 == 3 && 1 < image.len() {
         image[1] = 255;
     }
@@ -80,7 +69,7 @@ fn play(
     requires { i < 80 }
 {
     let start = PART * i;
-    ledger::run(image, list, start, start + PART, replies);
+    let _ = ledger::run(image, list, start, start + PART, replies);
     line(to, STEPS * (i as u64 + 1), replies, image)
 }
 
