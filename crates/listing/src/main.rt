@@ -5,7 +5,7 @@
 ghost use Rattle.std.specs.Prelude.{◌≡◌, length};
 
 use image::layout::IMAGE;
-use lines::{Line, ROOM};
+use lines::Line;
 use lists::LONGEST;
 use std::io;
 use std::io::Read;
@@ -18,23 +18,18 @@ const PARTS: u64 = 0x4_0000_0000_0000;
 
 // A line without its LF.
 fn cut(l: Line) -> Line {
-    let n = l.len;
-    if n == 0 {
-        return l;
+    Line {
+        len: l.len.saturating_sub(1),
+        ..l
     }
-    let mut r = l;
-    r.len = n - 1;
-    r
 }
 
 // One line behind the other.
 fn append(a: Line, b: Line) -> Line {
-    let n = b.len;
-    let bytes = b.bytes;
-    if ROOM < n {
-        return a;
+    match b.bytes.get(..b.len) {
+        Some(bytes) => a.word(bytes),
+        None => a,
     }
-    a.word(&bytes[..n])
 }
 
 // Step i and its reply.
@@ -57,7 +52,7 @@ fn lines(to: &impl Print, list: &[u8], replied: &[u8], n: usize) -> io::Result<b
 // Runs as many steps of the list as there is room for replies, and lists them.
 fn play(to: &impl Print, image: &mut [u8], list: &[u8], replied: &mut [u8]) -> io::Result<bool> {
     let end = replied.len();
-    ledger::run(image, list, 0, end, replied);
+    let _ = ledger::run(image, list, 0, end, replied);
     lines(to, list, replied, end / 8)
 }
 
@@ -89,7 +84,7 @@ fn main(rt: HostRuntime) -> io::Result<()> {
     let mut from = rt.reader();
     let mut space = [0u8; IMAGE];
     let image: &mut [u8] = &mut space;
-    ledger::begin(image, 16, 32, 15);
+    let _ = ledger::begin(image, 16, 32, 15);
     for _ in 0..PARTS {
         if !turn(&mut from, &rt, image)? {
             break;
