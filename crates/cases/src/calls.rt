@@ -83,7 +83,10 @@ fn dependents(to: &impl Print, image: &[u8], t: usize) -> io::Result<Left> {
     let answer = queries::dependents(image, t);
     print::refusal(to, &answer)?;
     let d = answer.unwrap_or(NOBODY);
-    print!(to; " {} {} {} {}", d.resting, d.through, d.unfinished, d.carried)?;
+    print!(to;
+        " {} {} {} {}",
+        d.resting, d.through, d.unfinished, d.carried
+    )?;
     Ok(Left::Printed)
 }
 
@@ -128,7 +131,10 @@ fn decision(to: &impl Print, image: &[u8], number: usize) -> io::Result<Left> {
 // F: the six numbers of the field that byte at belongs to.
 fn field(to: &impl Print, at: usize) -> io::Result<Left> {
     let f = fields::field_at(at);
-    print!(to; " {} {} {} {} {} {}", f.kind, f.holder, f.map, f.support, f.entry, f.byte)?;
+    print!(to;
+        " {} {} {} {} {} {}",
+        f.kind, f.holder, f.map, f.support, f.entry, f.byte
+    )?;
     Ok(Left::Printed)
 }
 

@@ -1,8 +1,10 @@
 // A line's parts: the letter and numbers, each after a space, and then, after a space, a bar and a space, the label.
-ghost use Rattle.std.specs.Prelude.{◌≡◌, filter};
+ghost use Rattle.std.specs.Prelude.{◌≡◌, ◌≤◌, filter, length};
 
 // A line without the LF that ends it.
-pub fn without_end(s: &[u8]) -> &[u8] {
+pub fn without_end(s: &[u8]) -> &[u8]
+    ensures { length result.now ≤ length s.now }
+{
     match s.split_last() {
         Some((b'\n', line)) => line,
         _ => s,

@@ -167,7 +167,12 @@ fn steps(to: &impl Print, op: u8, image: &mut [u8], n: &[u8]) -> io::Result<Left
 }
 
 // Plays an operation: the image, the list that lines build, and the line up to its label.
-pub(crate) fn play(to: &impl Print, image: &mut [u8], list: &mut [u8], n: &[u8]) -> io::Result<Left> {
+pub(crate) fn play(
+    to: &impl Print,
+    image: &mut [u8],
+    list: &mut [u8],
+    n: &[u8],
+) -> io::Result<Left> {
     let op = bytes::get(n, 0);
     match op {
         b'l' => Ok(numbers::put(list, n)),

@@ -173,11 +173,7 @@ pub extern "C" fn ledger_ready_count(image: &[u8], size: usize, refusal: &mut u8
 pub extern "C" fn ledger_all_heard_stable(image: &[u8], transactor: usize, refusal: &mut u8) -> u8
     ensures { (refusal.new ≡ query_refusal base image.now transactor) × (result ≡ number_for (heard_answer base image.now transactor)) }
 {
-    u8::from(told(
-        queries::all_heard_stable(image, transactor),
-        refusal,
-        false,
-    ))
+    u8::from(told(queries::all_heard_stable(image, transactor), refusal, false))
 }
 
 // Who rests on the transactor's present incarnation, directly and through others, who is busy with it, and how many waiting messages carry

@@ -25,6 +25,8 @@ returns c =
     let e : c.from.result ≡ bool_byte c.told.result = c.from.ensures in
     let s = said _ _ c.told.ensures.answer in (
       omega (arith, e, one_or_less c.told.result),
-      (c.told.ensures.number ∙ c.independent.ensures.0,
-      subst (IndependentAnswer base _ _ _) (sym s ∙ told-by c.told.result ∙ ap (λ (n : ℕ). eqb n 1) (sym e)) c.independent.ensures.1),
+      (
+        c.told.ensures.number ∙ c.independent.ensures.0,
+        subst (IndependentAnswer base _ _ _) (sym s ∙ told-by c.told.result ∙ ap (λ (n : ℕ). eqb n 1) (sym e)) c.independent.ensures.1,
+      ),
     )
