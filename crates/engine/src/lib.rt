@@ -57,7 +57,7 @@ fn advance(list: &[u8], replies: &[u8], i: usize, x: Operands, p: Step) -> Resul
         Ok(Kind::New) => turns::new(x, p),
         Ok(Kind::Send) => turns::send(x, p),
         Ok(Kind::Lose) => turns::lose(x, p),
-        Ok(kind) => turns::local(x, p, kind),
+        Ok(_) => turns::local(x, p),
         Err(_) => Err(Refusal::Malformed),
     }
 }
@@ -99,7 +99,7 @@ fn play_steps(list: &[u8], transactors: u8, messages: u8, checkpoints: u8, repli
         let from = STEP * i;
         let p = packed::decode(list, from);
         if p.kind == Kind::Sign.number() {
-            let u = turns::group_answered(rows, sign(list, replies, i, x, rows, p));
+            let u = turns::group_played(rows, sign(list, replies, i, x, rows, p));
             rows = u.rows;
             packed::encode(replies, from, u.reply);
         } else {
@@ -107,7 +107,7 @@ fn play_steps(list: &[u8], transactors: u8, messages: u8, checkpoints: u8, repli
             let slot = slots[k];
             let t = places::subject(p, slot);
             let o = Operands::of(x, t, rows[t], slot);
-            let u = turns::answered(o, advance(list, replies, i, o, p));
+            let u = turns::played(o, advance(list, replies, i, o, p));
             let left = u.operands;
             x = left.register;
             rows[left.at] = left.row;

@@ -6,3 +6,4 @@ pub mod Views
 mod Applied
 pub mod Outcomes
 mod Refused
+mod Told

@@ -1,7 +1,7 @@
 // What steps do to one transactor, and a signing to those of a group.
 ghost use Rattle.std.specs.Prelude.{◌≡◌, false, not, ◌<◌, ◌≤◌, leb};
 ghost use Rattle.octets.specs.Bytes.{◌and◌};
-ghost use Rattle.rules.specs.Numbers.{kind_number, outcome_number};
+ghost use Rattle.rules.specs.Numbers.{outcome_number};
 ghost use Rattle.rules.specs.Step.{read, fall};
 ghost use Rattle.engine_tables.specs.Internal.Tables.{row_stays, opened_row, rollback_row, local_row, receive_row};
 ghost use Rattle.engine_tables.specs.Internal.Register.{checkpointed_row, CheckpointedRows, Fits, Room};
@@ -86,30 +86,30 @@ fn rollback(x: Row) -> RowEffect
 
 // Kinds 5 to 10.
 #[tactic(auto, unfolding(crate::specs::Internal::Tables::local_row, crate::specs::Internal::Tables::write_row, crate::specs::Internal::Tables::freeze_row))]
-pub fn local(mut x: Row, kind: Kind, value: u32) -> RowEffect
-    requires { (read ≤ kind_number kind) × (leb fall (kind_number kind) and not x.stable and last_row x ≡ false) }
-    ensures { result ≡ local_row (kind_number kind) value x }
+pub fn local(mut x: Row, kind: u8, value: u32) -> RowEffect
+    requires { (read ≤ kind) × (leb fall kind and not x.stable and last_row x ≡ false) }
+    ensures { result ≡ local_row kind value x }
 {
-    match kind {
-        Kind::Read => RowEffect {
+    match Kind::try_from(kind) {
+        Ok(Kind::Read) => RowEffect {
             outcome: Outcome::Done.number(),
             value: x.value,
             row: x,
         },
-        Kind::Write if x.stable => stays(Outcome::Held, x),
-        Kind::Write => {
+        Ok(Kind::Write) if x.stable => stays(Outcome::Held, x),
+        Ok(Kind::Write) => {
             x.value = value;
             stays(Outcome::Done, x)
         }
-        Kind::Freeze => {
+        Ok(Kind::Freeze) => {
             x.stable = true;
             stays(Outcome::Done, x)
         }
-        Kind::Finish => {
+        Ok(Kind::Finish) => {
             x.status = Status::Idle.number();
             stays(Outcome::Done, x)
         }
-        Kind::Fall if x.stable => {
+        Ok(Kind::Fall) if x.stable => {
             x.status = Status::Idle.number();
             stays(Outcome::Held, x)
         }

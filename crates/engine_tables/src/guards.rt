@@ -1,7 +1,7 @@
 // The refusals of a step that look at a whole row or slot, in the table's order; those over plain numbers stand in crate lists.
 ghost use Rattle.std.specs.Prelude.{◌≡◌, not};
 ghost use Rattle.octets.specs.Bytes.{◌and◌};
-ghost use Rattle.rules.specs.Numbers.{kind_number, refusal_in};
+ghost use Rattle.rules.specs.Numbers.{refusal_in};
 ghost use Rattle.engine_tables.specs.Internal.Register.{row_at};
 ghost use Rattle.engine_tables.specs.Internal.Guards.{last_row, local_guard, receipt_guard, any_unstable, named_guard, group_guard};
 
@@ -17,11 +17,11 @@ use rules::statuses::Status;
 
 // 22, 23, 28 of a kind from 5 to 10.
 #[tactic(auto, unfolding(crate::specs::Internal::Guards::local_guard))]
-pub fn local(x: Row, kind: Kind) -> Result<(), Refusal>
-    ensures { refusal_in result ≡ local_guard (kind_number kind) x }
+pub fn local(x: Row, kind: u8) -> Result<(), Refusal>
+    ensures { refusal_in result ≡ local_guard kind x }
 {
-    refusals::local(kind.number(), x.status)?;
-    if Kind::Fall.number() <= kind.number() && !x.stable && effects::is_last(x) {
+    refusals::local(kind, x.status)?;
+    if Kind::Fall.number() <= kind && !x.stable && effects::is_last(x) {
         return Err(Refusal::LastIncarnation);
     }
     Ok(())

@@ -1,19 +1,17 @@
 // The steps on the engine's tables, kind by kind: no map, and no walk (document 02, W11). Each refuses in the table's order, or replies
 // and changes what it looks at; of a receipt and of a signing the caller has asked all refusals that need no walk.
 ghost use Rattle.std.specs.Prelude.{◌≡◌, false, ◌≤◌, ◌<◌};
-ghost use Rattle.rules.specs.Numbers.{kind_number};
 ghost use Rattle.rules.specs.Rules.{answer};
 ghost use Rattle.rules.specs.Step.{root, letter, receive, new, send, read, fail, lose, sign};
 ghost use Rattle.rules.specs.Refusals.{group_bits, malformed};
 ghost use Rattle.engine_tables.specs.Internal.Register.{row_at};
 ghost use Rattle.engine_tables.specs.Internal.Guards.{receipt_guard, group_guard};
-ghost use Rattle.engine_tables.specs.Internal.Turns.{Turns, Receives, Signs, Asked, operands_of, turn_in, group_turn_in, opens, sends_to};
+ghost use Rattle.engine_tables.specs.Internal.Turns.{Turns, Receives, Signs, RepliesOutcome, Asked, operands_of, answers, answers_group, turn_in, group_turn_in, opens, sends_to};
 
 use crate::register::Register;
 use crate::table::{Row, Slot};
 use crate::{effects, guards};
 use lists::refusals;
-use rules::kinds::Kind;
 use rules::outcomes::Outcome;
 use rules::refusals::Refusal;
 use rules::{Reply, Step};
@@ -75,29 +73,41 @@ fn reply(outcome: u8, transactor: u8, message: u16, value: u32) -> Reply
     }
 }
 
+// A reply that is an outcome or a refusal alone; nothing changes.
+pub fn answered(x: Operands, number: u8) -> Turn
+    ensures { result ≡ answers x number }
+{
+    Turn {
+        reply: reply(number, 0, 0, 0),
+        operands: x,
+    }
+}
+
+// A signing's reply, which is a number alone, with the rows that it leaves. Beside answered: the two build another value, and share `reply`.
+pub fn group_answered(rows: [Row; 16], number: u8) -> GroupTurn
+    ensures { result ≡ answers_group rows number }
+{
+    let alone = reply(number, 0, 0, 0);
+    GroupTurn { reply: alone, rows }
+}
+
 // The turn; or, refused, a reply that is the refusal alone, and nothing changes.
-pub fn answered(x: Operands, turn: Result<Turn, Refusal>) -> Turn
+pub fn played(x: Operands, turn: Result<Turn, Refusal>) -> Turn
     ensures { result ≡ turn_in x turn }
 {
     match turn {
         Ok(u) => u,
-        Err(r) => Turn {
-            reply: reply(r.number(), 0, 0, 0),
-            operands: x,
-        },
+        Err(r) => answered(x, r.number()),
     }
 }
 
-// The same of a signing. Beside answered: the two build another value, and share `reply`.
-pub fn group_answered(rows: [Row; 16], turn: Result<GroupTurn, Refusal>) -> GroupTurn
+// The same of a signing.
+pub fn group_played(rows: [Row; 16], turn: Result<GroupTurn, Refusal>) -> GroupTurn
     ensures { result ≡ group_turn_in rows turn }
 {
     match turn {
         Ok(u) => u,
-        Err(r) => GroupTurn {
-            reply: reply(r.number(), 0, 0, 0),
-            rows,
-        },
+        Err(r) => group_answered(rows, r.number()),
     }
 }
 
@@ -141,7 +151,7 @@ fn sending(x: Operands, letter: bool, t: u8, to: u8, content: u32) -> Turn
 
 pub fn root(x: Operands, p: Step) -> Result<Turn, Refusal>
     requires { Asked root x p }
-    ensures { Turns x p (turn_in x result) }
+    ensures { Turns x p (turn_in x result) × RepliesOutcome result }
 {
     let register = x.register;
     if register.transactors <= register.opened {
@@ -152,7 +162,7 @@ pub fn root(x: Operands, p: Step) -> Result<Turn, Refusal>
 
 pub fn letter(x: Operands, p: Step) -> Result<Turn, Refusal>
     requires { Asked letter x p }
-    ensures { Turns x p (turn_in x result) }
+    ensures { Turns x p (turn_in x result) × RepliesOutcome result }
 {
     let register = x.register;
     let to = p.transactor;
@@ -169,7 +179,7 @@ pub fn letter(x: Operands, p: Step) -> Result<Turn, Refusal>
 
 pub fn new(x: Operands, p: Step) -> Result<Turn, Refusal>
     requires { Asked new x p }
-    ensures { Turns x p (turn_in x result) }
+    ensures { Turns x p (turn_in x result) × RepliesOutcome result }
 {
     let register = x.register;
     refusals::busy(register.opened, p.transactor, x.row.status)?;
@@ -181,7 +191,7 @@ pub fn new(x: Operands, p: Step) -> Result<Turn, Refusal>
 
 pub fn send(x: Operands, p: Step) -> Result<Turn, Refusal>
     requires { Asked send x p }
-    ensures { Turns x p (turn_in x result) }
+    ensures { Turns x p (turn_in x result) × RepliesOutcome result }
 {
     let register = x.register;
     if register.opened <= p.other {
@@ -197,15 +207,15 @@ pub fn send(x: Operands, p: Step) -> Result<Turn, Refusal>
 }
 
 // Kinds 5 to 10.
-pub fn local(x: Operands, p: Step, kind: Kind) -> Result<Turn, Refusal>
-    requires { Asked (kind_number kind) x p × (read ≤ p.kind) × (p.kind ≤ fail) }
-    ensures { Turns x p (turn_in x result) }
+pub fn local(x: Operands, p: Step) -> Result<Turn, Refusal>
+    requires { Asked p.kind x p × (read ≤ p.kind) × (p.kind ≤ fail) }
+    ensures { Turns x p (turn_in x result) × RepliesOutcome result }
 {
     if x.register.opened <= p.transactor {
         return Err(Refusal::Unopened);
     }
-    guards::local(x.row, kind)?;
-    let e = effects::local(x.row, kind, p.value);
+    guards::local(x.row, p.kind)?;
+    let e = effects::local(x.row, p.kind, p.value);
     Ok(Turn {
         reply: reply(e.outcome, p.transactor, 0, e.value),
         operands: Operands { row: e.row, ..x },
@@ -214,7 +224,7 @@ pub fn local(x: Operands, p: Step, kind: Kind) -> Result<Turn, Refusal>
 
 pub fn lose(x: Operands, p: Step) -> Result<Turn, Refusal>
     requires { Asked lose x p }
-    ensures { Turns x p (turn_in x result) }
+    ensures { Turns x p (turn_in x result) × RepliesOutcome result }
 {
     if x.slot.missing {
         return Err(Refusal::NotWaiting);
@@ -232,7 +242,7 @@ pub fn lose(x: Operands, p: Step) -> Result<Turn, Refusal>
 // A receipt that the table refuses for 28 at most.
 pub fn receive(x: Operands, p: Step, dropped: bool, rolls: bool) -> Result<Turn, Refusal>
     requires { Asked receive x p × (receipt_guard x.slot x.row ≡ 0) }
-    ensures { Receives dropped rolls x p (turn_in x result) }
+    ensures { Receives dropped rolls x p (turn_in x result) × RepliesOutcome result }
 {
     if guards::last_receipt(x.row, dropped, rolls) {
         return Err(Refusal::LastIncarnation);
@@ -256,13 +266,8 @@ pub fn sign(x: Register, rows: [Row; 16], p: Step, ready: bool) -> GroupTurn
     ensures { Signs ready x rows p result }
 {
     if !ready {
-        return GroupTurn {
-            reply: reply(Outcome::NotReady.number(), 0, 0, 0),
-            rows,
-        };
+        return group_answered(rows, Outcome::NotReady.number());
     }
-    GroupTurn {
-        reply: reply(Outcome::Done.number(), 0, 0, 0),
-        rows: effects::checkpointed_group(rows, p.message),
-    }
+    let signed = effects::checkpointed_group(rows, p.message);
+    group_answered(signed, Outcome::Done.number())
 }

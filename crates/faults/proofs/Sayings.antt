@@ -1,9 +1,10 @@
 -- What was expected, in words: no more than 32 bytes each.
-use Rattle.std.proofs.Common.{ℕ, zero, suc, ◌≤◌, ◌<◌, ◌≡◌, List, [], length, arith}
+use Rattle.std.proofs.Common.{ℕ, zero, suc, ◌≤◌, ◌<◌, ◌≡◌, refl, sym, ap, ◌∙◌, List, [], ◌∷◌, length, arith}
+use Rattle.std.proofs.lemmas.List.{get_or_past}
 use borrow.Author.Tests.{le-leb, lt-leb}
 use Rattle.notation.specs.declared.Expected.{Expected}
 use Rattle.notation.specs.declared.Expected.TheVariants.{Transactor, Addressee, Message, Value, Group, WordTo, WordText, SixteenDigits, Kind, CommaOrBrace, LineEnd, Room}
-use Rattle.notation.specs.Parsing.{number_of, expected_text, expected_words}
+use Rattle.notation.specs.Parsing.{number_of, expected_of, expected_text, expected_words}
 use Rattle.notation.proofs.Expecting.{case-of-number, number-some}
 use Rattle.lines.specs.declared.Line.{Line}
 use Rattle.lines.specs.Lines.{line_room, written, plus, Says}
@@ -36,6 +37,15 @@ number-most Kind = omega arith
 number-most CommaOrBrace = omega arith
 number-most LineEnd = omega arith
 number-most Room = omega arith
+
+-- what has the number n is what n stands for; a number that nothing has stands for room
+pub case-is : (n : ℕ) (e : Expected) → number_of e ≡ n → e ≡ expected_of n
+case-is n e h = sym (case-of-number e) ∙ ap expected_of h
+
+pub case-none : (n : ℕ) → (0 < n → 12 < n) → Room ≡ expected_of n
+unfolding expected_of
+case-none zero h = refl
+case-none (suc n) h = let k : 12 < suc n = h (omega arith) in sym (get_or_past (Room ∷ Transactor ∷ Addressee ∷ Message ∷ Value ∷ Group ∷ WordTo ∷ WordText ∷ SixteenDigits ∷ Kind ∷ CommaOrBrace ∷ LineEnd ∷ []) (suc n) Room (omega arith))
 
 pub words-none : (n : ℕ) (l : Line) → (0 < n → 12 < n) → l.len ≡ 0 → written l ≡ [] → Says l (expected_words n)
 unfolding expected_words

@@ -2,11 +2,21 @@
 #![tactic(auto)]
 
 ghost use Rattle.std.specs.Prelude.{◌≡◌};
-ghost use Rattle.notation.specs.Parsing.{expected_text, expected_words};
+ghost use Rattle.notation.specs.Parsing.{expected_of, expected_text, expected_words};
 ghost use Rattle.lines.specs.Lines.{Says};
 
 use lines::Line;
 use notation::Expected;
+
+// What the number n stands for; of a number that nothing expected has, room for the step.
+pub fn expected_of(n: u8) -> Expected
+    ensures { result ≡ expected_of n }
+{
+    match Expected::try_from(n) {
+        Ok(e) => e,
+        Err(_) => Expected::Room,
+    }
+}
 
 // The words of what was expected.
 pub fn words(e: Expected) -> &'static [u8]

@@ -49,12 +49,13 @@ pub fn is_full(image: &Formed<'_>, t: usize) -> bool
     limits::checkpoints(image.bytes) <= count(image, t)
 }
 
-// Whether every named transactor can be checkpointed: refused as 22 if one is gone, or else as 30 if one has no room.
+// Whether every named transactor can be checkpointed: refused as 22 if one is gone, or else as 30 if one has no room. Of 30 a flag is kept
+// till the end, and no refusal, which would be carried through every turn.
 fn check_members(image: &Formed<'_>, group: u16) -> Result<(), Refusal>
     ensures { refusal_in result ≡ named_in (state_in image.now) group }
 {
     let most = limits::checkpoints(image.bytes);
-    let mut full = Ok(());
+    let mut full = false;
     for t in 0..TRANSACTORS {
         if is_named(group, t) {
             let status = head::status(image.bytes, t).number();
@@ -62,11 +63,14 @@ fn check_members(image: &Formed<'_>, group: u16) -> Result<(), Refusal>
                 if r == Refusal::Gone {
                     return Err(r);
                 }
-                full = Err(r);
+                full = true;
             }
         }
     }
-    full
+    if full {
+        return Err(Refusal::AllCheckpointed);
+    }
+    Ok(())
 }
 
 // Whether a group can be signed, ready or not: refused as 29, 21, 22 or 30 if not.

@@ -7,7 +7,7 @@ use native.Mathlib.Omega.{arith}
 use lib.Dec.{ltb}
 use lib.ListN.{get_or}
 use borrow.Author.Tests.{lt-ltb, le-ltb}
-use Rattle.std.specs.Prelude.{Option, Some, None, is_some, cond}
+use Rattle.std.specs.Prelude.{Option, Some, None, is_some, unwrap_or, cond}
 use Rattle.octets.specs.Bytes.{pick, ◌and◌, ◌or◌}
 use Rattle.marks.specs.declared.History.{History}
 use Rattle.maps.specs.declared.DependenceMap.{DependenceMap}
@@ -98,11 +98,10 @@ pub lost-found : (y : Layout) (s : State) (c : ℕ) (r : Option ℕ) → Found (
 unfolding lost_ground
 lost-found y s c r p = p
 
--- of a take that is in the way as hopeless a lost ground is found
-pub lost-some : (y : Layout) (s : State) (t c : ℕ) → c ≡ lowest_for y s 1 t → c < y.transactors → (r : Option ℕ) → Found (lost_ground y s c) y.transactors r → is_some r ≡ true
-lost-some y s t c e h r f =
-    let w : impedes_at y s 1 (lowest_for y s 1 t) ≡ true = (in-way y s 1 t (subst (λ (k : ℕ). k < y.transactors) e h)).1 in
-    impedes-hopeless y s c r f ∙ ap (impedes_at y s 1) e ∙ w
+-- the place that is found, or the one where the search ended
+pub found-or : (p n : ℕ) (r : Option ℕ) → Found p n r → unwrap_or r n ≡ p
+found-or p n None f = sym f
+found-or p n (Some k) f = f.0
 
 -- ---- the answer
 

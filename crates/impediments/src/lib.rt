@@ -76,7 +76,7 @@ pub fn impediment_in(image: &Formed<'_>, reach: Reach, t: usize) -> Option<Imped
     ensures { result ≡ impediment_of base (state_in image.now) t }
 {
     if let Some(c) = lowest(image, reach, Manner::Hopeless, t) {
-        let support = lost_ground(image, c).unwrap();
+        let support = lost_ground(image, c).unwrap_or(TRANSACTORS);
         return Some(Impediment::Hopeless(c as u8, support as u8, reach.next[c]));
     }
     if let Some(c) = lowest(image, reach, Manner::Exhausted, t) {

@@ -235,7 +235,8 @@ pub fn image_line(image: &[u8], n: usize) -> Result<Option<Line>, Refusal>
     ensures { Inspects image.now n result }
 {
     form::check_image(image)?;
-    if LINES <= n {
+    let past = LINES <= n;
+    if past {
         return Ok(None);
     }
     Ok(Some(line_of(image, n)))

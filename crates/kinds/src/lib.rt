@@ -2,6 +2,7 @@
 #![tactic(auto)]
 
 ghost use Rattle.std.specs.Prelude.{◌≡◌, ◌<◌, ℕ, MatchOption, map};
+ghost use Rattle.marks.specs.Incarnation.{same_list};
 ghost use Rattle.notation.specs.Notation.{name_of, template_of, item_number};
 ghost use Rattle.notation.specs.Reading.{row_named};
 
@@ -55,9 +56,16 @@ pub fn template_of(row: usize) -> &'static [Item]
     TEMPLATES[row]
 }
 
+// Whether w is the name. Byte by byte, and left at the first one that differs: `==` of slices is a call for each name as long as w.
+fn is_name(name: &[u8], w: &[u8]) -> bool
+    ensures { result ≡ same_list w.now name.now }
+{
+    name.len() == w.len() && (0..w.len()).all(|i| w[i] == name[i])
+}
+
 // The row whose name is w.
 pub fn row_named(w: &[u8]) -> Option<usize>
     ensures { MatchOption result (row_named w.now ≡ 14) (λ k. (k < 14) × (row_named w.now ≡ k)) }
 {
-    NAMES.iter().position(|name| *name == w)
+    NAMES.iter().position(|name| is_name(*name, w))
 }

@@ -43,49 +43,65 @@ impl Line {
         &self.bytes[..self.len.min(ROOM)]
     }
 
-    pub fn byte(self, b: u8) -> Line
-        ensures { written result ≡ plus (written self) (b ∷ []) }
+    // One byte more, or none where the line is full.
+    fn push(&mut self, b: u8)
+        ensures { written self.new ≡ plus (written self.old) (b ∷ []) }
     {
         let at = self.len;
         if ROOM <= at {
-            return self;
+            return;
         }
-        let mut r = self;
-        r.bytes[at] = b;
-        r.len = at + 1;
-        r
+        self.bytes[at] = b;
+        self.len = at + 1;
     }
 
-    pub fn word(self, w: &[u8]) -> Line
-        ensures { written result ≡ plus (written self) w.now }
-    {
-        let mut r = self;
-        for b in w {
-            r = r.byte(*b);
-        }
-        r
-    }
-
-    // n in decimal.
-    pub fn number(self, n: u32) -> Line
-        ensures { written result ≡ plus (written self) (decimal places n) }
+    // The digits of n, one behind the other. The line is lent: by value it would be copied for each digit, and all copies would be on the
+    // stack at once.
+    fn push_number(&mut self, n: u32)
+        ensures { written self.new ≡ plus (written self.old) (decimal places n) }
     {
         let last = b'0' + (n % 10) as u8;
         if n < 10 {
-            return self.byte(last);
+            self.push(last);
+            return;
         }
-        self.number(n / 10).byte(last)
+        self.push_number(n / 10);
+        self.push(last);
+    }
+
+    pub fn byte(mut self, b: u8) -> Line
+        ensures { written result ≡ plus (written self) (b ∷ []) }
+    {
+        self.push(b);
+        self
+    }
+
+    pub fn word(mut self, w: &[u8]) -> Line
+        ensures { written result ≡ plus (written self) w.now }
+    {
+        for b in w {
+            self.push(*b);
+        }
+        self
+    }
+
+    // n in decimal.
+    pub fn number(mut self, n: u32) -> Line
+        ensures { written result ≡ plus (written self) (decimal places n) }
+    {
+        self.push_number(n);
+        self
     }
 
     // Two hexadecimal digits for each byte of b.
-    pub fn hex(self, b: &[u8]) -> Line
+    pub fn hex(mut self, b: &[u8]) -> Line
         ensures { written result ≡ plus (written self) (hex b.now) }
     {
-        let mut r = self;
         for x in b {
-            r = r.byte(hex_digit(*x / 16)).byte(hex_digit(*x % 16));
+            self.push(hex_digit(*x / 16));
+            self.push(hex_digit(*x % 16));
         }
-        r
+        self
     }
 
     // Transactor t (document 01: take) with a comma before it, if the group g (volume) names it.

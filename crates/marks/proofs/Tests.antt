@@ -1,7 +1,7 @@
 -- The tests of specs reflect the relations, so the relations are decidable.
 use Prim.Native.Nat.{ℕ, suc, ◌+◌, ◌<◌, ◌≤◌}
 use mathlib.Core.Bool.{Bool, true, false, false≢true, ◌&&◌}
-use mathlib.Core.Path.{◌≡◌, refl, ap, sym, ◌∙◌}
+use mathlib.Core.Path.{◌≡◌, refl, ap, sym, ◌∙◌, subst}
 use mathlib.Core.List.{List, [], ◌∷◌, ◌++◌}
 use mathlib.Core.Logic.{◌⊎◌, inl, inr, ◌↔◌}
 use native.Mathlib.Numerals.{add-one}
@@ -75,6 +75,13 @@ module _ (xs ys : List ℕ) where
       → same_list (take i xs) (take i ys) ≡ true → same_list (take (i + 1) xs) (take (i + 1) ys) ≡ true
   same_next i h k e s = (same_list-test (take (i + 1) xs) (take (i + 1) ys)).1
       (rw (add-one, take-suc xs i 0 h, take-suc ys i 0 k, same-to (take i xs) (take i ys) s, e))
+
+  pub same-off : (n i : ℕ) → i < n → (get_or xs i 0 ≡ get_or ys i 0 → ⊥) → same_list (take n xs) (take n ys) ≡ false
+  same-off n i h k = (not_test (same_list (take n xs) (take n ys)) (same_list-test (take n xs) (take n ys))).1
+      (λ e. k (sym (get_or-take n xs i 0 h) ∙ ap (λ l. get_or l i 0) e ∙ get_or-take n ys i 0 h))
+
+  pub same-all : (i n : ℕ) → same_list (take i xs) (take i ys) ≡ true → i ≡ n → same_list (take n xs) (take n ys) ≡ true
+  same-all i n e h = subst (λ (k : ℕ). same_list (take k xs) (take k ys) ≡ true) h e
 
   -- the first n entries, each compared
   pub entries_same : (n : ℕ) → n ≤ length xs → n ≤ length ys → every n (λ i. eqb (get_or xs i 0) (get_or ys i 0)) ≡ same_list (take n xs) (take n ys)

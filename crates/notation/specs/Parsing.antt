@@ -30,10 +30,10 @@ number_of Room = room
 abbrev pub IsExpected : ℕ → Result Expected UnknownExpected → Type 0
 IsExpected n r = MatchResult r (λ e. number_of e ≡ n) (λ u. (u.0 ≡ n) × (0 < n → 12 < n))
 
--- what a line's reader answers: where it stands, or where it lacks something and what
+-- what a line's reader answers: where it stands, or where it lacks something, the step so far, and what
 abbrev pub Answers : Result Place Lack → Reader → Type 0
 Answers (Ok q) r = r ≡ reached q.at q.step
-Answers (Err e) r = (r.at ≡ e.at) × (r.expected ≡ number_of e.expected)
+Answers (Err e) r = (r.at ≡ e.at) × (r.expected ≡ number_of e.expected) × (r.step ≡ e.step)
 
 -- and back; no fault has a number of none
 unfoldable pub expected_of : ℕ → Expected

@@ -39,10 +39,11 @@ pub struct Place {
     pub step: Step,
 }
 
-// Where a line lacks something (a column from 0), and what.
+// Where a line lacks something (a column from 0), what was read of its step so far, and what it lacks.
 #[derive(Clone, Copy)]
 pub struct Lack {
     pub at: usize,
+    pub step: Step,
     pub expected: Expected,
 }
 

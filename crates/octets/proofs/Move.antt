@@ -1,13 +1,13 @@
 -- What a copy, a fill and a move within a buffer leave, as put.
-use Prim.Native.Nat.{ℕ, zero, suc, ◌+◌, ◌≤◌}
+use Prim.Native.Nat.{ℕ, zero, suc, ◌+◌, ◌≤◌, ◌<◌}
 use mathlib.Core.Path.{◌≡◌, refl, ap, ◌∙◌}
 use mathlib.Core.List.{List, ◌∷◌, ◌++◌, append_assoc}
 use native.Mathlib.Omega.{arith}
 use borrow.Rule.Slice.PartMut.{put_mid}
-use lib.ListN.{length, drop, replicate}
+use lib.ListN.{length, get_or, set, drop, replicate}
 use lib.Seq.{paste, drop-drop}
 use Rattle.octets.specs.Bytes.{put, part, zeros}
-use Rattle.octets.proofs.Put.{put-def, part-def, length_part, put-append}
+use Rattle.octets.proofs.Put.{put-def, part-def, part-suc, length_part, get_or-put-after, put-nil, put-snoc, put-append}
 use Rattle.octets.proofs.Zero.{length-zeros}
 
 -- bs in the place of the k bytes from at on
@@ -17,6 +17,22 @@ placed at k bs l e = rw (put-def, append_assoc, e, drop-drop)
 -- the k bytes from from on, copied to to on
 pub moved : (to from k m : ℕ) (l : List ℕ) → m ≡ k → from + k ≤ length l → paste l to (drop from l) m ≡ put to (part from k l) l
 moved to from k m l e h = rw (e, put-def, length_part from k l h, part-def)
+
+-- the loop that lowers: nothing is put at first
+pub lower-none : (at from : ℕ) (l : List ℕ) → l ≡ put at (part from 0 l) l
+lower-none at from l = rw part-def (put-nil at l)
+
+-- a turn puts one byte more, which is not yet written when it is read
+pub lower-more : (at gap i : ℕ) (l l' : List ℕ) → l' ≡ put at (part (at + gap) i l) l → at + gap + i < length l
+    → set l' (at + i) (get_or l' (at + gap + i) 0) ≡ put at (part (at + gap) (i + 1) l) l
+lower-more at gap i l l' e h =
+    let n : length (part (at + gap) i l) ≡ i = length_part (at + gap) i l (omega arith) in
+    let r : get_or l' (at + gap + i) 0 ≡ get_or l (at + gap + i) 0
+    = ap (λ (x : List ℕ). get_or x (at + gap + i) 0) e ∙ get_or-put-after at (part (at + gap) i l) l (at + gap + i) (omega arith) (omega arith) in
+    rw (r, part-suc (at + gap) i l h, put-snoc at i (get_or l (at + gap + i) 0) (part (at + gap) i l) l l' e n (omega arith))
+
+pub lower-all : (at gap i n : ℕ) (l l' : List ℕ) → l' ≡ put at (part (at + gap) i l) l → i ≡ n → l' ≡ put at (part (at + gap) n l) l
+lower-all at gap i n l l' e h = e ∙ rw h
 
 -- n zeros in the place of the k bytes from at on
 pub zeros-replicate : (n : ℕ) → replicate n 0 ≡ zeros n

@@ -80,6 +80,13 @@ four_bytes at l =
     let three = of_be-more at 4 2 _ (get_or l (at + 2) 0) l (omega arith) two refl in
     sym (of_be-more at 4 3 _ (get_or l (at + 3) 0) l (omega arith) three refl)
 
+-- two bytes, read with the first as the lower one and turned round
+pub of_be-turned : (at x : ℕ) (l : List ℕ) → get_or l at 0 < 256 → x ≡ get_or l (at + 1) 0 * 256 + get_or l at 0 → x % 256 * 256 + x / 256 ≡ of_be 2 (part at 2 l)
+of_be-turned at x l o e =
+    let high : x % 256 ≡ get_or l at 0 = omega (arith, e, o) in
+    let low : x / 256 ≡ get_or l (at + 1) 0 = omega (arith, e, o) in
+    of_be-more at 2 1 (x % 256) (x / 256) l (omega arith) (of_be-first at 2 (x % 256) l (omega arith) high) low
+
 -- ---- there and back
 
 pub of_be-be : (w n : ℕ) → n < bound w → of_be w (be w n) ≡ n

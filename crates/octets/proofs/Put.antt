@@ -1,6 +1,6 @@
 -- Laws of put and part, and of lists of bytes.
 use Prim.Native.Nat.{ℕ, zero, suc, ◌+◌, ◌-◌, ◌≤◌, ◌<◌}
-use mathlib.Core.Path.{◌≡◌, refl, sym, ap, ◌∙◌}
+use mathlib.Core.Path.{◌≡◌, refl, sym, ap, ◌∙◌, subst}
 use mathlib.Core.List.{List, [], ◌∷◌, ◌++◌, append_assoc, append-nil}
 use native.Mathlib.Numerals.{add-one}
 use native.Mathlib.Nat.{add_assoc, add-zero, zero-add, suc-add}
@@ -177,6 +177,19 @@ part-suc at i l h =
     rw (part-def at (i + 1) l, part-def at i l, add-one, take-suc (drop at l) i 0 k, get_or-drop)
 
 -- ---- single bytes
+
+pub get_or-put-after : (at : ℕ) (bs l : List ℕ) (k : ℕ) → at + length bs ≤ length l → at + length bs ≤ k → get_or (put at bs l) k 0 ≡ get_or l k 0
+get_or-put-after at bs l k f h =
+    let e : at + length bs + (k - (at + length bs)) ≡ k = omega arith in
+    subst (λ (x : ℕ). get_or (put at bs l) x 0 ≡ get_or l x 0) e
+    (sym (get_or-drop (at + length bs) (put at bs l) (k - (at + length bs)) 0)
+    ∙ ap (λ (x : List ℕ). get_or x (k - (at + length bs)) 0) (drop-put at bs l f)
+    ∙ get_or-drop (at + length bs) l (k - (at + length bs)) 0)
+
+pub get_or-put-before : (at : ℕ) (bs l : List ℕ) (k : ℕ) → at + length bs ≤ length l → k < at → get_or (put at bs l) k 0 ≡ get_or l k 0
+get_or-put-before at bs l k fits h =
+    let z : k + 0 ≡ k = add-zero k in
+    rw z at (sym (get_d_part k 1 (put at bs l) 0 (omega arith)) ∙ ap (λ (x : List ℕ). get_or x 0 0) (part-put-before at bs l fits k 1 (omega arith)) ∙ get_d_part k 1 l 0 (omega arith))
 
 pub put-nil : (at : ℕ) (l : List ℕ) → l ≡ put at [] l
 put-nil at l = rw (put-def, add-zero, append-nil, take-append-drop)

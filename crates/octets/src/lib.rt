@@ -28,8 +28,10 @@ pub fn lower(image: &mut [u8], at: usize, gap: usize, n: usize)
     requires { at + gap + n ≤ length image.old }
     ensures { image.new ≡ put at (part (at + gap) n image.old) image.old }
 {
-    let from = at + gap;
-    image.copy_within(from..from + n, at);
+    // by for and not by copy_within, which may go either way: so the compiler makes it one memmove
+    for i in 0..n {
+        image[at + i] = image[at + gap + i];
+    }
 }
 
 // Copies the n bytes from from on to to on, which is behind them.

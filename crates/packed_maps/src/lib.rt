@@ -25,7 +25,8 @@ pub fn looked_at(s: &[u8], at: usize) -> usize
 }
 
 // Reads what the packed form from at on holds into a map without entries. It is lent and not passed on: as measured, a map that is
-// passed on is copied.
+// passed on is copied. Inlined, since a call of its own has each byte read anew: it can't tell the map from the bytes.
+#[inline(always)]
 pub fn load_into(r: &mut DependenceMap, s: &[u8], at: usize)
     requires room { at + map_size width places entries ≤ length s.now }
     requires empty { r.old ≡ empty_map places entries }
@@ -38,7 +39,9 @@ pub fn load_into(r: &mut DependenceMap, s: &[u8], at: usize)
     }
 }
 
-// What the packed form from at on holds.
+// What the packed form from at on holds. In a call of its own: only a new asks for it, and inlined it would take its room on the stack in
+// every step.
+#[inline(never)]
 pub fn load(s: &[u8], at: usize) -> DependenceMap
     requires { at + map_size width places entries ≤ length s.now }
     ensures { result ≡ unpack_map width places entries (part at (map_size width places entries) s.now) }

@@ -19,8 +19,6 @@ use Rattle.rules.specs.declared.Step.{Step}
 use Rattle.rules.specs.Step.{step_bytes, pack_step}
 use Rattle.notation.specs.Reading.{Reader, reached, not_lf, not_hash, run, next, good, nothing, room, line_at, empty_step, lines_of, said, Progress, with_step, line_read, lines_read, progress, outcome, read}
 use Rattle.std.proofs.Common.{Option, Some, None, Result, Ok, Err}
-use Rattle.std.specs.List.{take_while}
-use Rattle.scan.proofs.Walking.{run-taken}
 use Rattle.notation.specs.declared.Place.{Place}
 use Rattle.notation.specs.declared.Lack.{Lack}
 use Rattle.notation.specs.declared.Fault.{Fault}
@@ -35,12 +33,13 @@ use Rattle.notation.proofs.Faults.{stays, goes_on}
 
 -- ---- the end of a line, and of what it says
 
-pub other-taken : (b : ℕ) (s : List ℕ) (at n : ℕ) → n ≡ length (take_while (other_than b) (drop at s)) → at + n ≡ at + run (other_than b) (drop at s)
-other-taken b s at n e = rw (e, run-taken (other_than b) (drop at s))
-
-pub other-test : (b c : ℕ) → not (eqb c b) ≡ other_than b c
+pub other-not : (b c : ℕ) → c ≡ b → other_than b c ≡ false
 unfolding other_than
-other-test b c = refl
+other-not b c e = rw (eq-eqb c b e)
+
+pub other-so : (b c : ℕ) → (c ≡ b → ⊥) → other_than b c ≡ true
+unfolding other_than
+other-so b c e = rw (ne_eqb c b e)
 
 to-LF : (l : List ℕ) → run (other_than 10) l ≡ run not_lf l
 unfolding other_than not_lf

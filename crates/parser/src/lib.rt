@@ -15,9 +15,15 @@ const STEP: usize = 8;
 
 // The first place of the byte b from from on, or the end.
 fn find(s: &[u8], from: usize, b: u8) -> usize
+    requires { from ≤ length s.now }
     ensures { result ≡ from + run (other_than b) (drop from s.now) }
 {
-    from + s.iter().skip(from).take_while(|c| **c != b).count()
+    for at in from..s.len() {
+        if s[at] == b {
+            return at;
+        }
+    }
+    s.len()
 }
 
 // A line without comment: its step, nothing, or what it lacks.
@@ -32,6 +38,7 @@ fn bare_line(s: &[u8], free: bool) -> Result<Option<Step>, Lack>
     if !free {
         return Err(Lack {
             at,
+            step: r.step,
             expected: Expected::Room,
         });
     }

@@ -30,17 +30,17 @@ use Rattle.notation.proofs.Within.{next-within, byte-within, member-within}
 -- ---- a lack passes through what follows
 
 abbrev pub LackedBy : Lack → Reader → Type 0
-LackedBy e r = (r.at ≡ e.at) × (r.expected ≡ number_of e.expected)
+LackedBy e r = (r.at ≡ e.at) × (r.expected ≡ number_of e.expected) × (r.step ≡ e.step)
 
-pub lacking : (r : Reader) (at c : ℕ) (p : Step) → missing at p c ≡ r → (r.at ≡ at) × (r.expected ≡ c)
-lacking r at c p e = (ap (λ (x : Reader). x.at) (sym e), ap (λ (x : Reader). x.expected) (sym e))
+pub lacking : (r : Reader) (at c : ℕ) (p : Step) → missing at p c ≡ r → (r.at ≡ at) × (r.expected ≡ c) × (r.step ≡ p)
+lacking r at c p e = (ap (λ (x : Reader). x.at) (sym e), ap (λ (x : Reader). x.expected) (sym e), ap (λ (x : Reader). x.step) (sym e))
 
 -- whoever reads on with it answers the same
 pub bad : (e : Lack) (r : Reader) → LackedBy e r → good r ≡ false
 bad e r h = ne_eqb r.expected 0 (λ z. absurd (omega (arith, number-some e.expected, h.1)))
 
 pub passed : (e : Lack) (r q : Reader) → LackedBy e r → q ≡ r → LackedBy e q
-passed e r q h f = (ap (λ (x : Reader). x.at) f ∙ h.0, ap (λ (x : Reader). x.expected) f ∙ h.1)
+passed e r q h f = (ap (λ (x : Reader). x.at) f ∙ h.0, ap (λ (x : Reader). x.expected) f ∙ h.1, ap (λ (x : Reader). x.step) f ∙ h.2)
 
 -- ---- words
 

@@ -12,7 +12,7 @@ use rules::Step;
 use scan::words;
 
 // A step of kind 0 with nothing said.
-const EMPTY: Step = Step {
+pub const EMPTY: Step = Step {
     kind: 0,
     transactor: 0,
     other: 0,
@@ -47,6 +47,7 @@ fn member_at(s: &[u8], at: usize, p: Step) -> Result<Place, Lack>
     let Some(t) = scan::number(&s[at..end], 15) else {
         return Err(Lack {
             at,
+            step: p,
             expected: Expected::Transactor,
         });
     };
@@ -82,6 +83,7 @@ fn closed_at(s: &[u8], r: Place) -> Result<Place, Lack>
     if scan::byte_at(s, at) != b'}' {
         return Err(Lack {
             at,
+            step: r.step,
             expected: Expected::CommaOrBrace,
         });
     }
@@ -115,6 +117,7 @@ fn group_at(s: &[u8], at: usize, p: Step) -> Result<Place, Lack>
     if scan::byte_at(s, at) != b'{' {
         return Err(Lack {
             at,
+            step: p,
             expected: Expected::Group,
         });
     }
@@ -134,6 +137,7 @@ fn item_at(s: &[u8], r: Place, wanted: Item) -> Result<Place, Lack>
     let Some(step) = with_word(wanted, &s[at..end], r.step) else {
         return Err(Lack {
             at,
+            step: r.step,
             expected: Expected::from(wanted),
         });
     };
@@ -160,6 +164,7 @@ fn ended_at(s: &[u8], r: Place) -> Result<Place, Lack>
     if at < s.len() {
         return Err(Lack {
             at,
+            step: r.step,
             expected: Expected::LineEnd,
         });
     }
@@ -175,6 +180,7 @@ pub fn line_at(s: &[u8], at: usize) -> Result<Place, Lack>
     let Some(row) = kinds::row_named(&s[at..end]) else {
         return Err(Lack {
             at,
+            step: EMPTY,
             expected: Expected::Kind,
         });
     };

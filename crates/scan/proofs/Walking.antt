@@ -1,7 +1,7 @@
 -- The loops of the reader: what is left to read from place i on gives the same answer.
-use Prim.Native.Nat.{ℕ, suc, ◌+◌, ◌-◌, ◌*◌, ◌≤◌, ◌<◌}
-use mathlib.Core.Bool.{Bool, true, false}
-use mathlib.Core.Path.{◌≡◌, refl, sym, ◌∙◌}
+use Prim.Native.Nat.{ℕ, ◌+◌, ◌-◌, ◌*◌, ◌≤◌, ◌<◌}
+use mathlib.Core.Bool.{Bool, true, false, not}
+use mathlib.Core.Path.{◌≡◌, refl, sym}
 use mathlib.Core.List.{List, [], ◌∷◌}
 use native.Mathlib.Numerals.{add-one}
 use native.Mathlib.Omega.{arith}
@@ -9,30 +9,17 @@ use borrow.Author.Tests.{lt-ltb, le-ltb, le-leb, lt-leb, leb-true, leb-false}
 use lib.Dec.{leb}
 use lib.ListN.{length, take, drop, get_or, length-take, length-drop, drop_of_length-le}
 use lib.Seq.{drop-cons}
-use Rattle.octets.specs.Bytes.{pick, ◌and◌}
+use Rattle.octets.specs.Bytes.{◌and◌}
 use Rattle.octets.proofs.Tests.{and-false, never}
 use Rattle.notation.specs.Reading.{blank, in_word, run, next, word_at, all, is_digit, of_decimal, is_number}
 use Rattle.notation.proofs.Within.{run-most}
-use Rattle.std.proofs.Common.{cond, ◌&&◌}
+use Rattle.std.proofs.Common.{◌&&◌}
 use Rattle.std.specs.Char.{is_ascii_digit}
 use Rattle.octets.proofs.Chunks.{sides}
 use mathlib.Core.Logic.{⊎_elim}
-use Rattle.std.specs.List.{take_while, prefix_len, list_all}
-use Rattle.std.proofs.lemmas.List.Folds.{length-prefix_len}
+use Rattle.std.specs.List.{list_all}
 
 -- ---- runs and tests of all, as the library says them
-
-run-prefix : (f : ℕ → Bool) (l : List ℕ) → run f l ≡ prefix_len f l
-unfolding run
-run-prefix f [] = refl
-run-prefix f (c ∷ l) = go (f c) (run-prefix f l)
-  where
-    go : (t : Bool) → run f l ≡ prefix_len f l → pick t (suc (run f l)) 0 ≡ cond t (1 + prefix_len f l) 0
-    go true e = omega arith
-    go false e = refl
-
-pub run-taken : (f : ℕ → Bool) (l : List ℕ) → run f l ≡ length (take_while f l)
-run-taken f l = run-prefix f l ∙ sym (length-prefix_len f l)
 
 pub all-passed : (f : ℕ → Bool) (l : List ℕ) → all f l ≡ list_all f l
 unfolding all
@@ -43,12 +30,22 @@ all-passed f (c ∷ l) = go (f c) (all-passed f l)
     go true e = e
     go false e = refl
 
-pub next-taken : (s : List ℕ) (at n : ℕ) → n ≡ length (take_while blank (drop at s)) → at + n ≡ next s at
-unfolding next
-next-taken s at n e = rw (e, run-taken blank (drop at s))
+-- a loop from place to place that ends where f does not hold: what is left to run gives the same end
+pub run-on : (f : ℕ → Bool) (s : List ℕ) (i : ℕ) → i < length s → f (get_or s i 0) ≡ true → i + run f (drop i s) ≡ i + 1 + run f (drop (i + 1) s)
+unfolding run
+run-on f s i h e = rw (drop-cons s i 0 h, add-one, e) (omega arith)
 
-pub word-taken : (s : List ℕ) (at n : ℕ) → n ≡ length (take_while in_word (drop at s)) → at + n ≡ at + run in_word (drop at s)
-word-taken s at n e = rw (e, run-taken in_word (drop at s))
+pub run-off : (f : ℕ → Bool) (s : List ℕ) (i : ℕ) → i < length s → f (get_or s i 0) ≡ false → i + run f (drop i s) ≡ i
+unfolding run
+run-off f s i h e = rw (drop-cons s i 0 h, e) (omega arith)
+
+pub run-end : (f : ℕ → Bool) (s : List ℕ) (i : ℕ) → length s ≤ i → i + run f (drop i s) ≡ i
+unfolding run
+run-end f s i h = rw (drop_of_length-le s {i = i} h) (omega arith)
+
+pub next-is : (s : List ℕ) (at : ℕ) → next s at ≡ at + run blank (drop at s)
+unfolding next
+next-is s at = refl
 
 -- ---- numbers
 

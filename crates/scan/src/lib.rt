@@ -21,18 +21,29 @@ fn is_word(c: u8) -> bool
     !(is_blank(c) || c == b'{' || c == b',' || c == b'}')
 }
 
-// The place of the next byte that is no blank, from from on.
+// The place of the next byte that is no blank, from from on. By `for` over places, here and in word_end: `skip` of an iterator goes through
+// all bytes before from, and a part costs each word its length.
 pub fn skip(s: &[u8], from: usize) -> usize
     ensures { result ≡ next s.now from }
 {
-    from + s.iter().skip(from).take_while(|c| is_blank(**c)).count()
+    for at in from..s.len() {
+        if !is_blank(s[at]) {
+            return at;
+        }
+    }
+    from.max(s.len())
 }
 
 // The end of the word at from.
 pub fn word_end(s: &[u8], from: usize) -> usize
     ensures { result ≡ from + run in_word (drop from s.now) }
 {
-    from + s.iter().skip(from).take_while(|c| is_word(**c)).count()
+    for at in from..s.len() {
+        if !is_word(s[at]) {
+            return at;
+        }
+    }
+    from.max(s.len())
 }
 
 // The byte at at, or 0 past the end.
@@ -47,7 +58,8 @@ pub fn number(w: &[u8], most: u64) -> Option<u64>
     requires { most < 4294967296 }
     ensures { Bounded most w.now result }
 {
-    if w.is_empty() {
+    let none = w.is_empty();
+    if none {
         return None;
     }
     let mut n: u64 = 0;

@@ -155,7 +155,7 @@ pub acted-at : (img : List ℕ) (t : ℕ) {e e' : Effect} {o v : ℕ} {after : L
 acted-at img t q r i = rw q (record { outcome = r.0; value = r.1; image = i })
 
 -- by an outcome alone
-pub acted-alone-at : (img : List ℕ) (t : ℕ) {e e' : Effect} {a : Acted} {o : Outcome} {after : List ℕ} → e ≡ e' → (a.outcome ≡ o) × (a.value ≡ 0) → e'.outcome ≡ outcome_number o → e'.value ≡ 0
+pub acted-alone-at : (img : List ℕ) (t : ℕ) {e e' : Effect} {a : Acted Outcome} {o : Outcome} {after : List ℕ} → e ≡ e' → (a.outcome ≡ o) × (a.value ≡ 0) → e'.outcome ≡ outcome_number o → e'.value ≡ 0
     → after ≡ pack base (with_transactor (unpack base img) t e'.transactor) → ActsAt img t e (outcome_number a.outcome) a.value after
 acted-alone-at img t q r n v i = acted-at img t q (ap outcome_number r.0 ∙ sym n, r.1 ∙ sym v) i
 

@@ -144,7 +144,7 @@ pub acted : {e e' : Effect} {o v : ℕ} {b : List ℕ} → e ≡ e' → (o ≡ e
 acted q r s = acts-as q (record { outcome = r.0; value = r.1; bytes = s })
 
 -- by an outcome alone
-pub acted-alone : {e e' : Effect} {a : Acted} {o : Outcome} {b : List ℕ} → e ≡ e' → (a.outcome ≡ o) × (a.value ≡ 0) → e'.outcome ≡ outcome_number o → e'.value ≡ 0
+pub acted-alone : {e e' : Effect} {a : Acted Outcome} {o : Outcome} {b : List ℕ} → e ≡ e' → (a.outcome ≡ o) × (a.value ≡ 0) → e'.outcome ≡ outcome_number o → e'.value ≡ 0
     → b ≡ pack_transactor base e'.transactor → Acts e (outcome_number a.outcome) a.value b
 acted-alone q r n v s = acted q (ap outcome_number r.0 ∙ sym n, r.1 ∙ sym v) s
 

@@ -23,15 +23,15 @@ use rules::outcomes::Outcome;
 use rules::refusals::Refusal;
 use rules::statuses::Status;
 
-// An outcome, and the value read.
+// An outcome, or the number of one, and the value read.
 #[derive(Clone, Copy, Debug, PartialEq, Eq)]
-pub struct Acted {
-    pub outcome: Outcome,
+pub struct Acted<O> {
+    pub outcome: O,
     pub value: u32,
 }
 
 // An outcome alone.
-pub fn outcome_of(outcome: Outcome) -> Acted
+pub fn outcome_of<O>(outcome: O) -> Acted<O>
     ensures { (result.outcome ≡ outcome) × (result.value ≡ 0) }
 {
     Acted { outcome, value: 0 }
@@ -99,7 +99,7 @@ pub fn carry(part: &[u8], t: usize) -> DependenceMap
 }
 
 // Falls: annihilated if never checkpointed, else the next incarnation; 28 at the last one.
-pub fn rollback(part: &mut [u8], t: usize) -> Result<Acted, Refusal>
+pub fn rollback(part: &mut [u8], t: usize) -> Result<Acted<Outcome>, Refusal>
     requires { GoodPart part.old × (t < base.transactors) }
     ensures { Acts (rollback_or28 base t (unpack_transactor base part.old)) (outcome_in result) (value_in result) part.new }
 {
@@ -125,7 +125,7 @@ fn become_idle(part: &mut [u8])
     octets::clear(part, BEHAVIOUR, maps::SIZE);
 }
 
-fn read(part: &mut [u8]) -> Acted
+fn read(part: &mut [u8]) -> Acted<Outcome>
     requires { GoodPart part.old }
     ensures { Acts (read_by base (unpack_transactor base part.old)) (outcome_number result.outcome) result.value part.new }
 {
@@ -137,7 +137,7 @@ fn read(part: &mut [u8]) -> Acted
     }
 }
 
-fn write(part: &mut [u8], t: usize, value: u32) -> Acted
+fn write(part: &mut [u8], t: usize, value: u32) -> Acted<Outcome>
     requires { GoodPart part.old × (t < base.transactors) }
     ensures { Acts (write_by base t value (unpack_transactor base part.old)) (outcome_number result.outcome) result.value part.new }
 {
@@ -149,7 +149,7 @@ fn write(part: &mut [u8], t: usize, value: u32) -> Acted
     outcome_of(Outcome::Done)
 }
 
-fn freeze(part: &mut [u8], t: usize) -> Acted
+fn freeze(part: &mut [u8], t: usize) -> Acted<Outcome>
     requires { GoodPart part.old × (t < base.transactors) }
     ensures { Acts (freeze_by t (unpack_transactor base part.old)) (outcome_number result.outcome) result.value part.new }
 {
@@ -159,7 +159,7 @@ fn freeze(part: &mut [u8], t: usize) -> Acted
 }
 
 // Fall and fail: a stable transactor is held, and a fall makes it idle; any other falls, or 28.
-fn rollback_unless_stable(part: &mut [u8], t: usize, kind: Kind) -> Result<Acted, Refusal>
+fn rollback_unless_stable(part: &mut [u8], t: usize, kind: Kind) -> Result<Acted<Outcome>, Refusal>
     requires { GoodPart part.old × (t < base.transactors) }
     ensures { Acts (rollback_unless_stable base (kind_number kind) t (unpack_transactor base part.old)) (outcome_in result) (value_in result) part.new }
 {
@@ -173,7 +173,7 @@ fn rollback_unless_stable(part: &mut [u8], t: usize, kind: Kind) -> Result<Acted
 }
 
 // Kinds 5 to 10: the last two fall and fail.
-pub fn act(part: &mut [u8], kind: Kind, t: usize, value: u32) -> Result<Acted, Refusal>
+pub fn act(part: &mut [u8], kind: Kind, t: usize, value: u32) -> Result<Acted<Outcome>, Refusal>
     requires { GoodPart part.old × (t < base.transactors) × (5 ≤ kind_number kind) × (kind_number kind ≤ 10) }
     ensures { Acts (act_by base (kind_number kind) t value (unpack_transactor base part.old)) (outcome_in result) (value_in result) part.new }
 {

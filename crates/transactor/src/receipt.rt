@@ -55,7 +55,12 @@ pub fn compared(image: &[u8], state: usize, creation: usize, m: usize) -> Compar
 // The message in place k, which is not superseded: a fall of transactor t, its addressee, where the comparison says so, or it is taken in
 // with its news. What let else takes out is the first superseded transactor's number. Which one it is decides nothing, here and in accept: the
 // rules ask whether there is one, and a reply names the addressee.
-fn settle(image: &mut [u8], t: usize, k: usize, receiver: Option<usize>) -> Result<Acted, Refusal>
+fn settle(
+    image: &mut [u8],
+    t: usize,
+    k: usize,
+    receiver: Option<usize>,
+) -> Result<Acted<Outcome>, Refusal>
     requires { Good image.old × (t < base.transactors) × (k < waiting_in base image.old) }
     ensures { ActsAt image.old t
         (settle_by base t (transactor_at (unpack base image.old) t) (message_at (unpack base image.old) k).dependences (answer_of receiver))
@@ -72,7 +77,7 @@ fn settle(image: &mut [u8], t: usize, k: usize, receiver: Option<usize>) -> Resu
 }
 
 // The message in place k, addressed to transactor t: refused as of another book, or dropped, or as settled.
-pub fn accept(image: &mut [u8], t: usize, k: usize) -> Result<Acted, Refusal>
+pub fn accept(image: &mut [u8], t: usize, k: usize) -> Result<Acted<Outcome>, Refusal>
     requires { Good image.old × (t < base.transactors) × (k < waiting_in base image.old) }
     ensures { ActsAt image.old t
         (accept_by base t (transactor_at (unpack base image.old) t) (message_at (unpack base image.old) k).dependences)

@@ -73,17 +73,17 @@ loop-i-preserved c =
     let o = octets-of _ c.type_inv.list in
     elim c.if-p-number.branch [
       | then-p-number w ↦ record {
-        playing = playing-group _ p.range _ o _ l.playing _ c.decode-p.ensures _ (group-settled _ w.sign.result _ w.group_answered-u.ensures w.sign.ensures) _ (w.replies-is ∙ w.encode.ensures) _ w.x-is _ w.rows-is _ w.slots-is (omega (arith, c.loop-i-test.true, p.room));
-        long = ap length (w.replies-is ∙ w.encode.ensures) ∙ length-put _ _ _ (omega (arith, c.loop-i-test.true, l.long, p.room, length-pack_reply w.group_answered-u.result.reply)) ∙ l.long;
+        playing = playing-group _ p.range _ o _ l.playing _ c.decode-p.ensures _ (group-settled _ w.sign.result _ w.group_played-u.ensures w.sign.ensures) _ (w.replies-is ∙ w.encode.ensures) _ w.x-is _ w.rows-is _ w.slots-is (omega (arith, c.loop-i-test.true, p.room));
+        long = ap length (w.replies-is ∙ w.encode.ensures) ∙ length-put _ _ _ (omega (arith, c.loop-i-test.true, l.long, p.room, length-pack_reply w.group_played-u.result.reply)) ∙ l.long;
       }
       | else-p-number w ↦
           let k : w.place-k.result ≤ most = rw w.place-k.ensures (placed-within _) in
           let z = read-within c.loop-i.slots w.place-k.result _ _ (omega (arith, l.playing.slots-long)) in
           let t = subject-below _ p.range _ o _ l.playing _ c.decode-p.ensures _ _ z _ w.subject-t.ensures in record {
             playing = playing-more _ p.range _ o _ l.playing (omega (arith, c.loop-i-test.true, p.short)) _ c.decode-p.ensures _ w.place-k.ensures _ z _ w.subject-t.ensures _
-                (read-within c.loop-i.rows w.subject-t.result _ _ (omega (arith, l.playing.rows_long))) w.answered-u.result
-                (settled _ _ w.advance.result _ w.answered-u.ensures w.of-o.ensures w.advance.ensures) _ (w.replies-is ∙ w.encode-else-p-number.ensures) _ w.x-is _ w.rows-is _ w.slots-is (omega (arith, c.loop-i-test.true, p.room));
-            long = ap length (w.replies-is ∙ w.encode-else-p-number.ensures) ∙ length-put _ _ _ (omega (arith, c.loop-i-test.true, l.long, p.room, length-pack_reply w.answered-u.result.reply)) ∙ l.long;
+                (read-within c.loop-i.rows w.subject-t.result _ _ (omega (arith, l.playing.rows_long))) w.played-u.result
+                (settled _ _ w.advance.result _ w.played-u.ensures w.of-o.ensures w.advance.ensures) _ (w.replies-is ∙ w.encode-else-p-number.ensures) _ w.x-is _ w.rows-is _ w.slots-is (omega (arith, c.loop-i-test.true, p.room));
+            long = ap length (w.replies-is ∙ w.encode-else-p-number.ensures) ∙ length-put _ _ _ (omega (arith, c.loop-i-test.true, l.long, p.room, length-pack_reply w.played-u.result.reply)) ∙ l.long;
           }
     ]
 

@@ -18,7 +18,7 @@ pub returns-then-slot : goal.returns-then-slot
 returns-then-slot c =
     let r = c.requires in
     let none = r.0.letter r.2 c.if-slot.true in
-    advance-receive _ _ _ _ _ _ r.0.within r.2 _ _ (sym none.left) (sym none.right) c.receive.ensures
+    advance-receive _ _ _ _ _ _ r.0.within r.2 _ _ (sym none.left) (sym none.right) c.receive.ensures.0
 
 pub receipt-c-requires : goal.receipt-c-requires
 receipt-c-requires c =
@@ -29,4 +29,4 @@ pub returns : goal.returns
 returns c =
     let r = c.requires in
     let w = rw (c.from.ensures, c.from-2.ensures) at c.receipt-c.ensures in
-    advance-receive _ _ _ _ _ _ r.0.within r.2 _ _ w.0 w.1 c.receive-2.ensures
+    advance-receive _ _ _ _ _ _ r.0.within r.2 _ _ w.0 w.1 c.receive-2.ensures.0

@@ -1,5 +1,5 @@
 -- A step on what is kept: what the kinds ask and give.
-use Rattle.std.specs.Prelude.{ℕ, ◌≤◌, ◌<◌, Bool, false, ◌≡◌, List, eqb, length, Result, Ok, Err}
+use Rattle.std.specs.Prelude.{ℕ, ◌≤◌, ◌<◌, Bool, false, ◌≡◌, List, eqb, length, Result, Ok, Err, IfOk}
 use Rattle.octets.specs.Bytes.{pick}
 use Rattle.octets.specs.Table.{updated}
 use Rattle.rules.specs.Layout.{base}
@@ -46,6 +46,10 @@ turn_in x (Err r) = answers x (refusal_number r)
 abbrev pub group_turn_in : List Row → Result GroupTurn Refusal → GroupTurn
 group_turn_in rows (Ok u) = u
 group_turn_in rows (Err r) = answers_group rows (refusal_number r)
+
+-- a turn replies an outcome, of which each is below every refusal: so what is refused is an Err
+abbrev pub RepliesOutcome : Result Turn Refusal → Type 0
+RepliesOutcome r = IfOk r (λ u. u.reply.outcome < 16)
 
 -- one more take, with text v
 abbrev pub opens : Operands → ℕ → Turn

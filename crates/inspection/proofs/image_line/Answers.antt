@@ -8,8 +8,8 @@ returns-in_err-check_image c =
     let l = inspect-refused _ c.args.n _ c.in_err-check_image.ensures.refused in
     let p = err_from_is_err_and c.from_residual.result c.from_residual.ensures.1 in rw (p.1, p.2) l
 
-pub returns-then-n-ge-LINES : goal.returns-then-n-ge-LINES
-returns-then-n-ge-LINES c = inspect-end _ c.args.n c.in_ok-check_image.ensures.refused (omega arith)
+pub returns-then-past : goal.returns-then-past
+returns-then-past c = inspect-end _ c.args.n c.in_ok-check_image.ensures.refused (omega arith)
 
 pub line_of-requires : goal.line_of-requires
 line_of-requires c = (inspect-long _ c.args.n c.in_ok-check_image.ensures.refused, omega arith)

@@ -1,14 +1,18 @@
-use Rattle.std.proofs.Common.{rules}
-use Rattle.std.proofs.lemmas.Iterator.{YieldsList-from_slice}
-use Rattle.std.proofs.lemmas.Iterator.Adapters.{YieldsList-from_skip}
-use Rattle.std.proofs.lemmas.Iterator.Consumers.{count_from_yields_List}
-use Rattle.std.proofs.lemmas.Iterator.Search.{YieldsList-from_take_while}
+-- From place to place, to the first byte b.
+use Rattle.std.proofs.Common.{rules, tests, arith, refl, sym, ◌∙◌}
+use Rattle.scan.proofs.Walking.{run-on, run-off, run-end}
 use Rattle.parser.specs.Internal.Parsing.{other_than}
-use Rattle.parser.proofs.Loops.{other-taken, other-test}
+use Rattle.parser.proofs.Loops.{other-so, other-not}
 use Rattle.parser.proofs.find.Goals as goal
 
+pub loop-at-init : goal.loop-at-init
+loop-at-init c = refl
+
+pub returns-then-s-at : goal.returns-then-s-at
+returns-then-s-at c = sym (c.loop-at.invariant ∙ run-off (other_than c.args.b) _ _ c.loop-at-test.true (other-not _ _ (search (rules, tests))))
+
+pub loop-at-preserved : goal.loop-at-preserved
+loop-at-preserved c = c.loop-at.invariant ∙ run-on (other_than c.args.b) _ _ c.loop-at-test.true (other-so _ _ (search (rules, tests)))
+
 pub returns : goal.returns
-returns c =
-    other-taken _ _ _ _
-    (count_from_yields_List c.take_while.result _ c.count.ensures.ran
-    (YieldsList-from_take_while _ (other_than c.args.b) (YieldsList-from_skip c.args.from (YieldsList-from_slice c.args.s.now cc) (cc)) c.take_while.ensures.closure c.take_while.ensures.done (λ x b q k. search (rules, other-test))))
+returns c = sym (c.loop-at.invariant ∙ run-end (other_than c.args.b) _ _ (omega arith) ∙ omega arith)

@@ -21,7 +21,7 @@ returns-in_default-with_word c =
     let l = lacking _ _ _ c.args.r.step
     (word-no _ _ _ (omega (arith, k, c.skip-at.ensures)) c.word_end-end.ensures _ _ c.in_default-with_word.ensures
     ∙ sym (item-word _ _ _ _ c.skip-at.ensures _ (not-members c.args.wanted c.in_default.not-Members))) in
-    (l.0, l.1 ∙ sym c.from.ensures)
+    (l.0, l.1 ∙ sym c.from.ensures, l.2)
 
 pub returns : goal.returns
 returns c =

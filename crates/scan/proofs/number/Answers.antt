@@ -2,8 +2,8 @@ use Rattle.std.proofs.Common.{arith, rules, refl, sym, ◌∙◌, ◌+◌}
 use Rattle.scan.proofs.Walking.{number_more, decimal_more, digit-bounds, number-off, number-over, number-end, number_some, number_none}
 use Rattle.scan.proofs.number.Goals as goal
 
-pub returns-then-is_empty : goal.returns-then-is_empty
-returns-then-is_empty c = number_none _ _ (search rules)
+pub returns-then-none : goal.returns-then-none
+returns-then-none c = number_none _ _ (search rules)
 
 pub loop-c-init : goal.loop-c-init
 loop-c-init c = record { low = omega arith; number = number_some _ _ (search rules); value = refl }

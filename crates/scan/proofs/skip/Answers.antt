@@ -1,14 +1,17 @@
-use Rattle.std.proofs.Common.{rules}
-use Rattle.std.proofs.lemmas.Iterator.{YieldsList-from_slice}
-use Rattle.std.proofs.lemmas.Iterator.Adapters.{YieldsList-from_skip}
-use Rattle.std.proofs.lemmas.Iterator.Consumers.{count_from_yields_List}
-use Rattle.std.proofs.lemmas.Iterator.Search.{YieldsList-from_take_while}
+-- From place to place, to the first byte that ends the run.
+use Rattle.std.proofs.Common.{rules, tests, arith, refl, sym, ◌∙◌}
 use Rattle.notation.specs.Reading.{blank}
-use Rattle.scan.proofs.Walking.{next-taken}
+use Rattle.scan.proofs.Walking.{run-on, run-off, run-end, next-is}
 use Rattle.scan.proofs.skip.Goals as goal
 
+pub loop-at-init : goal.loop-at-init
+loop-at-init c = (refl, omega arith)
+
+pub returns-then-not-is_blank : goal.returns-then-not-is_blank
+returns-then-not-is_blank c = sym (next-is _ _ ∙ c.loop-at.invariant.0 ∙ run-off blank _ _ c.loop-at-test.true (search (rules, tests)))
+
+pub loop-at-preserved : goal.loop-at-preserved
+loop-at-preserved c = (c.loop-at.invariant.0 ∙ run-on blank _ _ c.loop-at-test.true (search (rules, tests)), omega (arith, c.loop-at-test.true))
+
 pub returns : goal.returns
-returns c =
-    next-taken _ _ _
-    (count_from_yields_List c.take_while.result _ c.count.ensures.ran
-    (YieldsList-from_take_while _ blank (YieldsList-from_skip c.args.from (YieldsList-from_slice c.args.s.now cc) (cc)) c.take_while.ensures.closure c.take_while.ensures.done (λ x b q k. search rules)))
+returns c = sym (next-is _ _ ∙ c.loop-at.invariant.0 ∙ run-end blank _ _ (omega arith) ∙ omega (arith, c.max.ensures, c.loop-at.invariant.1))

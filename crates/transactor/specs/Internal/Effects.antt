@@ -10,6 +10,7 @@ use Rattle.rules.specs.Layout.{Layout, base, transactor_address}
 use Rattle.rules.specs.Status.{busy}
 use Rattle.rules.specs.State.{Transactor, own_history, with_transactor, with_behaviour}
 use Rattle.rules.specs.declared.refusals.Refusal.{Refusal}
+use Rattle.rules.specs.declared.outcomes.Outcome.{Outcome}
 use Rattle.rules.specs.Numbers.{refusal_number, outcome_number}
 use Rattle.rules.specs.Step.{done, held, dropped, fall, fail}
 use Rattle.rules.specs.Rules.{Effect, is_some, join, only, known, informed_by, unchanged, made_idle, rollback, local_by, opening}
@@ -18,12 +19,12 @@ use Rattle.transactor.specs.declared.Acted.{Acted}
 use Rattle.rules.specs.Internal.Guards.{local_refusal, is_last_incarnation}
 
 -- what is answered, an outcome or a refusal, in one number
-abbrev pub outcome_in : Result Acted Refusal → ℕ
+abbrev pub outcome_in : Result (Acted Outcome) Refusal → ℕ
 outcome_in (Ok a) = outcome_number a.outcome
 outcome_in (Err r) = refusal_number r
 
 -- the text read; 0 where it is refused
-abbrev pub value_in : Result Acted Refusal → ℕ
+abbrev pub value_in : Result (Acted Outcome) Refusal → ℕ
 value_in (Ok a) = a.value
 value_in (Err r) = 0
 

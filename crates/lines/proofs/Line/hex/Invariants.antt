@@ -6,4 +6,4 @@ use Rattle.lines.specs.Lines.{written, plus}
 use Rattle.lines.proofs.Line.hex.Given as goal
 
 abbrev pub invariant-loop-x : goal.invariant-loop-x
-invariant-loop-x l = written l.r ≡ plus (written l.initial.r) (hex (part 0 l.x-index l.b))
+invariant-loop-x l = written l.self ≡ plus (written l.fn.self) (hex (part 0 l.x-index l.b))

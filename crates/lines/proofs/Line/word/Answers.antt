@@ -6,7 +6,7 @@ pub loop-b-init : goal.loop-b-init
 loop-b-init c = plus-start _ (search rules) _
 
 pub loop-b-preserved : goal.loop-b-preserved
-loop-b-preserved c = word_more _ _ _ _ _ c.loop-b.invariant c.byte-r.ensures (omega arith)
+loop-b-preserved c = word_more _ _ _ _ _ c.loop-b.invariant c.push.ensures (omega arith)
 
 pub returns : goal.returns
 returns c = plus-all (λ x. x) _ _ _ _ c.loop-b.invariant (omega arith)

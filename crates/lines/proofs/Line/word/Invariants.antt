@@ -5,4 +5,4 @@ use Rattle.lines.specs.Lines.{written, plus}
 use Rattle.lines.proofs.Line.word.Given as goal
 
 abbrev pub invariant-loop-b : goal.invariant-loop-b
-invariant-loop-b l = written l.r ≡ plus (written l.initial.r) (part 0 l.b-index l.w)
+invariant-loop-b l = written l.self ≡ plus (written l.fn.self) (part 0 l.b-index l.w)

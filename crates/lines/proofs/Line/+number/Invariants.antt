@@ -1,5 +1,0 @@
--- A tenth is smaller.
-use Rattle.lines.proofs.Line.+number.Given as goal
-
-abbrev pub decreases-number : goal.decreases-number
-decreases-number l = l.n

@@ -1,0 +1,5 @@
+-- A tenth is smaller.
+use Rattle.lines.proofs.Line.+push_number.Given as goal
+
+abbrev pub decreases-push_number : goal.decreases-push_number
+decreases-push_number l = l.n
